@@ -6,7 +6,7 @@ ghost use Rattle.prs_core.specs.Parts.{Keeps};
 ghost use Rattle.cell_channel.specs.Ends.{port_owned};
 ghost use Rattle.cell_channel.specs.Handshakes.{PortBit, end_part, port_part, port_bits, port_nodes};
 
-use prs_core::site_keeps;
+use prs_core::laws::site_keeps;
 
 /// Law: the answer of a send or a receive keeps its contract beside any number of other sites, and a receive port of
 /// any width keeps its own, whatever the numbers of the nodes. The port may also be one whose own nodes are numbered

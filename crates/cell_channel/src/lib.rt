@@ -2,7 +2,6 @@
 #![tactic(auto)]
 
 mod emit;
-mod laws;
+pub mod laws;
 
 pub use emit::{emit_end, emit_receive_port};
-pub use laws::ends_keep;

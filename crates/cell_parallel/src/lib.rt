@@ -1,8 +1,7 @@
 //! The completion tree.
 #![tactic(auto)]
 
-mod laws;
+pub mod laws;
 mod tree;
 
-pub use laws::{tree_counted, tree_keeps, tree_settles};
 pub use tree::emit_tree;

@@ -3,7 +3,6 @@
 
 mod emit;
 mod guards;
-mod laws;
+pub mod laws;
 
 pub use emit::{AgainPorts, SelectPorts, emit_again, emit_select};
-pub use laws::{again_keeps, select_keeps};

@@ -2,7 +2,6 @@
 #![tactic(auto)]
 
 mod emit;
-mod laws;
+pub mod laws;
 
 pub use emit::{QPorts, emit_loop, emit_q, emit_skip};
-pub use laws::q_keeps;

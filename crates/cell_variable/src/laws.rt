@@ -8,8 +8,8 @@ ghost use Rattle.prs_core.specs.Sites.{site_part};
 ghost use Rattle.cell_variable.specs.Variables.{bits_from, variable_rules, variable_owned, merges_owned};
 ghost use Rattle.cell_variable.specs.VariableParts.{merge_part, variable_part};
 
-use cell_parallel::tree_settles;
-use prs_core::site_keeps;
+use cell_parallel::laws::tree_settles;
+use prs_core::laws::site_keeps;
 
 /// Law: a variable of any width keeps its contract, and so do a merge of any number of inputs, and a write site beside
 /// any number of others.

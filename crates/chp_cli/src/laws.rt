@@ -14,7 +14,7 @@ ghost use Rattle.chp_cli.specs.Simulating.{AskedRun, Simulates};
 ghost use Rattle.chp_cli.specs.Statuses.{is_whole};
 ghost use Rattle.width_check.specs.Processes.{TypedProgram};
 
-use event_sim::{power_is_powered, safe_moves_bring_no_hazard};
+use event_sim::laws::{power_is_powered, safe_moves_bring_no_hazard};
 
 /// Law: to the same files, where the shelf tells them, and by the same orders a command has at most one answer.
 pub fn one_answer()
@@ -22,7 +22,7 @@ pub fn one_answer()
         OneAnswer (IsAnswer command given played) }
 {
     chp_syntax::laws::one_fault();
-    prs_file::one_refusal();
+    prs_file::laws::one_refusal();
     width_check::laws::one_fault();
     sharing_check::laws::one_shared_fault();
 }

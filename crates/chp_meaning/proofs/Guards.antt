@@ -5,10 +5,10 @@ use Rattle.std.proofs.lemmas.List.{drop_more, drop_all}
 use Rattle.width_check.specs.declared.typed.TArm.{TArm}
 use Rattle.width_check.specs.Processes.{Choices, no_choices, and_choice}
 use Rattle.width_check.specs.Values.{value, IsWellFormed}
-use Rattle.width_check.specs.View.{formula_of, process_of}
+use Rattle.width_check.specs.View.{formula_of, process_of, choices_in}
 use Rattle.chp_meaning.specs.declared.effect.TrueGuards.{TrueGuards}
 use Rattle.chp_meaning.specs.declared.effect.TrueGuards.TheVariants.{Zero, One, Several as Many}
-use Rattle.chp_meaning.specs.Remaining.{choices_of, GuardsHaveValues}
+use Rattle.chp_meaning.specs.Remaining.{GuardsHaveValues}
 use Rattle.chp_meaning.specs.AtOnce.{true_guards, guards_counted}
 
 -- the guards found so far, and then these
@@ -23,15 +23,15 @@ found_all (One k) = refl
 found_all Many = refl
 
 pub arm_more : (xs : List TArm) (i : ℕ) (x : TArm) → i < length xs → x ≡ get_or xs i x →
-    choices_of (drop i xs) ≡ and_choice (formula_of x.guard) (process_of x.body) (choices_of (drop (i + 1) xs))
-arm_more xs i x lt at = ap choices_of (drop_more xs i x lt)
-    ∙ ap (λ (y : TArm). and_choice (formula_of y.guard) (process_of y.body) (choices_of (drop (i + 1) xs))) (sym at)
+    choices_in (drop i xs) ≡ and_choice (formula_of x.guard) (process_of x.body) (choices_in (drop (i + 1) xs))
+arm_more xs i x lt at = ap choices_in (drop_more xs i x lt)
+    ∙ ap (λ (y : TArm). and_choice (formula_of y.guard) (process_of y.body) (choices_in (drop (i + 1) xs))) (sym at)
 
-pub no_arm_more : (xs : List TArm) (i : ℕ) → length xs ≤ i → choices_of (drop i xs) ≡ no_choices
-no_arm_more xs i all = ap choices_of (drop_all i xs all)
+pub no_arm_more : (xs : List TArm) (i : ℕ) → length xs ≤ i → choices_in (drop i xs) ≡ no_choices
+no_arm_more xs i all = ap choices_in (drop_all i xs all)
 
-pub formed_more : (xs : List TArm) (i : ℕ) (x : TArm) → i < length xs → x ≡ get_or xs i x → GuardsHaveValues (choices_of (drop i xs)) →
-    IsWellFormed (formula_of x.guard) × GuardsHaveValues (choices_of (drop (i + 1) xs))
+pub formed_more : (xs : List TArm) (i : ℕ) (x : TArm) → i < length xs → x ≡ get_or xs i x → GuardsHaveValues (choices_in (drop i xs)) →
+    IsWellFormed (formula_of x.guard) × GuardsHaveValues (choices_in (drop (i + 1) xs))
 formed_more xs i x lt at h = subst GuardsHaveValues (arm_more xs i x lt at) h
 
 by_test : (b : Bool) (store : List ℕ) (i : ℕ) (x : TArm) (rest : Choices) → (value (slice_index store) (formula_of x.guard) == 1) ≡ b →
@@ -41,13 +41,13 @@ by_test b store i x rest e = ap (λ c. if c then i ∷ true_guards store (i + 1)
 
 pub guard_true : (store : List ℕ) (xs : List TArm) (i : ℕ) (x : TArm) → i < length xs → x ≡ get_or xs i x →
     (value (slice_index store) (formula_of x.guard) == 1) ≡ true
-    → true_guards store i (choices_of (drop i xs)) ≡ i ∷ true_guards store (i + 1) (choices_of (drop (i + 1) xs))
-guard_true store xs i x lt at e = ap (true_guards store i) (arm_more xs i x lt at) ∙ by_test true store i x (choices_of (drop (i + 1) xs)) e
+    → true_guards store i (choices_in (drop i xs)) ≡ i ∷ true_guards store (i + 1) (choices_in (drop (i + 1) xs))
+guard_true store xs i x lt at e = ap (true_guards store i) (arm_more xs i x lt at) ∙ by_test true store i x (choices_in (drop (i + 1) xs)) e
 
 pub guard_false : (store : List ℕ) (xs : List TArm) (i : ℕ) (x : TArm) → i < length xs → x ≡ get_or xs i x →
     (value (slice_index store) (formula_of x.guard) == 1) ≡ false
-    → true_guards store i (choices_of (drop i xs)) ≡ true_guards store (i + 1) (choices_of (drop (i + 1) xs))
-guard_false store xs i x lt at e = ap (true_guards store i) (arm_more xs i x lt at) ∙ by_test false store i x (choices_of (drop (i + 1) xs)) e
+    → true_guards store i (choices_in (drop i xs)) ≡ true_guards store (i + 1) (choices_in (drop (i + 1) xs))
+guard_false store xs i x lt at e = ap (true_guards store i) (arm_more xs i x lt at) ∙ by_test false store i x (choices_in (drop (i + 1) xs)) e
 
-pub no_guard_more : (store : List ℕ) (xs : List TArm) (i : ℕ) → length xs ≤ i → true_guards store i (choices_of (drop i xs)) ≡ []
+pub no_guard_more : (store : List ℕ) (xs : List TArm) (i : ℕ) → length xs ≤ i → true_guards store i (choices_in (drop i xs)) ≡ []
 no_guard_more store xs i all = ap (true_guards store i) (no_arm_more xs i all)

@@ -9,13 +9,13 @@ use Rattle.width_check.specs.declared.typed.TStmt.{TStmt, Select}
 use Rattle.width_check.specs.declared.typed.TArm.{TArm}
 use Rattle.width_check.specs.Processes.{Process, skipping, assigning, sending, receiving, in_turn, side_by_side, choosing, repeating, Choices, no_choices, and_choice, choice_count}
 use Rattle.width_check.specs.Values.{value}
-use Rattle.width_check.specs.View.{process_of}
+use Rattle.width_check.specs.View.{process_of, choices_in}
 use Rattle.chp_meaning.specs.declared.effect.Move.{Move}
 use Rattle.chp_meaning.specs.declared.effect.TrueGuards.{TrueGuards}
 use Rattle.chp_meaning.specs.declared.effect.TrueGuards.TheVariants.{Zero, One, Several as Many}
 use Rattle.chp_meaning.specs.declared.left.Left.{Left, Branches, Inside}
 use Rattle.chp_meaning.specs.declared.config.Config.{Config}
-use Rattle.chp_meaning.specs.Remaining.{over, whole, Several, no_more, and_left, remains_of, several_of, choices_of, part_of, part_count, CanRemain, EachCanRemain, gathered, IsRunnable, RunsOn, ChoicesRunnable, GuardsHaveValues}
+use Rattle.chp_meaning.specs.Remaining.{over, whole, Several, no_more, and_left, remains_of, several_of, part_of, part_count, CanRemain, EachCanRemain, gathered, IsRunnable, RunsOn, ChoicesRunnable, GuardsHaveValues}
 use Rattle.chp_meaning.specs.AtOnce.{Outset, plain_move, true_guards, guards_counted, choosing_move, move_of, chosen_remains, step_remains, advanced, each_advanced, statements, each_statements, moves_of, noted_send, noted_receive, if_waiting}
 use Rattle.chp_meaning.specs.Standing.{CanRun}
 use Rattle.chp_meaning.proofs.Places.{In}
@@ -28,10 +28,10 @@ guards_formed n m no_choices r = tt
 guards_formed n m (and_choice g p more) r = (r.0, guards_formed n m more r.2)
 
 pub guards_have : (n m : ℕ) (s : TStmt) (again : Bool) (v : Vec TArm Global) (xs : List TArm) → s ≡ Select again v → xs ≡ v.items →
-    IsRunnable n m (process_of s) → GuardsHaveValues (choices_of xs)
+    IsRunnable n m (process_of s) → GuardsHaveValues (choices_in xs)
 guards_have n m s again v xs is same r =
-    subst (λ (ys : List TArm). GuardsHaveValues (choices_of ys)) (sym same)
-    (guards_formed n m (choices_of v.items) (subst (λ p. IsRunnable n m p) (select_said s again v is) r))
+    subst (λ (ys : List TArm). GuardsHaveValues (choices_in ys)) (sym same)
+    (guards_formed n m (choices_in v.items) (subst (λ p. IsRunnable n m p) (select_said s again v is) r))
 
 guards_below : (store : List ℕ) (j : ℕ) (cs : Choices) (k : ℕ) → In (true_guards store j cs) k → k < j + choice_count cs
 guards_below store j no_choices k i = absurd i
@@ -52,27 +52,27 @@ pub one_below : (store : List ℕ) (cs : Choices) (k : ℕ) → One k ≡ guards
 one_below store cs k e = let below = guards_below store 0 cs k (one_counted (true_guards store 0 cs) k e) in omega (arith, below)
 
 pub one_within : (store : List ℕ) (s : TStmt) (again : Bool) (v : Vec TArm Global) (xs : List TArm) (k : ℕ) → s ≡ Select again v → xs ≡ v.items →
-    One k ≡ guards_counted (true_guards store 0 (choices_of xs)) → k < part_count (process_of s)
+    One k ≡ guards_counted (true_guards store 0 (choices_in xs)) → k < part_count (process_of s)
 one_within store s again v xs k is same e =
-    let below = guards_below store 0 (choices_of xs) k (one_counted (true_guards store 0 (choices_of xs)) k e) in
-    let count : choice_count (choices_of xs) ≡ part_count (process_of s) = ap (λ (ys : List TArm). choice_count (choices_of ys)) same
+    let below = guards_below store 0 (choices_in xs) k (one_counted (true_guards store 0 (choices_in xs)) k e) in
+    let count : choice_count (choices_in xs) ≡ part_count (process_of s) = ap (λ (ys : List TArm). choice_count (choices_in ys)) same
     ∙ ap part_count (sym (select_said s again v is)) in
     omega (arith, below, count)
 
 pub select_remains : (o : Outset) (s : TStmt) (again : Bool) (v : Vec TArm Global) (xs : List TArm) (g : TrueGuards) → s ≡ Select again v → xs ≡ v.items →
-    g ≡ guards_counted (true_guards o.store 0 (choices_of xs))
+    g ≡ guards_counted (true_guards o.store 0 (choices_in xs))
     → step_remains o (process_of s) ≡ chosen_remains (process_of s) again g
 select_remains o s again v xs g is same e =
     ap (step_remains o) (select_said s again v is)
-    ∙ (ap (λ p. chosen_remains p again (guards_counted (true_guards o.store 0 (choices_of v.items)))) (sym (select_said s again v is))
-    ∙ ap (chosen_remains (process_of s) again) (ap (λ (ys : List TArm). guards_counted (true_guards o.store 0 (choices_of ys))) (sym same) ∙ sym e))
+    ∙ (ap (λ p. chosen_remains p again (guards_counted (true_guards o.store 0 (choices_in v.items)))) (sym (select_said s again v is))
+    ∙ ap (chosen_remains (process_of s) again) (ap (λ (ys : List TArm). guards_counted (true_guards o.store 0 (choices_in ys))) (sym same) ∙ sym e))
 
 pub select_move : (o : Outset) (s : TStmt) (again : Bool) (v : Vec TArm Global) (xs : List TArm) (g : TrueGuards) → s ≡ Select again v → xs ≡ v.items →
-    g ≡ guards_counted (true_guards o.store 0 (choices_of xs))
+    g ≡ guards_counted (true_guards o.store 0 (choices_in xs))
     → move_of o (process_of s) ≡ choosing_move again g
 select_move o s again v xs g is same e =
     ap (move_of o) (select_said s again v is)
-    ∙ ap (choosing_move again) (ap (λ (ys : List TArm). guards_counted (true_guards o.store 0 (choices_of ys))) (sym same) ∙ sym e)
+    ∙ ap (choosing_move again) (ap (λ (ys : List TArm). guards_counted (true_guards o.store 0 (choices_in ys))) (sym same) ∙ sym e)
 
 -- what is left of a part
 

@@ -7,7 +7,7 @@ use Rattle.chp_meaning.specs.declared.effect.Move.{Move}
 use Rattle.chp_meaning.specs.declared.effect.TrueGuards.{TrueGuards}
 use Rattle.chp_meaning.specs.declared.effect.TrueGuards.TheVariants.{Zero, One, Several as Many}
 use Rattle.chp_meaning.specs.Terms.{Term, Terms, finished, active, in_sequence, in_parallel, no_branches, and_branch, is_finished, all_finished, together, opened, opened_turn, opened_each, followed}
-use Rattle.chp_meaning.specs.Remaining.{Remains, over, whole, within, alongside, Several, no_more, and_left, none_remains, all_over, how_many, member_at, part_of, part_count, members_from, coming, before, term_of, terms_of, is_beside, is_group, CanRemain, EachCanRemain, begun, each_begun, after_part, resumed, gathered, IsRunnable, AreRunnable}
+use Rattle.chp_meaning.specs.Remaining.{Remains, over, whole, within, alongside, Several, no_more, and_left, none_remains, all_over, how_many, member_at, part_of, part_count, members_from, coming, before, term_of, branch_terms, is_beside, is_group, CanRemain, EachCanRemain, begun, each_begun, after_part, resumed, gathered, IsRunnable, AreRunnable}
 use Rattle.chp_meaning.specs.AtOnce.{Outset, true_guards, guards_counted, ending_move, is_met, entered, chosen_remains, ended, step_remains, advanced, each_advanced, statements, each_statements}
 use Rattle.chp_meaning.proofs.Places.{In, in_either}
 use Rattle.chp_meaning.proofs.Rows.{part_runnable}
@@ -37,7 +37,7 @@ mutual
   statements_are p (within k r) = statements_are (part_of p k) r ∙ sym (before_actives (term_of (part_of p k) r) (coming p k))
   statements_are p (alongside rs) = each_are p 0 rs
 
-  each_are : (p : Process) (k : ℕ) (rs : Several) → each_statements p k rs ≡ branch_actives (terms_of p k rs)
+  each_are : (p : Process) (k : ℕ) (rs : Several) → each_statements p k rs ≡ branch_actives (branch_terms p k rs)
   each_are p k no_more = refl
   each_are p k (and_left r rest) = ap (λ xs. xs ++ each_statements p (suc k) rest) (statements_are (part_of p k) r)
       ∙ ap (λ xs. actives (term_of (part_of p k) r) ++ xs) (each_are p (suc k) rest)
@@ -60,9 +60,9 @@ finished_is p whole c = refl
 finished_is p (within k r) c = goes_on p (within k r) c refl
 finished_is p (alongside rs) c = refl
 
-all_finished_is : (p : Process) (k : ℕ) (rs : Several) → EachCanRemain p k rs → all_finished (terms_of p k rs) ≡ all_over rs
+all_finished_is : (p : Process) (k : ℕ) (rs : Several) → EachCanRemain p k rs → all_finished (branch_terms p k rs) ≡ all_over rs
 all_finished_is p k no_more c = refl
-all_finished_is p k (and_left r rest) c = ap (λ b. b && all_finished (terms_of p (suc k) rest)) (finished_is (part_of p k) r c.0)
+all_finished_is p k (and_left r rest) c = ap (λ b. b && all_finished (branch_terms p (suc k) rest)) (finished_is (part_of p k) r c.0)
     ∙ ap (λ b. none_remains r && b) (all_finished_is p (suc k) rest c.1)
 
 before_lively : (t : Term) (more : Processes) → is_finished t ≡ false → Lively t → Lively (before t more)
@@ -76,7 +76,7 @@ mutual
   lively p (within k r) c = before_lively (term_of (part_of p k) r) (coming p k) (goes_on (part_of p k) r c.3 c.2) (lively (part_of p k) r c.3)
   lively p (alongside rs) c = (all_finished_is p 0 rs c.3 ∙ c.2, each_lively p 0 rs c.3)
 
-  each_lively : (p : Process) (k : ℕ) (rs : Several) → EachCanRemain p k rs → EachLively (terms_of p k rs)
+  each_lively : (p : Process) (k : ℕ) (rs : Several) → EachCanRemain p k rs → EachLively (branch_terms p k rs)
   each_lively p k no_more c = tt
   each_lively p k (and_left r rest) c = (lively (part_of p k) r c.0, each_lively p (suc k) rest c.1)
 
@@ -109,7 +109,7 @@ AllGo no_members = Unit {0}
 AllGo (and_member p more) = (none_remains (begun p) ≡ false) × (is_finished (opened p) ≡ false) × AllGo more
 
 record EachBegins (p : Process) (k : ℕ) (ms : Processes) : Type 0 where
-  terms : terms_of p k (each_begun ms) ≡ opened_each ms
+  terms : branch_terms p k (each_begun ms) ≡ opened_each ms
   can : EachCanRemain p k (each_begun ms)
   go : AllGo ms
 
@@ -156,8 +156,8 @@ mutual
       let rest = each_begins n m all more (suc k) (from_next all k p more from) r.1 in
       let at = from_at all k p more from in
       record {
-        terms = ap (λ q. and_branch (term_of q (begun p)) (terms_of (side_by_side all) (suc k) (each_begun more))) at
-            ∙ (ap (λ t. and_branch t (terms_of (side_by_side all) (suc k) (each_begun more))) b.term ∙ ap (and_branch (opened p)) rest.terms);
+        terms = ap (λ q. and_branch (term_of q (begun p)) (branch_terms (side_by_side all) (suc k) (each_begun more))) at
+            ∙ (ap (λ t. and_branch t (branch_terms (side_by_side all) (suc k) (each_begun more))) b.term ∙ ap (and_branch (opened p)) rest.terms);
         can = (subst (λ q. CanRemain q (begun p)) (sym at) b.can, rest.can);
         go = (b.goes, begun_goes p b, rest.go);
       }
@@ -307,10 +307,10 @@ resumed_term n m f p k t (within j s) q c e =
     sym (all_left_before f t (coming p k) (term_of (part_of p k) (within j s)) e (goes_on (part_of p k) (within j s) c refl))
 resumed_term n m f p k t (alongside rs) q c e = sym (all_left_before f t (coming p k) (term_of (part_of p k) (alongside rs)) e refl)
 
-gathered_term : (p : Process) (rs : Several) → EachCanRemain p 0 rs → term_of p (gathered rs) ≡ together (terms_of p 0 rs)
-gathered_term p rs c = by_test (all_over rs) ∙ ap (λ b. if b then finished else in_parallel (terms_of p 0 rs)) (sym (all_finished_is p 0 rs c))
+gathered_term : (p : Process) (rs : Several) → EachCanRemain p 0 rs → term_of p (gathered rs) ≡ together (branch_terms p 0 rs)
+gathered_term p rs c = by_test (all_over rs) ∙ ap (λ b. if b then finished else in_parallel (branch_terms p 0 rs)) (sym (all_finished_is p 0 rs c))
   where
-    by_test : (x : Bool) → term_of p (if x then over else alongside rs) ≡ (if x then finished else in_parallel (terms_of p 0 rs))
+    by_test : (x : Bool) → term_of p (if x then over else alongside rs) ≡ (if x then finished else in_parallel (branch_terms p 0 rs))
     by_test true = refl
     by_test false = refl
 
@@ -329,10 +329,10 @@ mutual
 
   each_advanced_terms : (n m : ℕ) (o : Outset) (p : Process) (k : ℕ) (rs : Several) → IsRunnable n m p → ((j : ℕ) → j < how_many rs → k + j < part_count p) →
       EachCanRemain p k rs
-      → terms_of p k (each_advanced o p k rs) ≡ each_left (left_of o) (terms_of p k rs)
+      → branch_terms p k (each_advanced o p k rs) ≡ each_left (left_of o) (branch_terms p k rs)
   each_advanced_terms n m o p k no_more q lt c = refl
   each_advanced_terms n m o p k (and_left r rest) q lt c =
-      ap (λ t. and_branch t (terms_of p (suc k) (each_advanced o p (suc k) rest)))
+      ap (λ t. and_branch t (branch_terms p (suc k) (each_advanced o p (suc k) rest)))
       (advanced_term n m o (part_of p k) r (part_runnable n m p k (let first = lt 0 (omega arith) in omega (arith, first)) q) c.0)
       ∙ ap (and_branch (all_left (left_of o) (term_of (part_of p k) r))) (each_advanced_terms n m o p (suc k) rest q (λ j h. let later =
       lt (suc j) (omega (arith, h)) in omega (arith, later)) c.1)

@@ -11,16 +11,16 @@ use Rattle.width_check.specs.declared.typed.TStmt.{TStmt, Then, Beside, Select, 
 use Rattle.width_check.specs.declared.typed.TStmt.TheBlock.{hidden-the_row-TStmt-0, hidden-the_row-TArm-1}
 use Rattle.width_check.specs.declared.typed.TArm.{TArm}
 use Rattle.width_check.specs.Processes.{Process, skipping, assigning, sending, receiving, in_turn, side_by_side, choosing, repeating, Processes, no_members, and_member, Choices, no_choices, and_choice, member_count, choice_count}
-use Rattle.width_check.specs.View.{formula_of, process_of, processes_of, choices_of as row_choices}
+use Rattle.width_check.specs.View.{formula_of, process_of, processes_of, choices_of as row_choices, members_in, choices_in}
 use Rattle.chp_meaning.specs.declared.left.Left.{Left, Branches, Inside, Row_of-Left, end_of-Left, more_of-Left, items-the_row-Left, items_hidden-the_row-Left-0}
 use Rattle.chp_meaning.specs.declared.left.Left.TheBlock.{hidden-the_row-Left-0}
-use Rattle.chp_meaning.specs.Remaining.{within, alongside, Several, no_more, and_left, remains_of, each_of, several_of, statement_processes, choices_of, member_at, branch_of, part_of, part_count, all_over, none_remains, how_many, begun, first_begun, each_begun, after_part, gathered, over, IsRunnable, AreRunnable, ChoicesRunnable, HasMembers}
+use Rattle.chp_meaning.specs.Remaining.{within, alongside, Several, no_more, and_left, remains_of, each_of, several_of, member_at, branch_of, part_of, part_count, all_over, none_remains, how_many, begun, first_begun, each_begun, after_part, gathered, over, IsRunnable, AreRunnable, ChoicesRunnable, HasMembers}
 
-members_row : {m : _} (row : Row_of-TStmt m) → processes_of row ≡ statement_processes (items-the_row-TStmt m row)
+members_row : {m : _} (row : Row_of-TStmt m) → processes_of row ≡ members_in (items-the_row-TStmt m row)
 members_row end_of-TStmt = refl
 members_row (more_of-TStmt s rest) = ap (and_member (process_of s)) (members_row rest)
 
-arms_row : {m : _} (row : Row_of-TArm m) → row_choices row ≡ choices_of (items-the_row-TArm m row)
+arms_row : {m : _} (row : Row_of-TArm m) → row_choices row ≡ choices_in (items-the_row-TArm m row)
 arms_row end_of-TArm = refl
 arms_row (more_of-TArm g body rest) = ap (and_choice (formula_of g) (process_of body)) (arms_row rest)
 
@@ -28,26 +28,26 @@ several_row : {m : _} (row : Row_of-Left m) → each_of row ≡ several_of (item
 several_row end_of-Left = refl
 several_row (more_of-Left l rest) = ap (and_left (remains_of l)) (several_row rest)
 
-pub then_is : (v : Vec TStmt Global) → process_of (Then v) ≡ in_turn (statement_processes v.items)
-then_is v = ap in_turn (members_row (hidden-the_row-TStmt-0 v) ∙ ap statement_processes (items_hidden-the_row-TStmt-0 v))
+pub then_is : (v : Vec TStmt Global) → process_of (Then v) ≡ in_turn (members_in v.items)
+then_is v = ap in_turn (members_row (hidden-the_row-TStmt-0 v) ∙ ap members_in (items_hidden-the_row-TStmt-0 v))
 
-pub beside_is : (v : Vec TStmt Global) → process_of (Beside v) ≡ side_by_side (statement_processes v.items)
-beside_is v = ap side_by_side (members_row (hidden-the_row-TStmt-0 v) ∙ ap statement_processes (items_hidden-the_row-TStmt-0 v))
+pub beside_is : (v : Vec TStmt Global) → process_of (Beside v) ≡ side_by_side (members_in v.items)
+beside_is v = ap side_by_side (members_row (hidden-the_row-TStmt-0 v) ∙ ap members_in (items_hidden-the_row-TStmt-0 v))
 
-pub select_is : (again : Bool) (v : Vec TArm Global) → process_of (Select again v) ≡ choosing again (choices_of v.items)
-select_is again v = ap (choosing again) (arms_row (hidden-the_row-TArm-1 v) ∙ ap choices_of (items_hidden-the_row-TArm-1 v))
+pub select_is : (again : Bool) (v : Vec TArm Global) → process_of (Select again v) ≡ choosing again (choices_in v.items)
+select_is again v = ap (choosing again) (arms_row (hidden-the_row-TArm-1 v) ∙ ap choices_in (items_hidden-the_row-TArm-1 v))
 
 pub branches_is : (v : Vec Left Global) → remains_of (Branches v) ≡ alongside (several_of v.items)
 branches_is v = ap alongside (several_row (hidden-the_row-Left-0 v) ∙ ap several_of (items_hidden-the_row-Left-0 v))
 
 -- the same of what a match says
-pub then_said : (s : TStmt) (v : Vec TStmt Global) → s ≡ Then v → process_of s ≡ in_turn (statement_processes v.items)
+pub then_said : (s : TStmt) (v : Vec TStmt Global) → s ≡ Then v → process_of s ≡ in_turn (members_in v.items)
 then_said s v is = ap process_of is ∙ then_is v
 
-pub beside_said : (s : TStmt) (v : Vec TStmt Global) → s ≡ Beside v → process_of s ≡ side_by_side (statement_processes v.items)
+pub beside_said : (s : TStmt) (v : Vec TStmt Global) → s ≡ Beside v → process_of s ≡ side_by_side (members_in v.items)
 beside_said s v is = ap process_of is ∙ beside_is v
 
-pub select_said : (s : TStmt) (again : Bool) (v : Vec TArm Global) → s ≡ Select again v → process_of s ≡ choosing again (choices_of v.items)
+pub select_said : (s : TStmt) (again : Bool) (v : Vec TArm Global) → s ≡ Select again v → process_of s ≡ choosing again (choices_in v.items)
 select_said s again v is = ap process_of is ∙ select_is again v
 
 pub repeat_said : (s : TStmt) (b : Box TStmt Global) → s ≡ Repeat b → process_of s ≡ repeating (process_of b.value)
@@ -60,11 +60,11 @@ pub inside_said : (l : Left) (k : ℕ) (b : Box Left Global) → l ≡ Inside k 
 inside_said l k b is = ap remains_of is
 
 -- counts
-pub count_members : (xs : List TStmt) → member_count (statement_processes xs) ≡ length xs
+pub count_members : (xs : List TStmt) → member_count (members_in xs) ≡ length xs
 count_members [] = refl
 count_members (x ∷ xs) = ap suc (count_members xs)
 
-pub count_arms : (xs : List TArm) → choice_count (choices_of xs) ≡ length xs
+pub count_arms : (xs : List TArm) → choice_count (choices_in xs) ≡ length xs
 count_arms [] = refl
 count_arms (x ∷ xs) = ap suc (count_arms xs)
 
@@ -73,12 +73,12 @@ count_lefts [] = refl
 count_lefts (x ∷ xs) = ap suc (count_lefts xs)
 
 -- elements
-pub member_is : (xs : List TStmt) (i : ℕ) (d : TStmt) → i < length xs → member_at (statement_processes xs) i ≡ process_of (get_or xs i d)
+pub member_is : (xs : List TStmt) (i : ℕ) (d : TStmt) → i < length xs → member_at (members_in xs) i ≡ process_of (get_or xs i d)
 member_is [] i d lt = absurd (omega (arith, lt))
 member_is (x ∷ xs) zero d lt = refl
 member_is (x ∷ xs) (suc i) d lt = member_is xs i d (omega (arith, lt))
 
-pub branch_is : (xs : List TArm) (i : ℕ) (d : TArm) → i < length xs → branch_of (choices_of xs) i ≡ process_of (get_or xs i d).body
+pub branch_is : (xs : List TArm) (i : ℕ) (d : TArm) → i < length xs → branch_of (choices_in xs) i ≡ process_of (get_or xs i d).body
 branch_is [] i d lt = absurd (omega (arith, lt))
 branch_is (x ∷ xs) zero d lt = refl
 branch_is (x ∷ xs) (suc i) d lt = branch_is xs i d (omega (arith, lt))
@@ -144,7 +144,7 @@ pub then_begun : (s : TStmt) (v : Vec TStmt Global) (x : TStmt) → s ≡ Then v
     begun (process_of s) ≡ within 0 (begun (process_of x))
 then_begun s v x is lt at =
     ap begun (then_said s v is)
-    ∙ (ap (within 0) (first_is (statement_processes v.items) (omega (arith, lt, count_members v.items)))
+    ∙ (ap (within 0) (first_is (members_in v.items) (omega (arith, lt, count_members v.items)))
     ∙ ap (λ p. within 0 (begun p)) (ap (λ p. part_of p 0) (sym (then_said s v is)) ∙ sym (then_part s v 0 x is lt at)))
 
 -- these are done, and then comes the rest
@@ -161,27 +161,27 @@ front_all [] = refl
 front_all (l ∷ ls) = ap (and_left (remains_of l)) (front_all ls)
 
 pub member_more : (xs : List TStmt) (i : ℕ) (x : TStmt) → i < length xs → x ≡ get_or xs i x →
-    statement_processes (drop i xs) ≡ and_member (process_of x) (statement_processes (drop (i + 1) xs))
-member_more xs i x lt at = ap statement_processes (drop_more xs i x lt) ∙ ap (λ y. and_member (process_of y) (statement_processes (drop (i + 1) xs))) (sym at)
+    members_in (drop i xs) ≡ and_member (process_of x) (members_in (drop (i + 1) xs))
+member_more xs i x lt at = ap members_in (drop_more xs i x lt) ∙ ap (λ y. and_member (process_of y) (members_in (drop (i + 1) xs))) (sym at)
 
-pub no_member_more : (xs : List TStmt) (i : ℕ) → length xs ≤ i → statement_processes (drop i xs) ≡ no_members
-no_member_more xs i all = ap statement_processes (drop_all i xs all)
+pub no_member_more : (xs : List TStmt) (i : ℕ) → length xs ≤ i → members_in (drop i xs) ≡ no_members
+no_member_more xs i all = ap members_in (drop_all i xs all)
 
 pub begun_more : (ls : List Left) (l : Left) (xs : List TStmt) (i : ℕ) (x : TStmt) (all : Several) → i < length xs → x ≡ get_or xs i x →
     remains_of l ≡ begun (process_of x)
-    → front ls (each_begun (statement_processes (drop i xs))) ≡ all → front (ls ++ l ∷ []) (each_begun (statement_processes (drop (i + 1) xs))) ≡ all
+    → front ls (each_begun (members_in (drop i xs))) ≡ all → front (ls ++ l ∷ []) (each_begun (members_in (drop (i + 1) xs))) ≡ all
 begun_more ls l xs i x all lt at is so_far =
-    front_push ls l (each_begun (statement_processes (drop (i + 1) xs)))
-    ∙ (ap (λ r. front ls (and_left r (each_begun (statement_processes (drop (i + 1) xs))))) is
+    front_push ls l (each_begun (members_in (drop (i + 1) xs)))
+    ∙ (ap (λ r. front ls (and_left r (each_begun (members_in (drop (i + 1) xs))))) is
     ∙ (ap (λ ms. front ls (each_begun ms)) (sym (member_more xs i x lt at)) ∙ so_far))
 
 pub begun_all : (s : TStmt) (v : Vec TStmt Global) (xs : List TStmt) (ls : Vec Left Global) (i : ℕ) → s ≡ Beside v → xs ≡ v.items → length xs ≤ i
-    → front ls.items (each_begun (statement_processes (drop i xs))) ≡ each_begun (statement_processes xs) → remains_of (Branches ls) ≡ begun (process_of s)
+    → front ls.items (each_begun (members_in (drop i xs))) ≡ each_begun (members_in xs) → remains_of (Branches ls) ≡ begun (process_of s)
 begun_all s v xs ls i is same all whole_of =
     branches_is ls
     ∙ (ap alongside (sym (front_all ls.items)
     ∙ (ap (λ ms. front ls.items (each_begun ms)) (sym (no_member_more xs i all))
-    ∙ (whole_of ∙ ap (λ (ys : List TStmt). each_begun (statement_processes ys)) same)))
+    ∙ (whole_of ∙ ap (λ (ys : List TStmt). each_begun (members_in ys)) same)))
     ∙ ap begun (sym (beside_said s v is)))
 
 pub first_members : (s : TStmt) (v : Vec TStmt Global) (x : TStmt) → s ≡ Then v → x ≡ get_or v.items 0 x → HasMembers (process_of s) → HasMembers (process_of x)
@@ -202,16 +202,16 @@ pub then_next : (s : TStmt) (v : Vec TStmt Global) (k : ℕ) → s ≡ Then v �
 then_next s v k is lt =
     let count = count_members v.items in
     ap (λ p. after_part p k) (then_said s v is)
-    ∙ (ap (λ b. if b then within (k + 1) (begun (member_at (statement_processes v.items) (k + 1))) else over)
-    (lt-ltb (k + 1) (member_count (statement_processes v.items)) (omega (arith, lt, count)))
+    ∙ (ap (λ b. if b then within (k + 1) (begun (member_at (members_in v.items) (k + 1))) else over)
+    (lt-ltb (k + 1) (member_count (members_in v.items)) (omega (arith, lt, count)))
     ∙ ap (λ p. within (k + 1) (begun (part_of p (k + 1)))) (sym (then_said s v is)))
 
 pub then_last : (s : TStmt) (v : Vec TStmt Global) (k : ℕ) → s ≡ Then v → length v.items ≤ k + 1 → after_part (process_of s) k ≡ over
 then_last s v k is le =
     let count = count_members v.items in
     ap (λ p. after_part p k) (then_said s v is)
-    ∙ ap (λ b. if b then within (k + 1) (begun (member_at (statement_processes v.items) (k + 1))) else over)
-    (le-ltb (k + 1) (member_count (statement_processes v.items)) (omega (arith, le, count)))
+    ∙ ap (λ b. if b then within (k + 1) (begun (member_at (members_in v.items) (k + 1))) else over)
+    (le-ltb (k + 1) (member_count (members_in v.items)) (omega (arith, le, count)))
 
 all_are_over : (ls : List Left) → list_all (λ l. none_remains (remains_of l)) ls ≡ all_over (several_of ls)
 all_are_over [] = refl

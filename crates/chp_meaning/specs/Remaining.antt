@@ -35,14 +35,6 @@ abbrev pub several_of : List Left → Several
 several_of [] = no_more
 several_of (l ∷ ls) = and_left (remains_of l) (several_of ls)
 
-abbrev pub statement_processes : List TStmt → Processes
-statement_processes [] = no_members
-statement_processes (s ∷ rest) = and_member (process_of s) (statement_processes rest)
-
-abbrev pub choices_of : List TArm → Choices
-choices_of [] = no_choices
-choices_of (a ∷ rest) = and_choice (formula_of a.guard) (process_of a.body) (choices_of rest)
-
 abbrev pub none_remains : Remains → Bool
 none_remains over = true
 none_remains _ = false
@@ -103,11 +95,11 @@ abbrev mutual
   term_of p over = finished
   term_of p whole = active p
   term_of p (within k r) = before (term_of (part_of p k) r) (coming p k)
-  term_of p (alongside rs) = in_parallel (terms_of p 0 rs)
+  term_of p (alongside rs) = in_parallel (branch_terms p 0 rs)
 
-  pub terms_of : Process → ℕ → Several → Terms
-  terms_of p k no_more = no_branches
-  terms_of p k (and_left r rest) = and_branch (term_of (part_of p k) r) (terms_of p (suc k) rest)
+  pub branch_terms : Process → ℕ → Several → Terms
+  branch_terms p k no_more = no_branches
+  branch_terms p k (and_left r rest) = and_branch (term_of (part_of p k) r) (branch_terms p (suc k) rest)
 
 abbrev pub is_beside : Process → Bool
 is_beside (side_by_side ms) = true

@@ -2,8 +2,8 @@
 
 ghost use Rattle.std.specs.Prelude.{◌≡◌, ◌<◌, length};
 ghost use Rattle.env_script.specs.Scripts.{offer_at, is_over};
-ghost use Rattle.width_check.specs.View.{process_of};
-ghost use Rattle.chp_meaning.specs.Remaining.{choices_of, GuardsHaveValues};
+ghost use Rattle.width_check.specs.View.{process_of, choices_in};
+ghost use Rattle.chp_meaning.specs.Remaining.{GuardsHaveValues};
 ghost use Rattle.chp_meaning.specs.AtOnce.{plain_move, next_of, sent_move, received_move, ending_move, is_met, true_guards, guards_counted};
 ghost use Rattle.chp_meaning.specs.Standing.{offer_of_rest, outset_of, HasTables, CanRun};
 
@@ -139,8 +139,8 @@ pub(crate) enum TrueGuards {
 
 /// Which guards of the arms are true.
 pub(crate) fn chosen(arms: &[TArm], store: &[u64]) -> TrueGuards
-    requires { GuardsHaveValues (choices_of arms.now) }
-    ensures { result ≡ guards_counted (true_guards store.now 0 (choices_of arms.now)) }
+    requires { GuardsHaveValues (choices_in arms.now) }
+    ensures { result ≡ guards_counted (true_guards store.now 0 (choices_in arms.now)) }
 {
     let mut found = TrueGuards::Zero;
     for (index, arm) in arms.iter().enumerate() {

@@ -13,7 +13,7 @@ use Rattle.chp_syntax.specs.declared.token.TokenKind.TheVariants.{Word, Ident, N
 use Rattle.chp_syntax.specs.declared.token.Mark.TheVariants as mark
 use Rattle.chp_syntax.specs.declared.tree.DeclKind.{DeclKind}
 use Rattle.chp_syntax.specs.Trees.{Expressions, Statement, Statements, no_members, and_member, Arms, Procedure, ProgramTree}
-use Rattle.chp_syntax.specs.Grammar.{sign, name, numeral, kind_of_channel, Covered, Tail, Guarded, parallel_of, sequence_of, Primary, a_number, a_name, a_bit, a_slice, a_join, in_brackets, Parts, the_parts, MoreParts, no_more_parts, one_more_part, Negated, plain, negated, Sum, the_sum, MoreSum, no_more_sum, one_more_sum, Comparison, not_compared, compared, Conjunction, the_conjunction, MoreConjunction, no_more_conjunction, one_more_conjunction, Exclusive, the_exclusive, MoreExclusive, no_more_exclusive, one_more_exclusive, Disjunction, the_disjunction, MoreDisjunction, no_more_disjunction, one_more_disjunction, Atom, a_skip, an_assignment, a_send, a_receive, a_call, in_round, a_loop, a_guarded_loop, a_selection, Branch, the_branch, Choices, the_choices, MoreChoices, no_more_choices, one_more_choice, Both, the_both, MoreBoth, no_more_both, one_more_both, Seq, the_seq, MoreSeq, no_more_seq, one_more_seq, Par, the_par, MorePar, no_more_par, one_more_par, Declared, Item, valued, defined, and_item, Declaration, a_channel, a_variable, a_variable_with_first, a_procedure, Declarations, no_declaration, one_more_declaration, the_program, Derives}
+use Rattle.chp_syntax.specs.Grammar.{sign, name, numeral, kind_of_channel, Covered, Tail, Guarded, parallel_of, sequence_of, Primary, a_number, a_name, a_bit, a_slice, a_join, in_brackets, Parts, the_parts, MoreParts, no_more_parts, one_more_part, Negated, plain, negated, Sum, the_sum, MoreSum, no_more_sum, one_more_sum, Comparison, not_compared, compared, Conjunction, the_conjunction, MoreConjunction, no_more_conjunction, one_more_conjunction, Exclusive, the_exclusive, MoreExclusive, no_more_exclusive, one_more_exclusive, Disjunction, the_disjunction, MoreDisjunction, no_more_disjunction, one_more_disjunction, Atom, a_skip, an_assignment, a_send, a_receive, a_call, in_round, a_loop, a_guarded_loop, a_selection, GuardedCommand, the_branch, GuardedCommands, the_choices, MoreChoices, no_more_choices, one_more_choice, Both, the_both, MoreBoth, no_more_both, one_more_both, Seq, the_seq, MoreSeq, no_more_seq, one_more_seq, Par, the_par, MorePar, no_more_par, one_more_par, Declared, Item, valued, defined, and_item, Declaration, a_channel, a_variable, a_variable_with_first, a_procedure, Declarations, no_declaration, one_more_declaration, the_program, Derives}
 use Rattle.chp_syntax.specs.Reading.{few_arms, few_arms_each, few_arms_in, arm_count}
 use Rattle.chp_syntax.specs.Parts.{rank}
 use Rattle.chp_syntax.specs.Seventeenth.{bar_counted, counted, counts, is_full, is_seventeenth, is_narrow, IsSeventeenth}
@@ -169,10 +169,10 @@ mutual
   atom_narrow (a_guarded_loop {rest = rest} p) ns = choices_narrow p ns (is_narrow ns rest) (λ c. refl)
   atom_narrow (a_selection {rest = rest} p) ns = choices_narrow p ns (is_narrow ns rest) (λ c. refl)
 
-  branch_narrow : {ts rest : List Token} {b : Guarded} → Branch ts rest b → (ns : List ℕ) → is_narrow ns ts ≡ (few_arms b.body && is_narrow ns rest)
+  branch_narrow : {ts rest : List Token} {b : Guarded} → GuardedCommand ts rest b → (ns : List ℕ) → is_narrow ns ts ≡ (few_arms b.body && is_narrow ns rest)
   branch_narrow (the_branch d p) ns = disjunction_narrow d ns ∙ par_narrow p ns
 
-  choices_narrow : {ts rest : List Token} {bs : Arms} → Choices ts rest bs → (ns : List ℕ) (z : Bool) → ((c : ℕ) → is_narrow (c ∷ ns) rest ≡ z) →
+  choices_narrow : {ts rest : List Token} {bs : Arms} → GuardedCommands ts rest bs → (ns : List ℕ) (z : Bool) → ((c : ℕ) → is_narrow (c ∷ ns) rest ≡ z) →
       is_narrow (0 ∷ ns) ts ≡ ((nat_le (arm_count bs) 16 && few_arms_in bs) && z)
   choices_narrow (the_choices {t = t} {bs = bs} b m) ns z h =
       branch_narrow b (0 ∷ ns) ∙ (ap (λ (v : Bool). few_arms t && v) (more_choices_narrow m 0 ns z h (omega arith))

@@ -9,7 +9,7 @@ use Rattle.chp_syntax.specs.declared.token.Mark.TheVariants as mark
 use Rattle.chp_syntax.specs.declared.parser.sight.AtomFront.{AtomFront}
 use Rattle.chp_syntax.specs.declared.parser.sight.AtomFront.TheVariants as atom
 use Rattle.chp_syntax.specs.Trees.{Statement, skips, selects, repeats, Arms}
-use Rattle.chp_syntax.specs.Grammar.{numeral, word, sign, Covered, Tail, Primary, a_number, a_name, a_bit, a_slice, a_join, in_brackets, Negated, plain, negated, Sum, the_sum, MoreSum, no_more_sum, one_more_sum, Comparison, not_compared, compared, Conjunction, the_conjunction, MoreConjunction, no_more_conjunction, one_more_conjunction, Exclusive, the_exclusive, MoreExclusive, no_more_exclusive, one_more_exclusive, Disjunction, the_disjunction, MoreDisjunction, no_more_disjunction, one_more_disjunction, Atom, a_skip, an_assignment, a_send, a_receive, a_call, in_round, a_loop, a_guarded_loop, a_selection, the_branch, Choices, the_choices, no_more_choices, Both, the_both, Seq, the_seq, Par, the_par}
+use Rattle.chp_syntax.specs.Grammar.{numeral, word, sign, Covered, Tail, Primary, a_number, a_name, a_bit, a_slice, a_join, in_brackets, Negated, plain, negated, Sum, the_sum, MoreSum, no_more_sum, one_more_sum, Comparison, not_compared, compared, Conjunction, the_conjunction, MoreConjunction, no_more_conjunction, one_more_conjunction, Exclusive, the_exclusive, MoreExclusive, no_more_exclusive, one_more_exclusive, Disjunction, the_disjunction, MoreDisjunction, no_more_disjunction, one_more_disjunction, Atom, a_skip, an_assignment, a_send, a_receive, a_call, in_round, a_loop, a_guarded_loop, a_selection, the_branch, GuardedCommands, the_choices, no_more_choices, Both, the_both, Seq, the_seq, Par, the_par}
 use Rattle.chp_syntax.specs.Parts.{sees, rank, StopsAt, Inside, a_body, some_arms, Good, Bad, atom_kind, action_kind, action_front, acts, begins_par, begins_par_with}
 use Rattle.chp_syntax.proofs.Steps.{zero_span, sees_same, stops_more}
 use Rattle.chp_syntax.proofs.Expressions.{sum_ranked, conjunction_ranked, exclusive_ranked, disjunction_ranked, compared_ranked}
@@ -98,7 +98,7 @@ mutual
   primary_begins (a_join p) q = refl
   primary_begins (in_brackets p) q = disjunction_begins p refl
 
-pub choices_begin : {ts rest : List Token} {bs : Arms} → Choices ts rest bs → begins_par ts ≡ false
+pub choices_begin : {ts rest : List Token} {bs : Arms} → GuardedCommands ts rest bs → begins_par ts ≡ false
 choices_begin (the_choices (the_branch d p) n) = disjunction_begins d refl
 
 -- tokens with which both a statement and an arm may begin: any number of `(`, and a name behind them
@@ -208,7 +208,7 @@ expression_on : (ds : List Token) → Undecided ds → Goes_on Disjunction ds
 expression_on [] u = (numeral 0 zero_span ∷ [], _, λ rest. primary_alone a_number)
 expression_on (t ∷ ts) u = expression_kind t.kind t.at ts u (λ v. expression_on ts v)
 
-arms_on : (ds : List Token) → Undecided ds → Goes_on Choices ds
+arms_on : (ds : List Token) → Undecided ds → Goes_on GuardedCommands ds
 arms_on ds u =
     let r = expression_on ds u in
     let more = sign mark.Arrow zero_span ∷ word key.Skip zero_span ∷ [] in (
@@ -225,7 +225,7 @@ body_good {xs} {left} {t} good = record { done = good.done; is = good.is; derive
     only l rest b s f (a_body {t = u} p) = let e = good.only l rest u s (stops_more 1 2 (sees rest) (omega arith) f) p in (e.0, ap repeats e.1)
     only l rest b s f (some_arms p) = absurd (let e : true ≡ false = sym (par_begins (good.derives l)) ∙ choices_begin p in cc e)
 
-pub arms_good : {xs left : List Token} {bs : Arms} → Good Choices (StopsAt 1) xs left bs → Good Inside (StopsAt 1) xs left (selects true bs)
+pub arms_good : {xs left : List Token} {bs : Arms} → Good GuardedCommands (StopsAt 1) xs left bs → Good Inside (StopsAt 1) xs left (selects true bs)
 arms_good {xs} {left} {bs} good = record { done = good.done; is = good.is; derives = λ l. some_arms (good.derives l); only = only }
   where
     only : (l rest : List Token) (b : Statement) → sees l ≡ sees left → StopsAt 1 (sees rest) → Inside (good.done ++ l) rest b →
@@ -254,7 +254,7 @@ body_bad {xs} {left} begins bad = record {
         clash Par bad.done left x.0 (λ l rest b s f p. bad.stuck l rest b s (stops_more 1 2 (sees rest) (omega arith) f) p) (sym s ∙ x.1)
         (statement_on (bad.done ++ (x.0 ∷ [])) x.2)
 
-pub arms_bad : {xs left : List Token} → begins_par xs ≡ false → Bad Choices (StopsAt 1) xs left → Bad Inside (StopsAt 1) xs left
+pub arms_bad : {xs left : List Token} → begins_par xs ≡ false → Bad GuardedCommands (StopsAt 1) xs left → Bad Inside (StopsAt 1) xs left
 arms_bad {xs} {left} begins bad = record {
   done = bad.done;
   is = bad.is;
@@ -266,4 +266,4 @@ arms_bad {xs} {left} begins bad = record {
     stuck l rest b s f (some_arms {bs = cs} p) = bad.stuck l rest cs s f p
     stuck l rest b s f (a_body p) =
         let x = shared bad.done left l (sym s) (par_begins p) (ap begins_par (sym bad.is) ∙ begins) in
-        clash Choices bad.done left x.0 (λ l rest b s f p. bad.stuck l rest b s f p) x.1 (arms_on (bad.done ++ (x.0 ∷ [])) x.2)
+        clash GuardedCommands bad.done left x.0 (λ l rest b s f p. bad.stuck l rest b s f p) x.1 (arms_on (bad.done ++ (x.0 ∷ [])) x.2)

@@ -8,7 +8,7 @@ use Rattle.chp_syntax.specs.declared.token.Mark.TheVariants as mark
 use Rattle.chp_syntax.specs.declared.tree.DeclKind.{DeclKind}
 use Rattle.chp_syntax.specs.declared.tree.Op.{Op}
 use Rattle.chp_syntax.specs.Trees.{negation, Expressions, and_part, Statement, assigns, sends, selects, repeats, Statements, and_member, Arms, and_arm, ProgramTree}
-use Rattle.chp_syntax.specs.Grammar.{named, sign, word, from_to, or_operator, xor_of, and_of, sum_of, comparison_of, kind_of_channel, Covered, cover, Tail, no_tail, longer, chain_of, sequence_of, parallel_of, Guarded, guarded, Primary, a_number, a_name, a_bit, a_slice, a_join, in_brackets, Parts, the_parts, MoreParts, no_more_parts, one_more_part, Negated, plain, negated, Sum, the_sum, MoreSum, no_more_sum, one_more_sum, Comparison, not_compared, compared, Conjunction, the_conjunction, MoreConjunction, no_more_conjunction, one_more_conjunction, Exclusive, the_exclusive, MoreExclusive, no_more_exclusive, one_more_exclusive, Disjunction, the_disjunction, MoreDisjunction, no_more_disjunction, one_more_disjunction, Atom, a_skip, an_assignment, a_send, a_receive, a_call, in_round, a_loop, a_guarded_loop, a_selection, Branch, the_branch, Choices, the_choices, MoreChoices, no_more_choices, one_more_choice, Both, the_both, MoreBoth, no_more_both, one_more_both, Seq, the_seq, MoreSeq, no_more_seq, one_more_seq, Par, the_par, MorePar, no_more_par, one_more_par, Declared, Item, valued, and_item, unset, Declaration, a_channel, a_variable, a_variable_with_first, a_procedure, Declarations, no_declaration, one_more_declaration, Programs, the_program, Derives}
+use Rattle.chp_syntax.specs.Grammar.{named, sign, word, from_to, or_operator, xor_of, and_of, sum_of, comparison_of, kind_of_channel, Covered, cover, Tail, no_tail, longer, chain_of, sequence_of, parallel_of, Guarded, guarded, Primary, a_number, a_name, a_bit, a_slice, a_join, in_brackets, Parts, the_parts, MoreParts, no_more_parts, one_more_part, Negated, plain, negated, Sum, the_sum, MoreSum, no_more_sum, one_more_sum, Comparison, not_compared, compared, Conjunction, the_conjunction, MoreConjunction, no_more_conjunction, one_more_conjunction, Exclusive, the_exclusive, MoreExclusive, no_more_exclusive, one_more_exclusive, Disjunction, the_disjunction, MoreDisjunction, no_more_disjunction, one_more_disjunction, Atom, a_skip, an_assignment, a_send, a_receive, a_call, in_round, a_loop, a_guarded_loop, a_selection, GuardedCommand, the_branch, GuardedCommands, the_choices, MoreChoices, no_more_choices, one_more_choice, Both, the_both, MoreBoth, no_more_both, one_more_both, Seq, the_seq, MoreSeq, no_more_seq, one_more_seq, Par, the_par, MorePar, no_more_par, one_more_par, Declared, Item, valued, and_item, unset, Declaration, a_channel, a_variable, a_variable_with_first, a_procedure, Declarations, no_declaration, one_more_declaration, Programs, the_program, Derives}
 use Rattle.chp_syntax.specs.Reading.{Reads}
 use Rattle.chp_syntax.specs.Parts.{sees, here, rank, StopsAt, Undeclared}
 use Rattle.chp_syntax.proofs.Steps.{stops_more}
@@ -233,13 +233,14 @@ mutual
       let h = choices_once p x (omega arith) (omega arith) in
       (behind_same h.0, ap (λ (bs : Arms). selects false bs) h.1)
 
-  branch_once : {ts r q : List Token} {a b : Guarded} → Branch ts r a → Branch ts q b → StopsAt 2 (sees r) → StopsAt 2 (sees q) → Same r a q b
+  branch_once : {ts r q : List Token} {a b : Guarded} → GuardedCommand ts r a → GuardedCommand ts q b → StopsAt 2 (sees r) → StopsAt 2 (sees q) → Same r a q b
   branch_once {r = r} (the_branch {t = t} p o) (the_branch x y) f g =
       let h = disjunction_once p x (omega arith) (omega arith) in
       let w = par_once (subst (λ (l : List Token). Par l r t) (behind_same h.0) o) y f g in
       (w.0, both_same (λ (c : Covered) (u : Statement). guarded c.expression u) h.1 w.1)
 
-  choices_once : {ts r q : List Token} {bs cs : Arms} → Choices ts r bs → Choices ts q cs → StopsAt 1 (sees r) → StopsAt 1 (sees q) → Same r bs q cs
+  choices_once : {ts r q : List Token} {bs cs : Arms} → GuardedCommands ts r bs → GuardedCommands ts q cs →
+      StopsAt 1 (sees r) → StopsAt 1 (sees q) → Same r bs q cs
   choices_once {r = r} (the_choices {bs = bs} a n) (the_choices b m) f g =
       let h = branch_once a b (choices_stops n f) (choices_stops m g) in
       let w = more_choices_once (subst (λ (x : List Token). MoreChoices x r bs) h.0 n) m f g in

@@ -9,7 +9,7 @@ use Rattle.chp_syntax.specs.declared.tree.DeclKind.{DeclKind}
 use Rattle.chp_syntax.specs.declared.tree.Op.{Op}
 use Rattle.chp_syntax.specs.Trees.{Expressions, Statement, Statements, Arms, ProgramTree}
 use Rattle.chp_syntax.specs.Grammar.{or_operator, xor_of, and_of, sum_of, comparison_of}
-use Rattle.chp_syntax.specs.Grammar.{sign, name, numeral, kind_of_channel, Covered, Tail, Guarded, Primary, a_number, a_name, a_bit, a_slice, a_join, in_brackets, Parts, the_parts, MoreParts, no_more_parts, one_more_part, Negated, plain, negated, Sum, the_sum, MoreSum, no_more_sum, one_more_sum, Comparison, not_compared, compared, Conjunction, the_conjunction, MoreConjunction, no_more_conjunction, one_more_conjunction, Exclusive, the_exclusive, MoreExclusive, no_more_exclusive, one_more_exclusive, Disjunction, the_disjunction, MoreDisjunction, no_more_disjunction, one_more_disjunction, Atom, a_skip, an_assignment, a_send, a_receive, a_call, in_round, a_loop, a_guarded_loop, a_selection, Branch, the_branch, Choices, the_choices, MoreChoices, no_more_choices, one_more_choice, Both, the_both, MoreBoth, no_more_both, one_more_both, Seq, the_seq, MoreSeq, no_more_seq, one_more_seq, Par, the_par, MorePar, no_more_par, one_more_par, Declared, Item, Declaration, a_channel, a_variable, a_variable_with_first, a_procedure, Declarations, no_declaration, one_more_declaration, the_program, Derives}
+use Rattle.chp_syntax.specs.Grammar.{sign, name, numeral, kind_of_channel, Covered, Tail, Guarded, Primary, a_number, a_name, a_bit, a_slice, a_join, in_brackets, Parts, the_parts, MoreParts, no_more_parts, one_more_part, Negated, plain, negated, Sum, the_sum, MoreSum, no_more_sum, one_more_sum, Comparison, not_compared, compared, Conjunction, the_conjunction, MoreConjunction, no_more_conjunction, one_more_conjunction, Exclusive, the_exclusive, MoreExclusive, no_more_exclusive, one_more_exclusive, Disjunction, the_disjunction, MoreDisjunction, no_more_disjunction, one_more_disjunction, Atom, a_skip, an_assignment, a_send, a_receive, a_call, in_round, a_loop, a_guarded_loop, a_selection, GuardedCommand, the_branch, GuardedCommands, the_choices, MoreChoices, no_more_choices, one_more_choice, Both, the_both, MoreBoth, no_more_both, one_more_both, Seq, the_seq, MoreSeq, no_more_seq, one_more_seq, Par, the_par, MorePar, no_more_par, one_more_par, Declared, Item, Declaration, a_channel, a_variable, a_variable_with_first, a_procedure, Declarations, no_declaration, one_more_declaration, the_program, Derives}
 use Rattle.chp_syntax.specs.Limits.{is_probe, is_arbiter, has_kind}
 
 -- a token of the language
@@ -140,10 +140,10 @@ mutual
   atom_own (a_guarded_loop p) = choices_own p
   atom_own (a_selection p) = choices_own p
 
-  branch_own : {ts rest : List Token} {v : Guarded} → Branch ts rest v → has_foreign ts ≡ has_foreign rest
+  branch_own : {ts rest : List Token} {v : Guarded} → GuardedCommand ts rest v → has_foreign ts ≡ has_foreign rest
   branch_own (the_branch d p) = bar_own d ∙ par_own p
 
-  choices_own : {ts rest : List Token} {v : Arms} → Choices ts rest v → has_foreign ts ≡ has_foreign rest
+  choices_own : {ts rest : List Token} {v : Arms} → GuardedCommands ts rest v → has_foreign ts ≡ has_foreign rest
   choices_own (the_choices b m) = branch_own b ∙ more_choices_own m
 
   more_choices_own : {ts rest : List Token} {v : Arms} → MoreChoices ts rest v → has_foreign ts ≡ has_foreign rest

@@ -15,7 +15,7 @@ use Rattle.chp_syntax.specs.declared.tree.Op.{Op}
 use Rattle.chp_syntax.specs.Spelling.{Spells}
 use Rattle.chp_syntax.specs.Tokens.{Tokens, Cuts, so_far, a_gap, a_token}
 use Rattle.chp_syntax.specs.Trees.{Expression, Expressions, Links, no_links, and_link, Statement, Statements, no_members, and_member, Arms, Procedure, ProgramTree}
-use Rattle.chp_syntax.specs.Grammar.{or_operator, xor_of, and_of, sum_of, Covered, Tail, chained, Guarded, parallel_of, sequence_of, Primary, a_number, a_name, a_bit, a_slice, a_join, in_brackets, Parts, the_parts, MoreParts, no_more_parts, one_more_part, Negated, plain, negated, Sum, the_sum, MoreSum, no_more_sum, one_more_sum, Comparison, not_compared, compared, Conjunction, the_conjunction, MoreConjunction, no_more_conjunction, one_more_conjunction, Exclusive, the_exclusive, MoreExclusive, no_more_exclusive, one_more_exclusive, Disjunction, the_disjunction, MoreDisjunction, no_more_disjunction, one_more_disjunction, Atom, a_skip, an_assignment, a_send, a_receive, a_call, in_round, a_loop, a_guarded_loop, a_selection, Branch, the_branch, Choices, the_choices, MoreChoices, no_more_choices, one_more_choice, Both, the_both, MoreBoth, no_more_both, one_more_both, Seq, the_seq, MoreSeq, no_more_seq, one_more_seq, Par, the_par, MorePar, no_more_par, one_more_par, Declared, Item, valued, defined, and_item, Declaration, a_channel, a_variable, a_variable_with_first, a_procedure, Declarations, no_declaration, one_more_declaration, the_program, Derives}
+use Rattle.chp_syntax.specs.Grammar.{or_operator, xor_of, and_of, sum_of, Covered, Tail, chained, Guarded, parallel_of, sequence_of, Primary, a_number, a_name, a_bit, a_slice, a_join, in_brackets, Parts, the_parts, MoreParts, no_more_parts, one_more_part, Negated, plain, negated, Sum, the_sum, MoreSum, no_more_sum, one_more_sum, Comparison, not_compared, compared, Conjunction, the_conjunction, MoreConjunction, no_more_conjunction, one_more_conjunction, Exclusive, the_exclusive, MoreExclusive, no_more_exclusive, one_more_exclusive, Disjunction, the_disjunction, MoreDisjunction, no_more_disjunction, one_more_disjunction, Atom, a_skip, an_assignment, a_send, a_receive, a_call, in_round, a_loop, a_guarded_loop, a_selection, GuardedCommand, the_branch, GuardedCommands, the_choices, MoreChoices, no_more_choices, one_more_choice, Both, the_both, MoreBoth, no_more_both, one_more_both, Seq, the_seq, MoreSeq, no_more_seq, one_more_seq, Par, the_par, MorePar, no_more_par, one_more_par, Declared, Item, valued, defined, and_item, Declaration, a_channel, a_variable, a_variable_with_first, a_procedure, Declarations, no_declaration, one_more_declaration, the_program, Derives}
 use Rattle.chp_syntax.specs.Reading.{Reads, arm_count, few_arms, few_arms_each, few_arms_in}
 use Rattle.chp_syntax.specs.Shape.{is_comparison, some_compares, link_count, expression_count, IsShapedExpression, AreShapedParts, AreShapedLinks, IsShapedStatement, AreShapedMembers, AreShapedArms, IsShapedDecl, IsShapedProcedure, IsShaped}
 
@@ -155,7 +155,7 @@ mutual
   atom_shaped (a_guarded_loop p) few = choices_shaped p few
   atom_shaped (a_selection p) few = choices_shaped p few
 
-  choices_shaped : {ts rest : List Token} {bs : Arms} → Choices ts rest bs → (nat_le (arm_count bs) 16 && few_arms_in bs) ≡ true →
+  choices_shaped : {ts rest : List Token} {bs : Arms} → GuardedCommands ts rest bs → (nat_le (arm_count bs) 16 && few_arms_in bs) ≡ true →
       (1 ≤ arm_count bs) × (arm_count bs ≤ 16) × AreShapedArms bs
   choices_shaped (the_choices {t = t} {bs = bs} b m) few =
       let most = both_true (nat_le (suc (arm_count bs)) 16) (few_arms t && few_arms_in bs) few in
@@ -163,7 +163,8 @@ mutual
       let here = branch_shaped b each.0 in
       (omega arith, at_most_sixteen (suc (arm_count bs)) most.0, (here.0, here.1, more_choices_shaped m each.1))
 
-  branch_shaped : {ts rest : List Token} {b : Guarded} → Branch ts rest b → few_arms b.body ≡ true → IsShapedExpression b.guard × IsShapedStatement b.body
+  branch_shaped : {ts rest : List Token} {b : Guarded} → GuardedCommand ts rest b → few_arms b.body ≡ true →
+      IsShapedExpression b.guard × IsShapedStatement b.body
   branch_shaped (the_branch d p) few = (disjunction_shaped d, par_shaped p few)
 
   more_choices_shaped : {ts rest : List Token} {bs : Arms} → MoreChoices ts rest bs → few_arms_in bs ≡ true → AreShapedArms bs
@@ -282,10 +283,10 @@ mutual
   atom_left (a_guarded_loop p) h = (choices_left p h.1.1).1
   atom_left (a_selection p) h = (choices_left p h.1).1
 
-  branch_left : {ts rest : List Token} {b : Guarded} → Branch ts rest b → AreNamed ts → AreNamed rest
+  branch_left : {ts rest : List Token} {b : Guarded} → GuardedCommand ts rest b → AreNamed ts → AreNamed rest
   branch_left (the_branch d p) h = par_left p (disjunction_left d h).1
 
-  choices_left : {ts rest : List Token} {bs : Arms} → Choices ts rest bs → AreNamed ts → AreNamed rest
+  choices_left : {ts rest : List Token} {bs : Arms} → GuardedCommands ts rest bs → AreNamed ts → AreNamed rest
   choices_left (the_choices b m) h = more_choices_left m (branch_left b h)
 
   more_choices_left : {ts rest : List Token} {bs : Arms} → MoreChoices ts rest bs → AreNamed ts → AreNamed rest

@@ -10,7 +10,7 @@ use Rattle.chp_syntax.specs.declared.tree.Ident.{Ident as Named}
 use Rattle.chp_syntax.specs.declared.parser.sight.AtomFront.TheVariants as atom
 use Rattle.chp_syntax.specs.declared.parser.sight.ActionFront.TheVariants as action
 use Rattle.chp_syntax.specs.Trees.{Statement, skips, assigns, sends, receives, selects, repeats, calls, Statements, no_members, and_member, Arms, no_arms}
-use Rattle.chp_syntax.specs.Grammar.{named, word, Covered, Guarded, guarded, sequence_of, parallel_of, Disjunction, Atom, a_skip, an_assignment, a_send, a_receive, a_call, in_round, a_loop, a_guarded_loop, a_selection, Branch, the_branch, Choices, the_choices, MoreChoices, no_more_choices, one_more_choice, Both, the_both, MoreBoth, no_more_both, one_more_both, Seq, the_seq, MoreSeq, no_more_seq, one_more_seq, Par, the_par, MorePar, no_more_par, one_more_par}
+use Rattle.chp_syntax.specs.Grammar.{named, word, Covered, Guarded, guarded, sequence_of, parallel_of, Disjunction, Atom, a_skip, an_assignment, a_send, a_receive, a_call, in_round, a_loop, a_guarded_loop, a_selection, GuardedCommand, the_branch, GuardedCommands, the_choices, MoreChoices, no_more_choices, one_more_choice, Both, the_both, MoreBoth, no_more_both, one_more_both, Seq, the_seq, MoreSeq, no_more_seq, one_more_seq, Par, the_par, MorePar, no_more_par, one_more_par}
 use Rattle.chp_syntax.specs.Parts.{GrammarPart, sees, IsKind, rank, StopsAt, Anything, Exactly, exactly, AName, the_name, Inside, a_body, some_arms, Bad, atom_front, action_kind, action_front}
 use Rattle.chp_syntax.specs.View.{onto, and_guarded}
 use Rattle.chp_syntax.proofs.Steps.{zero_span, SoFar, Ends, Seam, Then, and_then, Done, all_done, Either, one, other, start, instead, bad_here, exactly_seen, ends_exactly, ends_name, ends_done, ends_then, ends_one, any_seam, kind_seam, last_seam, last_any, stops_more, then_kind}
@@ -207,14 +207,14 @@ Body e = Then Par (λ t. Done (guarded e.expression t))
 abbrev pub Arrowed : Covered → GrammarPart Guarded
 Arrowed e = Then (Exactly (Sign mark.Arrow)) (λ p. Body e)
 
-branch_in : {l rest : List Token} {a : Guarded} → Then Disjunction Arrowed l rest a → Branch l rest a
+branch_in : {l rest : List Token} {a : Guarded} → Then Disjunction Arrowed l rest a → GuardedCommand l rest a
 branch_in (and_then d (and_then exactly (and_then p all_done))) = the_branch d p
 
-branch_out : {l rest : List Token} {a : Guarded} → Branch l rest a → Then Disjunction Arrowed l rest a
+branch_out : {l rest : List Token} {a : Guarded} → GuardedCommand l rest a → Then Disjunction Arrowed l rest a
 branch_out (the_branch d p) = and_then d (and_then exactly (and_then p all_done))
 
-pub branch_start : (xs : List Token) → SoFar Branch (StopsAt 2) xs xs (Then Disjunction Arrowed)
-branch_start xs = instead (Then Disjunction Arrowed) (start Branch (StopsAt 2) xs) (λ l rest a q. branch_in q) (λ l rest a s f w. branch_out w)
+pub branch_start : (xs : List Token) → SoFar GuardedCommand (StopsAt 2) xs xs (Then Disjunction Arrowed)
+branch_start xs = instead (Then Disjunction Arrowed) (start GuardedCommand (StopsAt 2) xs) (λ l rest a q. branch_in q) (λ l rest a s f w. branch_out w)
 
 body_ends : (e : Covered) → Ends (Body e)
 body_ends e = ends_then ends_par (λ t. ends_done (guarded e.expression t))
@@ -228,21 +228,21 @@ arrow_seam e = any_seam (λ p. body_ends e)
 pub body_seam : (e : Covered) → Seam Par (StopsAt 2) (StopsAt 2) (λ t. Done (guarded e.expression t))
 body_seam e = last_seam (λ t. guarded e.expression t)
 
-pub ends_branch : Ends Branch
+pub ends_branch : Ends GuardedCommand
 ends_branch =
     let e = ends_then ends_disjunction (λ e. ends_then (ends_exactly (Sign mark.Arrow)) (λ p. body_ends e)) in
     (e.0, e.1, λ rest. branch_in (e.2 rest))
 
-pub choices_out : {l rest : List Token} {a : Arms} → Choices l rest a → (mid : List Token) × (b : Guarded) × (us : Arms) × Branch l mid b
+pub choices_out : {l rest : List Token} {a : Arms} → GuardedCommands l rest a → (mid : List Token) × (b : Guarded) × (us : Arms) × GuardedCommand l mid b
     × MoreChoices mid rest us × (a ≡ and_guarded b us)
 choices_out (the_choices {mid = mid} {e = e} {t = t} {bs = us} a n) = (mid, guarded e t, us, a, n, refl)
 
 pub choices_more : {l rest : List Token} {us : Arms} → MoreChoices l rest us →
-    Further Branch MoreChoices (Exactly (Sign mark.Choice)) (λ p b. b) no_arms and_guarded l rest us
+    Further GuardedCommand MoreChoices (Exactly (Sign mark.Choice)) (λ p b. b) no_arms and_guarded l rest us
 choices_more no_more_choices = no_further
 choices_more (one_more_choice {e = e} {t = t} a n) = a_further {b = guarded e t} exactly a n
 
-pub choices_in : {l x mid rest : List Token} {o : Span} {b : Guarded} {us : Arms} → Exactly (Sign mark.Choice) l x o → Branch x mid b →
+pub choices_in : {l x mid rest : List Token} {o : Span} {b : Guarded} {us : Arms} → Exactly (Sign mark.Choice) l x o → GuardedCommand x mid b →
     MoreChoices mid rest us → MoreChoices l rest (and_guarded b us)
 choices_in exactly a n = one_more_choice a n
 
@@ -261,9 +261,9 @@ choices_group = record {
   U = Arms;
   O = Span;
   I = Guarded;
-  W = Choices;
+  W = GuardedCommands;
   F = StopsAt 1;
-  R = Branch;
+  R = GuardedCommand;
   G = StopsAt 2;
   M = MoreChoices;
   S = Exactly (Sign mark.Choice);
@@ -285,7 +285,7 @@ choices_group = record {
   ends_sign = ends_exactly (Sign mark.Choice);
 }
 
-pub ends_choices : Ends Choices
+pub ends_choices : Ends GuardedCommands
 ends_choices = group_ends choices_group
 
 pub ends_inside : Ends Inside
@@ -329,7 +329,7 @@ abbrev pub Select_end : Arms → GrammarPart Statement
 Select_end bs = Then (Exactly (Sign mark.CloseSquare)) (λ c. Done (selects false bs))
 
 abbrev pub Squared : GrammarPart Statement
-Squared = Then (Exactly (Sign mark.OpenSquare)) (λ o. Then Choices Select_end)
+Squared = Then (Exactly (Sign mark.OpenSquare)) (λ o. Then GuardedCommands Select_end)
 
 skip_in : {l rest : List Token} {a : Statement} → Skipped l rest a → Atom l rest a
 skip_in (and_then exactly all_done) = a_skip
@@ -445,10 +445,10 @@ star_3 = kind_seam (Sign mark.CloseSquare) 1 (omega arith) (λ t c. ends_done t)
 pub star_4 : (t : Statement) → Seam (Exactly (Sign mark.CloseSquare)) Anything F5 (λ c. Done t)
 star_4 t = last_any (λ c. t)
 
-pub square_1 : Seam (Exactly (Sign mark.OpenSquare)) Anything F5 (λ o. Then Choices Select_end)
+pub square_1 : Seam (Exactly (Sign mark.OpenSquare)) Anything F5 (λ o. Then GuardedCommands Select_end)
 square_1 = any_seam (λ o. ends_then ends_choices (λ bs. ends_then (ends_exactly (Sign mark.CloseSquare)) (λ c. ends_done (selects false bs))))
 
-pub square_2 : Seam Choices (StopsAt 1) F5 Select_end
+pub square_2 : Seam GuardedCommands (StopsAt 1) F5 Select_end
 square_2 = kind_seam (Sign mark.CloseSquare) 1 (omega arith) (λ bs c. ends_done (selects false bs))
 
 pub square_3 : (bs : Arms) → Seam (Exactly (Sign mark.CloseSquare)) Anything F5 (λ c. Done (selects false bs))

@@ -237,25 +237,26 @@ mutual
         Atom (sign mark.OpenRound o ∷ ts) rest t
     a_loop : {ts rest : List Token} {t : Statement} {s o c : Span} → Par ts (sign mark.CloseSquare c ∷ rest) t →
         Atom (sign mark.Star s ∷ sign mark.OpenSquare o ∷ ts) rest (repeats t)
-    a_guarded_loop : {ts rest : List Token} {bs : Arms} {s o c : Span} → Choices ts (sign mark.CloseSquare c ∷ rest) bs
-        → Atom (sign mark.Star s ∷ sign mark.OpenSquare o ∷ ts) rest (selects true bs)
-    a_selection : {ts rest : List Token} {bs : Arms} {o c : Span} → Choices ts (sign mark.CloseSquare c ∷ rest) bs →
-        Atom (sign mark.OpenSquare o ∷ ts) rest (selects false bs)
+    a_guarded_loop : {ts rest : List Token} {bs : Arms} {s o c : Span} →
+        GuardedCommands ts (sign mark.CloseSquare c ∷ rest) bs →
+        Atom (sign mark.Star s ∷ sign mark.OpenSquare o ∷ ts) rest (selects true bs)
+    a_selection : {ts rest : List Token} {bs : Arms} {o c : Span} →
+        GuardedCommands ts (sign mark.CloseSquare c ∷ rest) bs → Atom (sign mark.OpenSquare o ∷ ts) rest (selects false bs)
 
   -- arm
-  pub data Branch : List Token → List Token → Guarded → Type 0 where
+  pub data GuardedCommand : List Token → List Token → Guarded → Type 0 where
     the_branch : {ts mid rest : List Token} {e : Expression} {r p : Span} {t : Statement} →
-        Disjunction ts (sign mark.Arrow p ∷ mid) (cover e r) → Par mid rest t → Branch ts rest (guarded e t)
+        Disjunction ts (sign mark.Arrow p ∷ mid) (cover e r) → Par mid rest t → GuardedCommand ts rest (guarded e t)
 
   -- arm { "[]" arm }
-  pub data Choices : List Token → List Token → Arms → Type 0 where
+  pub data GuardedCommands : List Token → List Token → Arms → Type 0 where
     the_choices : {ts mid rest : List Token} {e : Expression} {t : Statement} {bs : Arms} →
-        Branch ts mid (guarded e t) → MoreChoices mid rest bs → Choices ts rest (and_arm e t bs)
+        GuardedCommand ts mid (guarded e t) → MoreChoices mid rest bs → GuardedCommands ts rest (and_arm e t bs)
 
   pub data MoreChoices : List Token → List Token → Arms → Type 0 where
     no_more_choices : {rest : List Token} → MoreChoices rest rest no_arms
     one_more_choice : {ts mid rest : List Token} {e : Expression} {t : Statement} {bs : Arms} {p : Span} →
-        Branch ts mid (guarded e t) → MoreChoices mid rest bs →
+        GuardedCommand ts mid (guarded e t) → MoreChoices mid rest bs →
         MoreChoices (sign mark.Choice p ∷ ts) rest (and_arm e t bs)
 
   -- both

@@ -20,7 +20,7 @@ use Rattle.chp_syntax.specs.declared.parser.sight.DeclFront.{DeclFront}
 use Rattle.chp_syntax.specs.declared.parser.sight.DeclFront.TheVariants as decl
 use Rattle.chp_syntax.specs.declared.tree.DeclKind.TheVariants as declares
 use Rattle.chp_syntax.specs.Trees.{Statement, selects, repeats, Arms}
-use Rattle.chp_syntax.specs.Grammar.{Par, Choices, name, numeral}
+use Rattle.chp_syntax.specs.Grammar.{Par, GuardedCommands, name, numeral}
 
 -- a part of the grammar: the tokens from a place on, those that are left, and what was read
 abbrev pub GrammarPart : Type 0 → Type 1
@@ -101,7 +101,7 @@ pub data ANumber : List Token → List Token → Numeral → Type 0 where
 -- what stands between the brackets of a repetition
 pub data Inside : List Token → List Token → Statement → Type 0 where
   a_body : {ts rest : List Token} {t : Statement} → Par ts rest t → Inside ts rest (repeats t)
-  some_arms : {ts rest : List Token} {bs : Arms} → Choices ts rest bs → Inside ts rest (selects true bs)
+  some_arms : {ts rest : List Token} {bs : Arms} → GuardedCommands ts rest bs → Inside ts rest (selects true bs)
 
 -- the tokens ts are read as a, by R, and what is left is left: whatever stands there with the same first token
 pub record Good {A : Type 0} (R : List Token → List Token → A → Type 0) (F : Option Token →

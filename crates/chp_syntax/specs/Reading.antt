@@ -11,18 +11,18 @@ use Rattle.chp_syntax.specs.Grammar.{Derives}
 use Rattle.std.specs.List.{list_all}
 
 -- how many brackets are open behind a token, where so many were before it
-abbrev pub opened : ℕ → TokenKind → ℕ
-opened n (Sign mark.OpenRound) = suc n
-opened n (Sign mark.OpenSquare) = suc n
-opened n (Sign mark.OpenCurly) = suc n
-opened n (Sign mark.CloseRound) = n - 1
-opened n (Sign mark.CloseSquare) = n - 1
-opened n (Sign mark.CloseCurly) = n - 1
-opened n _ = n
+abbrev pub depth_after : ℕ → TokenKind → ℕ
+depth_after n (Sign mark.OpenRound) = suc n
+depth_after n (Sign mark.OpenSquare) = suc n
+depth_after n (Sign mark.OpenCurly) = suc n
+depth_after n (Sign mark.CloseRound) = n - 1
+depth_after n (Sign mark.CloseSquare) = n - 1
+depth_after n (Sign mark.CloseCurly) = n - 1
+depth_after n _ = n
 
 abbrev pub depth_of : ℕ → List Token → ℕ
 depth_of n [] = n
-depth_of n (t ∷ ts) = depth_of (opened n t.kind) ts
+depth_of n (t ∷ ts) = depth_of (depth_after n t.kind) ts
 
 -- nowhere are more than 256 brackets open
 abbrev pub IsShallow : List Token → Type 0

@@ -1,7 +1,7 @@
 //! What is refused in a list of tokens before it is parsed.
 
 ghost use Rattle.std.specs.Prelude.{◌≡◌, ◌≤◌, false, IfSome, IfNone};
-ghost use Rattle.chp_syntax.specs.Reading.{opened, IsShallow};
+ghost use Rattle.chp_syntax.specs.Reading.{depth_after, IsShallow};
 ghost use Rattle.chp_syntax.specs.Limits.{is_probe, is_arbiter, has_kind, IsFirstToken, GoesOver};
 
 use crate::token::{Mark, Token, TokenKind};
@@ -48,9 +48,9 @@ pub(crate) fn arbiter(tokens: &[Token]) -> Option<Span>
     None
 }
 
-fn opened(depth: usize, kind: &TokenKind) -> usize
+fn depth_after(depth: usize, kind: &TokenKind) -> usize
     requires { depth ≤ 256 }
-    ensures { result ≡ opened depth kind.now }
+    ensures { result ≡ depth_after depth kind.now }
 {
     match kind {
         TokenKind::Sign(Mark::OpenRound | Mark::OpenSquare | Mark::OpenCurly) => depth + 1,
@@ -69,7 +69,7 @@ pub(crate) fn too_deep(tokens: &[Token]) -> Option<Span>
 {
     let mut depth = 0;
     for token in tokens {
-        depth = opened(depth, &token.kind);
+        depth = depth_after(depth, &token.kind);
         if depth > MOST_OPEN {
             return Some(token.at);
         }

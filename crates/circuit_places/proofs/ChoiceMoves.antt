@@ -8,7 +8,7 @@ use Rattle.chp_meaning.specs.Terms.{Term, finished, active, opened}
 use Rattle.circuit_places.specs.Lines.{Line, of_channel, of_var, Seen}
 use Rattle.circuit_places.specs.Heads.{Index, under}
 use Rattle.circuit_places.specs.Cores.{OwnSpot, RoundSpot}
-use Rattle.circuit_places.specs.Circuit.{Cells, GuardCells, ChoiceCells, low, low_choices, choice_answers, GuardSpot, Spot, ChoiceSpot, this_choice, other_choice, of_core, of_guard, of_choice, of_round, guards_read, heads, choice_rule, turned, turned_choice}
+use Rattle.circuit_places.specs.Circuit.{Cells, GuardCells, ChoiceCells, low, low_choices, choice_answers, GuardSpot, Spot, ChoiceSpot, this_choice, other_choice, of_core, of_guard, of_choice, of_round, guards_read, heads, choice_rule, flipped, turned_choice}
 use Rattle.circuit_places.proofs.CoreControl.{Mode, idle, running, answered, returning, isnt_running, uncalled, called, evaluating, latched, leaving, Way, Closing}
 use Rattle.circuit_places.proofs.CoreMoves.{Guards, Branches, Begun, Lowered, Stepped, Story, CoreAt, in_control, in_branch, CoreSpot, own, guard, branch, core_cells, core_leave, core_moves, core_turned, CoreFits, core_shown, core_left, CoreStep, stays, chooses, ends, goes_on, CoreAfter, own_after, guard_after, branch_after}
 use Rattle.circuit_places.proofs.AgainMoves.{AgainAt, again_rests, turning, closing, AgainSpot, round, in_core, again_cells, again_turned, again_moves, AgainFits, again_shown, again_left, AgainAfter, again_core, round_after, closing_after}
@@ -54,7 +54,7 @@ abbrev pub choice_branches : (P : TypedProgram) (env : Seen) → Clean P env →
 choice_branches P env clean choices = record {
   At = ChosenAt choices;
   low = low_choices choices;
-  turned = turned_choice choices;
+  flipped = turned_choice choices;
   rule = choice_rule choices env;
   answers = choice_answers choices;
   index = λ {k} a. chosen_index a;
@@ -193,7 +193,7 @@ module _ (P : TypedProgram) (env : Seen) (clean : Clean P env) (choices : Choice
   spot_of (of_guard q) = spotted (guard q)
   spot_of (of_choice s) = spotted (branch s)
 
-  turned_back : (x : Cells (choosing false choices)) (p : CSpot) → core_turned Waves Kids x p ≡ turned (choosing false choices) x (spot_at false p)
+  turned_back : (x : Cells (choosing false choices)) (p : CSpot) → core_turned Waves Kids x p ≡ flipped (choosing false choices) x (spot_at false p)
   turned_back x (own s) = refl
   turned_back x (guard q) = refl
   turned_back x (branch s) = refl
@@ -215,7 +215,7 @@ module _ (P : TypedProgram) (env : Seen) (clean : Clean P env) (choices : Choice
         mode = r.mode;
         to = at_choice (choice_at r.to);
         same = cells_back r.to ∙ (r.same ∙ (turned_back (core_cells Waves Kids x) s
-            ∙ ap (λ (y : Cells (choosing false choices)). turned (choosing false choices) y (spot_at false s)) (sym (cells_back x))));
+            ∙ ap (λ (y : Cells (choosing false choices)). flipped (choosing false choices) y (spot_at false s)) (sym (cells_back x))));
         way = r.way;
         fits = fits_back r.to r.fits;
         flow = flows.0;
@@ -241,7 +241,7 @@ module _ (P : TypedProgram) (env : Seen) (clean : Clean P env) (choices : Choice
   again_spot_of (of_choice s) = spotted_again (in_core (branch s))
   again_spot_of (of_round t) = spotted_again (round t)
 
-  again_turned_back : (x : Cells (choosing true choices)) (p : ASpot) → again_turned Waves Kids x p ≡ turned (choosing true choices) x (again_spot p)
+  again_turned_back : (x : Cells (choosing true choices)) (p : ASpot) → again_turned Waves Kids x p ≡ flipped (choosing true choices) x (again_spot p)
   again_turned_back x (round t) = refl
   again_turned_back x (in_core (own s)) = refl
   again_turned_back x (in_core (guard q)) = refl
@@ -296,7 +296,7 @@ module _ (P : TypedProgram) (env : Seen) (clean : Clean P env) (choices : Choice
         mode = r.mode;
         to = again_at r.to;
         same = again_cells_back r.to ∙ (r.same ∙ (again_turned_back (again_cells Waves Kids x) s
-            ∙ ap (λ (y : Cells (choosing true choices)). turned (choosing true choices) y (again_spot s)) (sym (again_cells_back x))));
+            ∙ ap (λ (y : Cells (choosing true choices)). flipped (choosing true choices) y (again_spot s)) (sym (again_cells_back x))));
         way = r.way;
         fits = again_fits_back r.to r.fits;
         flow = flows.0;

@@ -5,7 +5,7 @@ use Rattle.width_check.specs.Processes.{Process, Processes, TypedProgram}
 use Rattle.width_check.specs.Typing.{channel_width}
 pub use Rattle.circuit_places.proofs.Modes.{goes, goes_asks}
 use Rattle.circuit_places.specs.Lines.{Line, of_channel, line_width, Seen}
-use Rattle.circuit_places.specs.Circuit.{GuardedSpot, Spot, TurnSpot, BranchSpot, turned_guarded, turned, turned_turn, turned_branches}
+use Rattle.circuit_places.specs.Circuit.{GuardedSpot, Spot, TurnSpot, BranchSpot, turned_guarded, flipped, turned_turn, turned_branches}
 use Rattle.circuit_places.proofs.Places.{Mode, idle, running, answered, returning, asks, GuardedAt, At, TurnAt, BranchesAt, guarded_cells, cells, turn_cells, branch_cells, Shown, none_shown, both_shown, guarded_shown, shown, turn_shown, branches_shown, GuardedFits, Fits, TurnFits, BranchesFit, writing, guarded_writing, turn_writing, branches_writing, guarded_moves, moves, turn_moves, branch_moves}
 use Rattle.circuit_places.proofs.Meets.{sends, receives}
 use Rattle.function_blocks.specs.Rails.{Single}
@@ -107,12 +107,12 @@ quiet_of env x e b = record {
   receive = λ c h. low_of (env.ack (of_channel c)) (b.receive c h) (ap (λ (z : Shown). z.listen c) e);
 }
 
--- what a move of an own node comes to: a place whose values are those with the node turned over, and where no other
+-- what a move of an own node comes to: a place whose values are those with the node flipped over, and where no other
 -- node's move is lost
 pub record After (p : Process) (m : Mode) (env : Seen) (a : At p m) (s : Spot p) : Type 0 where
   pub mode : Mode
   pub to : At p mode
-  pub same : cells to ≡ turned p (cells a) s
+  pub same : cells to ≡ flipped p (cells a) s
   pub way : goes m mode ≡ true
   pub fits : Fits to env
   pub flow : Flow env (shown a) (shown to)

@@ -10,7 +10,7 @@ pub use Rattle.circuit_places.proofs.Modes.{Mode, idle, running, answered, retur
 use Rattle.circuit_places.specs.Lines.{Line, of_channel, of_var, same_line, Rails, Seen}
 use Rattle.prs_core.specs.Deciding.{implies}
 use Rattle.circuit_places.specs.Whole.{value_on, neutral_on}
-use Rattle.circuit_places.specs.Circuit.{Port, PortSpot, low_port, port_rule, heard, stored, taking, of_receive, QElementCells, Site, Pairs, SiteSpot, site_rule, low_site, Cells, TurnCells, Bits, BranchCells, low_bits, cell_bit, joint_count, low_guarded, low, low_turn, low_branches, branches_answered, tree_answer, tree_rule, gate_count, answer, turn_answer, GuardedSpot, Spot, TurnSpot, BranchSpot, child, latch, next, inner, of_skip, done, gate, of_assign, of_send, in_members, of_branch, joint, in_this, in_others, of_loop, ask, in_body, in_last, in_member, in_later, one_rule_fires, same_bit, gate_rule, guarded_rule, rule, turn_rule, branch_rule, Core, OwnSpot, RoundSpot, GuardCells, ChoiceCells, low_guards, low_core, low_choices, choice_answers, GuardSpot, this_gate, other_gate, ChoiceSpot, this_choice, other_choice, of_core, of_guard, of_choice, of_round, RailLevels, levels_of, guard_head, heads, guards_read, guards_rule, guards_good, choice_rule, low_pairs}
+use Rattle.circuit_places.specs.Circuit.{Port, PortSpot, low_port, port_rule, heard, stored, taking, of_receive, QElementCells, Site, Pairs, SiteSpot, site_rule, low_site, Cells, TurnCells, Bits, BranchCells, low_bits, cell_bit, joint_count, low_guarded, low, low_turn, low_branches, branches_answered, tree_answer, tree_rule, gate_count, answer, last_answer, GuardedSpot, Spot, TurnSpot, BranchSpot, child, latch, next, inner, of_skip, done, gate, of_assign, of_send, in_members, of_branch, joint, in_this, in_others, of_loop, ask, in_body, in_last, in_member, in_later, one_rule_fires, same_bit, gate_rule, guarded_rule, rule, turn_rule, branch_rule, Core, OwnSpot, RoundSpot, GuardCells, ChoiceCells, low_guards, low_core, low_choices, choice_answers, GuardSpot, this_gate, other_gate, ChoiceSpot, this_choice, other_choice, of_core, of_guard, of_choice, of_round, RailLevels, levels_of, guard_head, heads, guards_read, guards_rule, guards_good, choice_rule, low_pairs}
 use Rattle.width_check.specs.Reads.{reads}
 use Rattle.function_blocks.specs.Waves.{good, out_rail, full, empty, Waves}
 use Rattle.circuit_places.proofs.RailLemmas.{fst_true, snd_true, same_value, low_gate_quiet, low_out}
@@ -488,7 +488,7 @@ mutual
   low_answer (choosing false _) = refl
   low_answer (choosing true _) = refl
 
-  pub low_turn_answer : (members : Processes) → turn_answer members (low_turn members) ≡ false
+  pub low_turn_answer : (members : Processes) → last_answer members (low_turn members) ≡ false
   low_turn_answer no_members = refl
   low_turn_answer (and_member p no_members) = low_answer p
   low_turn_answer (and_member p (and_member q more)) = low_turn_answer (and_member q more)
@@ -568,7 +568,7 @@ mutual
   answer_is (at_turning x) = refl
   answer_is (at_closing c) = refl
 
-  pub turn_answer_is : {members : Processes} {m : Mode} (t : TurnAt members m) → turn_answer members (turn_cells t) ≡ acks m
+  pub turn_answer_is : {members : Processes} {m : Mode} (t : TurnAt members m) → last_answer members (turn_cells t) ≡ acks m
   turn_answer_is {members = members} turn_rests = low_turn_answer members
   turn_answer_is (at_last a) = answer_is a
   turn_answer_is (at_member {q = q} {more = more} g) = low_turn_answer (and_member q more)

@@ -6,7 +6,7 @@ use Rattle.prs_core.specs.Moves.{bit_value, with_bit}
 use Rattle.width_check.specs.Processes.{Formula}
 use Rattle.width_check.specs.Values.{width_of}
 use Rattle.function_blocks.specs.Rails.{RailLevels, levels_of, side_of, cross, levels_neutral, Pairs, low_pairs, pair_in, one_rule_fires, is_apart, same_bit, Rails, value_on, neutral_on}
-use Rattle.function_blocks.specs.Parts.{Input, BlockPart, fixed, read_bit, made, gate_count, outs_of, parts_of}
+use Rattle.function_blocks.specs.Parts.{Input, BlockPart, fixed, read_bit, made, gate_count, outs_of, block_parts}
 use Rattle.function_blocks.specs.Waves.{inputs_taken, holds, rows_of, part_rule, rule_among, gate_rule, input_rails, out_rail, empty, Waves}
 use Rattle.function_blocks.specs.RailFacts.{lows_in, told_high}
 use Rattle.function_blocks.proofs.Guards.{holds_none}
@@ -89,7 +89,7 @@ empty_low e known u low i one = here (out_rail e u i one) refl
 
 -- low gates don't move without a request, and have a value whose rails are low
 pub low_gate_quiet : (e : Formula) (bits : ℕ → Rails) (k : ℕ) (one : Bool) → one_rule_fires (gate_rule e bits false (low_pairs (gate_count e)) k one) ≡ false
-low_gate_quiet e bits k one = quiet_in (pair_in (gate_count e) (low_pairs (gate_count e))) bits (low_in (gate_count e)) (parts_of e 0) (gate_count e) k one
+low_gate_quiet e bits k one = quiet_in (pair_in (gate_count e) (low_pairs (gate_count e))) bits (low_in (gate_count e)) (block_parts e 0) (gate_count e) k one
 
 low_side : (crossed one : Bool) → side_of (cross crossed (levels_of false false)) one ≡ false
 low_side true true = refl
@@ -109,7 +109,7 @@ low_out e i one = low_rails (gate_count e) (outs_of e 0) i one
 pub gate_there : (e : Formula) (bits : ℕ → Rails) (r : Bool) (u : Pairs (gate_count e)) (k : ℕ) (one : Bool) →
     one_rule_fires (gate_rule e bits r u k one) ≡ true
     → k < gate_count e
-gate_there e bits r u k one h = there_in r (pair_in (gate_count e) u) bits (parts_of e 0) (gate_count e) u k one h
+gate_there e bits r u k one h = there_in r (pair_in (gate_count e) u) bits (block_parts e 0) (gate_count e) u k one h
 
 -- and none is pulled both ways
 fixed_apart : (s r : Bool) → not ((s && r) && (s && not r)) ≡ true
@@ -143,4 +143,4 @@ among_apart r look bits (g ∷ gs) (suc n) u zero one = part_apart r look bits g
 among_apart r look bits (g ∷ gs) (suc n) u (suc k) one = among_apart r look bits gs n u.1 k one
 
 pub gate_apart : (e : Formula) (bits : ℕ → Rails) (r : Bool) (u : Pairs (gate_count e)) (k : ℕ) (one : Bool) → is_apart (gate_rule e bits r u k one) ≡ true
-gate_apart e bits r u k one = among_apart r (pair_in (gate_count e) u) bits (parts_of e 0) (gate_count e) u k one
+gate_apart e bits r u k one = among_apart r (pair_in (gate_count e) u) bits (block_parts e 0) (gate_count e) u k one

@@ -182,7 +182,7 @@ abbrev mutual
   answer (assigning y at e) x = x.answer
   answer (sending chan at e) x = x.answer
   answer (receiving chan at y to) x = x.answer
-  answer (in_turn members) x = turn_answer members x
+  answer (in_turn members) x = last_answer members x
   answer (side_by_side members) x =
       let n = member_count members in
       tree_answer n (branches_answered members x.branches) (cell_bit (joint_count n) x.tree)
@@ -190,10 +190,10 @@ abbrev mutual
   answer (choosing false _) x = x.answer
   answer (choosing true _) x = x.answer
 
-  pub turn_answer : (members : Processes) → TurnCells members → Bool
-  turn_answer no_members x = false
-  turn_answer (and_member p no_members) x = answer p x
-  turn_answer (and_member p (and_member q more)) x = turn_answer (and_member q more) x.later
+  pub last_answer : (members : Processes) → TurnCells members → Bool
+  last_answer no_members x = false
+  last_answer (and_member p no_members) x = answer p x
+  last_answer (and_member p (and_member q more)) x = last_answer (and_member q more) x.later
 
 -- what each branch of a selection answers
 abbrev pub choice_answers : (choices : Choices) → ChoiceCells choices → Bits (choice_count choices)
@@ -404,7 +404,7 @@ abbrev pub turned_site : (e : Formula) → Site (gate_count e) → SiteSpot e �
 turned_site e x done = record x { answer = not x.answer }
 turned_site e x (gate k one) = record x { gates = turned_pairs (gate_count e) x.gates k one }
 
--- rails with this one turned over
+-- rails with this one flipped over
 abbrev pub rails_turned : Rails → ℕ → Bool → Rails
 rails_turned rail i one j side = if (j == i) && same_bit side one then not (rail i one) else rail j side
 
@@ -413,39 +413,39 @@ turned_port x heard = record x { answer = not x.answer }
 turned_port x stored = record x { kept = not x.kept }
 turned_port x (taking i one) = record x { taken = rails_turned x.taken i one }
 
--- the cells with one node turned over
+-- the cells with one node flipped over
 abbrev mutual
   pub turned_guarded : (p : Process) → QElementCells (Cells p) → GuardedSpot p → QElementCells (Cells p)
   turned_guarded p x child = record x { child = not x.child }
   turned_guarded p x latch = record x { latch = not x.latch }
   turned_guarded p x next = record x { next = not x.next }
-  turned_guarded p x (inner s) = record x { inner = turned p x.inner s }
+  turned_guarded p x (inner s) = record x { inner = flipped p x.inner s }
 
-  pub turned : (p : Process) → Cells p → Spot p → Cells p
-  turned skipping x of_skip = not x
-  turned (assigning y at e) x (of_assign s) = turned_site e x s
-  turned (sending chan at e) x (of_send s) = turned_site e x s
-  turned (receiving chan at y to) x (of_receive s) = turned_port x s
-  turned (in_turn members) x (in_members s) = turned_turn members x s
-  turned (side_by_side members) x (of_branch s) = record x { branches = turned_branches members x.branches s }
-  turned (side_by_side members) x (joint k) =
+  pub flipped : (p : Process) → Cells p → Spot p → Cells p
+  flipped skipping x of_skip = not x
+  flipped (assigning y at e) x (of_assign s) = turned_site e x s
+  flipped (sending chan at e) x (of_send s) = turned_site e x s
+  flipped (receiving chan at y to) x (of_receive s) = turned_port x s
+  flipped (in_turn members) x (in_members s) = turned_turn members x s
+  flipped (side_by_side members) x (of_branch s) = record x { branches = turned_branches members x.branches s }
+  flipped (side_by_side members) x (joint k) =
       record x { tree = turned_bits (joint_count (member_count members)) x.tree k }
-  turned (repeating p) x of_loop = record x { answer = not x.answer }
-  turned (repeating p) x ask = record x { ask = not x.ask }
-  turned (repeating p) x (in_body s) = record x { inner = turned p x.inner s }
-  turned (choosing false _) x (of_core s) = turned_own x s
-  turned (choosing false choices) x (of_guard s) = record x { guards = turned_guards choices x.guards s }
-  turned (choosing false choices) x (of_choice s) = record x { branches = turned_choice choices x.branches s }
-  turned (choosing true _) x (of_core s) = record x { core = turned_own x.core s }
-  turned (choosing true choices) x (of_guard s) =
+  flipped (repeating p) x of_loop = record x { answer = not x.answer }
+  flipped (repeating p) x ask = record x { ask = not x.ask }
+  flipped (repeating p) x (in_body s) = record x { inner = flipped p x.inner s }
+  flipped (choosing false _) x (of_core s) = turned_own x s
+  flipped (choosing false choices) x (of_guard s) = record x { guards = turned_guards choices x.guards s }
+  flipped (choosing false choices) x (of_choice s) = record x { branches = turned_choice choices x.branches s }
+  flipped (choosing true _) x (of_core s) = record x { core = turned_own x.core s }
+  flipped (choosing true choices) x (of_guard s) =
       record x { core = record (x.core) { guards = turned_guards choices x.core.guards s } }
-  turned (choosing true choices) x (of_choice s) =
+  flipped (choosing true choices) x (of_choice s) =
       record x { core = record (x.core) { branches = turned_choice choices x.core.branches s } }
-  turned (choosing true _) x (of_round s) = turned_turning x s
+  flipped (choosing true _) x (of_round s) = turned_turning x s
 
   pub turned_choice : (choices : Choices) → ChoiceCells choices → ChoiceSpot choices → ChoiceCells choices
   turned_choice no_choices x s = x
-  turned_choice (and_choice g p more) x (this_choice s) = (turned p x.0 s, x.1)
+  turned_choice (and_choice g p more) x (this_choice s) = (flipped p x.0 s, x.1)
   turned_choice (and_choice g p more) x (other_choice s) = (x.0, turned_choice more x.1 s)
 
   pub turned_branches : (members : Processes) → BranchCells members → BranchSpot members → BranchCells members
@@ -455,7 +455,7 @@ abbrev mutual
 
   pub turned_turn : (members : Processes) → TurnCells members → TurnSpot members → TurnCells members
   turned_turn no_members x s = x
-  turned_turn (and_member p no_members) x (in_last s) = turned p x s
+  turned_turn (and_member p no_members) x (in_last s) = flipped p x s
   turned_turn (and_member p (and_member q more)) x (in_member s) = record x { member = turned_guarded p x.member s }
   turned_turn (and_member p (and_member q more)) x (in_later s) =
       record x { later = turned_turn (and_member q more) x.later s }

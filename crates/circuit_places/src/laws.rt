@@ -2,7 +2,7 @@
 
 ghost use Rattle.circuit_places.specs.Carried.{CircuitsCarry};
 
-use cell_parallel::tree_settles;
+use cell_parallel::laws::tree_settles;
 use function_blocks::laws::expressions_hold;
 
 /// Law: the circuit of each program that is typed, meets the sharing rule and has no assignment which reads its own

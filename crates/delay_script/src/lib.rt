@@ -5,7 +5,7 @@ mod circuit;
 mod delays;
 mod due;
 mod fault;
-mod laws;
+pub mod laws;
 mod line;
 mod noted;
 mod number;
@@ -17,7 +17,6 @@ mod words;
 
 pub use delays::Delays;
 pub use fault::{DelayError, DelayFault};
-pub use laws::{one_cause, one_delay_refusal, one_delay_table, one_timed_run};
 pub use noted::{Noted, NotedMove, NotedRan, TimedRan};
 pub use reader::read_delays;
 pub use timed::Timed;

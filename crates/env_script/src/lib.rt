@@ -16,6 +16,8 @@ mod words;
 pub use environment::{env_enabled, offer_moves};
 pub use fault::{ScriptError, ScriptFault};
 pub use hazard::Hazard;
+pub use number::number_of;
 pub use phases::{keeps_phases, phases_keep};
 pub use reader::read_script;
 pub use script::{Count, Offer, Script};
+pub use words::{lines_of, words_of};

@@ -59,7 +59,7 @@ fn value_of(base: u64, digits: &[u8]) -> Option<u64>
 
 /// The number that the word is, or None where it is none: decimal digits with a value of at most 2^64 - 1, or `0x`
 /// and 1 to 16 hexadecimal digits.
-pub(crate) fn number_of(word: &[u8]) -> Option<u64>
+pub fn number_of(word: &[u8]) -> Option<u64>
     ensures some { IfSome result (λ n. IsNumber word.now n) }
     ensures none { IfNone result ((n : ℕ) → ¬ IsNumber word.now n) }
 {

@@ -9,7 +9,7 @@ use Rattle.std.proofs.lemmas.List.Elements.{filter_passes, All-filter}
 use Rattle.prs_core.specs.declared.wires.Wires.{Wires}
 use Rattle.prs_core.specs.Nets.{NetValue, IsNet, IsChannel, IsReset, IsResetNode, first_at, up_of, down_of}
 use Rattle.prs_core.specs.Moves.{high, fired, guard_holds, rule_enabled}
-use Rattle.prs_core.specs.Fans.{reads, readers_below}
+use Rattle.prs_core.specs.Fans.{is_reader, readers_below}
 use Rattle.env_script.specs.Scripts.{nothing, offer_at}
 use Rattle.env_script.specs.Environment.{all_below, in_reset, is_reset, rules_rest, raises_go, channels_move}
 use Rattle.env_script.specs.Hazards.{least_below, or_else}
@@ -175,9 +175,9 @@ turned m (x ∷ xs) none =
     or_from _ _ (ne_eqb m x (λ e. eqb-false x m parts.0 (sym e))) (turned m xs parts.1)
 
 unread : (net : NetValue) (n : ℕ) (readers : List ℕ) → readers ≡ readers_below net (length net.first) n → (m : ℕ) → m < length net.first →
-    is_among readers m ≡ false → reads net n m ≡ false
+    is_among readers m ≡ false → is_reader net n m ≡ false
 unread net n readers are m within apart =
-    sym (among_is (reads net n) (length net.first) m within) ∙ ap (λ (xs : List ℕ). is_among xs m) (sym are) ∙ apart
+    sym (among_is (is_reader net n) (length net.first) m within) ∙ ap (λ (xs : List ℕ). is_among xs m) (sym are) ∙ apart
 
 pub near_alone : (x : IndexedValue) (n : ℕ) (readers : List ℕ) → readers ≡ readers_below x.net (length x.net.first) n → IsShared x.net x.script n None →
     IsNear x n readers

@@ -8,7 +8,7 @@ use Rattle.prs_core.specs.declared.rule.Literal.{Literal}
 use Rattle.prs_core.specs.declared.wires.Wires.{Wires}
 use Rattle.prs_core.specs.Nets.{GuardValue, NetValue, up_of, down_of}
 use Rattle.prs_core.specs.Moves.{high, fired, literal_holds, term_holds, guard_holds, rule_enabled, both_ways, rail_value_of, neutral}
-use Rattle.prs_core.specs.Fans.{term_names, guard_names, reads, fan_value}
+use Rattle.prs_core.specs.Fans.{term_names, guard_names, is_reader, fan_value}
 use Rattle.env_script.specs.Scripts.{OfferValue, gives, takes, nothing, offer_at}
 use Rattle.env_script.specs.Environment.{in_reset, is_reset, is_odd, raises_bit, raises_value, raises_next, lowers, offer_moves, channels_move, raises_go}
 use Rattle.env_script.specs.Runs.{RunState, move_enabled, moved, completed, history_at, histories_after, with_values}
@@ -172,20 +172,20 @@ guard_same state n (t ∷ g) apart =
     let parts = or_parts (term_names n t) (guard_names n g) apart in
     either_same _ _ _ _ (term_same state n t parts.0) (guard_same state n g parts.1)
 
-rule_near : (net : NetValue) (state : List Bool) (n m : ℕ) → m ≢ n → reads net n m ≡ false →
+rule_near : (net : NetValue) (state : List Bool) (n m : ℕ) → m ≢ n → is_reader net n m ≡ false →
     rule_enabled net (high (fired state n)) m ≡ rule_enabled net (high state) m
 rule_near net state n m apart unread =
     let parts = or_parts (guard_names n (up_of net m)) (guard_names n (down_of net m)) unread in
     rw (fired_agree state n m apart, guard_same state n (up_of net m) parts.0, guard_same state n (down_of net m) parts.1) refl
 
-pub pulled_near : (net : NetValue) (state : List Bool) (n m : ℕ) → reads net n m ≡ false →
+pub pulled_near : (net : NetValue) (state : List Bool) (n m : ℕ) → is_reader net n m ≡ false →
     both_ways net (high (fired state n)) m ≡ both_ways net (high state) m
 pulled_near net state n m unread =
     let parts = or_parts (guard_names n (up_of net m)) (guard_names n (down_of net m)) unread in
     rw (guard_same state n (up_of net m) parts.0, guard_same state n (down_of net m) parts.1) refl
 
 -- a node that doesn't read the moved one, and shares no channel with it in which the environment has a part
-pub ready_near : (x : IndexedValue) (was done : List ℕ) (before : List Bool) (n m : ℕ) → is_reset x.net.reset n ≡ false → m ≢ n → reads x.net n m ≡ false →
+pub ready_near : (x : IndexedValue) (was done : List ℕ) (before : List Bool) (n m : ℕ) → is_reset x.net.reset n ≡ false → m ≢ n → is_reader x.net n m ≡ false →
     ((c : ℕ) (d : Wires) → c < length x.net.channels → is_wire (get_or x.net.channels c d) n ≡ true →
     (offer_at x.script c ≡ nothing) ⊎ (is_wire (get_or x.net.channels c d) m ≡ false)) →
     ((c : ℕ) (d : Wires) → c < length x.net.channels → (n == (get_or x.net.channels c d).ack) ≡ false → slice_index done c ≡ slice_index was c) →

@@ -4,7 +4,7 @@ use Rattle.std.specs.Prelude.{◌&&◌, ◌||◌, if◌then◌else◌, Option, S
 use Rattle.std.specs.List.{find, range_with_len}
 use Rattle.prs_core.specs.declared.wires.Wires.{Wires}
 use Rattle.prs_core.specs.Nets.{NetValue}
-use Rattle.prs_core.specs.Fans.{reads, readers_below}
+use Rattle.prs_core.specs.Fans.{is_reader, readers_below}
 use Rattle.prs_core.specs.Moves.{high, fired, rule_enabled, both_ways}
 use Rattle.env_script.specs.Scripts.{OfferValue, offer_at}
 use Rattle.env_script.specs.Environment.{channels_move, env_enabled, in_reset, is_reset, rules_rest, raises_go}
@@ -112,11 +112,11 @@ pub pulled_is : (net : NetValue) (before : List Bool) (n : ℕ) → None ≡ lea
     find (both_ways net (high (fired before n))) (readers_below net (length net.first) n) ≡
     least_below (length net.first) (both_ways net (high (fired before n)))
 pulled_is net before n none =
-    first_is_least (reads net n) (both_ways net (high (fired before n))) (length net.first)
-    ∙ least_agrees (length net.first) _ _ (λ k less. by_reading k less (reads net n k) refl)
+    first_is_least (is_reader net n) (both_ways net (high (fired before n))) (length net.first)
+    ∙ least_agrees (length net.first) _ _ (λ k less. by_reading k less (is_reader net n k) refl)
   where
-    by_reading : (k : ℕ) → k < length net.first → (b : Bool) → reads net n k ≡ b →
-        (reads net n k && both_ways net (high (fired before n)) k) ≡ both_ways net (high (fired before n)) k
+    by_reading : (k : ℕ) → k < length net.first → (b : Bool) → is_reader net n k ≡ b →
+        (is_reader net n k && both_ways net (high (fired before n)) k) ≡ both_ways net (high (fired before n)) k
     by_reading k less true e = ap (λ t. t && both_ways net (high (fired before n)) k) e
     by_reading k less false e =
         ap (λ t. t && both_ways net (high (fired before n)) k) e

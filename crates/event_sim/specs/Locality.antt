@@ -4,7 +4,7 @@ use Rattle.std.specs.List.{list_any, range_with_len}
 use Rattle.prs_core.specs.declared.wires.Wires.{Wires}
 use Rattle.prs_core.specs.Nets.{NetValue, IsNet}
 use Rattle.prs_core.specs.Moves.{high, fired, rule_enabled}
-use Rattle.prs_core.specs.Fans.{fan_value, reads}
+use Rattle.prs_core.specs.Fans.{fan_value, is_reader}
 use Rattle.env_script.specs.Scripts.{OfferValue, gives, takes, nothing, offer_at, IsScript}
 use Rattle.env_script.specs.Environment.{net_channels, in_reset, raises_go, channels_move, env_enabled}
 use Rattle.env_script.specs.Hazards.{least_below}
@@ -105,10 +105,10 @@ abbrev pub lesser : Option ℕ → ℕ → Option ℕ
 lesser None n = Some n
 lesser (Some k) n = if nat_lt k n then Some k else Some n
 
--- whom a move of the node may concern beside itself: who reads it, and who shares a channel with it in which the
+-- whom a move of the node may concern beside itself: who is_reader it, and who shares a channel with it in which the
 -- environment has a part
 pub record IsNear (x : IndexedValue) (n : ℕ) (nodes : List ℕ) : Type 0 where
-  pub readers : (m : ℕ) → m < length x.net.first → is_among nodes m ≡ false → reads x.net n m ≡ false
+  pub readers : (m : ℕ) → m < length x.net.first → is_among nodes m ≡ false → is_reader x.net n m ≡ false
   pub wires : (m c : ℕ) (d : Wires) → is_among nodes m ≡ false → c < length x.net.channels →
       is_wire (slice_index_or x.net.channels c d) n ≡ true →
       (offer_at x.script c ≡ nothing) ⊎ (is_wire (slice_index_or x.net.channels c d) m ≡ false)

@@ -5,7 +5,7 @@ mod ages;
 mod hazards;
 mod homes;
 mod indexed;
-mod laws;
+pub mod laws;
 mod listing;
 mod lowest;
 mod moves;
@@ -19,10 +19,6 @@ mod random;
 mod sim;
 mod stage;
 
-pub use laws::{
-    moves_are_in_range, moves_concern_what_is_near, passed_are_histories, power_is_powered,
-    runs_are_picked, safe_moves_bring_no_hazard,
-};
 pub use lowest::Lowest;
 pub use newest::Newest;
 pub use oldest::Oldest;

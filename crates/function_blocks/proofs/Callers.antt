@@ -11,7 +11,7 @@ use Rattle.width_check.specs.Typing.{var_width, ReadsFrom}
 use Rattle.function_blocks.specs.Expressions.{HasBits, read_rail, formula_rules}
 use Rattle.function_blocks.specs.Blocks.{bits_in_blocks}
 use Rattle.function_blocks.specs.BitsRead.{EachRead, bits_read}
-use Rattle.function_blocks.specs.Parts.{BlockPart, fixed, read_bit, made, parts_of}
+use Rattle.function_blocks.specs.Parts.{BlockPart, fixed, read_bit, made, block_parts}
 use Rattle.function_blocks.specs.Listed.{part_rules, rules_listed}
 use Rattle.function_blocks.proofs.GateRest.{Only}
 use Rattle.function_blocks.proofs.Readings.{parts_read}
@@ -59,5 +59,5 @@ rules_in_blocks vars bits firsts has lie e h r request from =
     let same = each_of (λ x i. pair_of (blocks x) i ≡ pair_of (bits x) i) vars e h r
     (λ x i l m few. apart_at 5 64 (slice_index_or firsts x 0) i (omega (arith, few)) ∙ sym (lie x i l m)) in
     (listed (block_vars firsts e) e h (block_reads firsts e h)).rules blocks (block_bits firsts e) request from
-    ∙ (listed_same blocks bits request from (parts_of e 0) (parts_read _ e 0 same)
+    ∙ (listed_same blocks bits request from (block_parts e 0) (parts_read _ e 0 same)
     ∙ sym ((listed vars e h r).rules bits has request from))

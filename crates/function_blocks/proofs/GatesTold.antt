@@ -11,7 +11,7 @@ use Rattle.width_check.specs.Processes.{Formula}
 use Rattle.width_check.specs.Values.{IsWellFormed}
 use Rattle.width_check.specs.Typing.{var_width, ReadsFrom}
 use Rattle.function_blocks.specs.Rails.{RailLevels, levels_of, side_of, cross, levels_neutral, Pairs, pair_in, Rule, Rails}
-use Rattle.function_blocks.specs.Parts.{Input, BlockPart, fixed, read_bit, made, gate_count, outs_of, parts_of}
+use Rattle.function_blocks.specs.Parts.{Input, BlockPart, fixed, read_bit, made, gate_count, outs_of, block_parts}
 use Rattle.function_blocks.specs.Waves.{inputs_taken, holds, part_rule, rule_among, input_rails}
 use Rattle.function_blocks.specs.Listed.{placed, part_rules, rules_listed, rail_place, node_of, Listed}
 use Rattle.function_blocks.proofs.Minterms.{value_at, up_told, down_told}
@@ -173,14 +173,15 @@ listed vars e w reads_from = record {
       (let k = outs_length e 0 w in omega (arith, k, l));
   told = λ bits has request from v r now u s k one l.
       let n = gate_count e in
-      let seen = only_more _ _ (λ x i both. both.0 both.1) (parts_of e 0)
-      (only_both _ _ (parts_of e 0) (parts_only (λ x i. i < var_width vars x → (one : Bool) → v (node_of (nodes.pair_of (bits x) i) one) ≡ now x i one) e 0
+      let seen = only_more _ _ (λ x i both. both.0 both.1) (block_parts e 0)
+      (only_both _ _ (block_parts e 0) (parts_only (λ x i. i < var_width vars x → (one : Bool) → v (node_of (nodes.pair_of (bits x) i) one) ≡ now x i one) e 0
       (λ x i h l one. s.read x i one h l)) (parts_within vars e 0 w reads_from)) in
-      let t = gates_told bits request from v r now n (pair_in n u) s.asked s.gates (parts_of e 0) n u 0 (parts_length e 0 w) (omega arith) (parts_ordered e 0 w)
+      let t = gates_told bits request from v r now n (pair_in n u) s.asked s.gates (block_parts e 0) n u 0
+          (parts_length e 0 w) (omega arith) (parts_ordered e 0 w)
       seen k one in
       let is = formula_list vars bits has request from e 0 from (omega arith) w reads_from in
       record {
-        now = s.gates k one l ∙ sym (value_now r (pair_in n u) now (parts_of e 0) n u (parts_length e 0 w) k one l);
+        now = s.gates k one l ∙ sym (value_now r (pair_in n u) now (block_parts e 0) n u (parts_length e 0 w) k one l);
         up = ap (λ (rs : List NodeRules). guard_holds v (get_or rs (rail_place k one) nodes.no_rules).up) is ∙ t.0;
         down = ap (λ (rs : List NodeRules). guard_holds v (get_or rs (rail_place k one) nodes.no_rules).down) is ∙ t.1;
       };

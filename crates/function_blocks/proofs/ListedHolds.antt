@@ -14,7 +14,7 @@ use Rattle.width_check.specs.Typing.{ReadsFrom, EachReadsFrom, AllReadFrom}
 use Rattle.handshake_expand.specs.Layout.{operator_size, formula_size}
 use Rattle.function_blocks.specs.Gates.{all_one, some_one, odd_ones, carries, alike, borrows, gate, bitwise, ripple, ripple_result, borrow_gates, conjunctions, all_of_bits, result_pairs, equality, operator_rules, last_gate, operator_result}
 use Rattle.function_blocks.specs.Expressions.{HasBits, constant_bit, constant_bits, read_rail, read_bits, formula_result, joined_result, chained_result, formula_rules, joined_rules, chained_rules}
-use Rattle.function_blocks.specs.Parts.{Input, input, turned_over, BlockPart, fixed_parts, read_parts, inputs_from, bitwise_parts, result_inputs, ripple_parts, ripple_inputs, borrow_parts, conjunction_parts, all_parts, equality_parts, last_from, equal_input, less_input, operator_parts, operator_inputs, operator_gates, gate_count, outs_of, joined_outs, chained_outs, parts_of, joined_parts, chained_parts}
+use Rattle.function_blocks.specs.Parts.{Input, input, turned_over, BlockPart, fixed_parts, read_parts, inputs_from, bitwise_parts, result_inputs, ripple_parts, ripple_inputs, borrow_parts, conjunction_parts, all_parts, equality_parts, last_from, equal_input, less_input, operator_parts, operator_inputs, operator_gates, gate_count, outs_of, joined_outs, chained_outs, block_parts, joined_parts, chained_parts}
 use Rattle.function_blocks.specs.Listed.{placed, part_rules, rules_listed}
 use Rattle.function_blocks.proofs.PartSizes.{operator_counted, count_doubled, outs_length, each_output, some_width}
 
@@ -228,7 +228,7 @@ module _ (vars : List Var) (bits : ℕ → List nodes.Pair) (has : HasBits vars 
 
   mutual
     pub formula_list : (e : Formula) (from N : ℕ) → N ≡ base + 2 * from → IsWellFormed e → ReadsFrom vars e
-        → formula_rules bits e request N ≡ rules (parts_of e from)
+        → formula_rules bits e request N ≡ rules (block_parts e from)
     formula_list (constant w v) from N e h r = fixed_list bits request base w v
     formula_list (reading x high low at) from N e h r = let all = has x r.0 in
         slice_list bits request base x low (high + 1 - low) (omega (arith, all, h.0, r.1))
@@ -238,12 +238,12 @@ module _ (vars : List Var) (bits : ℕ → List nodes.Pair) (has : HasBits vars 
         let us = outs_of f from in
         ap (λ (rs : List NodeRules). rs ++ chained_rules bits (width_of f) (formula_result f N) more request (N + formula_size f))
         (formula_list f from N e h.0 r.0)
-        ∙ (ap (λ (ps : List nodes.Pair). rules (parts_of f from) ++ chained_rules bits (width_of f) ps more request (N + formula_size f))
+        ∙ (ap (λ (ps : List nodes.Pair). rules (block_parts f from) ++ chained_rules bits (width_of f) ps more request (N + formula_size f))
         (result_put base f from N e h.0)
-        ∙ (ap (λ (rs : List NodeRules). rules (parts_of f from) ++ rs)
+        ∙ (ap (λ (rs : List NodeRules). rules (block_parts f from) ++ rs)
         (chained_list (width_of f) us more (from + gate_count f) (N + formula_size f) (omega (arith, e, count_doubled f)) (some_width f h.0)
         (outs_length f from h.0) h.2 r.1)
-        ∙ sym (append_list bits request base (parts_of f from) (chained_parts (width_of f) us more (from + gate_count f)))))
+        ∙ sym (append_list bits request base (block_parts f from) (chained_parts (width_of f) us more (from + gate_count f)))))
     formula_list (compared op f g) from N e h r =
         let fb = from + gate_count f in
         let fo = fb + gate_count g in
@@ -257,24 +257,24 @@ module _ (vars : List Var) (bits : ℕ → List nodes.Pair) (has : HasBits vars 
         let same : length vs ≡ length us = outs_length g fb h.3 ∙ (h.1 ∙ sym (outs_length f from h.2)) in
         ap (λ (rs : List NodeRules). rs ++ (formula_rules bits g request B ++ operator_rules op (formula_result f N) (formula_result g B) O))
         (formula_list f from N e h.2 r.0)
-        ∙ (ap (λ (rs : List NodeRules). rules (parts_of f from) ++ (rs ++ operator_rules op (formula_result f N) (formula_result g B) O))
+        ∙ (ap (λ (rs : List NodeRules). rules (block_parts f from) ++ (rs ++ operator_rules op (formula_result f N) (formula_result g B) O))
         (formula_list g fb B eB h.3 r.1)
-        ∙ (ap (λ (ps : List nodes.Pair). rules (parts_of f from) ++ (rules (parts_of g fb) ++ operator_rules op ps (formula_result g B) O))
+        ∙ (ap (λ (ps : List nodes.Pair). rules (block_parts f from) ++ (rules (block_parts g fb) ++ operator_rules op ps (formula_result g B) O))
         (result_put base f from N e h.2)
-        ∙ (ap (λ (ps : List nodes.Pair). rules (parts_of f from) ++ (rules (parts_of g fb) ++ operator_rules op (map (placed base) us) ps O))
+        ∙ (ap (λ (ps : List nodes.Pair). rules (block_parts f from) ++ (rules (block_parts g fb) ++ operator_rules op (map (placed base) us) ps O))
         (result_put base g fb B eB h.3)
-        ∙ (ap (λ (rs : List NodeRules). rules (parts_of f from) ++ (rules (parts_of g fb) ++ rs)) (operator_list bits request base op us vs fo O eO same)
-        ∙ (ap (λ (rs : List NodeRules). rules (parts_of f from) ++ rs) (sym (append_list bits request base (parts_of g fb) own))
-        ∙ sym (append_list bits request base (parts_of f from) (parts_of g fb ++ own)))))))
+        ∙ (ap (λ (rs : List NodeRules). rules (block_parts f from) ++ (rules (block_parts g fb) ++ rs)) (operator_list bits request base op us vs fo O eO same)
+        ∙ (ap (λ (rs : List NodeRules). rules (block_parts f from) ++ rs) (sym (append_list bits request base (block_parts g fb) own))
+        ∙ sym (append_list bits request base (block_parts f from) (block_parts g fb ++ own)))))))
 
     joined_list : (parts : Formulas) (from N : ℕ) → N ≡ base + 2 * from → AreWellFormed parts → EachReadsFrom vars parts
         → joined_rules bits parts request N ≡ rules (joined_parts parts from)
     joined_list no_parts from N e h r = refl
     joined_list (and_part f more) from N e h r =
         ap (λ (rs : List NodeRules). rs ++ joined_rules bits more request (N + formula_size f)) (formula_list f from N e h.0 r.0)
-        ∙ (ap (λ (rs : List NodeRules). rules (parts_of f from) ++ rs)
+        ∙ (ap (λ (rs : List NodeRules). rules (block_parts f from) ++ rs)
         (joined_list more (from + gate_count f) (N + formula_size f) (omega (arith, e, count_doubled f)) h.1 r.1)
-        ∙ sym (append_list bits request base (parts_of f from) (joined_parts more (from + gate_count f))))
+        ∙ sym (append_list bits request base (block_parts f from) (joined_parts more (from + gate_count f))))
 
     chained_list : (width : ℕ) (left : List Input) (more : Operations) (from N : ℕ) → N ≡ base + 2 * from → 1 ≤ width → length left ≡ width
         → AreOperations width more → AllReadFrom vars more → chained_rules bits width (map (placed base) left) more request N ≡ rules
@@ -295,13 +295,13 @@ module _ (vars : List Var) (bits : ℕ → List nodes.Pair) (has : HasBits vars 
         let same : length vs ≡ length left = outs_length f from h.2 ∙ (h.1 ∙ sym is) in
         ap (λ (rs : List NodeRules). rs ++ (operator_rules op us (formula_result f N) O ++ chained_rules bits width (operator_result op us O) more request A))
         (formula_list f from N e h.2 r.0)
-        ∙ (ap (λ (ps : List nodes.Pair). rules (parts_of f from) ++ (operator_rules op us ps O ++ chained_rules bits width (operator_result op us O) more
+        ∙ (ap (λ (ps : List nodes.Pair). rules (block_parts f from) ++ (operator_rules op us ps O ++ chained_rules bits width (operator_result op us O) more
         request A)) (result_put base f from N e h.2)
-        ∙ (ap (λ (rs : List NodeRules). rules (parts_of f from) ++ (rs ++ chained_rules bits width (operator_result op us O) more request A))
+        ∙ (ap (λ (rs : List NodeRules). rules (block_parts f from) ++ (rs ++ chained_rules bits width (operator_result op us O) more request A))
         (operator_list bits request base op left vs next O eO same)
-        ∙ (ap (λ (ps : List nodes.Pair). rules (parts_of f from) ++ (rules own ++ chained_rules bits width ps more request A))
+        ∙ (ap (λ (ps : List nodes.Pair). rules (block_parts f from) ++ (rules own ++ chained_rules bits width ps more request A))
         (operator_put base op left next O eO (omega (arith, is, some)))
-        ∙ (ap (λ (rs : List NodeRules). rules (parts_of f from) ++ (rules own ++ rs))
+        ∙ (ap (λ (rs : List NodeRules). rules (block_parts f from) ++ (rules own ++ rs))
         (chained_list width result more after A eA some (each_output op left next h.0 ∙ is) h.3 r.1)
-        ∙ (ap (λ (rs : List NodeRules). rules (parts_of f from) ++ rs) (sym (append_list bits request base own rest))
-        ∙ sym (append_list bits request base (parts_of f from) (own ++ rest)))))))
+        ∙ (ap (λ (rs : List NodeRules). rules (block_parts f from) ++ rs) (sym (append_list bits request base own rest))
+        ∙ sym (append_list bits request base (block_parts f from) (own ++ rest)))))))

@@ -9,7 +9,7 @@ use Rattle.width_check.specs.Processes.{Formula, constant, reading, joined, inve
 use Rattle.width_check.specs.Values.{width_of, IsWellFormed, AreWellFormed, AreOperations}
 use Rattle.prs_core.specs.Deciding.{left_of, right_of, both_of}
 use Rattle.function_blocks.specs.Gates.{all_one, some_one, odd_ones, carries, alike, borrows}
-use Rattle.function_blocks.specs.Parts.{Input, input, turned_over, BlockPart, fixed_parts, read_parts, inputs_from, bitwise_parts, result_inputs, ripple_parts, ripple_inputs, borrow_parts, conjunction_parts, equality_parts, last_from, rest_of, equal_input, less_input, operator_parts, operator_inputs, operator_gates, gate_count, joined_gates, chained_gates, outs_of, joined_outs, chained_outs, parts_of, joined_parts, chained_parts}
+use Rattle.function_blocks.specs.Parts.{Input, input, turned_over, BlockPart, fixed_parts, read_parts, inputs_from, bitwise_parts, result_inputs, ripple_parts, ripple_inputs, borrow_parts, conjunction_parts, equality_parts, last_from, rest_of, equal_input, less_input, operator_parts, operator_inputs, operator_gates, gate_count, joined_gates, chained_gates, outs_of, joined_outs, chained_outs, block_parts, joined_parts, chained_parts}
 use Rattle.function_blocks.proofs.GateLists.{ordered_one, ordered}
 use Rattle.function_blocks.proofs.PartSizes.{bitwise_length, operator_length, each_output, outs_length, some_width, parts_length}
 
@@ -202,14 +202,14 @@ mutual
       (chained_below width (operator_inputs op left next) more (next + operator_gates op width) some (each_output op left next h.0 ∙ is) h.3 own)
 
 mutual
-  pub parts_ordered : (e : Formula) (from : ℕ) → IsWellFormed e → ordered from (parts_of e from) ≡ true
+  pub parts_ordered : (e : Formula) (from : ℕ) → IsWellFormed e → ordered from (block_parts e from) ≡ true
   parts_ordered (constant w v) from h = fixed_ordered w v from
   parts_ordered (reading x high low at) from h = read_ordered x low (high + 1 - low) from
   parts_ordered (joined parts) from h = joined_ordered parts from h.2
   parts_ordered (inverted e) from h = parts_ordered e from h
   parts_ordered (chained e more) from h =
       let us = outs_of e from in
-      ordered_append from (parts_of e from) (chained_parts (width_of e) us more (from + gate_count e)) (parts_ordered e from h.0)
+      ordered_append from (block_parts e from) (chained_parts (width_of e) us more (from + gate_count e)) (parts_ordered e from h.0)
       (ordered_at (from + gate_count e) _ (chained_parts (width_of e) us more (from + gate_count e)) (ap (λ k. from + k) (sym (parts_length e from h.0)))
       (chained_ordered (width_of e) us more (from + gate_count e) (some_width e h.0) (outs_length e from h.0) h.2 (outs_below e from h.0)))
   parts_ordered (compared op e f) from h =
@@ -219,16 +219,16 @@ mutual
       let fo = fb + gate_count f in
       let own = operator_parts op us vs fo in
       let same : length vs ≡ length us = outs_length f fb h.3 ∙ (h.1 ∙ sym (outs_length e from h.2)) in
-      ordered_append from (parts_of e from) (parts_of f fb ++ own) (parts_ordered e from h.2)
-      (ordered_at fb _ (parts_of f fb ++ own) (ap (λ k. from + k) (sym (parts_length e from h.2)))
-      (ordered_append fb (parts_of f fb) own (parts_ordered f fb h.3)
+      ordered_append from (block_parts e from) (block_parts f fb ++ own) (parts_ordered e from h.2)
+      (ordered_at fb _ (block_parts f fb ++ own) (ap (λ k. from + k) (sym (parts_length e from h.2)))
+      (ordered_append fb (block_parts f fb) own (parts_ordered f fb h.3)
       (ordered_at fo _ own (ap (λ k. fb + k) (sym (parts_length f fb h.3)))
       (operator_ordered op fo us vs same (below_more fb fo us (omega arith) (outs_below e from h.2)) (outs_below f fb h.3)))))
 
   joined_ordered : (parts : Formulas) (from : ℕ) → AreWellFormed parts → ordered from (joined_parts parts from) ≡ true
   joined_ordered no_parts from h = refl
   joined_ordered (and_part e more) from h =
-      ordered_append from (parts_of e from) (joined_parts more (from + gate_count e)) (parts_ordered e from h.0)
+      ordered_append from (block_parts e from) (joined_parts more (from + gate_count e)) (parts_ordered e from h.0)
       (ordered_at (from + gate_count e) _ (joined_parts more (from + gate_count e)) (ap (λ k. from + k) (sym (parts_length e from h.0)))
       (joined_ordered more (from + gate_count e) h.1))
 
@@ -246,7 +246,7 @@ mutual
       let outs : below after (operator_inputs op left next) ≡ true =
       below_more (next + operator_gates op (length left)) _ (operator_inputs op left next) (let g = ap (operator_gates op) is in omega (arith, g))
       (operator_below op next left (omega (arith, is, some))) in
-      ordered_append from (parts_of e from) (own ++ rest) (parts_ordered e from h.2)
+      ordered_append from (block_parts e from) (own ++ rest) (parts_ordered e from h.2)
       (ordered_at next _ (own ++ rest) (ap (λ k. from + k) (sym (parts_length e from h.2)))
       (ordered_append next own rest (operator_ordered op next left vs same (below_more from next left (omega arith) l) (outs_below e from h.2))
       (ordered_at after _ rest (ap (λ k. next + k) (sym gates))

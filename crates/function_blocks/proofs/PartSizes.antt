@@ -7,7 +7,7 @@ use Rattle.width_check.specs.Processes.{Formula, constant, reading, joined, inve
 use Rattle.width_check.specs.Values.{width_of, widths_of, is_comparison, IsWellFormed, AreWellFormed, AreOperations}
 use Rattle.handshake_expand.specs.Layout.{operator_size, formula_size, parts_size, operations_size}
 use Rattle.function_blocks.specs.Gates.{all_one, some_one, odd_ones, carries, alike, borrows}
-use Rattle.function_blocks.specs.Parts.{Input, input, turned_over, fixed_parts, read_parts, inputs_from, bitwise_parts, result_inputs, ripple_parts, ripple_inputs, borrow_parts, conjunction_parts, all_parts, equality_parts, operator_parts, operator_inputs, operator_gates, gate_count, joined_gates, chained_gates, outs_of, joined_outs, chained_outs, parts_of, joined_parts, chained_parts}
+use Rattle.function_blocks.specs.Parts.{Input, input, turned_over, fixed_parts, read_parts, inputs_from, bitwise_parts, result_inputs, ripple_parts, ripple_inputs, borrow_parts, conjunction_parts, all_parts, equality_parts, operator_parts, operator_inputs, operator_gates, gate_count, joined_gates, chained_gates, outs_of, joined_outs, chained_outs, block_parts, joined_parts, chained_parts}
 
 -- two nodes for each gate
 operator_doubled : (op : Op) (w : ℕ) → operator_size op w ≡ 2 * operator_gates op w
@@ -179,7 +179,7 @@ operator_length Gt us vs from e = borrow_length vs us [] from (sym e) ∙ e
 operator_length Le us vs from e = borrow_length vs us [] from (sym e) ∙ e
 
 mutual
-  pub parts_length : (e : Formula) (from : ℕ) → IsWellFormed e → length (parts_of e from) ≡ gate_count e
+  pub parts_length : (e : Formula) (from : ℕ) → IsWellFormed e → length (block_parts e from) ≡ gate_count e
   parts_length (constant w v) from h = fixed_length w v
   parts_length (reading x high low at) from h = read_length x low (high + 1 - low)
   parts_length (joined parts) from h = joined_parts_length parts from h.2
@@ -187,7 +187,7 @@ mutual
   parts_length (chained e more) from h =
       omega (
         arith,
-        length-append (parts_of e from) (chained_parts (width_of e) (outs_of e from) more (from + gate_count e)),
+        length-append (block_parts e from) (chained_parts (width_of e) (outs_of e from) more (from + gate_count e)),
         parts_length e from h.0,
         chained_parts_length (width_of e) (outs_of e from) more (from + gate_count e) (outs_length e from h.0) h.2,
       )
@@ -200,8 +200,8 @@ mutual
       operator_length op us vs (from + gate_count e + gate_count f) same ∙ ap (operator_gates op) (outs_length e from h.2) in
       omega (
         arith,
-        length-append (parts_of e from) (parts_of f (from + gate_count e) ++ own),
-        length-append (parts_of f (from + gate_count e)) own,
+        length-append (block_parts e from) (block_parts f (from + gate_count e) ++ own),
+        length-append (block_parts f (from + gate_count e)) own,
         parts_length e from h.2,
         parts_length f (from + gate_count e) h.3,
         gates,
@@ -212,7 +212,7 @@ mutual
   joined_parts_length (and_part e more) from h =
       omega (
         arith,
-        length-append (parts_of e from) (joined_parts more (from + gate_count e)),
+        length-append (block_parts e from) (joined_parts more (from + gate_count e)),
         parts_length e from h.0,
         joined_parts_length more (from + gate_count e) h.1,
       )
@@ -229,7 +229,7 @@ mutual
       operator_length op left vs next (outs_length e from h.2 ∙ (h.1 ∙ sym is)) ∙ ap (operator_gates op) is in
       omega (
         arith,
-        length-append (parts_of e from) (own ++ rest),
+        length-append (block_parts e from) (own ++ rest),
         length-append own rest,
         parts_length e from h.2,
         gates,

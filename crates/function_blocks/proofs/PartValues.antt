@@ -9,7 +9,7 @@ use Rattle.width_check.specs.Values.{width_of, widths_of, one_if, operated, valu
 use Rattle.width_check.specs.Typing.{var_width, ReadsFrom, EachReadsFrom, AllReadFrom}
 use Rattle.function_blocks.specs.Gates.{all_one, some_one, odd_ones, carries, alike, borrows}
 use Rattle.function_blocks.specs.Rails.{Rails, same_bit}
-use Rattle.function_blocks.specs.Parts.{Input, input, turned_over, BlockPart, fixed_parts, read_parts, inputs_from, bitwise_parts, result_inputs, ripple_parts, ripple_inputs, borrow_parts, conjunction_parts, equality_parts, last_from, equal_input, less_input, operator_parts, operator_inputs, operator_gates, gate_count, outs_of, joined_outs, chained_outs, parts_of, joined_parts, chained_parts}
+use Rattle.function_blocks.specs.Parts.{Input, input, turned_over, BlockPart, fixed_parts, read_parts, inputs_from, bitwise_parts, result_inputs, ripple_parts, ripple_inputs, borrow_parts, conjunction_parts, equality_parts, last_from, equal_input, less_input, operator_parts, operator_inputs, operator_gates, gate_count, outs_of, joined_outs, chained_outs, block_parts, joined_parts, chained_parts}
 use Rattle.function_blocks.specs.Waves.{store_of}
 use Rattle.function_blocks.proofs.Guards.{bit_in, bits_in}
 use Rattle.function_blocks.proofs.GateRest.{Agrees}
@@ -187,7 +187,7 @@ module _ (v : ℕ → Bool) (bits : ℕ → Rails) (vars : List Var) where
   complement n m k h = omega arith
 
   mutual
-    pub value_at : (e : Formula) (from : ℕ) → IsWellFormed e → ReadsFrom vars e → Agrees v bits from (parts_of e from)
+    pub value_at : (e : Formula) (from : ℕ) → IsWellFormed e → ReadsFrom vars e → Agrees v bits from (block_parts e from)
         → number_of (bits_in v (outs_of e from)) ≡ value store e
     value_at (constant w n) from h r a = ap number_of (fixed_is v bits w n from a) ∙ constant_number w n h.2
     value_at (reading x high low at) from h r a =
@@ -202,8 +202,8 @@ module _ (v : ℕ → Bool) (bits : ℕ → Rails) (vars : List Var) where
         let us = outs_of e from in
         let rest = chained_parts (width_of e) us more (from + gate_count e) in
         chained_at (width_of e) us more (from + gate_count e) (some_width e h.0) (outs_length e from h.0) h.2 r.1
-        (agrees_right v bits from (gate_count e) (parts_of e from) rest (parts_length e from h.0) a)
-        ∙ ap (λ n. chained_value store (width_of e) n more) (value_at e from h.0 r.0 (agrees_left v bits from (parts_of e from) rest a))
+        (agrees_right v bits from (gate_count e) (block_parts e from) rest (parts_length e from h.0) a)
+        ∙ ap (λ n. chained_value store (width_of e) n more) (value_at e from h.0 r.0 (agrees_left v bits from (block_parts e from) rest a))
     value_at (compared op e f) from h r a =
         let us = outs_of e from in
         let fb = from + gate_count e in
@@ -213,12 +213,13 @@ module _ (v : ℕ → Bool) (bits : ℕ → Rails) (vars : List Var) where
         let is = outs_length e from h.2 in
         let some = some_width e h.2 in
         let same : length vs ≡ length us = outs_length f fb h.3 ∙ (h.1 ∙ sym is) in
-        let right = agrees_right v bits from (gate_count e) (parts_of e from) (parts_of f fb ++ own) (parts_length e from h.2) a in
-        operator_is v bits op us vs fo same (omega (arith, is, some)) (agrees_right v bits fb (gate_count f) (parts_of f fb) own (parts_length f fb h.3) right)
+        let right = agrees_right v bits from (gate_count e) (block_parts e from) (block_parts f fb ++ own) (parts_length e from h.2) a in
+        operator_is v bits op us vs fo same (omega (arith, is, some))
+          (agrees_right v bits fb (gate_count f) (block_parts f fb) own (parts_length f fb h.3) right)
         ∙ (ap (λ n. operated op n (number_of (bits_in v us)) (number_of (bits_in v vs))) is
         ∙ (ap (λ n. operated op (width_of e) n (number_of (bits_in v vs)))
-        (value_at e from h.2 r.0 (agrees_left v bits from (parts_of e from) (parts_of f fb ++ own) a))
-        ∙ ap (operated op (width_of e) (value store e)) (value_at f fb h.3 r.1 (agrees_left v bits fb (parts_of f fb) own right))))
+        (value_at e from h.2 r.0 (agrees_left v bits from (block_parts e from) (block_parts f fb ++ own) a))
+        ∙ ap (operated op (width_of e) (value store e)) (value_at f fb h.3 r.1 (agrees_left v bits fb (block_parts f fb) own right))))
 
     joined_at : (parts : Formulas) (from : ℕ) → AreWellFormed parts → EachReadsFrom vars parts → Agrees v bits from (joined_parts parts from)
         → number_of (bits_in v (joined_outs parts from)) ≡ joined_value store parts
@@ -228,8 +229,8 @@ module _ (v : ℕ → Bool) (bits : ℕ → Rails) (vars : List Var) where
         let next = from + gate_count e in
         let vs = joined_outs more next in
         let rest = joined_parts more next in
-        let one = value_at e from h.0 r.0 (agrees_left v bits from (parts_of e from) rest a) in
-        let others = joined_at more next h.1 r.1 (agrees_right v bits from (gate_count e) (parts_of e from) rest (parts_length e from h.0) a) in
+        let one = value_at e from h.0 r.0 (agrees_left v bits from (block_parts e from) rest a) in
+        let others = joined_at more next h.1 r.1 (agrees_right v bits from (gate_count e) (block_parts e from) rest (parts_length e from h.0) a) in
         let wide = bits_length v bits vs ∙ joined_outs_length more next h.1 in
         ap number_of (bits_append v bits vs us)
         ∙ (number_append (bits_in v vs) (bits_in v us)
@@ -254,9 +255,9 @@ module _ (v : ℕ → Bool) (bits : ℕ → Rails) (vars : List Var) where
         let rest = chained_parts width result more after in
         let same : length vs ≡ length left = outs_length e from h.2 ∙ (h.1 ∙ sym is) in
         let gates : length own ≡ operator_gates op width = operator_length op left vs next same ∙ ap (operator_gates op) is in
-        let right = agrees_right v bits from (gate_count e) (parts_of e from) (own ++ rest) (parts_length e from h.2) a in
+        let right = agrees_right v bits from (gate_count e) (block_parts e from) (own ++ rest) (parts_length e from h.2) a in
         let told = operator_is v bits op left vs next same (omega (arith, is, some)) (agrees_left v bits next own rest right) in
-        let one = value_at e from h.2 r.0 (agrees_left v bits from (parts_of e from) (own ++ rest) a) in
+        let one = value_at e from h.2 r.0 (agrees_left v bits from (block_parts e from) (own ++ rest) a) in
         chained_at width result more after some (each_output op left next h.0 ∙ is) h.3 r.1
         (agrees_right v bits next (operator_gates op width) own rest gates right)
         ∙ ap (λ n. chained_value store width n more) (told

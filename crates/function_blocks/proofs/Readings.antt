@@ -8,7 +8,7 @@ use Rattle.width_check.specs.Values.{width_of, IsWellFormed, AreWellFormed, AreO
 use Rattle.width_check.specs.Typing.{var_width, ReadsFrom, EachReadsFrom, AllReadFrom}
 use Rattle.width_check.specs.Reads.{reads, reads_in_parts, reads_in_operations}
 use Rattle.function_blocks.specs.Gates.{all_one, some_one, odd_ones, carries, alike, borrows}
-use Rattle.function_blocks.specs.Parts.{Input, input, fixed_parts, read_parts, bitwise_parts, result_inputs, ripple_parts, borrow_parts, conjunction_parts, all_parts, equality_parts, operator_parts, operator_inputs, operator_gates, gate_count, outs_of, parts_of, joined_parts, chained_parts}
+use Rattle.function_blocks.specs.Parts.{Input, input, fixed_parts, read_parts, bitwise_parts, result_inputs, ripple_parts, borrow_parts, conjunction_parts, all_parts, equality_parts, operator_parts, operator_inputs, operator_gates, gate_count, outs_of, block_parts, joined_parts, chained_parts}
 use Rattle.function_blocks.specs.BitsRead.{EachRead, EachPart, EachOperation}
 use Rattle.function_blocks.proofs.Tables.{or_left, or_right}
 use Rattle.function_blocks.proofs.GateRest.{Only, only_append}
@@ -67,27 +67,27 @@ module _ (P : ℕ → ℕ → Type 0) where
 
 -- only variables that the expression reads
 mutual
-  pub parts_only : (P : ℕ → ℕ → Type 0) (e : Formula) (from : ℕ) → ((x i : ℕ) → reads x e ≡ true → P x i) → Only P (parts_of e from)
+  pub parts_only : (P : ℕ → ℕ → Type 0) (e : Formula) (from : ℕ) → ((x i : ℕ) → reads x e ≡ true → P x i) → Only P (block_parts e from)
   parts_only P (constant w v) from f = fixed_only P w v
   parts_only P (reading x high low at) from f = read_only P x low (high + 1 - low) (λ j l. f x j (eq_self x))
   parts_only P (joined parts) from f = joined_only P parts from f
   parts_only P (inverted e) from f = parts_only P e from f
   parts_only P (chained e more) from f =
-      only_append P (parts_of e from) (chained_parts (width_of e) (outs_of e from) more (from + gate_count e))
+      only_append P (block_parts e from) (chained_parts (width_of e) (outs_of e from) more (from + gate_count e))
       (parts_only P e from (λ x i h. f x i (or_left _ _ h))) (chained_only P (width_of e) (outs_of e from) more (from + gate_count e)
       (λ x i h. f x i (or_right (reads x e) _ h)))
   parts_only P (compared op e g) from f =
       let fb = from + gate_count e in
       let fo = fb + gate_count g in
       let own = operator_parts op (outs_of e from) (outs_of g fb) fo in
-      only_append P (parts_of e from) (parts_of g fb ++ own) (parts_only P e from (λ x i h. f x i (or_left _ _ h)))
-      (only_append P (parts_of g fb) own (parts_only P g fb (λ x i h. f x i (or_right (reads x e) _ h)))
+      only_append P (block_parts e from) (block_parts g fb ++ own) (parts_only P e from (λ x i h. f x i (or_left _ _ h)))
+      (only_append P (block_parts g fb) own (parts_only P g fb (λ x i h. f x i (or_right (reads x e) _ h)))
       (operator_only P op (outs_of e from) (outs_of g fb) fo))
 
   joined_only : (P : ℕ → ℕ → Type 0) (parts : Formulas) (from : ℕ) → ((x i : ℕ) → reads_in_parts x parts ≡ true → P x i) → Only P (joined_parts parts from)
   joined_only P no_parts from f = tt
   joined_only P (and_part e more) from f =
-      only_append P (parts_of e from) (joined_parts more (from + gate_count e))
+      only_append P (block_parts e from) (joined_parts more (from + gate_count e))
       (parts_only P e from (λ x i h. f x i (or_left _ _ h))) (joined_only P more (from + gate_count e) (λ x i h. f x i (or_right (reads x e) _ h)))
 
   chained_only : (P : ℕ → ℕ → Type 0) (width : ℕ) (left : List Input) (more : Operations) (from : ℕ) → ((x i : ℕ) → reads_in_operations x more ≡ true → P x i)
@@ -97,7 +97,7 @@ mutual
       let next = from + gate_count e in
       let own = operator_parts op left (outs_of e from) next in
       let rest = chained_parts width (operator_inputs op left next) more (next + operator_gates op width) in
-      only_append P (parts_of e from) (own ++ rest) (parts_only P e from (λ x i h. f x i (or_left _ _ h)))
+      only_append P (block_parts e from) (own ++ rest) (parts_only P e from (λ x i h. f x i (or_left _ _ h)))
       (only_append P own rest (operator_only P op left (outs_of e from) next)
       (chained_only P width (operator_inputs op left next) more (next + operator_gates op width) (λ x i h. f x i (or_right (reads x e) _ h))))
 
@@ -106,25 +106,25 @@ abbrev Has : List Var → ℕ → ℕ → Type 0
 Has vars x i = i < var_width vars x
 
 mutual
-  pub parts_within : (vars : List Var) (e : Formula) (from : ℕ) → IsWellFormed e → ReadsFrom vars e → Only (Has vars) (parts_of e from)
+  pub parts_within : (vars : List Var) (e : Formula) (from : ℕ) → IsWellFormed e → ReadsFrom vars e → Only (Has vars) (block_parts e from)
   parts_within vars (constant w v) from h r = fixed_only (Has vars) w v
   parts_within vars (reading x high low at) from h r = read_only (Has vars) x low (high + 1 - low) (λ j l. omega (arith, l, h.0, r.1))
   parts_within vars (joined parts) from h r = joined_within vars parts from h.2 r
   parts_within vars (inverted e) from h r = parts_within vars e from h r
   parts_within vars (chained e more) from h r =
-      only_append (Has vars) (parts_of e from) (chained_parts (width_of e) (outs_of e from) more (from + gate_count e))
+      only_append (Has vars) (block_parts e from) (chained_parts (width_of e) (outs_of e from) more (from + gate_count e))
       (parts_within vars e from h.0 r.0) (chained_within vars (width_of e) (outs_of e from) more (from + gate_count e) h.2 r.1)
   parts_within vars (compared op e g) from h r =
       let fb = from + gate_count e in
       let fo = fb + gate_count g in
       let own = operator_parts op (outs_of e from) (outs_of g fb) fo in
-      only_append (Has vars) (parts_of e from) (parts_of g fb ++ own) (parts_within vars e from h.2 r.0)
-      (only_append (Has vars) (parts_of g fb) own (parts_within vars g fb h.3 r.1) (operator_only (Has vars) op (outs_of e from) (outs_of g fb) fo))
+      only_append (Has vars) (block_parts e from) (block_parts g fb ++ own) (parts_within vars e from h.2 r.0)
+      (only_append (Has vars) (block_parts g fb) own (parts_within vars g fb h.3 r.1) (operator_only (Has vars) op (outs_of e from) (outs_of g fb) fo))
 
   joined_within : (vars : List Var) (parts : Formulas) (from : ℕ) → AreWellFormed parts → EachReadsFrom vars parts → Only (Has vars) (joined_parts parts from)
   joined_within vars no_parts from h r = tt
   joined_within vars (and_part e more) from h r =
-      only_append (Has vars) (parts_of e from) (joined_parts more (from + gate_count e)) (parts_within vars e from h.0 r.0)
+      only_append (Has vars) (block_parts e from) (joined_parts more (from + gate_count e)) (parts_within vars e from h.0 r.0)
       (joined_within vars more (from + gate_count e) h.1 r.1)
 
   chained_within : (vars : List Var) (width : ℕ) (left : List Input) (more : Operations) (from : ℕ) → AreOperations width more → AllReadFrom vars more
@@ -134,7 +134,7 @@ mutual
       let next = from + gate_count e in
       let own = operator_parts op left (outs_of e from) next in
       let rest = chained_parts width (operator_inputs op left next) more (next + operator_gates op width) in
-      only_append (Has vars) (parts_of e from) (own ++ rest) (parts_within vars e from h.2 r.0)
+      only_append (Has vars) (block_parts e from) (own ++ rest) (parts_within vars e from h.2 r.0)
       (only_append (Has vars) own rest (operator_only (Has vars) op left (outs_of e from) next)
       (chained_within vars width (operator_inputs op left next) more (next + operator_gates op width) h.3 r.1))
 
@@ -145,25 +145,25 @@ read_between P x i zero f = tt
 read_between P x i (suc n) f = (f i (omega arith) (omega arith), read_between P x (suc i) n (λ j l m. f j (omega (arith, l)) (omega (arith, m))))
 
 mutual
-  pub parts_read : (P : ℕ → ℕ → Type 0) (e : Formula) (from : ℕ) → EachRead P e → Only P (parts_of e from)
+  pub parts_read : (P : ℕ → ℕ → Type 0) (e : Formula) (from : ℕ) → EachRead P e → Only P (block_parts e from)
   parts_read P (constant w v) from r = fixed_only P w v
   parts_read P (reading x high low at) from r = read_between P x low (high + 1 - low) (λ j l m. r j l (omega (arith, l, m)))
   parts_read P (joined parts) from r = joined_read P parts from r
   parts_read P (inverted e) from r = parts_read P e from r
   parts_read P (chained e more) from r =
-      only_append P (parts_of e from) (chained_parts (width_of e) (outs_of e from) more (from + gate_count e))
+      only_append P (block_parts e from) (chained_parts (width_of e) (outs_of e from) more (from + gate_count e))
       (parts_read P e from r.0) (chained_read P (width_of e) (outs_of e from) more (from + gate_count e) r.1)
   parts_read P (compared op e g) from r =
       let fb = from + gate_count e in
       let fo = fb + gate_count g in
       let own = operator_parts op (outs_of e from) (outs_of g fb) fo in
-      only_append P (parts_of e from) (parts_of g fb ++ own) (parts_read P e from r.0)
-      (only_append P (parts_of g fb) own (parts_read P g fb r.1) (operator_only P op (outs_of e from) (outs_of g fb) fo))
+      only_append P (block_parts e from) (block_parts g fb ++ own) (parts_read P e from r.0)
+      (only_append P (block_parts g fb) own (parts_read P g fb r.1) (operator_only P op (outs_of e from) (outs_of g fb) fo))
 
   joined_read : (P : ℕ → ℕ → Type 0) (parts : Formulas) (from : ℕ) → EachPart P parts → Only P (joined_parts parts from)
   joined_read P no_parts from r = tt
   joined_read P (and_part e more) from r =
-      only_append P (parts_of e from) (joined_parts more (from + gate_count e)) (parts_read P e from r.0) (joined_read P more (from + gate_count e) r.1)
+      only_append P (block_parts e from) (joined_parts more (from + gate_count e)) (parts_read P e from r.0) (joined_read P more (from + gate_count e) r.1)
 
   chained_read : (P : ℕ → ℕ → Type 0) (width : ℕ) (left : List Input) (more : Operations) (from : ℕ) → EachOperation P more
       → Only P (chained_parts width left more from)
@@ -172,6 +172,6 @@ mutual
       let next = from + gate_count e in
       let own = operator_parts op left (outs_of e from) next in
       let rest = chained_parts width (operator_inputs op left next) more (next + operator_gates op width) in
-      only_append P (parts_of e from) (own ++ rest) (parts_read P e from r.0)
+      only_append P (block_parts e from) (own ++ rest) (parts_read P e from r.0)
       (only_append P own rest (operator_only P op left (outs_of e from) next)
       (chained_read P width (operator_inputs op left next) more (next + operator_gates op width) r.1))

@@ -12,7 +12,7 @@ use Rattle.width_check.specs.Typing.{ReadsFrom}
 use Rattle.handshake_expand.specs.Layout.{operator_size, formula_size}
 use Rattle.function_blocks.specs.Gates.{all_one, some_one, odd_ones, carries, alike, gate, bitwise, ripple, ripple_result, borrow_gates, borrows, conjunctions, all_of_bits, result_pairs, equality, operator_rules, operator_result}
 use Rattle.function_blocks.specs.Expressions.{HasBits, formula_result, formula_rules}
-use Rattle.function_blocks.specs.Parts.{BlockPart, fixed, read_bit, made, outs_of, parts_of}
+use Rattle.function_blocks.specs.Parts.{BlockPart, fixed, read_bit, made, outs_of, block_parts}
 use Rattle.function_blocks.specs.Listed.{placed, rules_listed}
 use Rattle.function_blocks.proofs.PartSizes.{outs_length, parts_length, count_doubled}
 use Rattle.function_blocks.proofs.ListedHolds.{result_put, formula_list}
@@ -113,4 +113,4 @@ pub rules_length : (vars : List Var) (bits : ℕ → List Pair) → HasBits vars
     → length (formula_rules bits e request from) ≡ formula_size e
 rules_length vars bits has e request from h r =
     ap length (formula_list vars bits has request from e 0 from (omega arith) h r)
-    ∙ (rules_doubled bits request from (parts_of e 0) ∙ (ap (λ n. 2 * n) (parts_length e 0 h) ∙ sym (count_doubled e)))
+    ∙ (rules_doubled bits request from (block_parts e 0) ∙ (ap (λ n. 2 * n) (parts_length e 0 h) ∙ sym (count_doubled e)))

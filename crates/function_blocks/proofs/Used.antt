@@ -9,7 +9,7 @@ use Rattle.width_check.specs.Processes.{Formula, constant, reading, joined, inve
 use Rattle.width_check.specs.Values.{width_of, IsWellFormed, AreWellFormed, AreOperations}
 use Rattle.prs_core.specs.Deciding.{left_of, right_of, both_of}
 use Rattle.function_blocks.specs.Gates.{all_one, some_one, odd_ones, carries, alike, borrows}
-use Rattle.function_blocks.specs.Parts.{Input, input, turned_over, BlockPart, made, fixed_parts, read_parts, inputs_from, bitwise_parts, result_inputs, ripple_parts, ripple_inputs, borrow_parts, conjunction_parts, all_parts, equality_parts, last_from, equal_input, less_input, operator_parts, operator_inputs, operator_gates, gate_count, outs_of, joined_outs, chained_outs, parts_of, joined_parts, chained_parts}
+use Rattle.function_blocks.specs.Parts.{Input, input, turned_over, BlockPart, made, fixed_parts, read_parts, inputs_from, bitwise_parts, result_inputs, ripple_parts, ripple_inputs, borrow_parts, conjunction_parts, all_parts, equality_parts, last_from, equal_input, less_input, operator_parts, operator_inputs, operator_gates, gate_count, outs_of, joined_outs, chained_outs, block_parts, joined_parts, chained_parts}
 use Rattle.function_blocks.proofs.Tables.{or_left, or_right, or_true}
 use Rattle.function_blocks.proofs.GateLists.{names, wanted, used}
 use Rattle.function_blocks.proofs.PartSizes.{bitwise_length, fixed_length, read_length, operator_length, each_output, outs_length, parts_length}
@@ -262,22 +262,22 @@ member_right (a ∷ us) vs k h = or_right (a.at == k) _ (member_right us vs k h)
 
 -- Of a chain: its own gates are used, and so is each bit of what it goes on from.
 mutual
-  pub parts_used : (e : Formula) (from : ℕ) → IsWellFormed e → used (member (outs_of e from)) from (parts_of e from) ≡ true
+  pub parts_used : (e : Formula) (from : ℕ) → IsWellFormed e → used (member (outs_of e from)) from (block_parts e from) ≡ true
   parts_used (constant w v) from h =
       used_all (member (inputs_from w from)) from (fixed_parts w v) (λ j l. inputs_member from w j (let n = fixed_length w v in omega (arith, n)))
   parts_used (reading x high low at) from h = used_all (member (inputs_from (high + 1 - low) from)) from (read_parts x low (high + 1 - low))
       (λ j l. inputs_member from (high + 1 - low) j (let n = read_length x low (high + 1 - low) in omega (arith, n)))
   parts_used (joined parts) from h = joined_used parts from h.2
   parts_used (inverted e) from h =
-      used_more (member (outs_of e from)) (member (map turned_over (outs_of e from))) (turned_member (outs_of e from)) from (parts_of e from)
+      used_more (member (outs_of e from)) (member (map turned_over (outs_of e from))) (turned_member (outs_of e from)) from (block_parts e from)
       (parts_used e from h)
   parts_used (chained e more) from h =
       let us = outs_of e from in
       let next = from + gate_count e in
       let rest = chained_parts (width_of e) us more next in
       let out = member (chained_outs (width_of e) us more next) in
-      used_append out from (parts_of e from) rest
-      (used_more (member us) (λ k. out k || wanted rest k) (chained_names (width_of e) us more next (outs_length e from h.0) h.2) from (parts_of e from)
+      used_append out from (block_parts e from) rest
+      (used_more (member us) (λ k. out k || wanted rest k) (chained_names (width_of e) us more next (outs_length e from h.0) h.2) from (block_parts e from)
       (parts_used e from h.0))
       (used_at out next _ rest (ap (λ k. from + k) (sym (parts_length e from h.0))) (chained_used (width_of e) us more next (outs_length e from h.0) h.2))
   parts_used (compared op e f) from h =
@@ -288,14 +288,14 @@ mutual
       let own = operator_parts op us vs fo in
       let out = member (operator_inputs op us fo) in
       let same : length vs ≡ length us = outs_length f fb h.3 ∙ (h.1 ∙ sym (outs_length e from h.2)) in
-      used_append out from (parts_of e from) (parts_of f fb ++ own)
-      (used_more (member us) (λ k. out k || wanted (parts_of f fb ++ own) k)
-      (λ k q. or_right (out k) _ (wanted_right (parts_of f fb) own k (operator_names op fo us vs same k (or_left _ _ q)))) from (parts_of e from)
+      used_append out from (block_parts e from) (block_parts f fb ++ own)
+      (used_more (member us) (λ k. out k || wanted (block_parts f fb ++ own) k)
+      (λ k q. or_right (out k) _ (wanted_right (block_parts f fb) own k (operator_names op fo us vs same k (or_left _ _ q)))) from (block_parts e from)
       (parts_used e from h.2))
-      (used_at out fb _ (parts_of f fb ++ own) (ap (λ k. from + k) (sym (parts_length e from h.2)))
-      (used_append out fb (parts_of f fb) own
+      (used_at out fb _ (block_parts f fb ++ own) (ap (λ k. from + k) (sym (parts_length e from h.2)))
+      (used_append out fb (block_parts f fb) own
       (used_more (member vs) (λ k. out k || wanted own k) (λ k q. or_right (out k) _ (operator_names op fo us vs same k (or_right (member us k) _ q))) fb
-      (parts_of f fb) (parts_used f fb h.3))
+      (block_parts f fb) (parts_used f fb h.3))
       (used_at out fo _ own (ap (λ k. fb + k) (sym (parts_length f fb h.3))) (operator_used op fo us vs same))))
 
   joined_used : (parts : Formulas) (from : ℕ) → AreWellFormed parts → used (member (joined_outs parts from)) from (joined_parts parts from) ≡ true
@@ -303,9 +303,9 @@ mutual
   joined_used (and_part e more) from h =
       let next = from + gate_count e in
       let out = member (joined_outs more next ++ outs_of e from) in
-      used_append out from (parts_of e from) (joined_parts more next)
+      used_append out from (block_parts e from) (joined_parts more next)
       (used_more (member (outs_of e from)) (λ k. out k || wanted (joined_parts more next) k)
-      (λ k q. or_left (out k) _ (member_right (joined_outs more next) (outs_of e from) k q)) from (parts_of e from) (parts_used e from h.0))
+      (λ k q. or_left (out k) _ (member_right (joined_outs more next) (outs_of e from) k q)) from (block_parts e from) (parts_used e from h.0))
       (used_at out next _ (joined_parts more next) (ap (λ k. from + k) (sym (parts_length e from h.0)))
       (used_more (member (joined_outs more next)) out (member_left (joined_outs more next) (outs_of e from)) next (joined_parts more next)
       (joined_used more next h.1)))
@@ -324,9 +324,9 @@ mutual
       let same : length vs ≡ length left = outs_length e from h.2 ∙ (h.1 ∙ sym is) in
       let gates : length own ≡ operator_gates op width = operator_length op left vs next same ∙ ap (operator_gates op) is in
       let wide = each_output op left next h.0 ∙ is in
-      used_append out from (parts_of e from) (own ++ rest)
+      used_append out from (block_parts e from) (own ++ rest)
       (used_more (member vs) (λ k. out k || wanted (own ++ rest) k)
-      (λ k q. or_right (out k) _ (wanted_left own rest k (operator_names op next left vs same k (or_right (member left k) _ q)))) from (parts_of e from)
+      (λ k q. or_right (out k) _ (wanted_left own rest k (operator_names op next left vs same k (or_right (member left k) _ q)))) from (block_parts e from)
       (parts_used e from h.2))
       (used_at out next _ (own ++ rest) (ap (λ k. from + k) (sym (parts_length e from h.2)))
       (used_append out next own rest
@@ -345,4 +345,4 @@ mutual
       let rest = chained_parts width result more after in
       let same : length vs ≡ length left = outs_length e from h.2 ∙ (h.1 ∙ sym is) in
       or_right (member (chained_outs width result more after) k) _
-      (wanted_right (parts_of e from) (own ++ rest) k (wanted_left own rest k (operator_names op next left vs same k (or_left _ _ q))))
+      (wanted_right (block_parts e from) (own ++ rest) k (wanted_left own rest k (operator_names op next left vs same k (or_left _ _ q))))

@@ -7,7 +7,7 @@ use Rattle.width_check.specs.Processes.{Formula}
 use Rattle.width_check.specs.Values.{width_of, IsWellFormed}
 use Rattle.width_check.specs.Typing.{var_width}
 use Rattle.function_blocks.specs.Rails.{one_rule_fires, Pairs, low_pairs, pair_in, turned_pairs, Rails, value_on, neutral_on, Single}
-use Rattle.function_blocks.specs.Parts.{Input, BlockPart, fixed, read_bit, made, gate_count, outs_of, parts_of}
+use Rattle.function_blocks.specs.Parts.{Input, BlockPart, fixed, read_bit, made, gate_count, outs_of, block_parts}
 use Rattle.function_blocks.specs.BitsRead.{EachRead}
 use Rattle.function_blocks.specs.Waves.{inputs_taken, all_fit, cold, gate_rule, good, out_rail, full, empty, Waves}
 use Rattle.function_blocks.proofs.Guards.{arrived, bits_in}
@@ -34,7 +34,7 @@ module _ (e : Formula) (w : IsWellFormed e) where
   n = gate_count e
 
   abbrev gs : List BlockPart
-  gs = parts_of e 0
+  gs = block_parts e 0
 
   abbrev us : List Input
   us = outs_of e 0

@@ -11,7 +11,7 @@ use Rattle.width_check.specs.Values.{width_of, IsWellFormed, AreWellFormed, AreO
 use Rattle.handshake_expand.specs.Layout.{formula_size}
 use Rattle.function_blocks.specs.Gates.{table, minterm, gate, gate_rail}
 use Rattle.function_blocks.specs.Expressions.{following, read_rail, formula_rules}
-use Rattle.function_blocks.specs.Parts.{Input, BlockPart, fixed, read_bit, made, read_parts, operator_parts, operator_inputs, operator_gates, gate_count, outs_of, parts_of, joined_parts, chained_parts}
+use Rattle.function_blocks.specs.Parts.{Input, BlockPart, fixed, read_bit, made, read_parts, operator_parts, operator_inputs, operator_gates, gate_count, outs_of, block_parts, joined_parts, chained_parts}
 use Rattle.function_blocks.specs.Listed.{placed, part_rules, rules_listed}
 use Rattle.function_blocks.specs.Blocks.{bits_apart, bits_in_blocks, AreBelow, HasBit}
 use Rattle.function_blocks.specs.BitsRead.{EachRead, EachPart, EachOperation}
@@ -141,5 +141,5 @@ rules_within count firsts e request from h r asked room =
     let near : (x i : ℕ) → i ≤ 63 → HasBit count firsts x i → IsNear count (pair_of (bits x) i) =
     λ x i l k. subst (IsNear count) (sym (apart_at 5 64 _ i (omega (arith, l)))) (let w = k.within in (omega (arith, w), w)) in
     subst (All (AreBelow count)) (sym (list.rules bits (block_bits firsts e) request from))
-    (listed_near count bits request from (gate_count e) asked (omega (arith, size, room)) (parts_of e 0) 0 (omega (arith, long)) (parts_ordered e 0 h)
+    (listed_near count bits request from (gate_count e) asked (omega (arith, size, room)) (block_parts e 0) 0 (omega (arith, long)) (parts_ordered e 0 h)
     (parts_read _ e 0 (each_within _ _ near e h r)))

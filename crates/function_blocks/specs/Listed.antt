@@ -12,7 +12,7 @@ use Rattle.width_check.specs.Reads.{reads}
 use Rattle.function_blocks.specs.Gates.{gate}
 use Rattle.function_blocks.specs.Expressions.{HasBits, constant_bit, read_rail, formula_result, formula_rules}
 use Rattle.function_blocks.specs.Rails.{side_of, Pairs, pair_in, Rule, Rails}
-use Rattle.function_blocks.specs.Parts.{Input, BlockPart, fixed, read_bit, made, gate_count, outs_of, parts_of}
+use Rattle.function_blocks.specs.Parts.{Input, BlockPart, fixed, read_bit, made, gate_count, outs_of, block_parts}
 use Rattle.function_blocks.specs.Waves.{gate_rule, out_rail}
 
 -- an input's nodes
@@ -58,11 +58,11 @@ pub record Told (v : ℕ → Bool) (node : ℕ) (rules : NodeRules) (r : Rule) :
 -- The rules that are listed of an expression are those of its gates, in order.
 pub record Listed (vars : List Var) (e : Formula) : Type 0 where
   pub size : formula_size e ≡ 2 * gate_count e
-  pub count : length (parts_of e 0) ≡ gate_count e
+  pub count : length (block_parts e 0) ≡ gate_count e
   pub wide : length (outs_of e 0) ≡ width_of e
   pub result : (from : ℕ) → formula_result e from ≡ map (placed from) (outs_of e 0)
   pub rules : (bits : ℕ → List nodes.Pair) → HasBits vars bits → (request from : ℕ)
-      → formula_rules bits e request from ≡ rules_listed bits request from (parts_of e 0)
+      → formula_rules bits e request from ≡ rules_listed bits request from (block_parts e 0)
   pub outputs : (bits : ℕ → List nodes.Pair) (request from : ℕ) (v : ℕ → Bool) (r : Bool) (now : ℕ → Rails)
       (u : Pairs (gate_count e)) → Valued vars bits e request from v r now u → (i : ℕ) (one : Bool) → i < width_of e
       → v (node_of (nodes.pair_of (formula_result e from) i) one) ≡ out_rail e u i one

@@ -175,24 +175,24 @@ abbrev mutual
 
 -- its gates
 abbrev mutual
-  pub parts_of : Formula → (from : ℕ) → List BlockPart
-  parts_of (constant width v) from = fixed_parts width v
-  parts_of (reading var high low at) from = read_parts var low (high + 1 - low)
-  parts_of (joined parts) from = joined_parts parts from
-  parts_of (inverted e) from = parts_of e from
-  parts_of (chained e more) from =
-      parts_of e from ++ chained_parts (width_of e) (outs_of e from) more (from + gate_count e)
-  parts_of (compared op e f) from =
-      parts_of e from ++ (parts_of f (from + gate_count e)
+  pub block_parts : Formula → (from : ℕ) → List BlockPart
+  block_parts (constant width v) from = fixed_parts width v
+  block_parts (reading var high low at) from = read_parts var low (high + 1 - low)
+  block_parts (joined parts) from = joined_parts parts from
+  block_parts (inverted e) from = block_parts e from
+  block_parts (chained e more) from =
+      block_parts e from ++ chained_parts (width_of e) (outs_of e from) more (from + gate_count e)
+  block_parts (compared op e f) from =
+      block_parts e from ++ (block_parts f (from + gate_count e)
       ++ operator_parts op (outs_of e from) (outs_of f (from + gate_count e)) (from + gate_count e + gate_count f))
 
   pub joined_parts : Formulas → (from : ℕ) → List BlockPart
   joined_parts no_parts from = []
-  joined_parts (and_part e more) from = parts_of e from ++ joined_parts more (from + gate_count e)
+  joined_parts (and_part e more) from = block_parts e from ++ joined_parts more (from + gate_count e)
 
   pub chained_parts : (width : ℕ) → List Input → Operations → (from : ℕ) → List BlockPart
   chained_parts width left no_operations from = []
   chained_parts width left (and_operation op e more) from =
-      parts_of e from ++ (operator_parts op left (outs_of e from) (from + gate_count e)
+      block_parts e from ++ (operator_parts op left (outs_of e from) (from + gate_count e)
       ++ chained_parts width (operator_inputs op left (from + gate_count e)) more
       (from + gate_count e + operator_gates op width))

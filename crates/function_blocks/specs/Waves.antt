@@ -8,7 +8,7 @@ use Rattle.width_check.specs.Values.{width_of, value}
 use Rattle.width_check.specs.Typing.{var_width, ReadsFrom}
 use Rattle.width_check.specs.Reads.{reads}
 use Rattle.function_blocks.specs.Rails.{RailLevels, side_of, cross, single, some, levels_neutral, Pairs, low_pairs, pair_in, turned_pairs, Rule, rule_of, no_rule, one_rule_fires, is_apart, same_bit, Rails, value_on, neutral_on, number_on, Single}
-use Rattle.function_blocks.specs.Parts.{Input, BlockPart, fixed, read_bit, made, gate_count, outs_of, parts_of}
+use Rattle.function_blocks.specs.Parts.{Input, BlockPart, fixed, read_bit, made, gate_count, outs_of, block_parts}
 
 -- the inputs' pairs
 abbrev pub inputs_taken : (look : ℕ → RailLevels) → List Input → List RailLevels
@@ -49,7 +49,7 @@ rule_among r look bits (g ∷ gs) (suc n) u (suc k) one = rule_among r look bits
 
 -- the rule of a rail of a gate of an expression
 abbrev pub gate_rule : (e : Formula) → (bits : ℕ → Rails) → Bool → Pairs (gate_count e) → (gate : ℕ) → Bool → Rule
-gate_rule e bits r u k one = rule_among r (pair_in (gate_count e) u) bits (parts_of e 0) (gate_count e) u k one
+gate_rule e bits r u k one = rule_among r (pair_in (gate_count e) u) bits (block_parts e 0) (gate_count e) u k one
 
 -- while the request is high a rail is high only where its guard holds, while it is low where it isn't
 abbrev pub binds : (request rail guard : Bool) → Bool
@@ -84,7 +84,8 @@ cold _ _ u = true
 -- what holds of the gates of an expression in each state under the request
 abbrev pub good : Bool → (bits : ℕ → Rails) → (e : Formula) → Pairs (gate_count e) → Bool
 good r bits e u =
-    all_fit r (pair_in (gate_count e) u) bits (parts_of e 0) (gate_count e) u && cold (parts_of e 0) (gate_count e) u
+    all_fit r (pair_in (gate_count e) u) bits (block_parts e 0) (gate_count e) u
+        && cold (block_parts e 0) (gate_count e) u
 
 -- the rails of its value
 abbrev pub input_rails : List Input → (look : ℕ → RailLevels) → Rails

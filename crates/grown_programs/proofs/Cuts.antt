@@ -10,7 +10,7 @@ use Rattle.chp_syntax.specs.declared.token.Token.{Token}
 use Rattle.chp_syntax.specs.declared.token.Mark.{Mark}
 use Rattle.chp_syntax.specs.declared.token.Mark.TheVariants as mark
 use Rattle.chp_syntax.specs.Front.{LongestSign}
-use Rattle.chp_syntax.specs.Reading.{IsShallow, depth_of, opened}
+use Rattle.chp_syntax.specs.Reading.{IsShallow, depth_of, depth_after}
 use Rattle.chp_syntax.specs.Spelling.{Spells, sign_text}
 use Rattle.chp_syntax.specs.Tokens.{blank, begins_blank, span, IsGap, IsToken, Cuts, so_far, a_gap, a_token, Tokens}
 use Rattle.chp_syntax.proofs.Cutting.{gap_within, token_within}
@@ -28,7 +28,7 @@ pub shallow_none : (depth : ℕ) → depth ≤ 256 → StaysShallow depth []
 shallow_none depth few zero = few
 shallow_none depth few (suc n) = few
 
-pub shallow_more : (depth : ℕ) (t : Token) (ts : List Token) → depth ≤ 256 → StaysShallow (opened depth t.kind) ts → StaysShallow depth (t ∷ ts)
+pub shallow_more : (depth : ℕ) (t : Token) (ts : List Token) → depth ≤ 256 → StaysShallow (depth_after depth t.kind) ts → StaysShallow depth (t ∷ ts)
 shallow_more depth t ts few next zero = few
 shallow_more depth t ts few next (suc n) = next n
 
@@ -61,7 +61,7 @@ rest_blank b is r = record { tokens = r.tokens; to = r.to; cut = a_gap 1 (inl (r
 
 -- a token
 rest_token : {P : List Token → Type 0} {depth at : ℕ} (kind : TokenKind) (bs text : List ℕ) → IsToken kind (length bs) (bs ++ text) → depth ≤ 256
-    → Rest (λ ts. P (token_of kind at (length bs) ∷ ts)) (opened depth kind) (at + length bs) text → Rest P depth at (bs ++ text)
+    → Rest (λ ts. P (token_of kind at (length bs) ∷ ts)) (depth_after depth kind) (at + length bs) text → Rest P depth at (bs ++ text)
 rest_token {P} {depth} {at} kind bs text is few r = record {
   tokens = token_of kind at (length bs) ∷ r.tokens;
   to = r.to;
@@ -88,7 +88,7 @@ run_size (b ∷ bs) text parts ends = go (word_part b) refl parts (run_size bs t
 
 pub rest_word : {P : List Token → Type 0} {depth at : ℕ} (kind : TokenKind) (bs text : List ℕ) → 0 < length bs → list_all word_part bs ≡ true →
     begins_with_part text ≡ false → Spells kind bs → depth ≤ 256
-    → Rest (λ ts. P (token_of kind at (length bs) ∷ ts)) (opened depth kind) (at + length bs) text → Rest P depth at (bs ++ text)
+    → Rest (λ ts. P (token_of kind at (length bs) ∷ ts)) (depth_after depth kind) (at + length bs) text → Rest P depth at (bs ++ text)
 rest_word kind bs text some parts ends spells few r =
     rest_token kind bs text
     (run_token kind (length bs) (bs ++ text) some (sym (run_size bs text parts ends)) (subst (Spells kind) (sym (take-append_seam bs text)) spells)) few r
@@ -120,7 +120,7 @@ no_part_first b text lacks = rw lacks (omega arith)
 
 pub rest_sign : {P : List Token → Type 0} {depth at : ℕ} (m : Mark) (b c : ℕ) {text : List ℕ} → b ∷ [] ≡ sign_text m → word_part b ≡ false →
     is_pair b c ≡ false → depth ≤ 256
-    → Rest (λ ts. P (token_of (Sign m) at 1 ∷ ts)) (opened depth (Sign m)) (at + 1) (c ∷ text) → Rest P depth at (b ∷ c ∷ text)
+    → Rest (λ ts. P (token_of (Sign m) at 1 ∷ ts)) (depth_after depth (Sign m)) (at + 1) (c ∷ text) → Rest P depth at (b ∷ c ∷ text)
 rest_sign m b c {text} spelled lacks none few r =
     rest_token (Sign m) (b ∷ []) (c ∷ text)
     (sign_token m 1 (b ∷ c ∷ text) (no_part_first b (c ∷ text) lacks)
@@ -128,7 +128,7 @@ rest_sign m b c {text} spelled lacks none few r =
 
 pub rest_pair : {P : List Token → Type 0} {depth at : ℕ} (m : Mark) (b c : ℕ) {text : List ℕ} → b ∷ c ∷ [] ≡ sign_text m → word_part b ≡ false →
     depth ≤ 256
-    → Rest (λ ts. P (token_of (Sign m) at 2 ∷ ts)) (opened depth (Sign m)) (at + 2) text → Rest P depth at (b ∷ c ∷ text)
+    → Rest (λ ts. P (token_of (Sign m) at 2 ∷ ts)) (depth_after depth (Sign m)) (at + 2) text → Rest P depth at (b ∷ c ∷ text)
 rest_pair m b c {text} spelled lacks few r =
     rest_token (Sign m) (b ∷ c ∷ []) text
     (sign_token m 2 (b ∷ c ∷ text) (no_part_first b (c ∷ text) lacks)

@@ -15,9 +15,8 @@ use Rattle.width_check.specs.declared.typed.TStmt.TheBlock.{hidden-the_row-TStmt
 use Rattle.width_check.specs.declared.typed.TArm.{TArm}
 use Rattle.width_check.specs.Processes.{joined, chained, Formulas, no_parts, and_part, Operations, no_operations, and_operation, in_turn, side_by_side, choosing, Processes, no_members, and_member, member_count, Choices, no_choices, and_choice, choice_count, TypedProgram}
 use Rattle.width_check.specs.Typing.{channel_width, var_width}
-use Rattle.width_check.specs.View.{formula_of, formulas_of, operations_of, process_of, processes_of, choices_of}
+use Rattle.width_check.specs.View.{formula_of, formulas_of, operations_of, process_of, processes_of, choices_of, members_in, choices_in}
 use Rattle.handshake_expand.specs.Answers.{select_own, again_own}
-pub use Rattle.handshake_expand.specs.PartTree.{members_of, arms_of}
 use Rattle.handshake_expand.specs.Layout.{wires_size, block_size, wires_before, blocks_before, size_of, turn_size, branches_size, guards_size, bodies_size}
 
 abbrev pub parts_of : List TExpr → Formulas
@@ -36,11 +35,11 @@ links_row : {m : _} (row : Row_of-TLink m) → operations_of row ≡ links_of (i
 links_row end_of-TLink = refl
 links_row (more_of-TLink op right rest) = ap (and_operation op (formula_of right)) (links_row rest)
 
-members_row : {m : _} (row : Row_of-TStmt m) → processes_of row ≡ members_of (items-the_row-TStmt m row)
+members_row : {m : _} (row : Row_of-TStmt m) → processes_of row ≡ members_in (items-the_row-TStmt m row)
 members_row end_of-TStmt = refl
 members_row (more_of-TStmt s rest) = ap (and_member (process_of s)) (members_row rest)
 
-arms_row : {m : _} (row : Row_of-TArm m) → choices_of row ≡ arms_of (items-the_row-TArm m row)
+arms_row : {m : _} (row : Row_of-TArm m) → choices_of row ≡ choices_in (items-the_row-TArm m row)
 arms_row end_of-TArm = refl
 arms_row (more_of-TArm guard body rest) = ap (and_choice (formula_of guard) (process_of body)) (arms_row rest)
 
@@ -52,14 +51,14 @@ pub chain_is : (e : TExpr) (first : Box TExpr Global) (v : Vec TLink Global) →
 chain_is e first v is = ap formula_of is ∙ ap (chained (formula_of first.value)) (links_row (hidden-the_row-TLink-1 v)
     ∙ ap links_of (items_hidden-the_row-TLink-1 v))
 
-pub then_is : (s : TStmt) (v : Vec TStmt Global) → s ≡ Then v → process_of s ≡ in_turn (members_of v.items)
-then_is s v is = ap process_of is ∙ ap in_turn (members_row (hidden-the_row-TStmt-0 v) ∙ ap members_of (items_hidden-the_row-TStmt-0 v))
+pub then_is : (s : TStmt) (v : Vec TStmt Global) → s ≡ Then v → process_of s ≡ in_turn (members_in v.items)
+then_is s v is = ap process_of is ∙ ap in_turn (members_row (hidden-the_row-TStmt-0 v) ∙ ap members_in (items_hidden-the_row-TStmt-0 v))
 
-pub beside_is : (s : TStmt) (v : Vec TStmt Global) → s ≡ Beside v → process_of s ≡ side_by_side (members_of v.items)
-beside_is s v is = ap process_of is ∙ ap side_by_side (members_row (hidden-the_row-TStmt-0 v) ∙ ap members_of (items_hidden-the_row-TStmt-0 v))
+pub beside_is : (s : TStmt) (v : Vec TStmt Global) → s ≡ Beside v → process_of s ≡ side_by_side (members_in v.items)
+beside_is s v is = ap process_of is ∙ ap side_by_side (members_row (hidden-the_row-TStmt-0 v) ∙ ap members_in (items_hidden-the_row-TStmt-0 v))
 
-pub select_is : (s : TStmt) (again : Bool) (v : Vec TArm Global) → s ≡ Select again v → process_of s ≡ choosing again (arms_of v.items)
-select_is s again v is = ap process_of is ∙ ap (choosing again) (arms_row (hidden-the_row-TArm-1 v) ∙ ap arms_of (items_hidden-the_row-TArm-1 v))
+pub select_is : (s : TStmt) (again : Bool) (v : Vec TArm Global) → s ≡ Select again v → process_of s ≡ choosing again (choices_in v.items)
+select_is s again v is = ap process_of is ∙ ap (choosing again) (arms_row (hidden-the_row-TArm-1 v) ∙ ap choices_in (items_hidden-the_row-TArm-1 v))
 
 -- from a place on there is the one there and those behind it
 pub part_at : (es : List TExpr) (i : ℕ) (e : TExpr) → i < length es → e ≡ get_or es i e →
@@ -78,19 +77,19 @@ pub no_more_links : (ls : List TLink) (i : ℕ) → length ls ≤ i → links_of
 no_more_links ls i all = ap links_of (drop_all i ls all)
 
 pub member_at : (ss : List TStmt) (i : ℕ) (s : TStmt) → i < length ss → s ≡ get_or ss i s →
-    members_of (drop i ss) ≡ and_member (process_of s) (members_of (drop (i + 1) ss))
-member_at ss i s within is = ap members_of (drop_more ss i s within) ∙ ap (λ x. and_member (process_of x) (members_of (drop (i + 1) ss))) (sym is)
+    members_in (drop i ss) ≡ and_member (process_of s) (members_in (drop (i + 1) ss))
+member_at ss i s within is = ap members_in (drop_more ss i s within) ∙ ap (λ x. and_member (process_of x) (members_in (drop (i + 1) ss))) (sym is)
 
-pub no_more_members : (ss : List TStmt) (i : ℕ) → length ss ≤ i → members_of (drop i ss) ≡ no_members
-no_more_members ss i all = ap members_of (drop_all i ss all)
+pub no_more_members : (ss : List TStmt) (i : ℕ) → length ss ≤ i → members_in (drop i ss) ≡ no_members
+no_more_members ss i all = ap members_in (drop_all i ss all)
 
 pub arm_at : (arms : List TArm) (i : ℕ) (a : TArm) → i < length arms → a ≡ get_or arms i a →
-    arms_of (drop i arms) ≡ and_choice (formula_of a.guard) (process_of a.body) (arms_of (drop (i + 1) arms))
-arm_at arms i a within is = ap arms_of (drop_more arms i a within)
-    ∙ ap (λ (x : TArm). and_choice (formula_of x.guard) (process_of x.body) (arms_of (drop (i + 1) arms))) (sym is)
+    choices_in (drop i arms) ≡ and_choice (formula_of a.guard) (process_of a.body) (choices_in (drop (i + 1) arms))
+arm_at arms i a within is = ap choices_in (drop_more arms i a within)
+    ∙ ap (λ (x : TArm). and_choice (formula_of x.guard) (process_of x.body) (choices_in (drop (i + 1) arms))) (sym is)
 
-pub no_more_arms : (arms : List TArm) (i : ℕ) → length arms ≤ i → arms_of (drop i arms) ≡ no_choices
-no_more_arms arms i all = ap arms_of (drop_all i arms all)
+pub no_more_arms : (arms : List TArm) (i : ℕ) → length arms ≤ i → choices_in (drop i arms) ≡ no_choices
+no_more_arms arms i all = ap choices_in (drop_all i arms all)
 
 -- what the members have together, their Q-elements aside
 abbrev pub members_size : TypedProgram → Processes → ℕ
@@ -101,11 +100,11 @@ members_size p (and_member s more) = size_of p s + members_size p more
 abbrev pub arms_size : TypedProgram → Choices → ℕ
 arms_size p cs = guards_size cs + bodies_size p cs
 
-pub members_counted : (ss : List TStmt) → member_count (members_of ss) ≡ length ss
+pub members_counted : (ss : List TStmt) → member_count (members_in ss) ≡ length ss
 members_counted [] = refl
 members_counted (s ∷ ss) = ap suc (members_counted ss)
 
-pub arms_counted : (arms : List TArm) → choice_count (arms_of arms) ≡ length arms
+pub arms_counted : (arms : List TArm) → choice_count (choices_in arms) ≡ length arms
 arms_counted [] = refl
 arms_counted (a ∷ rest) = ap suc (arms_counted rest)
 

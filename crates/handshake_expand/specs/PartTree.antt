@@ -94,14 +94,6 @@ abbrev pub each_tree : List Part → PartTrees
 each_tree [] = no_children
 each_tree (child ∷ rest) = and_child (tree_of child) (each_tree rest)
 
-abbrev pub members_of : List TStmt → Processes
-members_of [] = no_members
-members_of (s ∷ rest) = and_member (process_of s) (members_of rest)
-
-abbrev pub arms_of : List TArm → Choices
-arms_of [] = no_choices
-arms_of (a ∷ rest) = and_choice (formula_of a.guard) (process_of a.body) (arms_of rest)
-
 -- each guard is a well-formed expression
 abbrev pub HasFormedGuards : Choices → Type 0
 HasFormedGuards no_choices = Unit {0}

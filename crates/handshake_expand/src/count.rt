@@ -4,10 +4,10 @@ ghost use Rattle.std.specs.Prelude.{◌≡◌, if◌then◌else◌};
 ghost use Rattle.width_check.specs.Typed.{program_of};
 ghost use Rattle.width_check.specs.Typing.{channel_width, var_width, IsProcess};
 ghost use Rattle.width_check.specs.Values.{IsWellFormed};
-ghost use Rattle.width_check.specs.View.{formula_of, process_of};
+ghost use Rattle.width_check.specs.View.{formula_of, process_of, choices_in};
 ghost use Rattle.handshake_expand.specs.Answers.{select_own, again_own};
 ghost use Rattle.handshake_expand.specs.Layout.{block_size, assign_size, size_of, guards_size, node_count, capped};
-ghost use Rattle.handshake_expand.specs.PartTree.{arms_of, HasFormedGuards};
+ghost use Rattle.handshake_expand.specs.PartTree.{HasFormedGuards};
 
 use crate::expr::{expr_nodes, reads};
 use width_check::{TArm, TExpr, TStmt, Typed};
@@ -108,8 +108,8 @@ pub fn statement_nodes(program: &Typed, s: &TStmt) -> u64
 
 /// How many nodes the guards have together; 2^64 - 1 stands for all numbers above it.
 pub(crate) fn guard_nodes(arms: &[TArm]) -> u64
-    requires { HasFormedGuards (arms_of arms.now) }
-    ensures { result ≡ capped (guards_size (arms_of arms.now)) }
+    requires { HasFormedGuards (choices_in arms.now) }
+    ensures { result ≡ capped (guards_size (choices_in arms.now)) }
 {
     let mut count: u64 = 0;
     for arm in arms {

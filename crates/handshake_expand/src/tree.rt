@@ -4,10 +4,10 @@ ghost use Rattle.std.specs.Prelude.{◌≡◌, ◌+◌, ◌^◌, ◌<◌, ◌≤
 ghost use Rattle.width_check.specs.Processes.{in_turn, side_by_side, choosing};
 ghost use Rattle.width_check.specs.Typed.{program_of};
 ghost use Rattle.width_check.specs.Typing.{IsProcess};
-ghost use Rattle.width_check.specs.View.{process_of};
+ghost use Rattle.width_check.specs.View.{process_of, members_in, choices_in};
 ghost use Rattle.handshake_expand.specs.Layout.{size_of, nodes_of, node_count, root_request};
 ghost use Rattle.handshake_expand.specs.Expansions.{expansion, expansion_of};
-ghost use Rattle.handshake_expand.specs.PartTree.{part_kind, part_over, expanded, root_part, tree_of, members_of, arms_of, no_children};
+ghost use Rattle.handshake_expand.specs.PartTree.{part_kind, part_over, expanded, root_part, tree_of, no_children};
 ghost use Rattle.handshake_expand.specs.Sites.{own_sites, sites_in, in_body};
 
 use crate::answer::answer_node;
@@ -85,12 +85,12 @@ fn sequence(
     from: u32,
     sites: &mut Vec<SiteNode>,
 ) -> Result<Part, AllocError>
-    requires process { IsProcess program.now.channels program.now.vars (in_turn (members_of members.now)) }
-    requires room { from + size_of (program_of program.now) (in_turn (members_of members.now)) < 2 ^ 32 }
+    requires process { IsProcess program.now.channels program.now.vars (in_turn (members_in members.now)) }
+    requires room { from + size_of (program_of program.now) (in_turn (members_in members.now)) < 2 ^ 32 }
     ensures part { IfOk result (λ part. tree_of part ≡
-        expanded (program_of program.now) (in_turn (members_of members.now)) request from) }
+        expanded (program_of program.now) (in_turn (members_in members.now)) request from) }
     ensures sites { OnOk result (sites.new.items ≡ sites.old.items
-        ++ sites_in (program_of program.now) (own_sites (program_of program.now)) (in_turn (members_of members.now))
+        ++ sites_in (program_of program.now) (own_sites (program_of program.now)) (in_turn (members_in members.now))
         from) }
 {
     let last = members.len() - 1;
@@ -128,13 +128,13 @@ fn parallel(
     from: u32,
     sites: &mut Vec<SiteNode>,
 ) -> Result<Part, AllocError>
-    requires process { IsProcess program.now.channels program.now.vars (side_by_side (members_of branches.now)) }
-    requires room { from + size_of (program_of program.now) (side_by_side (members_of branches.now)) < 2 ^ 32 }
+    requires process { IsProcess program.now.channels program.now.vars (side_by_side (members_in branches.now)) }
+    requires room { from + size_of (program_of program.now) (side_by_side (members_in branches.now)) < 2 ^ 32 }
     ensures part { IfOk result (λ part. tree_of part ≡
-        expanded (program_of program.now) (side_by_side (members_of branches.now)) request from) }
+        expanded (program_of program.now) (side_by_side (members_in branches.now)) request from) }
     ensures sites { OnOk result (sites.new.items ≡ sites.old.items
         ++ sites_in (program_of program.now) (own_sites (program_of program.now))
-        (side_by_side (members_of branches.now)) from) }
+        (side_by_side (members_in branches.now)) from) }
 {
     let mut children = Vec::new(alloc);
     let mut next = from;
@@ -165,12 +165,12 @@ fn selection(
     from: u32,
     sites: &mut Vec<SiteNode>,
 ) -> Result<Part, AllocError>
-    requires process { IsProcess program.now.channels program.now.vars (choosing again (arms_of arms.now)) }
-    requires room { from + size_of (program_of program.now) (choosing again (arms_of arms.now)) < 2 ^ 32 }
+    requires process { IsProcess program.now.channels program.now.vars (choosing again (choices_in arms.now)) }
+    requires room { from + size_of (program_of program.now) (choosing again (choices_in arms.now)) < 2 ^ 32 }
     ensures part { IfOk result (λ part. tree_of part ≡
-        expanded (program_of program.now) (choosing again (arms_of arms.now)) request from) }
+        expanded (program_of program.now) (choosing again (choices_in arms.now)) request from) }
     ensures sites { OnOk result (sites.new.items ≡ sites.old.items
-        ++ sites_in (program_of program.now) (own_sites (program_of program.now)) (choosing again (arms_of arms.now))
+        ++ sites_in (program_of program.now) (own_sites (program_of program.now)) (choosing again (choices_in arms.now))
         from) }
 {
     let guards = arms.len() as u32;

@@ -12,9 +12,8 @@ use Rattle.width_check.specs.declared.typed.TArm.{TArm}
 use Rattle.width_check.specs.declared.typed.TStmt.{TStmt, Then, Beside, Select}
 use Rattle.width_check.specs.Processes.{Formula, reading, Process, skipping, sending, receiving, repeating, in_turn, side_by_side, Processes, no_members, and_member, Choices, no_choices, and_choice}
 use Rattle.width_check.specs.Sharing.{Deed, reads_var, writes_var, sends_on, receives_on, Occurrence, done_at, reads_of, occurrences, occurrences_of_each, Parallel, ParallelInside, ParallelInChoices, ParallelAcross, Clashes, MeetsSharing}
-use Rattle.width_check.specs.View.{process_of}
+use Rattle.width_check.specs.View.{process_of, members_in, choices_in}
 use Rattle.meaning_rows.specs.Apart.{IsSequential, AreSequential, IsStage, stage_of, both, alongside_it, place_nowhere}
-use Rattle.chp_meaning.specs.Remaining.{statement_processes, choices_of}
 use Rattle.chp_meaning.proofs.Rows.{then_is, beside_is, select_is}
 
 pub sequential_meets : (p : Process) → IsSequential p → MeetsSharing p
@@ -32,13 +31,13 @@ choices_sequential no_choices a b each none = none
 choices_sequential (and_choice g p more) a b each inside = ⊎_elim (each.0 a b) (choices_sequential more a b each.1) inside
 
 pub two_in_turn : (v : Vec TStmt Global) (s t : TStmt) → v.items ≡ s ∷ t ∷ [] → process_of (Then v) ≡ both (process_of s) (process_of t)
-two_in_turn v s t is = then_is v ∙ ap (λ xs. in_turn (statement_processes xs)) is
+two_in_turn v s t is = then_is v ∙ ap (λ xs. in_turn (members_in xs)) is
 
 pub two_beside : (v : Vec TStmt Global) (s t : TStmt) → v.items ≡ s ∷ t ∷ [] → process_of (Beside v) ≡ alongside_it (process_of s) (process_of t)
-two_beside v s t is = beside_is v ∙ ap (λ xs. side_by_side (statement_processes xs)) is
+two_beside v s t is = beside_is v ∙ ap (λ xs. side_by_side (members_in xs)) is
 
-pub arms_sequential : (again : Bool) (v : Vec TArm Global) → AreSequential (choices_of v.items) → IsSequential (process_of (Select again v))
-arms_sequential again v each = subst (λ p. IsSequential p) (sym (select_is again v)) (λ a b. choices_sequential (choices_of v.items) a b each)
+pub arms_sequential : (again : Bool) (v : Vec TArm Global) → AreSequential (choices_in v.items) → IsSequential (process_of (Select again v))
+arms_sequential again v each = subst (λ p. IsSequential p) (sym (select_is again v)) (λ a b. choices_sequential (choices_in v.items) a b each)
 
 -- What clashes has one tag, and each member a tag of its own: so the members don't clash.
 
@@ -107,12 +106,12 @@ receive_stage _ _ clash = absurd clash
 abbrev pub AreStages : ℕ → Processes → Type 0
 AreStages n ms = AreTagged stage_of n ms
 
-pub stages_meet : (v : Vec TStmt Global) → AreStages 0 (statement_processes v.items) → MeetsSharing (process_of (Beside v))
+pub stages_meet : (v : Vec TStmt Global) → AreStages 0 (members_in v.items) → MeetsSharing (process_of (Beside v))
 stages_meet v stages = subst (λ p. MeetsSharing p) (sym (beside_is v))
-    (tagged_meets stage_of (statement_processes v.items) (record { var = var_stage; send = send_stage; receive = receive_stage }) stages)
+    (tagged_meets stage_of (members_in v.items) (record { var = var_stage; send = send_stage; receive = receive_stage }) stages)
 
-pub one_more_stage : (n : ℕ) (ss : List TStmt) (s : TStmt) → AreStages n (statement_processes ss) → IsSequential (process_of s) →
-    IsStage (n + length ss) (process_of s) → AreStages n (statement_processes (ss ++ s ∷ []))
+pub one_more_stage : (n : ℕ) (ss : List TStmt) (s : TStmt) → AreStages n (members_in ss) → IsSequential (process_of s) →
+    IsStage (n + length ss) (process_of s) → AreStages n (members_in (ss ++ s ∷ []))
 one_more_stage n [] s stages alone stage = (alone, subst (λ k. IsStage k (process_of s)) (omega arith) stage, tt)
 one_more_stage n (x ∷ ss) s stages alone stage =
     (stages.0, stages.1, one_more_stage (suc n) ss s stages.2 alone (subst (λ k. IsStage k (process_of s)) (omega arith) stage))

@@ -3,9 +3,8 @@
 ghost use Rattle.std.specs.Prelude.{◌≡◌, ◌+◌, ◌<◌, ◌≤◌, ◌^◌, [], IfOk};
 ghost use Rattle.width_check.specs.Processes.{reading, sending, receiving, repeating};
 ghost use Rattle.width_check.specs.Sharing.{MeetsSharing, reads_of};
-ghost use Rattle.width_check.specs.View.{formula_of, process_of};
+ghost use Rattle.width_check.specs.View.{formula_of, process_of, choices_in};
 ghost use Rattle.meaning_rows.specs.Apart.{IsSequential, AreSequential, IsStage, both, alongside_it, place_nowhere};
-ghost use Rattle.chp_meaning.specs.Remaining.{choices_of};
 
 use crate::stop::Stop;
 use chp_base::{Bits, Channel, Kind, Span, name_of};
@@ -132,7 +131,7 @@ pub fn repeat(alloc: Global, body: TStmt) -> Result<TStmt, AllocError>
 
 /// A selection, or a guarded repetition.
 pub fn select(again: bool, arms: Vec<TArm>) -> TStmt
-    ensures { AreSequential (choices_of arms.items) → IsSequential (process_of result) }
+    ensures { AreSequential (choices_in arms.items) → IsSequential (process_of result) }
 {
     TStmt::Select { again, arms }
 }

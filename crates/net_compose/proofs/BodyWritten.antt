@@ -11,10 +11,10 @@ use Rattle.width_check.specs.declared.typed.TStmt.{TStmt}
 use Rattle.width_check.specs.declared.typed.TArm.{TArm}
 use Rattle.width_check.specs.Processes.{Process, side_by_side, choosing, repeating, Processes, no_members, and_member, Choices, choice_count, TypedProgram}
 use Rattle.width_check.specs.Typing.{IsProcess}
-use Rattle.width_check.specs.View.{process_of}
+use Rattle.width_check.specs.View.{process_of, members_in, choices_in}
 use Rattle.handshake_expand.specs.Layout.{size_of, branches_size, bodies_size}
 use Rattle.handshake_expand.specs.Answers.{answer_of, guards_from, bodies_from, select_own, again_own}
-use Rattle.handshake_expand.specs.PartTree.{members_of, arms_of, own_before}
+use Rattle.handshake_expand.specs.PartTree.{own_before}
 use Rattle.handshake_expand.proofs.Ranges.{answer_within}
 use Rattle.cell_parallel.specs.Trees.{tree_rules, tree_owned}
 use Rattle.cell_sequence.specs.Sequence.{loop_request}
@@ -93,19 +93,19 @@ module _ (p : TypedProgram) (ss : List TStmt) (i : ℕ) (s : TStmt) (is : s ≡ 
       → answer ≡ answer_of p (process_of s) (from + 3) → next ≡ from + 3 + size_of p (process_of s)
       → mid ≡ with_owned (owned_from from (q_rules asked answer from)) now
       → new ≡ with_owned (owned_from (from + 3) (rules_of p (process_of s) from (from + 3))) mid
-      → with_owned (owned_from from (turn_rules p (members_of (drop i ss)) asked from)) now ≡ all
-      → with_owned (owned_from next (turn_rules p (members_of (drop (i + 1) ss)) (from + 2) next)) new ≡ all
+      → with_owned (owned_from from (turn_rules p (members_in (drop i ss)) asked from)) now ≡ all
+      → with_owned (owned_from next (turn_rules p (members_in (drop (i + 1) ss)) (from + 2) next)) new ≡ all
   turn_step within asked from next answer now mid new all counted answers at element child so_far =
       behind_element p (process_of s) asked from answer counted answers now mid new element child next
-      (turn_rules p (members_of (drop (i + 1) ss)) (from + 2) next) (turn_rules p (members_of (drop i ss)) asked from) all at
+      (turn_rules p (members_in (drop (i + 1) ss)) (from + 2) next) (turn_rules p (members_in (drop i ss)) asked from) all at
       (turn_rules_here p ss i s is asked from within
       ∙ ap (λ n. q_rules asked (answer_of p (process_of s) (from + 3)) from ++
-      (rules_of p (process_of s) from (from + 3) ++ turn_rules p (members_of (drop (i + 1) ss)) (from + 2) n)) (sym at))
+      (rules_of p (process_of s) from (from + 3) ++ turn_rules p (members_in (drop (i + 1) ss)) (from + 2) n)) (sym at))
       so_far
 
   pub turn_end : (end : i + 1 ≡ length ss) (asked from : ℕ) (now new all : RulesValue)
       → new ≡ with_owned (owned_from from (rules_of p (process_of s) asked from)) now
-      → with_owned (owned_from from (turn_rules p (members_of (drop i ss)) asked from)) now ≡ all → new ≡ all
+      → with_owned (owned_from from (turn_rules p (members_in (drop i ss)) asked from)) now ≡ all → new ≡ all
   turn_end end asked from now new all wrote so_far = wrote ∙ (ap (λ rs. with_owned (owned_from from rs) now)
       (sym (turn_rules_last p ss i s is asked from end)) ∙ so_far)
 
@@ -116,18 +116,18 @@ pub branch_step : (p : TypedProgram) (ss : List TStmt) (i : ℕ) (s : TStmt) (wi
     → next ≡ from + 3 + size_of p (process_of s)
     → mid ≡ with_owned (owned_from from (q_rules request answer from)) now
     → new ≡ with_owned (owned_from (from + 3) (rules_of p (process_of s) from (from + 3))) mid
-    → with_owned (owned_from from (branches_rules p (members_of (drop i ss)) request from)) now ≡ all
-    → with_owned (owned_from next (branches_rules p (members_of (drop (i + 1) ss)) request next)) new ≡ all
+    → with_owned (owned_from from (branches_rules p (members_in (drop i ss)) request from)) now ≡ all
+    → with_owned (owned_from next (branches_rules p (members_in (drop (i + 1) ss)) request next)) new ≡ all
 branch_step p ss i s within is request from next answer now mid new all counted answers at element child so_far =
     behind_element p (process_of s) request from answer counted answers now mid new element child next
-    (branches_rules p (members_of (drop (i + 1) ss)) request next) (branches_rules p (members_of (drop i ss)) request from) all at
+    (branches_rules p (members_in (drop (i + 1) ss)) request next) (branches_rules p (members_in (drop i ss)) request from) all at
     (branch_rules_here p ss i s within is request from
     ∙ ap (λ n. q_rules request (answer_of p (process_of s) (from + 3)) from ++
-    (rules_of p (process_of s) from (from + 3) ++ branches_rules p (members_of (drop (i + 1) ss)) request n)) (sym at))
+    (rules_of p (process_of s) from (from + 3) ++ branches_rules p (members_in (drop (i + 1) ss)) request n)) (sym at))
     so_far
 
 pub branches_done : (p : TypedProgram) (ss : List TStmt) (i : ℕ) (over : length ss ≤ i) (request from : ℕ) (now all : RulesValue)
-    → with_owned (owned_from from (branches_rules p (members_of (drop i ss)) request from)) now ≡ all → now ≡ all
+    → with_owned (owned_from from (branches_rules p (members_in (drop i ss)) request from)) now ≡ all → now ≡ all
 branches_done p ss i over request from now all so_far = ap (λ rs. with_owned (owned_from from rs) now) (sym (branch_rules_end p ss i over request from))
     ∙ so_far
 
@@ -156,18 +156,18 @@ pub body_step : (p : TypedProgram) (arms : List TArm) (i : ℕ) (a : TArm) (with
     (now new all : RulesValue)
     → length (rules_of p (process_of a.body) start from) ≡ size_of p (process_of a.body) → next ≡ from + size_of p (process_of a.body)
     → new ≡ with_owned (owned_from from (rules_of p (process_of a.body) start from)) now
-    → with_owned (owned_from from (bodies_rules p (arms_of (drop i arms)) start from)) now ≡ all
-    → with_owned (owned_from next (bodies_rules p (arms_of (drop (i + 1) arms)) (start + 1) next)) new ≡ all
+    → with_owned (owned_from from (bodies_rules p (choices_in (drop i arms)) start from)) now ≡ all
+    → with_owned (owned_from next (bodies_rules p (choices_in (drop (i + 1) arms)) (start + 1) next)) new ≡ all
 body_step p arms i a within is start from next now new all counted at wrote so_far =
     left_behind from next (from + size_of p (process_of a.body)) (rules_of p (process_of a.body) start from)
-    (bodies_rules p (arms_of (drop (i + 1) arms)) (start + 1) next)
-    (bodies_rules p (arms_of (drop i arms)) start from) now new all (omega (arith, counted)) wrote
-    (body_rules_here p arms i a within is start from ∙ ap (λ n. rules_of p (process_of a.body) start from ++ bodies_rules p (arms_of (drop (i + 1) arms))
+    (bodies_rules p (choices_in (drop (i + 1) arms)) (start + 1) next)
+    (bodies_rules p (choices_in (drop i arms)) start from) now new all (omega (arith, counted)) wrote
+    (body_rules_here p arms i a within is start from ∙ ap (λ n. rules_of p (process_of a.body) start from ++ bodies_rules p (choices_in (drop (i + 1) arms))
     (start + 1) n) (sym at))
     so_far at
 
 pub bodies_done : (p : TypedProgram) (arms : List TArm) (i : ℕ) (over : length arms ≤ i) (start from : ℕ) (now all : RulesValue)
-    → with_owned (owned_from from (bodies_rules p (arms_of (drop i arms)) start from)) now ≡ all → now ≡ all
+    → with_owned (owned_from from (bodies_rules p (choices_in (drop i arms)) start from)) now ≡ all → now ≡ all
 bodies_done p arms i over start from now all so_far = ap (λ rs. with_owned (owned_from from rs) now) (sym (body_rules_end p arms i over start from)) ∙ so_far
 
 -- a loop

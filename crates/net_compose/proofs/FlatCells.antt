@@ -11,7 +11,7 @@ pub use Rattle.function_blocks.specs.Listed.{rail_place}
 use Rattle.function_blocks.proofs.PartSizes.{count_doubled}
 use Rattle.circuit_places.specs.Lines.{Rails}
 use Rattle.chp_meaning.specs.Halves.{ReadsNoTarget, EachReadsNoTarget, ChoicesReadNoTarget}
-use Rattle.circuit_places.specs.Circuit.{same_bit, rails_turned, of_receive, heard, stored, taking, Pairs, gate_count, Cells, TurnCells, BranchCells, joint_count, low_pairs, low, low_turn, low_branches, low_bits as low_tree, Spot, TurnSpot, BranchSpot, of_branch, joint, in_this, in_others, child, latch, next, inner, of_skip, done, gate, of_assign, of_send, in_members, of_loop, ask, in_body, in_last, in_member, in_later, turned_pairs, turned, turned_turn, turned_branches, GuardCells, ChoiceCells, low_guards, low_choices, GuardSpot, this_gate, other_gate, ChoiceSpot, this_choice, other_choice, of_core, of_guard, of_choice, of_round, turned_guards, turned_choice}
+use Rattle.circuit_places.specs.Circuit.{same_bit, rails_turned, of_receive, heard, stored, taking, Pairs, gate_count, Cells, TurnCells, BranchCells, joint_count, low_pairs, low, low_turn, low_branches, low_bits as low_tree, Spot, TurnSpot, BranchSpot, of_branch, joint, in_this, in_others, child, latch, next, inner, of_skip, done, gate, of_assign, of_send, in_members, of_loop, ask, in_body, in_last, in_member, in_later, turned_pairs, flipped, turned_turn, turned_branches, GuardCells, ChoiceCells, low_guards, low_choices, GuardSpot, this_gate, other_gate, ChoiceSpot, this_choice, other_choice, of_core, of_guard, of_choice, of_round, turned_guards, turned_choice}
 use Rattle.net_compose.proofs.FlatTrees.{joint_count_is, tree_bits, length-tree_bits, tree_turned, tree_low}
 use Rattle.circuit_places.specs.Cores.{turned_own, turned_turning}
 use Rattle.net_compose.proofs.FlatCore.{own_list, own_place, own_place_lt, own_spot_of, own_turned_is, own_guards, own_branches, length-own_list, low_lists, again_list, again_place, round_place, again_place_lt, round_place_lt, again_turned_is, round_turned_is, round_core, length-again_list, AtAgain, a_round, an_own, again_spot_of, set_first, set_second}
@@ -56,7 +56,7 @@ same_suc j i = ⊎_elim
     (λ (n : j ≢ i). ne_eqb j i n ∙ sym (ne_eqb (suc j) (suc i) (λ e. n (omega (arith, e)))))
     (cases_eq j i)
 
--- one of them turned over
+-- one of them flipped over
 pub rail_turned_at : (n : ℕ) (r : Rails) (i : ℕ) (one : Bool) → i < n → set (rail_bits n r) (rail_place i one)
     (not (get_or (rail_bits n r) (rail_place i one) false)) ≡ rail_bits n (rails_turned r i one)
 rail_turned_at zero r i one h = absurd (omega arith)
@@ -362,10 +362,10 @@ module _ (P : TypedProgram) where
       set_second a b (formula_size g) (guard_place s) long ∙ ap (λ l. a ++ l) (turned_guard_is more x.1 s f)
   turned_guard_is no_choices x s f = elim s [ ]
 
-  -- a node turned over in the list is the node turned over in the tree
+  -- a node flipped over in the list is the node flipped over in the tree
   mutual
     pub turned_is : (p : Process) → ReadsNoTarget p → (x : Cells p) (s : Spot p) → IsFine p s
-        → set (bits P p x) (place p s) (not (get_or (bits P p x) (place p s) false)) ≡ bits P p (turned p x s)
+        → set (bits P p x) (place p s) (not (get_or (bits P p x) (place p s) false)) ≡ bits P p (flipped p x s)
     turned_is skipping c x of_skip f = refl
     turned_is (sending chan at e) c x (of_send done) f = refl
     turned_is (sending chan at e) c x (of_send (gate i one)) f = ap (λ l. x.answer ∷ l) (rail_at_place (gate_count e) x.gates i one f true)

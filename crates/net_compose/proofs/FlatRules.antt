@@ -25,7 +25,7 @@ use Rattle.cell_parallel.specs.Trees.{tree_rules}
 use Rattle.cell_parallel.specs.Sizes.{tree_length}
 use Rattle.chp_meaning.specs.Halves.{ReadsNoTarget, EachReadsNoTarget, ChoicesReadNoTarget}
 use Rattle.circuit_places.specs.Lines.{of_channel, of_var, Rails, Seen}
-use Rattle.circuit_places.specs.Circuit.{of_receive, heard, stored, taking, Pairs, side_of, gate_count, Cells, TurnCells, BranchCells, cell_bit, joint_count, tree_value, tree_rule, branches_answered as cell_ends, answer, turn_answer, Spot, TurnSpot, BranchSpot, of_branch, joint, in_this, in_others, child, latch, next, inner, of_skip, done, gate, of_assign, of_send, in_members, of_loop, ask, in_body, in_last, in_member, in_later, Rule, rule_of, gate_rule, rule, turn_rule, branch_rule, GuardCells, ChoiceCells, GuardSpot, this_gate, other_gate, ChoiceSpot, this_choice, other_choice, of_core, of_guard, of_choice, of_round, guard_head, heads, guards_rule, choice_answers, choice_rule}
+use Rattle.circuit_places.specs.Circuit.{of_receive, heard, stored, taking, Pairs, side_of, gate_count, Cells, TurnCells, BranchCells, cell_bit, joint_count, tree_value, tree_rule, branches_answered as cell_ends, answer, last_answer, Spot, TurnSpot, BranchSpot, of_branch, joint, in_this, in_others, child, latch, next, inner, of_skip, done, gate, of_assign, of_send, in_members, of_loop, ask, in_body, in_last, in_member, in_later, Rule, rule_of, gate_rule, rule, turn_rule, branch_rule, GuardCells, ChoiceCells, GuardSpot, this_gate, other_gate, ChoiceSpot, this_choice, other_choice, of_core, of_guard, of_choice, of_round, guard_head, heads, guards_rule, choice_answers, choice_rule}
 use Rattle.circuit_places.specs.Whole.{lows_only}
 use Rattle.net_compose.specs.Translation.{through_rules, rules_of, turn_rules, branches_rules, branch_ends, branches_end, bits_at, ack_at, written_at, guards_rules as net_guards, bodies_rules, guard_pairs, branch_answers, choosing_at, repeating_at}
 use Rattle.net_compose.proofs.Sizes.{has_bits, Counted, statement_length, latches_and_starts, guards_length}
@@ -351,7 +351,7 @@ module _ (P : TypedProgram) where
       answer_is (choosing true choices) c t from x s = stands_head v from x.answer _ s
 
       pub turn_answer_is : (members : Processes) → EachReadsNoTarget members → AreProcesses P.channels P.vars members → 1 ≤ member_count members
-          → (from : ℕ) (x : TurnCells members) → Stands v from (turn_bits P members x) → v (number.turn_answer P members from) ≡ turn_answer members x
+          → (from : ℕ) (x : TurnCells members) → Stands v from (turn_bits P members x) → v (number.turn_answer P members from) ≡ last_answer members x
       turn_answer_is no_members c t some from x s = absurd (omega (arith, some))
       turn_answer_is (and_member p no_members) c t some from x s = answer_is p c.0 t.0 from x s
       turn_answer_is (and_member p (and_member q more)) c t some from x s =

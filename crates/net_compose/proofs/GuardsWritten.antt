@@ -8,9 +8,8 @@ use Rattle.width_check.specs.declared.typed.TArm.{TArm}
 use Rattle.width_check.specs.declared.typed.Var.{Var}
 use Rattle.width_check.specs.Processes.{Formula, Choices, TypedProgram}
 use Rattle.width_check.specs.Typing.{IsOfWidth, AreChoices}
-use Rattle.width_check.specs.View.{formula_of}
+use Rattle.width_check.specs.View.{formula_of, choices_in}
 use Rattle.handshake_expand.specs.Layout.{formula_size, guards_size}
-use Rattle.handshake_expand.specs.PartTree.{arms_of}
 use Rattle.handshake_expand.proofs.Branches.{sites_more, sites_done}
 use Rattle.handshake_expand.proofs.Rows.{arm_at}
 use Rattle.function_blocks.specs.Expressions.{formula_rules, formula_result}
@@ -27,19 +26,19 @@ module _ (p : TypedProgram) (arms : List TArm) (i : ℕ) (a : TArm) (within : i 
   guard = formula_of a.guard
 
   abbrev more : Choices
-  more = arms_of (drop (i + 1) arms)
+  more = choices_in (drop (i + 1) arms)
 
-  pub guard_size_here : guards_size (arms_of (drop i arms)) ≡ formula_size guard + guards_size more
+  pub guard_size_here : guards_size (choices_in (drop i arms)) ≡ formula_size guard + guards_size more
   guard_size_here = ap guards_size (arm_at arms i a within is)
 
-  pub guard_typed : (channels : List Channel) (vars : List Var) → AreChoices channels vars (arms_of (drop i arms)) →
+  pub guard_typed : (channels : List Channel) (vars : List Var) → AreChoices channels vars (choices_in (drop i arms)) →
       IsOfWidth vars 1 guard × AreChoices channels vars more
   guard_typed channels vars h = let facts = subst (AreChoices channels vars) (arm_at arms i a within is) h in (facts.0, facts.2)
 
   pub guards_step : (request next to : ℕ) (now new all : RulesValue) → to ≡ next + formula_size guard →
       length (formula_rules (bits_at p) guard request next) ≡ formula_size guard
       → new ≡ with_owned (owned_from next (formula_rules (bits_at p) guard request next)) now
-      → with_owned (owned_from next (guards_rules p (arms_of (drop i arms)) request next)) now ≡ all
+      → with_owned (owned_from next (guards_rules p (choices_in (drop i arms)) request next)) now ≡ all
       → with_owned (owned_from to (guards_rules p more request to)) new ≡ all
   guards_step request next to now new all at counted made so_far =
       let first : List NodeRules = formula_rules (bits_at p) guard request next in
@@ -50,9 +49,9 @@ module _ (p : TypedProgram) (arms : List TArm) (i : ℕ) (a : TArm) (within : i 
 
   pub pairs_step : (next to : ℕ) (rails pair longer all : List ℕ) → to ≡ next + formula_size guard → pair ≡ rails_of (formula_result guard next) →
       longer ≡ rails ++ pair
-      → rails ++ rails_of (guard_pairs (arms_of (drop i arms)) next) ≡ all → longer ++ rails_of (guard_pairs more to) ≡ all
+      → rails ++ rails_of (guard_pairs (choices_in (drop i arms)) next) ≡ all → longer ++ rails_of (guard_pairs more to) ≡ all
   pairs_step next to rails pair longer all at are pushed so_far =
-      sites_more rails longer pair (rails_of (guard_pairs more to)) (rails_of (guard_pairs (arms_of (drop i arms)) next)) all pushed
+      sites_more rails longer pair (rails_of (guard_pairs more to)) (rails_of (guard_pairs (choices_in (drop i arms)) next)) all pushed
       (ap rails_of (guard_pairs_here p arms i a within is next)
       ∙ (rails_append (formula_result guard next) (guard_pairs more (next + formula_size guard))
       ∙ (ap (λ ns. ns ++ rails_of (guard_pairs more (next + formula_size guard))) (sym are)
@@ -60,10 +59,11 @@ module _ (p : TypedProgram) (arms : List TArm) (i : ℕ) (a : TArm) (within : i 
       so_far
 
 module _ (p : TypedProgram) (arms : List TArm) (i : ℕ) (end : length arms ≤ i) where
-  pub guards_done : (request next : ℕ) (now all : RulesValue) → with_owned (owned_from next (guards_rules p (arms_of (drop i arms)) request next)) now ≡ all →
+  pub guards_done : (request next : ℕ) (now all : RulesValue) →
+      with_owned (owned_from next (guards_rules p (choices_in (drop i arms)) request next)) now ≡ all →
       now ≡ all
   guards_done request next now all so_far = ap (λ rs. with_owned (owned_from next rs) now) (sym (guard_rules_end p arms i end request next)) ∙ so_far
 
-  pub pairs_done : (next : ℕ) (rails all : List ℕ) → rails ++ rails_of (guard_pairs (arms_of (drop i arms)) next) ≡ all → rails ≡ all
-  pairs_done next rails all so_far = sites_done rails (rails_of (guard_pairs (arms_of (drop i arms)) next)) all
+  pub pairs_done : (next : ℕ) (rails all : List ℕ) → rails ++ rails_of (guard_pairs (choices_in (drop i arms)) next) ≡ all → rails ≡ all
+  pairs_done next rails all so_far = sites_done rails (rails_of (guard_pairs (choices_in (drop i arms)) next)) all
       (ap rails_of (guard_pairs_end p arms i end next)) so_far

@@ -3,8 +3,9 @@
 ghost use Rattle.std.specs.Prelude.{◌≡◌, ◌+◌, ◌^◌, ◌<◌, IfOk};
 ghost use Rattle.width_check.specs.Typed.{program_of};
 ghost use Rattle.width_check.specs.Typing.{AreChoices};
+ghost use Rattle.width_check.specs.View.{choices_in};
 ghost use Rattle.handshake_expand.specs.Layout.{guards_size, bodies_size};
-ghost use Rattle.handshake_expand.specs.PartTree.{arms_of, own_before, HasFormedGuards};
+ghost use Rattle.handshake_expand.specs.PartTree.{own_before, HasFormedGuards};
 ghost use Rattle.net_compose.specs.Translation.{branch_answers};
 
 use function_blocks::expr_nodes;
@@ -21,9 +22,9 @@ pub(crate) fn own_nodes(again: bool) -> u32
 
 /// How many nodes the guards have together.
 pub(crate) fn guards_nodes(arms: &[TArm]) -> u32
-    requires formed { HasFormedGuards (arms_of arms.now) }
-    requires room { guards_size (arms_of arms.now) < 2 ^ 32 }
-    ensures { result ≡ guards_size (arms_of arms.now) }
+    requires formed { HasFormedGuards (choices_in arms.now) }
+    requires room { guards_size (choices_in arms.now) < 2 ^ 32 }
+    ensures { result ≡ guards_size (choices_in arms.now) }
 {
     let mut count = 0;
     for arm in arms {
@@ -40,9 +41,10 @@ pub(crate) fn body_answers(
     arms: &[TArm],
     from: u32,
 ) -> Result<Vec<u32>, AllocError>
-    requires choices { AreChoices program.now.channels program.now.vars (arms_of arms.now) }
-    requires room { from + bodies_size (program_of program.now) (arms_of arms.now) < 2 ^ 32 }
-    ensures { IfOk result (λ answers. answers.items ≡ branch_answers (program_of program.now) (arms_of arms.now) from) }
+    requires choices { AreChoices program.now.channels program.now.vars (choices_in arms.now) }
+    requires room { from + bodies_size (program_of program.now) (choices_in arms.now) < 2 ^ 32 }
+    ensures { IfOk result (λ answers. answers.items ≡
+        branch_answers (program_of program.now) (choices_in arms.now) from) }
 {
     let mut answers = Vec::new(alloc);
     let mut next = from;

@@ -5,9 +5,8 @@ ghost use Rattle.prs_core.specs.Parts.{owned_from, with_owned};
 ghost use Rattle.width_check.specs.Processes.{Process, TypedProgram, Processes, Choices, in_turn, side_by_side, choosing};
 ghost use Rattle.width_check.specs.Typed.{program_of};
 ghost use Rattle.width_check.specs.Typing.{IsProcess, AreProcesses, AreChoices};
-ghost use Rattle.width_check.specs.View.{process_of};
+ghost use Rattle.width_check.specs.View.{process_of, members_in, choices_in};
 ghost use Rattle.handshake_expand.specs.Layout.{size_of, branches_size, bodies_size, nodes_of, root_request, body_from};
-ghost use Rattle.handshake_expand.specs.PartTree.{members_of, arms_of};
 ghost use Rattle.net_compose.specs.Begins.{channel_firsts, var_firsts};
 ghost use Rattle.net_compose.specs.EverySite.{every_site};
 ghost use Rattle.net_compose.specs.SiteLists.{site_values};
@@ -40,7 +39,7 @@ fn statements_counted()
 {
     function_blocks::laws::bits_counted();
     function_blocks::laws::rules_counted();
-    cell_parallel::tree_counted();
+    cell_parallel::laws::tree_counted();
 }
 
 /// Writes the rules of a sequence. Each member but the last stands behind a Q-element of three nodes: its request, the
@@ -59,19 +58,19 @@ fn sequence(
 ) -> Result<(), AllocError>
     requires channels { firsts.now.channels.items ≡ channel_firsts (program_of program.now) }
     requires vars { firsts.now.vars.items ≡ var_firsts (program_of program.now) }
-    requires process { IsProcess program.now.channels program.now.vars (in_turn (members_of members.now)) }
+    requires process { IsProcess program.now.channels program.now.vars (in_turn (members_in members.now)) }
     requires asked { root_request (program_of program.now) ≤ request }
     requires before { request < from }
-    requires own { from + size_of (program_of program.now) (in_turn (members_of members.now)) ≤ length rules.old.up }
+    requires own { from + size_of (program_of program.now) (in_turn (members_in members.now)) ≤ length rules.old.up }
     requires values { length first.old ≡ length rules.old.up }
     ensures made { OnOk result (rules.new ≡ with_owned (owned_from from
-        (rules_of (program_of program.now) (in_turn (members_of members.now)) request from)) rules.old) }
+        (rules_of (program_of program.now) (in_turn (members_in members.now)) request from)) rules.old) }
     ensures sites { OnOk result (site_values sites.new.items ≡ site_values sites.old.items
         ++ sites_in (program_of program.now) (every_site (program_of program.now))
-        (in_turn (members_of members.now)) from) }
+        (in_turn (members_in members.now)) from) }
     ensures first { OnOk result (first.new ≡ fold (λ values node. slice_set values node true) first.old
         (sites_in (program_of program.now) (hidden_high (program_of program.now))
-        (in_turn (members_of members.now)) from)) }
+        (in_turn (members_in members.now)) from)) }
     ensures nodes { length rules.new.up ≡ length rules.old.up }
     ensures count { length first.new ≡ length first.old }
 {
@@ -116,20 +115,20 @@ fn parallel(
 ) -> Result<(), AllocError>
     requires channels { firsts.now.channels.items ≡ channel_firsts (program_of program.now) }
     requires vars { firsts.now.vars.items ≡ var_firsts (program_of program.now) }
-    requires process { IsProcess program.now.channels program.now.vars (side_by_side (members_of branches.now)) }
+    requires process { IsProcess program.now.channels program.now.vars (side_by_side (members_in branches.now)) }
     requires asked { root_request (program_of program.now) ≤ request }
     requires before { request < from }
-    requires own { from + size_of (program_of program.now) (side_by_side (members_of branches.now))
+    requires own { from + size_of (program_of program.now) (side_by_side (members_in branches.now))
         ≤ length rules.old.up }
     requires values { length first.old ≡ length rules.old.up }
     ensures made { OnOk result (rules.new ≡ with_owned (owned_from from
-        (rules_of (program_of program.now) (side_by_side (members_of branches.now)) request from)) rules.old) }
+        (rules_of (program_of program.now) (side_by_side (members_in branches.now)) request from)) rules.old) }
     ensures sites { OnOk result (site_values sites.new.items ≡ site_values sites.old.items
         ++ sites_in (program_of program.now) (every_site (program_of program.now))
-        (side_by_side (members_of branches.now)) from) }
+        (side_by_side (members_in branches.now)) from) }
     ensures first { OnOk result (first.new ≡ fold (λ values node. slice_set values node true) first.old
         (sites_in (program_of program.now) (hidden_high (program_of program.now))
-        (side_by_side (members_of branches.now)) from)) }
+        (side_by_side (members_in branches.now)) from)) }
     ensures nodes { length rules.new.up ≡ length rules.old.up }
     ensures count { length first.new ≡ length first.old }
 {
@@ -170,19 +169,20 @@ fn selection(
 ) -> Result<(), AllocError>
     requires channels { firsts.now.channels.items ≡ channel_firsts (program_of program.now) }
     requires vars { firsts.now.vars.items ≡ var_firsts (program_of program.now) }
-    requires process { IsProcess program.now.channels program.now.vars (choosing again (arms_of arms.now)) }
+    requires process { IsProcess program.now.channels program.now.vars (choosing again (choices_in arms.now)) }
     requires asked { root_request (program_of program.now) ≤ request }
     requires before { request < from }
-    requires own { from + size_of (program_of program.now) (choosing again (arms_of arms.now)) ≤ length rules.old.up }
+    requires own { from + size_of (program_of program.now) (choosing again (choices_in arms.now))
+        ≤ length rules.old.up }
     requires values { length first.old ≡ length rules.old.up }
     ensures made { OnOk result (rules.new ≡ with_owned (owned_from from
-        (rules_of (program_of program.now) (choosing again (arms_of arms.now)) request from)) rules.old) }
+        (rules_of (program_of program.now) (choosing again (choices_in arms.now)) request from)) rules.old) }
     ensures sites { OnOk result (site_values sites.new.items ≡ site_values sites.old.items
         ++ sites_in (program_of program.now) (every_site (program_of program.now))
-        (choosing again (arms_of arms.now)) from) }
+        (choosing again (choices_in arms.now)) from) }
     ensures first { OnOk result (first.new ≡ fold (λ values node. slice_set values node true) first.old
         (sites_in (program_of program.now) (hidden_high (program_of program.now))
-        (choosing again (arms_of arms.now)) from)) }
+        (choosing again (choices_in arms.now)) from)) }
     ensures nodes { length rules.new.up ≡ length rules.old.up }
     ensures count { length first.new ≡ length first.old }
 {

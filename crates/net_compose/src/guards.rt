@@ -5,8 +5,8 @@ ghost use Rattle.prs_core.specs.Pairs.{rails_of};
 ghost use Rattle.prs_core.specs.Parts.{owned_from, with_owned};
 ghost use Rattle.width_check.specs.Typed.{program_of};
 ghost use Rattle.width_check.specs.Typing.{AreChoices};
+ghost use Rattle.width_check.specs.View.{choices_in};
 ghost use Rattle.handshake_expand.specs.Layout.{guards_size, root_request};
-ghost use Rattle.handshake_expand.specs.PartTree.{arms_of};
 ghost use Rattle.net_compose.specs.Begins.{var_firsts};
 ghost use Rattle.net_compose.specs.Translation.{guard_pairs, guards_rules};
 
@@ -29,14 +29,14 @@ pub(crate) fn emit_guards(
     rules: &mut Rules,
 ) -> Result<Vec<u32>, AllocError>
     requires vars { vars.now ≡ var_firsts (program_of program.now) }
-    requires choices { AreChoices program.now.channels program.now.vars (arms_of arms.now) }
+    requires choices { AreChoices program.now.channels program.now.vars (choices_in arms.now) }
     requires asked { root_request (program_of program.now) ≤ request }
     requires before { request < from }
-    requires own { from + guards_size (arms_of arms.now) ≤ length rules.old.up }
+    requires own { from + guards_size (choices_in arms.now) ≤ length rules.old.up }
     ensures made { OnOk result (rules.new
         ≡ with_owned (owned_from from
-        (guards_rules (program_of program.now) (arms_of arms.now) request from)) rules.old) }
-    ensures rails { IfOk result (λ rails. rails.items ≡ rails_of (guard_pairs (arms_of arms.now) from)) }
+        (guards_rules (program_of program.now) (choices_in arms.now) request from)) rules.old) }
+    ensures rails { IfOk result (λ rails. rails.items ≡ rails_of (guard_pairs (choices_in arms.now) from)) }
     ensures nodes { length rules.new.up ≡ length rules.old.up }
 {
     rules_counted();

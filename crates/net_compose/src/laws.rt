@@ -17,10 +17,10 @@ ghost use Rattle.net_compose.specs.Points.{
 };
 ghost use Rattle.net_compose.specs.Sized.{IsOfSize};
 
-use chp_meaning::{
+use chp_meaning::laws::{
     halves_are_plain, halves_follow, one_history, rounds_hold, runs_append, steps_taken,
 };
-use circuit_places::circuits_carry;
+use circuit_places::laws::circuits_carry;
 use reset_runs::reset_runs;
 
 /// Law: the net of each typed program that meets the sharing rule carries it, whatever it is made of: skip, sends of
@@ -81,7 +81,7 @@ pub fn all_counted()
 {
     function_blocks::laws::bits_counted();
     function_blocks::laws::rules_counted();
-    cell_parallel::tree_counted();
+    cell_parallel::laws::tree_counted();
 }
 
 /// Law: a net without a reset node that carries a program still does so with one, from every power-up state: until
@@ -103,5 +103,5 @@ pub fn nets_hold()
 {
     function_blocks::laws::bits_counted();
     function_blocks::laws::rules_counted();
-    cell_parallel::tree_counted();
+    cell_parallel::laws::tree_counted();
 }

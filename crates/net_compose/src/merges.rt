@@ -8,7 +8,8 @@ ghost use Rattle.cell_variable.specs.Variables.{variable_rules};
 ghost use Rattle.net_compose.specs.RailLists.{rails_in, bits_in};
 ghost use Rattle.net_compose.specs.Translation.{rail_rules};
 
-use cell_variable::{emit_or, emit_variable, variable_divided};
+use cell_variable::laws::variable_divided;
+use cell_variable::{emit_or, emit_variable};
 use prs_core::Rules;
 use std::alloc::{AllocError, Global};
 

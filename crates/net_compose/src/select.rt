@@ -6,9 +6,9 @@ ghost use Rattle.prs_core.specs.Parts.{owned_from, with_owned};
 ghost use Rattle.width_check.specs.Processes.{choosing};
 ghost use Rattle.width_check.specs.Typed.{program_of};
 ghost use Rattle.width_check.specs.Typing.{IsProcess};
+ghost use Rattle.width_check.specs.View.{choices_in};
 ghost use Rattle.handshake_expand.specs.Answers.{guards_from, bodies_from, select_own, again_own};
 ghost use Rattle.handshake_expand.specs.Layout.{size_of, root_request};
-ghost use Rattle.handshake_expand.specs.PartTree.{arms_of};
 ghost use Rattle.cell_select.specs.Selections.{select_rules, again_rules};
 ghost use Rattle.net_compose.specs.Begins.{var_firsts};
 ghost use Rattle.net_compose.specs.Translation.{branch_answers, guards_rules, choosing_at, repeating_at};
@@ -45,16 +45,17 @@ pub(crate) fn emit_selection(
     rules: &mut Rules,
 ) -> Result<(), AllocError>
     requires vars { vars.now ≡ var_firsts (program_of program.now) }
-    requires process { IsProcess program.now.channels program.now.vars (choosing false (arms_of arms.now)) }
-    requires answers { answers.now ≡ branch_answers (program_of program.now) (arms_of arms.now)
-        (bodies_from (arms_of arms.now) select_own from) }
+    requires process { IsProcess program.now.channels program.now.vars (choosing false (choices_in arms.now)) }
+    requires answers { answers.now ≡ branch_answers (program_of program.now) (choices_in arms.now)
+        (bodies_from (choices_in arms.now) select_own from) }
     requires asked { root_request (program_of program.now) ≤ request }
     requires before { request < from }
-    requires own { from + size_of (program_of program.now) (choosing false (arms_of arms.now)) ≤ length rules.old.up }
+    requires own { from + size_of (program_of program.now) (choosing false (choices_in arms.now))
+        ≤ length rules.old.up }
     ensures made { OnOk result (rules.new ≡ with_owned (owned_from from
-        (select_rules (choosing_at (program_of program.now) (arms_of arms.now) request (from + 2) select_own from)
-        ++ guards_rules (program_of program.now) (arms_of arms.now) (from + 1)
-        (guards_from (arms_of arms.now) select_own from))) rules.old) }
+        (select_rules (choosing_at (program_of program.now) (choices_in arms.now) request (from + 2) select_own from)
+        ++ guards_rules (program_of program.now) (choices_in arms.now) (from + 1)
+        (guards_from (choices_in arms.now) select_own from))) rules.old) }
     ensures nodes { length rules.new.up ≡ length rules.old.up }
 {
     // tells the proof that there are fewer than 2^32 nodes
@@ -104,16 +105,16 @@ pub(crate) fn emit_guarded_repetition(
     rules: &mut Rules,
 ) -> Result<(), AllocError>
     requires vars { vars.now ≡ var_firsts (program_of program.now) }
-    requires process { IsProcess program.now.channels program.now.vars (choosing true (arms_of arms.now)) }
-    requires answers { answers.now ≡ branch_answers (program_of program.now) (arms_of arms.now)
-        (bodies_from (arms_of arms.now) again_own from) }
+    requires process { IsProcess program.now.channels program.now.vars (choosing true (choices_in arms.now)) }
+    requires answers { answers.now ≡ branch_answers (program_of program.now) (choices_in arms.now)
+        (bodies_from (choices_in arms.now) again_own from) }
     requires asked { root_request (program_of program.now) ≤ request }
     requires before { request < from }
-    requires own { from + size_of (program_of program.now) (choosing true (arms_of arms.now)) ≤ length rules.old.up }
+    requires own { from + size_of (program_of program.now) (choosing true (choices_in arms.now)) ≤ length rules.old.up }
     ensures made { OnOk result (rules.new ≡ with_owned (owned_from from
-        (again_rules (repeating_at (program_of program.now) (arms_of arms.now) request from)
-        ++ guards_rules (program_of program.now) (arms_of arms.now) (from + 3)
-        (guards_from (arms_of arms.now) again_own from))) rules.old) }
+        (again_rules (repeating_at (program_of program.now) (choices_in arms.now) request from)
+        ++ guards_rules (program_of program.now) (choices_in arms.now) (from + 3)
+        (guards_from (choices_in arms.now) again_own from))) rules.old) }
     ensures nodes { length rules.new.up ≡ length rules.old.up }
 {
     // tells the proof that there are fewer than 2^32 nodes

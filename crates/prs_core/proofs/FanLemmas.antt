@@ -11,7 +11,7 @@ use Rattle.std.proofs.lemmas.Bool.Decides.{nat_tests}
 use Rattle.prs_core.specs.declared.rule.Literal.{Literal}
 use Rattle.prs_core.specs.Nets.{GuardValue, NetValue, up_of, down_of}
 use Rattle.prs_core.specs.Moves.{high, literal_holds, term_holds, guard_holds, rule_enabled, fired}
-use Rattle.prs_core.specs.Fans.{term_names, guard_names, reads, readers_below, fan_value, ends_in, with_reader, IsNoted}
+use Rattle.prs_core.specs.Fans.{term_names, guard_names, is_reader, readers_below, fan_value, ends_in, with_reader, IsNoted}
 
 ends_in-push : (r : ℕ) (xs : List ℕ) → ends_in r (xs ++ r ∷ []) ≡ true
 ends_in-push r xs =
@@ -58,8 +58,8 @@ range_more : (n : ℕ) → range_with_len 0 (n + 1) ≡ range_with_len 0 n ++ n 
 range_more n = sym (map-id (range_with_len 0 (n + 1))) ∙ map-range_with_len_more (λ k. k) 0 n n (omega arith)
     ∙ ap (λ xs. xs ++ n ∷ []) (map-id (range_with_len 0 n))
 
-readers_more : (net : NetValue) (m node : ℕ) → readers_below net (m + 1) node ≡ readers_below net m node ++ cond (reads net node m) (m ∷ []) []
-readers_more net m node = ap (filter (reads net node)) (range_more m) ∙ filter-append (reads net node) (range_with_len 0 m) (m ∷ [])
+readers_more : (net : NetValue) (m node : ℕ) → readers_below net (m + 1) node ≡ readers_below net m node ++ cond (is_reader net node m) (m ∷ []) []
+readers_more net m node = ap (filter (is_reader net node)) (range_more m) ∙ filter-append (is_reader net node) (range_with_len 0 m) (m ∷ [])
 
 range_below : (n : ℕ) → All (λ k. k < n) (range_with_len 0 n)
 range_below n = λ i d within. let e = get_or-range_with_len 0 n i d (omega (arith, length-range_with_len 0 n)) in omega (arith, length-range_with_len 0 n)
@@ -71,7 +71,7 @@ not_last m (x ∷ xs) below =
     and_right (nat_lt 0 (length (x ∷ xs))) _ (ne_eqb (get_or (x ∷ xs) (length (x ∷ xs) - 1) 0) m (omega arith))
 
 readers_not_last : (net : NetValue) (m node : ℕ) → ends_in m (readers_below net m node) ≡ false
-readers_not_last net m node = not_last m _ (All-filter (reads net node) (λ k. k < m) (range_with_len 0 m) (range_below m))
+readers_not_last net m node = not_last m _ (All-filter (is_reader net node) (λ k. k < m) (range_with_len 0 m) (range_below m))
 
 one_reader : (b : Bool) (m : ℕ) (xs ys : List ℕ) → ends_in m xs ≡ false → ys ≡ cond b (with_reader m xs) xs → ys ≡ xs ++ cond b (m ∷ []) []
 one_reader true m xs ys fresh now = now ∙ rw fresh refl
@@ -79,9 +79,9 @@ one_reader false m xs ys fresh now = now ∙ sym (append-nil xs)
 
 -- both guards of a reader are noted
 pub noted_reader : (net : NetValue) (m : ℕ) (xs ys : List (List ℕ)) → ((n : ℕ) → n < length xs → get_or xs n [] ≡ readers_below net m n) →
-    IsNoted (λ n. reads net n m) m xs ys → (n : ℕ) → n < length xs → get_or ys n [] ≡ readers_below net (m + 1) n
+    IsNoted (λ n. is_reader net n m) m xs ys → (n : ℕ) → n < length xs → get_or ys n [] ≡ readers_below net (m + 1) n
 noted_reader net m xs ys before noted n within =
-    one_reader (reads net n m) m (readers_below net m n) (get_or ys n []) (readers_not_last net m n) (rw (← before n within) (noted.each n within))
+    one_reader (is_reader net n m) m (readers_below net m n) (get_or ys n []) (readers_not_last net m n) (rw (← before n within) (noted.each n within))
     ∙ sym (readers_more net m n)
 
 -- firing a node that a guard doesn't name
@@ -123,17 +123,17 @@ contains_filter p (y ∷ ys) x passes (suc k) within at = behind (p y) (contains
     behind false c = c
 
 not_read : (net : NetValue) (moved node : ℕ) → moved < length net.first → node < length net.first → ¬ Contains (slice_index_or (fan_value net) moved []) node →
-    reads net moved node ≡ false
-not_read net moved node within node_within apart = by_test (reads net moved node) refl
+    is_reader net moved node ≡ false
+not_read net moved node within node_within apart = by_test (is_reader net moved node) refl
   where
     readers : slice_index_or (fan_value net) moved [] ≡ readers_below net (length net.first) moved
     readers = get_or-map-range_with_len (readers_below net (length net.first)) 0 (length net.first) moved moved [] within (omega arith)
 
-    by_test : (b : Bool) → reads net moved node ≡ b → b ≡ false
+    by_test : (b : Bool) → is_reader net moved node ≡ b → b ≡ false
     by_test true is =
         let at : get_or (range_with_len 0 (length net.first)) node node ≡ node = get_or-range_with_len 0 (length net.first) node node node_within
         ∙ omega arith in
-        absurd (apart (rw readers (contains_filter (reads net moved) (range_with_len 0 (length net.first)) node is node
+        absurd (apart (rw readers (contains_filter (is_reader net moved) (range_with_len 0 (length net.first)) node is node
         (omega (arith, length-range_with_len 0 (length net.first))) at)))
     by_test false is = refl
 

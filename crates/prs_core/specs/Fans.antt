@@ -11,12 +11,12 @@ abbrev pub guard_names : ℕ → GuardValue → Bool
 guard_names node g = list_any (term_names node) g
 
 -- a guard of the reader names the node
-abbrev pub reads : NetValue → ℕ → ℕ → Bool
-reads net node reader = guard_names node (up_of net reader) || guard_names node (down_of net reader)
+abbrev pub is_reader : NetValue → ℕ → ℕ → Bool
+is_reader net node reader = guard_names node (up_of net reader) || guard_names node (down_of net reader)
 
 -- the nodes below a number that read the node, in ascending order
 abbrev pub readers_below : NetValue → ℕ → ℕ → List ℕ
-readers_below net count node = filter (reads net node) (range_with_len 0 count)
+readers_below net count node = filter (is_reader net node) (range_with_len 0 count)
 
 -- for each node its readers
 abbrev pub fan_value : NetValue → List (List ℕ)

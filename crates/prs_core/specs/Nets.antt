@@ -29,8 +29,8 @@ abbrev pub net_of : List (List ℕ) → List Bool → RulesValue → List Wires 
 net_of names first rules channels reset =
     record { names = names; first = first; up = rules.up; down = rules.down; channels = channels; reset = reset }
 
-abbrev pub rules_of : NetValue → RulesValue
-rules_of n = record { up = n.up; down = n.down }
+abbrev pub net_rules : NetValue → RulesValue
+net_rules n = record { up = n.up; down = n.down }
 
 abbrev pub name_at : NetValue → ℕ → List ℕ
 name_at n node = slice_index_or n.names node []

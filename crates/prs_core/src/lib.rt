@@ -2,7 +2,7 @@
 #![tactic(auto)]
 
 mod fan;
-mod laws;
+pub mod laws;
 mod net;
 mod rails;
 mod rule;
@@ -12,7 +12,6 @@ mod state;
 mod wires;
 
 pub use fan::{Fan, fan_of, only_readers};
-pub use laws::site_keeps;
 pub use net::Net;
 pub use rails::{all_neutral, rail_value};
 pub use rule::{Guard, Literal, Term};

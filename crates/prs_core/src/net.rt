@@ -30,7 +30,7 @@ impl Model for Net {
 }
 
 impl Net {
-    ghost use Rattle.prs_core.specs.Nets.{IsNet, net_of, rules_of, up_of, down_of};
+    ghost use Rattle.prs_core.specs.Nets.{IsNet, net_of, net_rules, up_of, down_of};
 
     /// The net of these parts, with no reset node.
     pub fn new(names: Vec<Name>, first: Vec<bool>, rules: Rules, channels: Vec<Wires>) -> Net
@@ -65,7 +65,7 @@ impl Net {
     pub fn into_parts(self) -> (Vec<Name>, Vec<bool>, Rules, Vec<Wires>)
         ensures names { result.0.items ≡ self.names }
         ensures first { result.1.items ≡ self.first }
-        ensures rules { result.2 ≡ rules_of self }
+        ensures rules { result.2 ≡ net_rules self }
         ensures channels { result.3.items ≡ self.channels }
     {
         (self.names, self.first, self.rules, self.channels)

@@ -13,7 +13,7 @@ use Rattle.chp_base.specs.Names.{IsNodeName}
 use Rattle.chp_base.specs.declared.channel.Channel.{Channel}
 use Rattle.prs_core.specs.declared.rule.Literal.{Literal}
 use Rattle.prs_core.specs.declared.wires.Wires.{Wires}
-use Rattle.prs_core.specs.Nets.{GuardValue, RulesValue, NetValue, rules_of, IsBelow, IsFilled, IsChannel, IsReset, IsUndriven, IsNet, wires_from_outside, guard_literals, most_literals as most_of_net}
+use Rattle.prs_core.specs.Nets.{GuardValue, RulesValue, NetValue, net_rules, IsBelow, IsFilled, IsChannel, IsReset, IsUndriven, IsNet, wires_from_outside, guard_literals, most_literals as most_of_net}
 use Rattle.prs_file.specs.declared.fault.NetFault.{NetFault}
 use Rattle.prs_file.specs.ChannelsTold.{channels_told, IsChannelsRead}
 use Rattle.prs_file.specs.Indexes.{place_in}
@@ -313,7 +313,7 @@ guard_forms_say n is k within =
           (below n.down is.down_within)) (All-get_or IsFilled n.down k [] (omega (arith, is.downs, is.named)) is.down_filled),
     )
 
-walkable : (n : NetValue) → IsNet n → IsWalkable (version_of n.reset) n.names n.first (channels_of n.channels) (rules_of n)
+walkable : (n : NetValue) → IsNet n → IsWalkable (version_of n.reset) n.names n.first (channels_of n.channels) (net_rules n)
 walkable n is = record {
   same = sym is.named;
   distinct = is.distinct;
@@ -349,7 +349,7 @@ never_refused n text fault line is spelled refused =
     lines = map channel_form n.channels
 
     rules : List Form
-    rules = rule_forms n.names (rules_of n)
+    rules = rule_forms n.names (net_rules n)
 
     behind_channels : List ℕ
     behind_channels = flat_map form_spelling rules ++ []
@@ -368,7 +368,7 @@ never_refused n text fault line is spelled refused =
 
     no_nodes : All (λ f. is_node f ≡ false) (lines ++ rules)
     no_nodes = All-append (λ f. is_node f ≡ false) lines rules (all_channels (λ f. is_node f ≡ false) n.channels (λ c. refl))
-        (all_rules (λ f. is_node f ≡ false) n.names (rules_of n) (range_with_len 0 (length n.names)) (λ g k u. refl))
+        (all_rules (λ f. is_node f ≡ false) n.names (net_rules n) (range_with_len 0 (length n.names)) (λ g k u. refl))
 
     joined : behind_nodes ≡ flat_map form_spelling (lines ++ rules) ++ []
     joined = sym (append_assoc (flat_map form_spelling lines) (flat_map form_spelling rules) [])
@@ -388,17 +388,17 @@ never_refused n text fault line is spelled refused =
         (channels_say n n.channels is.channels) (apart_names n.channels is.channels_distinct)
 
     all_are_rules : All (λ f. is_rule f ≡ true) rules
-    all_are_rules = all_rules (λ f. is_rule f ≡ true) n.names (rules_of n) (range_with_len 0 (length n.names)) (λ g k u. refl)
+    all_are_rules = all_rules (λ f. is_rule f ≡ true) n.names (net_rules n) (range_with_len 0 (length n.names)) (λ g k u. refl)
 
     over_channels : (c : Channel) → IsChannelForm c → first_line behind_channels ≡ channel_spelling c → ⊥
     over_channels c form e =
         other_line rules (channel c) (rules_say n is) form
         (λ f in' same. absurd (cc (All-contains (λ f. is_rule f ≡ true) rules f all_are_rules in', ap is_rule same))) e
 
-    few : 0 + literals_from (rules_of n) 0 (length n.names) ≤ literals_allowed (version == 2)
+    few : 0 + literals_from (net_rules n) 0 (length n.names) ≤ literals_allowed (version == 2)
     few = omega (
       arith,
-      sum_both (rules_of n) (range_with_len 0 (length n.names)),
+      sum_both (net_rules n) (range_with_len 0 (length n.names)),
       sum_all n.up (length n.names) (is.ups ∙ sym is.named),
       sum_all n.down (length n.names) (is.downs ∙ sym is.named),
       is.literals,
@@ -406,7 +406,7 @@ never_refused n text fault line is spelled refused =
     )
 
     begin : At version n.names n.first (channels_of n.channels) (channels_told version n.names n.first n.channels) whole behind_channels (2 * 0)
-        (literals_from (rules_of n) 0 (length n.names))
+        (literals_from (net_rules n) 0 (length n.names))
     begin = record {
       last = None;
       count = 0;
@@ -416,7 +416,7 @@ never_refused n text fault line is spelled refused =
     }
 
     end : At version n.names n.first (channels_of n.channels) (all_forms n) whole [] (2 * (0 + length n.names)) 0
-    end = rules_walk version n.names n.first (channels_of n.channels) (rules_of n) (channels_told version n.names n.first n.channels) whole [] (length n.names)
+    end = rules_walk version n.names n.first (channels_of n.channels) (net_rules n) (channels_told version n.names n.first n.channels) whole [] (length n.names)
         0 (walkable n is) (omega arith) begin
 
     same : text ≡ whole

@@ -10,7 +10,7 @@ use Rattle.chp_base.specs.Names.{IsNodeName}
 use Rattle.chp_base.specs.declared.channel.Channel.{Channel}
 use Rattle.prs_core.specs.declared.rule.Literal.{Literal}
 use Rattle.prs_core.specs.declared.wires.Wires.{Wires}
-use Rattle.prs_core.specs.Nets.{GuardValue, RulesValue, NetValue, rules_of, rail_names, ack_name, IsBelow, IsFilled, IsChannel, IsReset, IsNet}
+use Rattle.prs_core.specs.Nets.{GuardValue, RulesValue, NetValue, net_rules, rail_names, ack_name, IsBelow, IsFilled, IsChannel, IsReset, IsNet}
 use Rattle.prs_file.specs.ChannelsTold.{channels_told}
 use Rattle.prs_file.specs.Named.{signed_by, guard_named}
 use Rattle.prs_file.specs.NodesTold.{node_forms}
@@ -384,18 +384,18 @@ version_known None = (omega arith, omega arith)
 version_known (Some k) = (omega arith, omega arith)
 
 abbrev pub all_forms : NetValue → List Form
-all_forms n = net_forms (version_of n.reset) n.names n.first n.channels (rules_of n)
+all_forms n = net_forms (version_of n.reset) n.names n.first n.channels (net_rules n)
 
-pub rules_say : (n : NetValue) → IsNet n → All IsForm (rule_forms n.names (rules_of n))
+pub rules_say : (n : NetValue) → IsNet n → All IsForm (rule_forms n.names (net_rules n))
 rules_say n is =
     let count = is.named in
-    rule_lines n.names (rules_of n) (length n.names) is.names (omega arith) (is.ups ∙ sym count) (is.downs ∙ sym count)
+    rule_lines n.names (net_rules n) (length n.names) is.names (omega arith) (is.ups ∙ sym count) (is.downs ∙ sym count)
     (subst (λ c. All (IsBelow c) n.up) (sym count) is.up_within) (subst (λ c. All (IsBelow c) n.down) (sym count) is.down_within) is.up_filled
     is.down_filled
 
 pub lines_say : (n : NetValue) → IsNet n → All IsForm (all_forms n)
 lines_say n is =
-    All-append IsForm (channels_told (version_of n.reset) n.names n.first n.channels) (rule_forms n.names (rules_of n))
+    All-append IsForm (channels_told (version_of n.reset) n.names n.first n.channels) (rule_forms n.names (net_rules n))
     (All-cons IsForm (head (version_of n.reset)) (node_forms n.names n.first ++ map (λ (w : Wires). channel w.channel) n.channels) (version_known n.reset)
     (All-append IsForm (node_forms n.names n.first) (map (λ (w : Wires). channel w.channel) n.channels) (node_lines n.names n.first is.names)
     (channel_lines n n.channels is.channels)))
@@ -409,9 +409,9 @@ reset_back n (Some k) is = ap Some (omega (arith, is.last))
 pub lines_spell : (n : NetValue) → IsNet n → flat_map form_spelling (all_forms n) ≡ spelling n
 lines_spell n is =
     let known = version_known n.reset in
-    let same : net_read (version_of n.reset) n.names n.first (rules_of n) n.channels ≡ n =
+    let same : net_read (version_of n.reset) n.names n.first (net_rules n) n.channels ≡ n =
     λ i. record { names = n.names; first = n.first; up = n.up; down = n.down; channels = n.channels; reset = reset_back n n.reset is.reset i } in
-    net_spelled (version_of n.reset) n.names n.first n.channels (rules_of n) (sym is.named) known.0 known.1 ∙ ap spelling same
+    net_spelled (version_of n.reset) n.names n.first n.channels (net_rules n) (sym is.named) known.0 known.1 ∙ ap spelling same
 
 pub one_spelled : (a b : NetValue) → IsNet a → IsNet b → spelling a ≡ spelling b → a ≡ b
 one_spelled a b ia ib e = λ i. record { names = names i; first = first i; up = up i; down = down i; channels = channels i; reset = reset i }
@@ -420,8 +420,8 @@ one_spelled a b ia ib e = λ i. record { names = names i; first = first i; up = 
     forms = same_forms (all_forms a) (all_forms b) (lines_say a ia) (lines_say b ib) (lines_spell a ia ∙ e ∙ sym (lines_spell b ib))
 
     nodes : told_nodes (node_forms a.names a.first) ≡ told_nodes (node_forms b.names b.first)
-    nodes = sym (nodes_in_net (version_of a.reset) a.names a.first a.channels (rules_of a)) ∙ ap (filter_map node_in) forms
-        ∙ nodes_in_net (version_of b.reset) b.names b.first b.channels (rules_of b)
+    nodes = sym (nodes_in_net (version_of a.reset) a.names a.first a.channels (net_rules a)) ∙ ap (filter_map node_in) forms
+        ∙ nodes_in_net (version_of b.reset) b.names b.first b.channels (net_rules b)
 
     names : a.names ≡ b.names
     names = sym (pair_names a.names a.first (sym ia.named)) ∙ ap (map (λ (p : List ℕ × Bool). p.0)) nodes ∙ pair_names b.names b.first (sym ib.named)
@@ -429,19 +429,19 @@ one_spelled a b ia ib e = λ i. record { names = names i; first = first i; up = 
     first : a.first ≡ b.first
     first = sym (pair_values a.names a.first (sym ia.named)) ∙ ap (map (λ (p : List ℕ × Bool). p.1)) nodes ∙ pair_values b.names b.first (sym ib.named)
 
-    guard : (k : ℕ) (way : Bool) → k < length a.names → guard_at (rules_of a) k way ≡ guard_at (rules_of b) k way
+    guard : (k : ℕ) (way : Bool) → k < length a.names → guard_at (net_rules a) k way ≡ guard_at (net_rules b) k way
     guard k way within =
-        same_listed a.names (guard_at (rules_of a) k way) (guard_at (rules_of b) k way) ia.distinct (below a ia way k within)
-        (subst (λ c. IsBelow c (guard_at (rules_of b) k way)) (sym (ap length names)) (below b ib way k (omega (arith, ap length names))))
-        (sym (picked_in_net (version_of a.reset) a.names a.first a.channels (rules_of a) k way ia.distinct (ia.ups ∙ sym ia.named) (ia.downs ∙ sym ia.named)
+        same_listed a.names (guard_at (net_rules a) k way) (guard_at (net_rules b) k way) ia.distinct (below a ia way k within)
+        (subst (λ c. IsBelow c (guard_at (net_rules b) k way)) (sym (ap length names)) (below b ib way k (omega (arith, ap length names))))
+        (sym (picked_in_net (version_of a.reset) a.names a.first a.channels (net_rules a) k way ia.distinct (ia.ups ∙ sym ia.named) (ia.downs ∙ sym ia.named)
         within)
         ∙ ap (filter_map (pick (get_or a.names k []) way)) forms
         ∙ ap (λ ns. filter_map (pick (get_or ns k []) way) (all_forms b)) names
-        ∙ picked_in_net (version_of b.reset) b.names b.first b.channels (rules_of b) k way ib.distinct (ib.ups ∙ sym ib.named) (ib.downs ∙ sym ib.named)
+        ∙ picked_in_net (version_of b.reset) b.names b.first b.channels (net_rules b) k way ib.distinct (ib.ups ∙ sym ib.named) (ib.downs ∙ sym ib.named)
         (omega (arith, ap length names))
-        ∙ ap (λ ns. as_list ns (guard_at (rules_of b) k way)) (sym names))
+        ∙ ap (λ ns. as_list ns (guard_at (net_rules b) k way)) (sym names))
       where
-        below : (n : NetValue) → IsNet n → (way : Bool) (k : ℕ) → k < length n.names → IsBelow (length n.names) (guard_at (rules_of n) k way)
+        below : (n : NetValue) → IsNet n → (way : Bool) (k : ℕ) → k < length n.names → IsBelow (length n.names) (guard_at (net_rules n) k way)
         below n is true k within = subst (λ c. IsBelow c (get_or n.up k [])) (sym is.named)
             (All-get_or (IsBelow (length n.first)) n.up k [] (omega (arith, is.ups, is.named)) is.up_within)
         below n is false k within = subst (λ c. IsBelow c (get_or n.down k [])) (sym is.named)
@@ -454,8 +454,8 @@ one_spelled a b ia ib e = λ i. record { names = names i; first = first i; up = 
     down = same_guards a.down b.down (omega (arith, ia.downs, ib.downs, ap length first)) (λ k below. guard k false (omega (arith, ia.downs, ia.named)))
 
     told : channels_of a.channels ≡ channels_of b.channels
-    told = sym (channels_in_net (version_of a.reset) a.names a.first a.channels (rules_of a)) ∙ ap (filter_map channel_in) forms
-        ∙ channels_in_net (version_of b.reset) b.names b.first b.channels (rules_of b)
+    told = sym (channels_in_net (version_of a.reset) a.names a.first a.channels (net_rules a)) ∙ ap (filter_map channel_in) forms
+        ∙ channels_in_net (version_of b.reset) b.names b.first b.channels (net_rules b)
 
     channels : a.channels ≡ b.channels
     channels = same_wires a.names a.channels b.channels ia.distinct (wires_of_net a a.channels ia.named ia.channels)

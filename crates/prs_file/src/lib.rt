@@ -9,7 +9,7 @@ mod form;
 mod forms;
 mod guard;
 mod index;
-mod laws;
+pub mod laws;
 mod lookup;
 mod nodes;
 mod opening;
@@ -23,6 +23,5 @@ mod wiring;
 
 pub use fault::{NetFault, NetReadError};
 pub use forms::{Lead, channel_line, head_line, literal_text, node_line, rule_end};
-pub use laws::{one_net, one_refusal};
 pub use print::print_net;
 pub use read::read_net;

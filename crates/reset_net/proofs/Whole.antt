@@ -11,7 +11,7 @@ use Rattle.chp_base.specs.Names.{IsNodeName}
 use Rattle.chp_base.specs.declared.channel.Kind.{Kind}
 use Rattle.chp_base.specs.declared.channel.Kind.TheVariants.{In, Out, Chan}
 use Rattle.prs_core.specs.declared.wires.Wires.{Wires}
-use Rattle.prs_core.specs.Nets.{GuardValue, NetValue, RulesValue, IsNet, IsBelow, IsFilled, IsUndriven, IsChannel, guard_literals, literals_of, name_at, first_at, up_of, down_of, net_of, rules_of, wires_from_outside}
+use Rattle.prs_core.specs.Nets.{GuardValue, NetValue, RulesValue, IsNet, IsBelow, IsFilled, IsUndriven, IsChannel, guard_literals, literals_of, name_at, first_at, up_of, down_of, net_of, net_rules, wires_from_outside}
 use Rattle.reset_net.specs.Resets.{reset_guard, reset_up, reset_down, reset_of, has_rules}
 use Rattle.reset_net.proofs.Guards.{at_each, guard_below, guard_filled, both_literals, nothing_below}
 
@@ -193,7 +193,7 @@ reset_is_net n is plain free =
     }
 
 pub parts_are : (n : NetValue) (names : List (List ℕ)) (first : List Bool) (rules : RulesValue) (channels : List Wires) →
-    names ≡ n.names ++ codes "reset" ∷ [] → first ≡ n.first ++ true ∷ [] → rules ≡ rules_of (reset_of n) → channels ≡ n.channels →
+    names ≡ n.names ++ codes "reset" ∷ [] → first ≡ n.first ++ true ∷ [] → rules ≡ net_rules (reset_of n) → channels ≡ n.channels →
     net_of names first rules channels (Some (length first - 1)) ≡ reset_of n
 parts_are n names first rules channels a b c d =
     let last : length (n.first ++ true ∷ []) - 1 ≡ length n.first = omega (arith, length_push n.first true) in

@@ -2,7 +2,7 @@
 #![tactic(auto)]
 
 ghost use Rattle.std.specs.Prelude.{◌≡◌, ◌≢◌, ◌<◌, ◌+◌, ◌++◌, ℕ, List, [], ◌∷◌, Bool, length, All, IfOk, None, codes};
-ghost use Rattle.prs_core.specs.Nets.{RulesValue, IsNet, IsBelow, rules_of};
+ghost use Rattle.prs_core.specs.Nets.{RulesValue, IsNet, IsBelow, net_rules};
 ghost use Rattle.reset_net.specs.Resets.{held, forced, has_rules, reset_guard, reset_up, reset_down, reset_of};
 
 use chp_base::{Name, node_name_of};
@@ -108,7 +108,7 @@ fn down_guard(alloc: Global, net: &Net, node: u32) -> Result<Guard, AllocError>
 /// The rules of the net with the reset node.
 fn rules_with_reset(alloc: Global, net: &Net) -> Result<Rules, AllocError>
     requires { net.now.reset ≡ None }
-    ensures { IfOk result (λ rules. rules ≡ rules_of (reset_of net.now)) }
+    ensures { IfOk result (λ rules. rules ≡ net_rules (reset_of net.now)) }
 {
     let nodes = net.first().len() as u32;
     let mut rules = Rules::new(alloc, nodes + 1)?;

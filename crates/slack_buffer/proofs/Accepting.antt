@@ -11,7 +11,7 @@ use Rattle.chp_syntax.specs.declared.tree.DeclKind.{DeclKind}
 use Rattle.chp_syntax.specs.declared.tree.DeclKind.TheVariants as declares
 use Rattle.chp_syntax.specs.declared.tree.Ident.{Ident}
 use Rattle.chp_syntax.specs.Trees.{Expression, number, whole, slice, bit, join, negation, chain, Expressions, no_parts, and_part, Statement, skips, assigns, sends, receives, follows, besides, selects, repeats, calls, Statements, no_members, and_member, Arms, no_arms, and_arm, ProgramTree}
-use Rattle.width_check.specs.Places.{declaration, declared_width, is_var, Role, sent_on, received_on, stored, read, Use, use_of, reads_in, reads_in_parts, uses_in, uses_in_each, uses_in_arms, Expected, expect, leaves, expressions_in, inside, Reception, receptions_in, receptions_in_each, receptions_in_arms}
+use Rattle.width_check.specs.Places.{declaration, declared_width, is_var, Role, sent_on, received_on, stored, read, Use, use_of, reads_in, reads_in_join, uses_in, uses_in_each, uses_in_arms, Expected, expect, leaves, expressions_in, inside, Reception, receptions_in, receptions_in_each, receptions_in_arms}
 use Rattle.width_check.specs.Faults.{IsDouble, IsOutOfRange, IsUndeclared, IsOfWrongKind, IsMisdirected, IsBadPart, IsBadSlice, HasPart, LacksWidth, IsOfUnknownWidth, IsWideJoin, IsMisfit, IsMisfitLeaf, IsMisfitReceive, IsWideNumber, IsWideFirst, all_expressions, all_leaves, wants_var, naming_faults, HasNone}
 use Rattle.width_check.proofs.Bounds.{some_power}
 use Rattle.chp_meaning.specs.Fitting.{In}
@@ -301,11 +301,11 @@ slice_none p chan k b s f =
     (λ same. subst (λ e. IsBadPart (p.decls ++ new_decls p.decls chan k) e) (sym same) f.bad)
     (expression_from p chan k b f.expression f.among)
 
-part_before : (ds es : List Decl) (parts : Expressions) (s : Span) → Known ds (reads_in_parts parts) → HasPart (ds ++ es) parts s → HasPart ds parts s
+part_before : (ds es : List Decl) (parts : Expressions) (s : Span) → Known ds (reads_in_join parts) → HasPart (ds ++ es) parts s → HasPart ds parts s
 part_before ds es no_parts s h f = absurd f
 part_before ds es (and_part e more) s h f =
-    ⊎_elim (λ g. inl (sym (own_kept ds es e (known_left ds (reads_in e) (reads_in_parts more) h)) ∙ g.0, g.1))
-    (λ g. inr (part_before ds es more s (known_right ds (reads_in e) (reads_in_parts more) h) g)) f
+    ⊎_elim (λ g. inl (sym (own_kept ds es e (known_left ds (reads_in e) (reads_in_join more) h)) ∙ g.0, g.1))
+    (λ g. inr (part_before ds es more s (known_right ds (reads_in e) (reads_in_join more) h) g)) f
 
 lacks_before : (ds es : List Decl) (e : Expression) (s : Span) → Known ds (reads_in e) → LacksWidth (ds ++ es) e s → LacksWidth ds e s
 lacks_before ds es (join parts at) s h f = part_before ds es parts s h f

@@ -15,7 +15,7 @@ use Rattle.chp_syntax.specs.declared.tree.DeclKind.{DeclKind}
 use Rattle.chp_syntax.specs.declared.tree.DeclKind.TheVariants as declares
 use Rattle.chp_syntax.specs.Trees.{Expression, number, whole, slice, bit, join, negation, chain, Expressions, no_parts, and_part, Links, no_links, and_link}
 use Rattle.width_check.specs.declared.typed.Var.{Var}
-use Rattle.width_check.specs.Places.{declaration, declared_width, is_var, Use, use_of, read, reads_in, reads_in_parts, reads_in_links, compares, or_width, own_width, own_widths, first_width, Expected, expect, leaves, leaves_of_parts, leaves_of_links, inside, inside_parts, inside_links}
+use Rattle.width_check.specs.Places.{declaration, declared_width, is_var, Use, use_of, read, reads_in, reads_in_join, reads_in_links, compares, or_width, own_width, own_widths, first_width, Expected, expect, leaves, leaves_of_parts, leaves_of_links, inside, inside_parts, inside_links}
 use Rattle.width_check.specs.Faults.{wants_var}
 use Rattle.width_check.specs.Form.{with_channel, channels_of, with_var, vars_of, channel_number, var_number, compared_with, formula_form, parts_form, operations_form}
 use Rattle.width_check.specs.Processes as typed
@@ -117,11 +117,11 @@ mutual
       (reads_in_links more) h))
       ∙ ap (λ o. or_width (own_width ds e) o) (first_kept ds es more (known_right ds (reads_in e) (reads_in_links more) h)))
 
-  pub owns_kept : (ds es : List Decl) (parts : Expressions) → Known ds (reads_in_parts parts) → own_widths (ds ++ es) parts ≡ own_widths ds parts
+  pub owns_kept : (ds es : List Decl) (parts : Expressions) → Known ds (reads_in_join parts) → own_widths (ds ++ es) parts ≡ own_widths ds parts
   owns_kept ds es no_parts h = refl
   owns_kept ds es (and_part e more) h =
-      ap (λ o. unwrap_or o 0 + own_widths (ds ++ es) more) (own_kept ds es e (known_left ds (reads_in e) (reads_in_parts more) h))
-      ∙ ap (λ n. unwrap_or (own_width ds e) 0 + n) (owns_kept ds es more (known_right ds (reads_in e) (reads_in_parts more) h))
+      ap (λ o. unwrap_or o 0 + own_widths (ds ++ es) more) (own_kept ds es e (known_left ds (reads_in e) (reads_in_join more) h))
+      ∙ ap (λ n. unwrap_or (own_width ds e) 0 + n) (owns_kept ds es more (known_right ds (reads_in e) (reads_in_join more) h))
 
   pub first_kept : (ds es : List Decl) (more : Links) → Known ds (reads_in_links more) → first_width (ds ++ es) more ≡ first_width ds more
   first_kept ds es no_links h = refl
@@ -159,14 +159,14 @@ mutual
       (ap (λ xs. xs ++ leaves_of_links (ds ++ es) w more) (leaves_kept ds es w e first)
       ∙ ap (λ xs. leaves ds w e ++ xs) (link_leaves_kept ds es w more rest))
 
-  pub part_leaves_kept : (ds es : List Decl) (parts : Expressions) → Known ds (reads_in_parts parts) →
+  pub part_leaves_kept : (ds es : List Decl) (parts : Expressions) → Known ds (reads_in_join parts) →
       leaves_of_parts (ds ++ es) parts ≡ leaves_of_parts ds parts
   part_leaves_kept ds es no_parts h = refl
   part_leaves_kept ds es (and_part e more) h =
-      ap (λ o. leaves (ds ++ es) (unwrap_or o 0) e ++ leaves_of_parts (ds ++ es) more) (own_kept ds es e (known_left ds (reads_in e) (reads_in_parts more) h))
+      ap (λ o. leaves (ds ++ es) (unwrap_or o 0) e ++ leaves_of_parts (ds ++ es) more) (own_kept ds es e (known_left ds (reads_in e) (reads_in_join more) h))
       ∙ (ap (λ xs. xs ++ leaves_of_parts (ds ++ es) more)
-      (leaves_kept ds es (unwrap_or (own_width ds e) 0) e (known_left ds (reads_in e) (reads_in_parts more) h))
-      ∙ ap (λ xs. leaves ds (unwrap_or (own_width ds e) 0) e ++ xs) (part_leaves_kept ds es more (known_right ds (reads_in e) (reads_in_parts more) h)))
+      (leaves_kept ds es (unwrap_or (own_width ds e) 0) e (known_left ds (reads_in e) (reads_in_join more) h))
+      ∙ ap (λ xs. leaves ds (unwrap_or (own_width ds e) 0) e ++ xs) (part_leaves_kept ds es more (known_right ds (reads_in e) (reads_in_join more) h)))
 
   pub link_leaves_kept : (ds es : List Decl) (w : ℕ) (more : Links) → Known ds (reads_in_links more) →
       leaves_of_links (ds ++ es) w more ≡ leaves_of_links ds w more
@@ -201,15 +201,15 @@ mutual
       rest : Known ds (reads_in_links more)
       rest = known_right ds (reads_in e) (reads_in_links more) h
 
-  pub formulas_kept : (ds es : List Decl) (parts : Expressions) → Known ds (reads_in_parts parts) → parts_form (ds ++ es) parts ≡ parts_form ds parts
+  pub formulas_kept : (ds es : List Decl) (parts : Expressions) → Known ds (reads_in_join parts) → parts_form (ds ++ es) parts ≡ parts_form ds parts
   formulas_kept ds es no_parts h = refl
   formulas_kept ds es (and_part e more) h =
       ap (λ o. typed.and_part (formula_form (ds ++ es) (unwrap_or o 0) e) (parts_form (ds ++ es) more))
-      (own_kept ds es e (known_left ds (reads_in e) (reads_in_parts more) h))
+      (own_kept ds es e (known_left ds (reads_in e) (reads_in_join more) h))
       ∙ (ap (λ f. typed.and_part f (parts_form (ds ++ es) more)) (formula_kept ds es (unwrap_or (own_width ds e) 0) e (known_left ds (reads_in e)
-      (reads_in_parts more) h))
+      (reads_in_join more) h))
       ∙ ap (λ f. typed.and_part (formula_form ds (unwrap_or (own_width ds e) 0) e) f) (formulas_kept ds es more (known_right ds (reads_in e)
-      (reads_in_parts more) h)))
+      (reads_in_join more) h)))
 
   pub operations_kept : (ds es : List Decl) (w : ℕ) (more : Links) → Known ds (reads_in_links more) →
       operations_form (ds ++ es) w more ≡ operations_form ds w more
@@ -239,12 +239,12 @@ mutual
       ⊎_elim (λ j. inside_known ds e x (known_left ds (reads_in e) (reads_in_links more) h) j)
       (λ j. inside_links_known ds more x (known_right ds (reads_in e) (reads_in_links more) h) j) (in_either (inside e) (inside_links more) x i)
 
-  pub inside_parts_known : (ds : List Decl) (parts : Expressions) (x : Expression) → Known ds (reads_in_parts parts) → In (inside_parts parts) x →
+  pub inside_parts_known : (ds : List Decl) (parts : Expressions) (x : Expression) → Known ds (reads_in_join parts) → In (inside_parts parts) x →
       Known ds (reads_in x)
   inside_parts_known ds no_parts x h i = absurd i
   inside_parts_known ds (and_part e more) x h i =
-      ⊎_elim (λ j. inside_known ds e x (known_left ds (reads_in e) (reads_in_parts more) h) j)
-      (λ j. inside_parts_known ds more x (known_right ds (reads_in e) (reads_in_parts more) h) j) (in_either (inside e) (inside_parts more) x i)
+      ⊎_elim (λ j. inside_known ds e x (known_left ds (reads_in e) (reads_in_join more) h) j)
+      (λ j. inside_parts_known ds more x (known_right ds (reads_in e) (reads_in_join more) h) j) (in_either (inside e) (inside_parts more) x i)
 
   pub inside_links_known : (ds : List Decl) (more : Links) (x : Expression) → Known ds (reads_in_links more) → In (inside_links more) x → Known ds (reads_in x)
   inside_links_known ds no_links x h i = absurd i
@@ -279,12 +279,12 @@ mutual
       let rest = known_right ds (reads_in e) (reads_in_links more) h in
       chain_known ds w e more at l h (λ v j. leaf_known ds v e l first j) (λ v j. link_leaf_known ds v more l rest j) (compares more) i
 
-  pub part_leaf_known : (ds : List Decl) (parts : Expressions) (l : Expected) → Known ds (reads_in_parts parts) → In (leaves_of_parts ds parts) l →
+  pub part_leaf_known : (ds : List Decl) (parts : Expressions) (l : Expected) → Known ds (reads_in_join parts) → In (leaves_of_parts ds parts) l →
       Known ds (reads_in l.expression)
   part_leaf_known ds no_parts l h i = absurd i
   part_leaf_known ds (and_part e more) l h i =
-      ⊎_elim (λ j. leaf_known ds (unwrap_or (own_width ds e) 0) e l (known_left ds (reads_in e) (reads_in_parts more) h) j)
-      (λ j. part_leaf_known ds more l (known_right ds (reads_in e) (reads_in_parts more) h) j)
+      ⊎_elim (λ j. leaf_known ds (unwrap_or (own_width ds e) 0) e l (known_left ds (reads_in e) (reads_in_join more) h) j)
+      (λ j. part_leaf_known ds more l (known_right ds (reads_in e) (reads_in_join more) h) j)
       (in_either (leaves ds (unwrap_or (own_width ds e) 0) e) (leaves_of_parts ds more) l i)
 
   pub link_leaf_known : (ds : List Decl) (w : ℕ) (more : Links) (l : Expected) → Known ds (reads_in_links more) → In (leaves_of_links ds w more) l →

@@ -12,13 +12,13 @@ use Rattle.chp_syntax.specs.declared.tree.Stmt.{Stmt, Then, Beside, Select}
 use Rattle.chp_syntax.specs.Trees.{join, chain, no_parts, and_part, no_links, and_link, follows, besides, selects, no_members, and_member, no_arms, and_arm}
 use Rattle.chp_syntax.specs.View.{expression_of, statement_of}
 use Rattle.chp_syntax.proofs.Rows.{join_tree, chain_tree, then_tree, beside_tree, select_tree}
-use Rattle.width_check.specs.Walk.{join_parts, links_of, statements_in, arms_in}
+use Rattle.width_check.specs.Walk.{join_parts, links_in, statements_in, arms_in}
 
 pub join_is : (e : Expr) (v : Vec Expr Global) (at : Span) → e ≡ Join v at → expression_of e ≡ join (join_parts v.items) at
 join_is e v at is = ap expression_of is ∙ join_tree v at
 
 pub chain_is : (e : Expr) (first : Box Expr Global) (v : Vec Link Global) (at : Span) → e ≡ Chain first v at →
-    expression_of e ≡ chain (expression_of first.value) (links_of v.items) at
+    expression_of e ≡ chain (expression_of first.value) (links_in v.items) at
 chain_is e first v at is = ap expression_of is ∙ chain_tree first v at
 
 pub then_is : (s : Stmt) (v : Vec Stmt Global) → s ≡ Then v → statement_of s ≡ follows (statements_in v.items)
@@ -40,12 +40,12 @@ pub parts_end : (es : List Expr) (i : ℕ) → length es ≤ i → join_parts (d
 parts_end es i all = ap join_parts (drop_all i es all)
 
 pub links_more : (ls : List Link) (i : ℕ) (l : Link) → i < length ls → l ≡ get_or ls i l →
-    links_of (drop i ls) ≡ and_link l.op (expression_of l.right) (links_of (drop (i + 1) ls))
-links_more ls i l within is = ap links_of (drop_more ls i l within) ∙ ap (λ (x : Link). and_link x.op (expression_of x.right) (links_of (drop (i + 1) ls)))
+    links_in (drop i ls) ≡ and_link l.op (expression_of l.right) (links_in (drop (i + 1) ls))
+links_more ls i l within is = ap links_in (drop_more ls i l within) ∙ ap (λ (x : Link). and_link x.op (expression_of x.right) (links_in (drop (i + 1) ls)))
     (sym is)
 
-pub links_end : (ls : List Link) (i : ℕ) → length ls ≤ i → links_of (drop i ls) ≡ no_links
-links_end ls i all = ap links_of (drop_all i ls all)
+pub links_end : (ls : List Link) (i : ℕ) → length ls ≤ i → links_in (drop i ls) ≡ no_links
+links_end ls i all = ap links_in (drop_all i ls all)
 
 pub members_more : (ss : List Stmt) (i : ℕ) (s : Stmt) → i < length ss → s ≡ get_or ss i s →
     statements_in (drop i ss) ≡ and_member (statement_of s) (statements_in (drop (i + 1) ss))

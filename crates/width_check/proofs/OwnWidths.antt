@@ -12,7 +12,7 @@ use Rattle.chp_syntax.specs.Trees as plain
 use Rattle.chp_syntax.specs.Trees.{no_parts}
 use Rattle.chp_syntax.specs.View.{expression_of}
 use Rattle.width_check.specs.Places.{compares, or_width, own_width, own_widths, first_width}
-use Rattle.width_check.specs.Walk.{capped_width, side_width, join_parts, links_of}
+use Rattle.width_check.specs.Walk.{capped_width, side_width, join_parts, links_in}
 use Rattle.width_check.proofs.Lists.{join_is, chain_is, parts_more, parts_end, links_more, links_end}
 use Rattle.width_check.proofs.Scopes.{wide_already, part_sum, part_none, capped_most, link_first, left_first, left_none, own_of_chain, own_of_comparison}
 
@@ -64,68 +64,68 @@ join_own decls e v at es n is same own =
 
 -- the links of a chain as a list
 chain_of : (e : Expr) (first : Box Expr Global) (v : Vec Link Global) (at : Span) (ls : List Link) → e ≡ Chain first v at → ls ≡ v.items →
-    expression_of e ≡ plain.chain (expression_of first.value) (links_of ls) at
-chain_of e first v at ls is same = chain_is e first v at is ∙ ap (λ (xs : List Link). plain.chain (expression_of first.value) (links_of xs) at) (sym same)
+    expression_of e ≡ plain.chain (expression_of first.value) (links_in ls) at
+chain_of e first v at ls is same = chain_is e first v at is ∙ ap (λ (xs : List Link). plain.chain (expression_of first.value) (links_in xs) at) (sym same)
 
 pub comparison_one : (decls : List Decl) (e : Expr) (first : Box Expr Global) (v : Vec Link Global) (at : Span) (ls : List Link) → e ≡ Chain first v at →
-    ls ≡ v.items → compares (links_of ls) ≡ true → Some 1 ≡ option_map capped_width (own_width decls (expression_of e))
+    ls ≡ v.items → compares (links_in ls) ≡ true → Some 1 ≡ option_map capped_width (own_width decls (expression_of e))
 comparison_one decls e first v at ls is same compared =
     sym (ap (λ x. option_map capped_width (own_width decls x)) (chain_of e first v at ls is same)
-    ∙ ap (option_map capped_width) (own_of_comparison decls (expression_of first.value) (links_of ls) at compared))
+    ∙ ap (option_map capped_width) (own_of_comparison decls (expression_of first.value) (links_in ls) at compared))
 
 -- a chain that doesn't compare has the width of its sides
 chain_side : (decls : List Decl) (e : Expr) (first : Box Expr Global) (v : Vec Link Global) (at : Span) (ls : List Link) → e ≡ Chain first v at → ls ≡ v.items →
-    compares (links_of ls) ≡ false → option_map capped_width (own_width decls (expression_of e)) ≡
-    option_map capped_width (side_width decls (expression_of first.value) (links_of ls))
+    compares (links_in ls) ≡ false → option_map capped_width (own_width decls (expression_of e)) ≡
+    option_map capped_width (side_width decls (expression_of first.value) (links_in ls))
 chain_side decls e first v at ls is same not_compared =
     ap (λ x. option_map capped_width (own_width decls x)) (chain_of e first v at ls is same)
-    ∙ ap (option_map capped_width) (own_of_chain decls (expression_of first.value) (links_of ls) at not_compared)
+    ∙ ap (option_map capped_width) (own_of_chain decls (expression_of first.value) (links_in ls) at not_compared)
 
 pub chain_left : (decls : List Decl) (e : Expr) (first : Box Expr Global) (v : Vec Link Global) (at : Span) (ls : List Link) (w : ℕ) → e ≡ Chain first v at →
-    ls ≡ v.items → compares (links_of ls) ≡ false → Some w ≡ option_map capped_width (own_width decls (expression_of first.value)) →
+    ls ≡ v.items → compares (links_in ls) ≡ false → Some w ≡ option_map capped_width (own_width decls (expression_of first.value)) →
     Some w ≡ option_map capped_width (own_width decls (expression_of e))
 chain_left decls e first v at ls w is same not_compared here =
-    left_first decls (expression_of first.value) (links_of ls) w here ∙ sym (chain_side decls e first v at ls is same not_compared)
+    left_first decls (expression_of first.value) (links_in ls) w here ∙ sym (chain_side decls e first v at ls is same not_compared)
 
 pub chain_link : (decls : List Decl) (e : Expr) (first : Box Expr Global) (v : Vec Link Global) (at : Span) (all ls : List Link) (i : ℕ) (l : Link) (w : ℕ) →
-    e ≡ Chain first v at → all ≡ v.items → ls ≡ v.items → compares (links_of all) ≡ false →
+    e ≡ Chain first v at → all ≡ v.items → ls ≡ v.items → compares (links_in all) ≡ false →
     None ≡ option_map capped_width (own_width decls (expression_of first.value)) → i < length ls → l ≡ get_or ls i l →
-    option_map capped_width (first_width decls (links_of (drop i ls))) ≡ option_map capped_width (first_width decls (links_of ls)) →
+    option_map capped_width (first_width decls (links_in (drop i ls))) ≡ option_map capped_width (first_width decls (links_in ls)) →
     Some w ≡ option_map capped_width (own_width decls (expression_of l.right)) → Some w ≡ option_map capped_width (own_width decls (expression_of e))
 chain_link decls e first v at all ls i l w is same here not_compared none within at_i so_far found =
     let same_links : ls ≡ all = here ∙ sym same in
     let begun = ap (λ us. option_map capped_width (first_width decls us)) (sym (links_more ls i l within at_i)) ∙ so_far in
-    link_first decls l.op (expression_of l.right) (links_of (drop (i + 1) ls)) w _ begun found
-    ∙ ap (λ us. option_map capped_width (first_width decls (links_of us))) same_links ∙ left_none decls (expression_of first.value) (links_of all) none
+    link_first decls l.op (expression_of l.right) (links_in (drop (i + 1) ls)) w _ begun found
+    ∙ ap (λ us. option_map capped_width (first_width decls (links_in us))) same_links ∙ left_none decls (expression_of first.value) (links_in all) none
     ∙ sym (chain_side decls e first v at all is same not_compared)
 
 pub chain_none : (decls : List Decl) (e : Expr) (first : Box Expr Global) (v : Vec Link Global) (at : Span) (all ls : List Link) (i : ℕ) →
-    e ≡ Chain first v at → all ≡ v.items → ls ≡ v.items → compares (links_of all) ≡ false →
+    e ≡ Chain first v at → all ≡ v.items → ls ≡ v.items → compares (links_in all) ≡ false →
     None ≡ option_map capped_width (own_width decls (expression_of first.value)) → length ls ≤ i →
-    option_map capped_width (first_width decls (links_of (drop i ls))) ≡ option_map capped_width (first_width decls (links_of ls)) →
+    option_map capped_width (first_width decls (links_in (drop i ls))) ≡ option_map capped_width (first_width decls (links_in ls)) →
     None ≡ option_map capped_width (own_width decls (expression_of e))
 chain_none decls e first v at all ls i is same here not_compared none over so_far =
     let same_links : ls ≡ all = here ∙ sym same in
-    let done : None ≡ option_map capped_width (first_width decls (links_of ls)) =
+    let done : None ≡ option_map capped_width (first_width decls (links_in ls)) =
     ap (λ us. option_map capped_width (first_width decls us)) (sym (links_end ls i over))
     ∙ so_far in
-    done ∙ ap (λ us. option_map capped_width (first_width decls (links_of us))) same_links ∙ left_none decls (expression_of first.value) (links_of all) none
+    done ∙ ap (λ us. option_map capped_width (first_width decls (links_in us))) same_links ∙ left_none decls (expression_of first.value) (links_in all) none
     ∙ sym (chain_side decls e first v at all is same not_compared)
 
 -- expressions that are made of numbers alone
 
 pub widthless_comparison : (decls : List Decl) (e : Expr) (first : Box Expr Global) (v : Vec Link Global) (at : Span) (ls : List Link) → e ≡ Chain first v at →
-    ls ≡ v.items → compares (links_of ls) ≡ true → false ≡ is_none (own_width decls (expression_of e))
+    ls ≡ v.items → compares (links_in ls) ≡ true → false ≡ is_none (own_width decls (expression_of e))
 widthless_comparison decls e first v at ls is same compared =
     sym (ap (λ x. is_none (own_width decls x)) (chain_of e first v at ls is same)
-    ∙ ap (λ (o : Option ℕ). is_none o) (own_of_comparison decls (expression_of first.value) (links_of ls) at compared))
+    ∙ ap (λ (o : Option ℕ). is_none o) (own_of_comparison decls (expression_of first.value) (links_in ls) at compared))
 
 none_of_chain : (decls : List Decl) (e : Expr) (first : Box Expr Global) (v : Vec Link Global) (at : Span) (ls : List Link) → e ≡ Chain first v at →
-    ls ≡ v.items → compares (links_of ls) ≡ false →
-    is_none (own_width decls (expression_of e)) ≡ is_none (side_width decls (expression_of first.value) (links_of ls))
+    ls ≡ v.items → compares (links_in ls) ≡ false →
+    is_none (own_width decls (expression_of e)) ≡ is_none (side_width decls (expression_of first.value) (links_in ls))
 none_of_chain decls e first v at ls is same not_compared =
     ap (λ x. is_none (own_width decls x)) (chain_of e first v at ls is same)
-    ∙ ap (λ (o : Option ℕ). is_none o) (own_of_chain decls (expression_of first.value) (links_of ls) at not_compared)
+    ∙ ap (λ (o : Option ℕ). is_none o) (own_of_chain decls (expression_of first.value) (links_in ls) at not_compared)
 
 none_first : (o p : Option ℕ) → false ≡ is_none o → false ≡ is_none (or_width o p)
 none_first None p h = absurd (cc h)
@@ -136,23 +136,23 @@ none_later None p b none h = h
 none_later (Some w) p b none h = absurd (cc none)
 
 pub widthless_link : (decls : List Decl) (e : Expr) (first : Box Expr Global) (v : Vec Link Global) (at : Span) (all ls : List Link) (i : ℕ) (l : Link) →
-    e ≡ Chain first v at → all ≡ v.items → ls ≡ v.items → compares (links_of all) ≡ false → true ≡ is_none (own_width decls (expression_of first.value)) →
-    i < length ls → l ≡ get_or ls i l → is_none (first_width decls (links_of (drop i ls))) ≡ is_none (first_width decls (links_of ls)) →
+    e ≡ Chain first v at → all ≡ v.items → ls ≡ v.items → compares (links_in all) ≡ false → true ≡ is_none (own_width decls (expression_of first.value)) →
+    i < length ls → l ≡ get_or ls i l → is_none (first_width decls (links_in (drop i ls))) ≡ is_none (first_width decls (links_in ls)) →
     false ≡ is_none (own_width decls (expression_of l.right)) → false ≡ is_none (own_width decls (expression_of e))
 widthless_link decls e first v at all ls i l is same here not_compared none within at_i so_far found =
     let same_links : ls ≡ all = here ∙ sym same in
     let begun = ap (λ us. is_none (first_width decls us)) (sym (links_more ls i l within at_i)) ∙ so_far in
-    let later : false ≡ is_none (first_width decls (links_of ls)) =
-    none_first (own_width decls (expression_of l.right)) (first_width decls (links_of (drop (i + 1) ls))) found ∙ begun in
-    none_later (own_width decls (expression_of first.value)) (first_width decls (links_of all)) false none (later
-    ∙ ap (λ us. is_none (first_width decls (links_of us))) same_links) ∙ sym (none_of_chain decls e first v at all is same not_compared)
+    let later : false ≡ is_none (first_width decls (links_in ls)) =
+    none_first (own_width decls (expression_of l.right)) (first_width decls (links_in (drop (i + 1) ls))) found ∙ begun in
+    none_later (own_width decls (expression_of first.value)) (first_width decls (links_in all)) false none (later
+    ∙ ap (λ us. is_none (first_width decls (links_in us))) same_links) ∙ sym (none_of_chain decls e first v at all is same not_compared)
 
 pub widthless_all : (decls : List Decl) (e : Expr) (first : Box Expr Global) (v : Vec Link Global) (at : Span) (all ls : List Link) (i : ℕ) →
-    e ≡ Chain first v at → all ≡ v.items → ls ≡ v.items → compares (links_of all) ≡ false → true ≡ is_none (own_width decls (expression_of first.value)) →
-    length ls ≤ i → is_none (first_width decls (links_of (drop i ls))) ≡ is_none (first_width decls (links_of ls)) →
+    e ≡ Chain first v at → all ≡ v.items → ls ≡ v.items → compares (links_in all) ≡ false → true ≡ is_none (own_width decls (expression_of first.value)) →
+    length ls ≤ i → is_none (first_width decls (links_in (drop i ls))) ≡ is_none (first_width decls (links_in ls)) →
     true ≡ is_none (own_width decls (expression_of e))
 widthless_all decls e first v at all ls i is same here not_compared none over so_far =
     let same_links : ls ≡ all = here ∙ sym same in
-    let later : true ≡ is_none (first_width decls (links_of ls)) = ap (λ us. is_none (first_width decls us)) (sym (links_end ls i over)) ∙ so_far in
-    none_later (own_width decls (expression_of first.value)) (first_width decls (links_of all)) true none (later
-    ∙ ap (λ us. is_none (first_width decls (links_of us))) same_links) ∙ sym (none_of_chain decls e first v at all is same not_compared)
+    let later : true ≡ is_none (first_width decls (links_in ls)) = ap (λ us. is_none (first_width decls us)) (sym (links_end ls i over)) ∙ so_far in
+    none_later (own_width decls (expression_of first.value)) (first_width decls (links_in all)) true none (later
+    ∙ ap (λ us. is_none (first_width decls (links_in us))) same_links) ∙ sym (none_of_chain decls e first v at all is same not_compared)

@@ -21,7 +21,7 @@ use Rattle.width_check.specs.Processes.{Formula, Formulas, joined, Operations, c
 use Rattle.width_check.specs.Form.{formula_form, parts_form, operations_form}
 use Rattle.width_check.specs.Sound.{AreRanged, IsSound}
 use Rattle.width_check.specs.View.{formula_of}
-use Rattle.width_check.specs.Walk.{capped_width, side_width, lacking_parts, met_in, met_in_parts, met_in_links, join_parts, links_of}
+use Rattle.width_check.specs.Walk.{capped_width, side_width, lacking_parts, met_in, met_in_parts, met_in_links, join_parts, links_in}
 use Rattle.width_check.proofs.Lists.{join_is, chain_is, parts_more, parts_end, links_more, links_end}
 use Rattle.width_check.proofs.Makings.{before_parts, before_links, parts_all, links_all, one_part, one_link}
 use Rattle.width_check.proofs.Rows as rows
@@ -109,7 +109,7 @@ join_made ds w e v at es i t is same over so_far =
 -- a chain
 
 abbrev chain_tree : Box Expr Global → List Link → Span → Expression
-chain_tree first ls at = chain (expression_of first.value) (links_of ls) at
+chain_tree first ls at = chain (expression_of first.value) (links_in ls) at
 
 the_chain : (e : Expr) (first : Box Expr Global) (v : Vec Link Global) (at : Span) (ls : List Link) → e ≡ Chain first v at → ls ≡ v.items →
     expression_of e ≡ chain_tree first ls at
@@ -123,51 +123,51 @@ plain_wanted : (ds : List Decl) (w : ℕ) (e : Expression) (more : Links) → co
 plain_wanted ds w e more is = rw is refl
 
 pub first_ready : (ds : List Decl) (w : ℕ) (e : Expr) (first : Box Expr Global) (v : Vec Link Global) (at : Span) (ls : List Link) (f : Expr) →
-    e ≡ Chain first v at → ls ≡ v.items → f ≡ first.value → compares (links_of ls) ≡ false → 1 ≤ w → w ≤ 64 → IsShapedExpression (expression_of e) →
+    e ≡ Chain first v at → ls ≡ v.items → f ≡ first.value → compares (links_in ls) ≡ false → 1 ≤ w → w ≤ 64 → IsShapedExpression (expression_of e) →
     IsSound ds (met_in ds w (expression_of e)) → IsReady ds w (expression_of f)
 first_ready ds w e first v at ls f is same here plain some most shaped sound =
     let tree = the_chain e first v at ls is same in
     let shape = subst (λ (x : Expression). IsShapedExpression x) tree shaped in
     let s = subst (λ (x : Expression). IsSound ds (met_in ds w x)) tree sound in
-    let front = subst (λ (u : ℕ). IsSound ds (met_in ds u (expression_of first.value))) (plain_wanted ds w (expression_of first.value) (links_of ls) plain)
-    (sound_first ds w (expression_of first.value) (links_of ls) at s) in
+    let front = subst (λ (u : ℕ). IsSound ds (met_in ds u (expression_of first.value))) (plain_wanted ds w (expression_of first.value) (links_in ls) plain)
+    (sound_first ds w (expression_of first.value) (links_in ls) at s) in
     subst (λ (x : Expr). IsReady ds w (expression_of x)) (sym here) (record { some = some; most = most; shaped = shape.2; sound = front })
 
 pub links_left : (ds : List Decl) (w : ℕ) (e : Expr) (first : Box Expr Global) (v : Vec Link Global) (at : Span) (all ls : List Link) → e ≡ Chain first v at →
-    all ≡ v.items → ls ≡ v.items → compares (links_of all) ≡ false → IsShapedExpression (expression_of e) → IsSound ds (met_in ds w (expression_of e)) →
-    AreLinksLeft ds w (links_of ls)
+    all ≡ v.items → ls ≡ v.items → compares (links_in all) ≡ false → IsShapedExpression (expression_of e) → IsSound ds (met_in ds w (expression_of e)) →
+    AreLinksLeft ds w (links_in ls)
 links_left ds w e first v at all ls is whole same plain shaped sound =
     let tree = the_chain e first v at ls is same in
     let shape = subst (λ (x : Expression). IsShapedExpression x) tree shaped in
     let s = subst (λ (x : Expression). IsSound ds (met_in ds w x)) tree sound in
-    let not_compared = subst (λ (xs : List Link). compares (links_of xs) ≡ false) (whole ∙ sym same) plain in
+    let not_compared = subst (λ (xs : List Link). compares (links_in xs) ≡ false) (whole ∙ sym same) plain in
     record {
       shaped = shape.3;
-      sound = subst (λ (u : ℕ). IsSound ds (met_in_links ds u (links_of ls))) (plain_wanted ds w (expression_of first.value) (links_of ls) not_compared)
-          (sound_rest ds w (expression_of first.value) (links_of ls) at s);
+      sound = subst (λ (u : ℕ). IsSound ds (met_in_links ds u (links_in ls))) (plain_wanted ds w (expression_of first.value) (links_in ls) not_compared)
+          (sound_rest ds w (expression_of first.value) (links_in ls) at s);
     }
 
-links_here : (ds : List Decl) (w : ℕ) (ls : List Link) (i : ℕ) (l : Link) → i < length ls → l ≡ get_or ls i l → AreLinksLeft ds w (links_of (drop i ls)) →
-    AreLinksLeft ds w (and_link l.op (expression_of l.right) (links_of (drop (i + 1) ls)))
+links_here : (ds : List Decl) (w : ℕ) (ls : List Link) (i : ℕ) (l : Link) → i < length ls → l ≡ get_or ls i l → AreLinksLeft ds w (links_in (drop i ls)) →
+    AreLinksLeft ds w (and_link l.op (expression_of l.right) (links_in (drop (i + 1) ls)))
 links_here ds w ls i l within is left = subst (λ (us : Links). AreLinksLeft ds w us) (links_more ls i l within is) left
 
-pub links_next : (ds : List Decl) (w : ℕ) (ls : List Link) (i : ℕ) (l : Link) → i < length ls → l ≡ get_or ls i l → AreLinksLeft ds w (links_of (drop i ls)) →
-    AreLinksLeft ds w (links_of (drop (i + 1) ls))
+pub links_next : (ds : List Decl) (w : ℕ) (ls : List Link) (i : ℕ) (l : Link) → i < length ls → l ≡ get_or ls i l → AreLinksLeft ds w (links_in (drop i ls)) →
+    AreLinksLeft ds w (links_in (drop (i + 1) ls))
 links_next ds w ls i l within is left =
     let here = links_here ds w ls i l within is left in
-    record { shaped = here.shaped.1; sound = sound_links ds w l.op (expression_of l.right) (links_of (drop (i + 1) ls)) here.sound }
+    record { shaped = here.shaped.1; sound = sound_links ds w l.op (expression_of l.right) (links_in (drop (i + 1) ls)) here.sound }
 
 pub link_ready : (ds : List Decl) (w : ℕ) (ls : List Link) (i : ℕ) (l : Link) → i < length ls → l ≡ get_or ls i l → 1 ≤ w → w ≤ 64 →
-    AreLinksLeft ds w (links_of (drop i ls)) → IsReady ds w (expression_of l.right)
+    AreLinksLeft ds w (links_in (drop i ls)) → IsReady ds w (expression_of l.right)
 link_ready ds w ls i l within is some most left =
     let here = links_here ds w ls i l within is left in
-    record { some = some; most = most; shaped = here.shaped.0; sound = sound_link ds w l.op (expression_of l.right) (links_of (drop (i + 1) ls)) here.sound }
+    record { some = some; most = most; shaped = here.shaped.0; sound = sound_link ds w l.op (expression_of l.right) (links_in (drop (i + 1) ls)) here.sound }
 
 pub link_made : (ds : List Decl) (w : ℕ) (ls : List Link) (i : ℕ) (l : Link) (made new : List TLink) (t : TExpr) (total : Operations) → i < length ls →
     l ≡ get_or ls i l → formula_of t ≡ formula_form ds w (expression_of l.right) → new ≡ made ++ (record { op = l.op; right = t }) ∷ []
-    → before_links made (operations_form ds w (links_of (drop i ls))) ≡ total → before_links new (operations_form ds w (links_of (drop (i + 1) ls))) ≡ total
+    → before_links made (operations_form ds w (links_in (drop i ls))) ≡ total → before_links new (operations_form ds w (links_in (drop (i + 1) ls))) ≡ total
 link_made ds w ls i l made new t total within is is_made pushed so_far =
-    let rest = operations_form ds w (links_of (drop (i + 1) ls)) in
+    let rest = operations_form ds w (links_in (drop (i + 1) ls)) in
     let begun = ap (λ (us : Links). before_links made (operations_form ds w us)) (sym (links_more ls i l within is)) ∙ so_far in
     ap (λ (ts : List TLink). before_links ts rest) pushed ∙ one_link made (record { op = l.op; right = t }) rest
     ∙ ap (λ (f : Formula). before_links made (typed.and_operation l.op f rest)) is_made ∙ begun
@@ -177,17 +177,17 @@ plain_form : (ds : List Decl) (w : ℕ) (e : Expression) (more : Links) (at : Sp
 plain_form ds w e more at is = rw is refl
 
 pub chain_made : (ds : List Decl) (w : ℕ) (e : Expr) (first : Box Expr Global) (v : Vec Link Global) (at : Span) (all ls : List Link) (i : ℕ) (f : Expr)
-    (front : Box TExpr Global) (t : Vec TLink Global) → e ≡ Chain first v at → all ≡ v.items → ls ≡ v.items → compares (links_of all) ≡ false →
+    (front : Box TExpr Global) (t : Vec TLink Global) → e ≡ Chain first v at → all ≡ v.items → ls ≡ v.items → compares (links_in all) ≡ false →
     f ≡ first.value → formula_of front.value ≡ formula_form ds w (expression_of f)
-    → length ls ≤ i → before_links t.items (operations_form ds w (links_of (drop i ls))) ≡ operations_form ds w (links_of ls) →
+    → length ls ≤ i → before_links t.items (operations_form ds w (links_in (drop i ls))) ≡ operations_form ds w (links_in ls) →
     formula_of (made.Chain front t) ≡ formula_form ds w (expression_of e)
 chain_made ds w e first v at all ls i f front t is whole same plain here is_front over so_far =
     let done = ap (λ (us : Links). before_links t.items (operations_form ds w us)) (sym (links_end ls i over)) ∙ so_far in
     let tree = the_chain e first v at ls is same in
-    let not_compared = subst (λ (xs : List Link). compares (links_of xs) ≡ false) (whole ∙ sym same) plain in
+    let not_compared = subst (λ (xs : List Link). compares (links_in xs) ≡ false) (whole ∙ sym same) plain in
     rows.chain_is front t ∙ ap (λ (os : Operations). chained (formula_of front.value) os) (sym (links_all t.items) ∙ done)
-    ∙ ap (λ (g : Formula). chained g (operations_form ds w (links_of ls))) (is_front ∙ ap (λ (x : Expr). formula_form ds w (expression_of x)) here)
-    ∙ sym (plain_form ds w (expression_of first.value) (links_of ls) at not_compared) ∙ ap (formula_form ds w) (sym tree)
+    ∙ ap (λ (g : Formula). chained g (operations_form ds w (links_in ls))) (is_front ∙ ap (λ (x : Expr). formula_form ds w (expression_of x)) here)
+    ∙ sym (plain_form ds w (expression_of first.value) (links_in ls) at not_compared) ∙ ap (formula_form ds w) (sym tree)
 
 -- a comparison
 
@@ -195,28 +195,28 @@ pub record AreSides (ds : List Decl) (u : ℕ) (f : Expr) (l : Link) : Type 0 wh
   pub left : IsReady ds u (expression_of f)
   pub right : IsReady ds u (expression_of l.right)
 
-one_more : (ls : List Link) (l : Link) → compares (links_of ls) ≡ true → l ≡ get_or ls 0 l →
-    links_of ls ≡ and_link l.op (expression_of l.right) (links_of (drop 1 ls))
+one_more : (ls : List Link) (l : Link) → compares (links_in ls) ≡ true → l ≡ get_or ls 0 l →
+    links_in ls ≡ and_link l.op (expression_of l.right) (links_in (drop 1 ls))
 one_more [] l is here = absurd (cc is)
-one_more (k ∷ ls) l is here = ap (λ (x : Link). and_link x.op (expression_of x.right) (links_of ls)) (sym here)
+one_more (k ∷ ls) l is here = ap (λ (x : Link). and_link x.op (expression_of x.right) (links_in ls)) (sym here)
 
 -- the facts of a comparison: its width, and its one link
 pub record IsCompared (ds : List Decl) (first : Box Expr Global) (ls : List Link) (l : Link) (u : ℕ) : Type 0 where
-  pub side : side_width ds (expression_of first.value) (links_of ls) ≡ Some u
-  pub links : links_of ls ≡ and_link l.op (expression_of l.right) (links_of (drop 1 ls))
+  pub side : side_width ds (expression_of first.value) (links_in ls) ≡ Some u
+  pub links : links_in ls ≡ and_link l.op (expression_of l.right) (links_in (drop 1 ls))
   pub left : IsReady ds u (expression_of first.value)
   pub right : IsReady ds u (expression_of l.right)
 
 pub comparison_ready : (ds : List Decl) → AreRanged ds →
     (w : ℕ) (e : Expr) (first : Box Expr Global) (v : Vec Link Global) (at : Span) (l : Link) (o : Option ℕ) (u : ℕ) → e ≡ Chain first v at →
-    compares (links_of v.items) ≡ true → l ≡ get_or v.items 0 l → IsShapedExpression (expression_of e) → IsSound ds (met_in ds w (expression_of e))
-    → o ≡ option_map capped_width (side_width ds (expression_of first.value) (links_of v.items)) → u ≡ unwrap_or o 0 → IsCompared ds first v.items l u
+    compares (links_in v.items) ≡ true → l ≡ get_or v.items 0 l → IsShapedExpression (expression_of e) → IsSound ds (met_in ds w (expression_of e))
+    → o ≡ option_map capped_width (side_width ds (expression_of first.value) (links_in v.items)) → u ≡ unwrap_or o 0 → IsCompared ds first v.items l u
 comparison_ready ds ranged w e first v at l o u is so here shaped sound found wanted =
     let tree = chain_is e first v at is in
     let shape = subst (λ (x : Expression). IsShapedExpression x) tree shaped in
     let s = subst (λ (x : Expression). IsSound ds (met_in ds w x)) tree sound in
     let f = expression_of first.value in
-    let more = links_of v.items in
+    let more = links_in v.items in
     let side = side_width_of ds ranged w f more at so shape s in
     let same : u ≡ side.0 = own_of o (side_width ds f more) side.0 u side.1.side side.1.most found wanted in
     let is_side : side_width ds f more ≡ Some u = side.1.side ∙ ap (λ (n : ℕ). let x : Option ℕ = Some n in x) (sym same) in
@@ -224,10 +224,10 @@ comparison_ready ds ranged w e first v at l o u is so here shaped sound found wa
     let some : 1 ≤ u = omega (arith, side.1.some, same) in
     let most : u ≤ 64 = omega (arith, side.1.most, same) in
     let links = one_more v.items l so here in
-    let rest : IsSound ds (met_in_links ds u (and_link l.op (expression_of l.right) (links_of (drop 1 v.items)))) =
+    let rest : IsSound ds (met_in_links ds u (and_link l.op (expression_of l.right) (links_in (drop 1 v.items)))) =
     subst (λ (us : Links). IsSound ds (met_in_links ds u us)) links
     (subst (λ (n : ℕ). IsSound ds (met_in_links ds n more)) wanted_is (sound_rest ds w f more at s)) in
-    let shapes : AreShapedLinks (and_link l.op (expression_of l.right) (links_of (drop 1 v.items))) = subst (λ (us : Links). AreShapedLinks us) links shape.3 in
+    let shapes : AreShapedLinks (and_link l.op (expression_of l.right) (links_in (drop 1 v.items))) = subst (λ (us : Links). AreShapedLinks us) links shape.3 in
     record {
       side = is_side;
       links = links;
@@ -238,7 +238,7 @@ comparison_ready ds ranged w e first v at l o u is so here shaped sound found wa
         sound =
             subst (λ (n : ℕ). IsSound ds (met_in ds n f)) wanted_is (sound_first ds w f more at s);
       };
-      right = record { some = some; most = most; shaped = shapes.0; sound = sound_link ds u l.op (expression_of l.right) (links_of (drop 1 v.items)) rest };
+      right = record { some = some; most = most; shaped = shapes.0; sound = sound_link ds u l.op (expression_of l.right) (links_in (drop 1 v.items)) rest };
     }
 
 compared_form : (ds : List Decl) (w u : ℕ) (e : Expression) (op : Op) (f : Expression) (rest more : Links) (at : Span) → compares more ≡ true →
@@ -246,10 +246,10 @@ compared_form : (ds : List Decl) (w u : ℕ) (e : Expression) (op : Op) (f : Exp
 compared_form ds w u e op f rest more at is side links = rw (is, side, links) refl
 
 pub comparison_made : (ds : List Decl) (w u : ℕ) (e : Expr) (first : Box Expr Global) (v : Vec Link Global) (at : Span) (l : Link) (x y : Formula) →
-    e ≡ Chain first v at → compares (links_of v.items) ≡ true → IsCompared ds first v.items l u → x ≡ formula_form ds u (expression_of first.value) →
+    e ≡ Chain first v at → compares (links_in v.items) ≡ true → IsCompared ds first v.items l u → x ≡ formula_form ds u (expression_of first.value) →
     y ≡ formula_form ds u (expression_of l.right) → compared l.op x y ≡ formula_form ds w (expression_of e)
 comparison_made ds w u e first v at l x y is so facts left right =
     ap (λ (g : Formula). compared l.op g y) left ∙ ap (λ (g : Formula). compared l.op (formula_form ds u (expression_of first.value)) g) right
-    ∙ sym (compared_form ds w u (expression_of first.value) l.op (expression_of l.right) (links_of (drop 1 v.items)) (links_of v.items) at so facts.side
+    ∙ sym (compared_form ds w u (expression_of first.value) l.op (expression_of l.right) (links_in (drop 1 v.items)) (links_in v.items) at so facts.side
     facts.links)
     ∙ ap (formula_form ds w) (sym (chain_is e first v at is))

@@ -18,7 +18,7 @@ use Rattle.width_check.specs.declared.lead.Lead.{Lead}
 use Rattle.width_check.specs.Leading.{IsLeadTo, lacks, known}
 use Rattle.width_check.specs.Leading.{width as lead_width}
 use Rattle.width_check.specs.Places.{compares, own_width, own_widths, span_of}
-use Rattle.width_check.specs.Walk.{capped_width, own_or, with_part, with_leaf, met_in, met_chain, met_in_links, met_of, met_of_each, met_of_arms, noted, join_parts, links_of, statements_in, arms_in}
+use Rattle.width_check.specs.Walk.{capped_width, own_or, with_part, with_leaf, met_in, met_chain, met_in_links, met_of, met_of_each, met_of_arms, noted, join_parts, links_in, statements_in, arms_in}
 use Rattle.width_check.proofs.Lists.{join_is, chain_is, then_is, beside_is, select_is, parts_more, parts_end, links_more, links_end, members_more, members_end, arms_more, arms_end}
 use Rattle.width_check.proofs.Leads.{none_capped, capped_twice, chain_node, lead_first, lead_rest, lead_own}
 use Rattle.width_check.proofs.Swapping.{noted_parts, parts_step, join_whole}
@@ -53,31 +53,31 @@ part_done ds e v at es i f g h n w wanted is same over so_far own wants leaf =
     by_wanted (Some u) so = ap capped_width so
 
 pub link_step : (decls : List Decl) (w : ℕ) (ls : List Link) (i : ℕ) (l : Link) (f g whole : Findings) → i < length ls → l ≡ get_or ls i l →
-    noted decls f (met_in_links decls w (links_of (drop i ls))) ≡ whole → g ≡ noted decls f (met_in decls w (expression_of l.right)) →
-    noted decls g (met_in_links decls w (links_of (drop (i + 1) ls))) ≡ whole
+    noted decls f (met_in_links decls w (links_in (drop i ls))) ≡ whole → g ≡ noted decls f (met_in decls w (expression_of l.right)) →
+    noted decls g (met_in_links decls w (links_in (drop (i + 1) ls))) ≡ whole
 link_step decls w ls i l f g whole within is so_far new =
-    noted_link decls f g whole w l.op (expression_of l.right) (links_of (drop (i + 1) ls))
+    noted_link decls f g whole w l.op (expression_of l.right) (links_in (drop (i + 1) ls))
     (ap (λ us. noted decls f (met_in_links decls w us)) (sym (links_more ls i l within is)) ∙ so_far) new
 
 pub link_done : (ds : List Decl) (e : Expr) (first : Box Expr Global) (v : Vec Link Global) (at : Span) (a b : Expr) (k l m : List Link) (i : ℕ)
     (f g h r : Findings) (width : ℕ) (wanted own members : Option ℕ) (lead : Lead) (comparing : Bool) → e ≡ Chain first v at
-    → k ≡ v.items → comparing ≡ compares (links_of k)
-    → a ≡ first.value → l ≡ v.items → IsLeadTo ds wanted (expression_of a) (links_of l) lead
+    → k ≡ v.items → comparing ≡ compares (links_in k)
+    → a ≡ first.value → l ≡ v.items → IsLeadTo ds wanted (expression_of a) (links_in l) lead
     → g ≡ (if comparing then with_leaf (with_part f (lacks lead) at) 1 (unwrap_or wanted 1) at else f)
     → b ≡ first.value → h ≡ noted ds g (met_in ds (own_or ds (known lead) (expression_of b)) (expression_of b)) →
     (known lead ≡ None → own ≡ option_map capped_width (own_width ds (expression_of b)))
     → members ≡ lead_width lead own → width ≡ unwrap_or members 0
-    → m ≡ v.items → length m ≤ i → noted ds r (met_in_links ds width (links_of (drop i m))) ≡ noted ds h (met_in_links ds width (links_of m)) →
+    → m ≡ v.items → length m ≤ i → noted ds r (met_in_links ds width (links_in (drop i m))) ≡ noted ds h (met_in_links ds width (links_in m)) →
     r ≡ noted ds f (met_in ds (own_or ds wanted (expression_of e)) (expression_of e))
 link_done ds e first v at a b k l m i f g h r width wanted own members lead comparing is ek comp ea el leads node eb front owned member_width all em over so_far
     =
-    let done : r ≡ noted ds h (met_in_links ds width (links_of m)) = ap (λ us. noted ds r (met_in_links ds width us)) (sym (links_end m i over)) ∙ so_far in
+    let done : r ≡ noted ds h (met_in_links ds width (links_in m)) = ap (λ us. noted ds r (met_in_links ds width us)) (sym (links_end m i over)) ∙ so_far in
     let x = expression_of first.value in
-    let more = links_of v.items in
+    let more = links_in v.items in
     let w = own_or ds wanted (chain x more at) in
-    let comp' : comparing ≡ compares more = comp ∙ ap (λ (xs : List Link). compares (links_of xs)) ek in
+    let comp' : comparing ≡ compares more = comp ∙ ap (λ (xs : List Link). compares (links_in xs)) ek in
     let leads' : IsLeadTo ds wanted x more lead =
-    subst (λ (xs : List Link). IsLeadTo ds wanted x (links_of xs) lead) el (subst (λ (y : Expr). IsLeadTo ds wanted (expression_of y) (links_of l) lead) ea
+    subst (λ (xs : List Link). IsLeadTo ds wanted x (links_in xs) lead) el (subst (λ (y : Expr). IsLeadTo ds wanted (expression_of y) (links_in l) lead) ea
     leads) in
     let front' : h ≡ noted ds g (met_in ds (own_or ds (known lead) x) x) =
     front ∙ ap (λ (y : Expr). noted ds g (met_in ds (own_or ds (known lead) (expression_of y)) (expression_of y))) eb in
@@ -86,7 +86,7 @@ link_done ds e first v at a b k l m i f g h r width wanted own members lead comp
     let node' : g ≡ noted ds f (met_chain w x more at) = node ∙ chain_node ds f wanted x more at lead comparing comp' leads' in
     let same = lead_first ds wanted x more at lead leads' in
     let others = lead_rest ds wanted x more at lead own leads' owned' in
-    done ∙ ap (λ (xs : List Link). noted ds h (met_in_links ds width (links_of xs))) em
+    done ∙ ap (λ (xs : List Link). noted ds h (met_in_links ds width (links_in xs))) em
     ∙ noted_chain ds f g h w (own_or ds (known lead) x) width x more at same (ap capped_width (all ∙ ap (λ (o : Option ℕ). unwrap_or o 0) member_width)
     ∙ others)
     node' front'
@@ -94,16 +94,16 @@ link_done ds e first v at a b k l m i f g h r width wanted own members lead comp
 
 -- the own width of a chain, where none is wanted
 pub chain_own : (ds : List Decl) (e : Expr) (first : Box Expr Global) (v : Vec Link Global) (at : Span) (a b : Expr) (k l : List Link)
-    (wanted own members : Option ℕ) (lead : Lead) (comparing : Bool) → e ≡ Chain first v at → k ≡ v.items → comparing ≡ compares (links_of k) →
-    a ≡ first.value → l ≡ v.items → IsLeadTo ds wanted (expression_of a) (links_of l) lead → b ≡ first.value →
+    (wanted own members : Option ℕ) (lead : Lead) (comparing : Bool) → e ≡ Chain first v at → k ≡ v.items → comparing ≡ compares (links_in k) →
+    a ≡ first.value → l ≡ v.items → IsLeadTo ds wanted (expression_of a) (links_in l) lead → b ≡ first.value →
     (known lead ≡ None → own ≡ option_map capped_width (own_width ds (expression_of b))) → members ≡ lead_width lead own → wanted ≡ None →
     (if comparing then Some 1 else members) ≡ option_map capped_width (own_width ds (expression_of e))
 chain_own ds e first v at a b k l wanted own members lead comparing is ek comp ea el leads eb owned member_width none =
     let x = expression_of first.value in
-    let more = links_of v.items in
-    let comp' : comparing ≡ compares more = comp ∙ ap (λ (xs : List Link). compares (links_of xs)) ek in
+    let more = links_in v.items in
+    let comp' : comparing ≡ compares more = comp ∙ ap (λ (xs : List Link). compares (links_in xs)) ek in
     let leads' : IsLeadTo ds wanted x more lead =
-    subst (λ (xs : List Link). IsLeadTo ds wanted x (links_of xs) lead) el (subst (λ (y : Expr). IsLeadTo ds wanted (expression_of y) (links_of l) lead) ea
+    subst (λ (xs : List Link). IsLeadTo ds wanted x (links_in xs) lead) el (subst (λ (y : Expr). IsLeadTo ds wanted (expression_of y) (links_in l) lead) ea
     leads) in
     let owned' : known lead ≡ None → own ≡ option_map capped_width (own_width ds x) =
     λ n. owned n ∙ ap (λ (y : Expr). option_map capped_width (own_width ds (expression_of y))) eb in

@@ -39,13 +39,13 @@ abbrev mutual
   reads_in (whole of) = use_of of read ∷ []
   reads_in (slice of high low at) = use_of of read ∷ []
   reads_in (bit of place at) = use_of of read ∷ []
-  reads_in (join parts at) = reads_in_parts parts
+  reads_in (join parts at) = reads_in_join parts
   reads_in (negation e at) = reads_in e
   reads_in (chain e more at) = reads_in e ++ reads_in_links more
 
-  pub reads_in_parts : Expressions → List Use
-  reads_in_parts no_parts = []
-  reads_in_parts (and_part e more) = reads_in e ++ reads_in_parts more
+  pub reads_in_join : Expressions → List Use
+  reads_in_join no_parts = []
+  reads_in_join (and_part e more) = reads_in e ++ reads_in_join more
 
   pub reads_in_links : Links → List Use
   reads_in_links no_links = []

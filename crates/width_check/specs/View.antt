@@ -1,4 +1,6 @@
 -- The plain tree of a typed statement or expression.
+use Rattle.std.specs.Prelude.{List, [], ◌∷◌}
+use Rattle.width_check.specs.declared.typed.TArm.{TArm}
 use Rattle.width_check.specs.declared.typed.TExpr.{TExpr, Number, Read, Join', Not', Chain', Compare', Row_of-TExpr, end_of-TExpr, more_of-TExpr, Row_of-TLink, end_of-TLink, more_of-TLink}
 use Rattle.width_check.specs.declared.typed.TStmt.{TStmt, Skip, Assign, Send, Receive, Then', Beside', Select', Repeat', Row_of-TStmt, end_of-TStmt, more_of-TStmt, Row_of-TArm, end_of-TArm, more_of-TArm}
 use Rattle.width_check.specs.Processes.{Formula, constant, reading, joined, inverted, chained, compared, Formulas, no_parts, and_part, Operations, no_operations, and_operation, Process, skipping, assigning, sending, receiving, in_turn, side_by_side, choosing, repeating, Processes, no_members, and_member, Choices, no_choices, and_choice}
@@ -38,3 +40,12 @@ abbrev mutual
   pub choices_of : {m : _} → Row_of-TArm m → Choices
   choices_of end_of-TArm = no_choices
   choices_of (more_of-TArm guard body rest) = and_choice (formula_of guard) (process_of body) (choices_of rest)
+
+-- the members of a sequence or of a parallel composition, and the choices of a selection, from their lists
+abbrev pub members_in : List TStmt → Processes
+members_in [] = no_members
+members_in (s ∷ rest) = and_member (process_of s) (members_in rest)
+
+abbrev pub choices_in : List TArm → Choices
+choices_in [] = no_choices
+choices_in (a ∷ rest) = and_choice (formula_of a.guard) (process_of a.body) (choices_in rest)

@@ -13,15 +13,15 @@ use Rattle.chp_syntax.specs.declared.tree.Stmt.{Stmt}
 use Rattle.chp_syntax.specs.Trees.{Expression, number, slice, bit, join, chain, Expressions, no_parts, and_part, Links, no_links, Statement, Statements, no_members, and_member, Arms, no_arms}
 use Rattle.chp_syntax.specs.View.{expression_of, link_of, and_pair, statement_of, guarded_of, and_guarded, onto}
 use Rattle.width_check.specs.declared.findings.Findings.{Findings}
-use Rattle.width_check.specs.Places.{declaration, declared_width, is_var, Role, sent_on, received_on, Use, reads_in, reads_in_parts, reads_in_links, uses_in, uses_in_each, uses_in_arms, compares, or_width, own_width, first_width, span_of, Expected, expect, leaves, leaves_of_parts, leaves_of_links, expressions_in, expressions_in_each, expressions_in_arms, inside, inside_parts, inside_links, Reception, receptions_in, receptions_in_each, receptions_in_arms}
+use Rattle.width_check.specs.Places.{declaration, declared_width, is_var, Role, sent_on, received_on, Use, reads_in, reads_in_join, reads_in_links, uses_in, uses_in_each, uses_in_arms, compares, or_width, own_width, first_width, span_of, Expected, expect, leaves, leaves_of_parts, leaves_of_links, expressions_in, expressions_in_each, expressions_in_arms, inside, inside_parts, inside_links, Reception, receptions_in, receptions_in_each, receptions_in_arms}
 use Rattle.width_check.specs.Faults.{wants_var}
 
 -- the plain trees of members in a row
 abbrev pub join_parts : List Expr → Expressions
 join_parts es = onto and_part (map expression_of es) no_parts
 
-abbrev pub links_of : List Link → Links
-links_of ls = onto and_pair (map link_of ls) no_links
+abbrev pub links_in : List Link → Links
+links_in ls = onto and_pair (map link_of ls) no_links
 
 abbrev pub statements_in : List Stmt → Statements
 statements_in ss = onto and_member (map statement_of ss) no_members
@@ -89,7 +89,7 @@ met_chain w e more at = record {
 
 abbrev pub met_in_parts : List Decl → Expressions → Met
 met_in_parts decls parts = record {
-  uses = reads_in_parts parts;
+  uses = reads_in_join parts;
   expressions = inside_parts parts;
   leaves =
       leaves_of_parts decls parts;

@@ -7,7 +7,7 @@ ghost use Rattle.width_check.specs.Form.{channel_number, var_number};
 ghost use Rattle.width_check.specs.Leading.{IsLead, IsLeadTo};
 ghost use Rattle.width_check.specs.Places as plain;
 ghost use Rattle.width_check.specs.Sound.{AreRanged, is_var_in, numbers_of};
-ghost use Rattle.width_check.specs.Walk.{capped_width, links_of, side_width};
+ghost use Rattle.width_check.specs.Walk.{capped_width, links_in, side_width};
 
 use crate::fitting::is_comparison;
 use crate::lead::Lead;
@@ -54,7 +54,7 @@ pub fn slice_width(high: u64, low: u64) -> u8
 
 /// Whether links are that of a comparison.
 pub fn compares(links: &[Link]) -> bool
-    ensures { result ≡ plain.compares (links_of links.now) }
+    ensures { result ≡ plain.compares (links_in links.now) }
 {
     match links {
         [first, ..] => is_comparison(first.op),
@@ -184,7 +184,7 @@ impl<'a> Scope<'a> {
 
     /// The width of the first of some links that has one.
     pub fn first_width(&self, links: &[Link]) -> Option<u8>
-        ensures { result ≡ option_map capped_width (plain.first_width self.now.decls.now (links_of links.now)) }
+        ensures { result ≡ option_map capped_width (plain.first_width self.now.decls.now (links_in links.now)) }
     {
         for link in links {
             if let Some(width) = self.own_width(&link.right) {
@@ -197,7 +197,7 @@ impl<'a> Scope<'a> {
     /// The width of the two sides of a comparison, which the first member of it gives that has one.
     pub fn side_width(&self, first: &Expr, links: &[Link]) -> Option<u8>
         ensures { result ≡ option_map capped_width
-            (side_width self.now.decls.now (expression_of first.now) (links_of links.now)) }
+            (side_width self.now.decls.now (expression_of first.now) (links_in links.now)) }
     {
         match self.own_width(first) {
             Some(width) => Some(width),
@@ -207,7 +207,7 @@ impl<'a> Scope<'a> {
 
     /// Which member of a chain gives its width. Only a first member that is made of numbers alone has none.
     fn lead(&self, first: &Expr, links: &[Link]) -> Lead
-        ensures { IsLead self.now.decls.now (expression_of first.now) (links_of links.now) result }
+        ensures { IsLead self.now.decls.now (expression_of first.now) (links_in links.now) result }
     {
         if !is_widthless(first) {
             return Lead::First;
@@ -221,7 +221,7 @@ impl<'a> Scope<'a> {
     /// Which member gives the width that is wanted of all members of a chain, or that width, where it is wanted of the
     /// chain itself.
     pub fn lead_to(&self, wanted: Option<u8>, first: &Expr, links: &[Link]) -> Lead
-        ensures { IsLeadTo self.now.decls.now wanted (expression_of first.now) (links_of links.now) result }
+        ensures { IsLeadTo self.now.decls.now wanted (expression_of first.now) (links_in links.now) result }
     {
         if compares(links) {
             return self.lead(first, links);

@@ -3,7 +3,7 @@
 ghost use Rattle.std.specs.Prelude.{◌≡◌, ℕ, ◌≤◌, ◌<◌, List, length, drop, IfOk, IfErr, OnOk};
 ghost use Rattle.chp_syntax.specs.declared.parser.sight.AtomFront.TheVariants as atom;
 ghost use Rattle.chp_syntax.specs.Parts.{Good, Bad, StopsAt, WhenFault, Inside, sees, atom_front};
-ghost use Rattle.chp_syntax.specs.Grammar.{Atom, Both, Seq, Par, Branch, Choices};
+ghost use Rattle.chp_syntax.specs.Grammar.{Atom, Both, Seq, Par, GuardedCommand, GuardedCommands};
 ghost use Rattle.chp_syntax.specs.View.{statement_of, guarded_of, armed_of};
 
 use super::expression::disjunction;
@@ -124,10 +124,10 @@ fn branch(alloc: Global, tokens: &[Token], at: &mut usize) -> Result<Arm, Stop>
     requires { at.old ≤ length tokens.now }
     ensures within { at.new ≤ length tokens.now }
     ensures moved { OnOk result (at.old < at.new) }
-    ensures good { IfOk result (λ s. Good Branch (StopsAt 2) (drop at.old tokens.now) (drop at.new tokens.now)
+    ensures good { IfOk result (λ s. Good GuardedCommand (StopsAt 2) (drop at.old tokens.now) (drop at.new tokens.now)
         (guarded_of s)) }
     ensures bad { IfErr result (λ e.
-        WhenFault e (Bad Branch (StopsAt 2) (drop at.old tokens.now) (drop at.new tokens.now))) }
+        WhenFault e (Bad GuardedCommand (StopsAt 2) (drop at.old tokens.now) (drop at.new tokens.now))) }
 {
     let guard = disjunction(alloc, tokens, at)?;
     take_mark(tokens, at, Mark::Arrow)?;
@@ -144,10 +144,10 @@ fn choices(alloc: Global, tokens: &[Token], at: &mut usize) -> Result<Vec<Arm>, 
     requires { at.old ≤ length tokens.now }
     ensures within { at.new ≤ length tokens.now }
     ensures moved { OnOk result (at.old < at.new) }
-    ensures good { IfOk result (λ s. Good Choices (StopsAt 1) (drop at.old tokens.now) (drop at.new tokens.now)
+    ensures good { IfOk result (λ s. Good GuardedCommands (StopsAt 1) (drop at.old tokens.now) (drop at.new tokens.now)
         (armed_of s)) }
     ensures bad { IfErr result (λ e.
-        WhenFault e (Bad Choices (StopsAt 1) (drop at.old tokens.now) (drop at.new tokens.now))) }
+        WhenFault e (Bad GuardedCommands (StopsAt 1) (drop at.old tokens.now) (drop at.new tokens.now))) }
 {
     let first = branch(alloc, tokens, at)?;
     let mut arms: Vec<Arm> = Vec::new(alloc);

@@ -1,7 +1,6 @@
 use Rattle.std.proofs.Common.{◌≡◌, ℕ, List, ap, sym, ◌∙◌}
 use Rattle.chp_meaning.specs.declared.effect.TrueGuards.TheVariants.{Zero, One, Several as Many}
-use Rattle.width_check.specs.View.{process_of}
-use Rattle.chp_meaning.specs.Remaining.{choices_of}
+use Rattle.width_check.specs.View.{process_of, choices_in}
 use Rattle.chp_meaning.specs.AtOnce.{guards_counted, true_guards}
 use Rattle.chp_meaning.specs.Standing.{outset_of}
 use Rattle.chp_meaning.proofs.Planning.{guards_have, one_within, select_remains, select_move, whatever, one_more, end_more, none_more, ends_over, stays_whole, stays_put, torn_whole, torn_put}
@@ -17,8 +16,8 @@ entered-requires-clause-within c = one_within c.deref-in-Select.result.now c.arg
 
 pub returns-in_ok-push-in-One-clause-left : goal.returns-in_ok-push-in-One-clause-left
 returns-in_ok-push-in-One-clause-left c =
-    let found : One c.in-One.index ≡ guards_counted (true_guards c.args.config.now.store.items 0 (choices_of c.deref.result.now)) =
-    sym c.in-One.is ∙ (c.chosen.ensures ∙ ap (λ (xs : List ℕ). guards_counted (true_guards xs 0 (choices_of c.deref.result.now)))
+    let found : One c.in-One.index ≡ guards_counted (true_guards c.args.config.now.store.items 0 (choices_in c.deref.result.now)) =
+    sym c.in-One.is ∙ (c.chosen.ensures ∙ ap (λ (xs : List ℕ). guards_counted (true_guards xs 0 (choices_in c.deref.result.now)))
     c.deref-in-Select.ensures.value)
     in
     rw (select_remains (outset_of c.args.config.now) c.args.stmt.now c.in-Select.again c.in-Select.arms _ _ c.in-Select.is c.deref.ensures.value found)
@@ -26,8 +25,8 @@ returns-in_ok-push-in-One-clause-left c =
 
 pub returns-in_ok-push-in-One-clause-moves : goal.returns-in_ok-push-in-One-clause-moves
 returns-in_ok-push-in-One-clause-moves c =
-    let found : One c.in-One.index ≡ guards_counted (true_guards c.args.config.now.store.items 0 (choices_of c.deref.result.now)) =
-    sym c.in-One.is ∙ (c.chosen.ensures ∙ ap (λ (xs : List ℕ). guards_counted (true_guards xs 0 (choices_of c.deref.result.now)))
+    let found : One c.in-One.index ≡ guards_counted (true_guards c.args.config.now.store.items 0 (choices_in c.deref.result.now)) =
+    sym c.in-One.is ∙ (c.chosen.ensures ∙ ap (λ (xs : List ℕ). guards_counted (true_guards xs 0 (choices_in c.deref.result.now)))
     c.deref-in-Select.ensures.value)
     in
     whatever _ _ (one_more (outset_of c.args.config.now) c.args.stmt.now c.in-Select.again c.in-One.index c.args.moves.now.items _ _
@@ -36,8 +35,8 @@ returns-in_ok-push-in-One-clause-moves c =
 
 pub returns-in_ok-push-in-Zero-clause-left : goal.returns-in_ok-push-in-Zero-clause-left
 returns-in_ok-push-in-Zero-clause-left c =
-    let found : Zero ≡ guards_counted (true_guards c.args.config.now.store.items 0 (choices_of c.deref.result.now)) =
-    sym c.in-Zero.is ∙ (c.chosen.ensures ∙ ap (λ (xs : List ℕ). guards_counted (true_guards xs 0 (choices_of c.deref.result.now)))
+    let found : Zero ≡ guards_counted (true_guards c.args.config.now.store.items 0 (choices_in c.deref.result.now)) =
+    sym c.in-Zero.is ∙ (c.chosen.ensures ∙ ap (λ (xs : List ℕ). guards_counted (true_guards xs 0 (choices_in c.deref.result.now)))
     c.deref-in-Select.ensures.value)
     in
     ends_over (process_of c.args.stmt.now) c.in-Select.again c.if-again.true
@@ -45,8 +44,8 @@ returns-in_ok-push-in-Zero-clause-left c =
 
 pub returns-in_ok-push-in-Zero-clause-moves : goal.returns-in_ok-push-in-Zero-clause-moves
 returns-in_ok-push-in-Zero-clause-moves c =
-    let found : Zero ≡ guards_counted (true_guards c.args.config.now.store.items 0 (choices_of c.deref.result.now)) =
-    sym c.in-Zero.is ∙ (c.chosen.ensures ∙ ap (λ (xs : List ℕ). guards_counted (true_guards xs 0 (choices_of c.deref.result.now)))
+    let found : Zero ≡ guards_counted (true_guards c.args.config.now.store.items 0 (choices_in c.deref.result.now)) =
+    sym c.in-Zero.is ∙ (c.chosen.ensures ∙ ap (λ (xs : List ℕ). guards_counted (true_guards xs 0 (choices_in c.deref.result.now)))
     c.deref-in-Select.ensures.value)
     in
     end_more (outset_of c.args.config.now) c.args.stmt.now c.in-Select.again c.args.moves.now.items _ _
@@ -55,8 +54,8 @@ returns-in_ok-push-in-Zero-clause-moves c =
 
 pub returns-else-again-clause-left : goal.returns-else-again-clause-left
 returns-else-again-clause-left c =
-    let found : Zero ≡ guards_counted (true_guards c.args.config.now.store.items 0 (choices_of c.deref.result.now)) =
-    sym c.in-Zero.is ∙ (c.chosen.ensures ∙ ap (λ (xs : List ℕ). guards_counted (true_guards xs 0 (choices_of c.deref.result.now)))
+    let found : Zero ≡ guards_counted (true_guards c.args.config.now.store.items 0 (choices_in c.deref.result.now)) =
+    sym c.in-Zero.is ∙ (c.chosen.ensures ∙ ap (λ (xs : List ℕ). guards_counted (true_guards xs 0 (choices_in c.deref.result.now)))
     c.deref-in-Select.ensures.value)
     in
     stays_whole (process_of c.args.stmt.now) c.in-Select.again c.if-again.false
@@ -64,8 +63,8 @@ returns-else-again-clause-left c =
 
 pub returns-else-again-clause-moves : goal.returns-else-again-clause-moves
 returns-else-again-clause-moves c =
-    let found : Zero ≡ guards_counted (true_guards c.args.config.now.store.items 0 (choices_of c.deref.result.now)) =
-    sym c.in-Zero.is ∙ (c.chosen.ensures ∙ ap (λ (xs : List ℕ). guards_counted (true_guards xs 0 (choices_of c.deref.result.now)))
+    let found : Zero ≡ guards_counted (true_guards c.args.config.now.store.items 0 (choices_in c.deref.result.now)) =
+    sym c.in-Zero.is ∙ (c.chosen.ensures ∙ ap (λ (xs : List ℕ). guards_counted (true_guards xs 0 (choices_in c.deref.result.now)))
     c.deref-in-Select.ensures.value)
     in
     none_more c.args.moves.now.items _ (select_move (outset_of c.args.config.now) c.args.stmt.now c.in-Select.again c.in-Select.arms _ _ c.in-Select.is
@@ -73,16 +72,16 @@ returns-else-again-clause-moves c =
 
 pub returns-in-Several-clause-left : goal.returns-in-Several-clause-left
 returns-in-Several-clause-left c =
-    let found : Many ≡ guards_counted (true_guards c.args.config.now.store.items 0 (choices_of c.deref.result.now)) =
-    sym c.in-Several.is ∙ (c.chosen.ensures ∙ ap (λ (xs : List ℕ). guards_counted (true_guards xs 0 (choices_of c.deref.result.now)))
+    let found : Many ≡ guards_counted (true_guards c.args.config.now.store.items 0 (choices_in c.deref.result.now)) =
+    sym c.in-Several.is ∙ (c.chosen.ensures ∙ ap (λ (xs : List ℕ). guards_counted (true_guards xs 0 (choices_in c.deref.result.now)))
     c.deref-in-Select.ensures.value) in
     torn_whole (process_of c.args.stmt.now) c.in-Select.again
     ∙ sym (select_remains (outset_of c.args.config.now) c.args.stmt.now c.in-Select.again c.in-Select.arms _ _ c.in-Select.is c.deref.ensures.value found)
 
 pub returns-in-Several-clause-moves : goal.returns-in-Several-clause-moves
 returns-in-Several-clause-moves c =
-    let found : Many ≡ guards_counted (true_guards c.args.config.now.store.items 0 (choices_of c.deref.result.now)) =
-    sym c.in-Several.is ∙ (c.chosen.ensures ∙ ap (λ (xs : List ℕ). guards_counted (true_guards xs 0 (choices_of c.deref.result.now)))
+    let found : Many ≡ guards_counted (true_guards c.args.config.now.store.items 0 (choices_in c.deref.result.now)) =
+    sym c.in-Several.is ∙ (c.chosen.ensures ∙ ap (λ (xs : List ℕ). guards_counted (true_guards xs 0 (choices_in c.deref.result.now)))
     c.deref-in-Select.ensures.value) in
     none_more c.args.moves.now.items _ (select_move (outset_of c.args.config.now) c.args.stmt.now c.in-Select.again c.in-Select.arms _ _ c.in-Select.is
     c.deref.ensures.value found ∙ torn_put c.in-Select.again)

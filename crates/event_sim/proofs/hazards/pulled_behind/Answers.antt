@@ -3,7 +3,7 @@ use Rattle.std.specs.List.{find, range_with_len}
 use Rattle.std.proofs.lemmas.List.Elements.{All-filter}
 use Rattle.prs_core.specs.Nets.{NetValue}
 use Rattle.prs_core.specs.Moves.{high, fired, both_ways}
-use Rattle.prs_core.specs.Fans.{reads}
+use Rattle.prs_core.specs.Fans.{is_reader}
 use Rattle.env_script.specs.Hazards.{least_below}
 use Rattle.event_sim.proofs.Following.{range_below}
 use Rattle.event_sim.proofs.Staged.{pulled_is}
@@ -13,7 +13,7 @@ pub pulled_among-requires-clause-nodes : goal.pulled_among-requires-clause-nodes
 pulled_among-requires-clause-nodes c =
     let net = c.args.indexed.now.net in
     rw (c.net.ensures.net, c.readers.ensures)
-    (All-filter (reads net c.args.node) (λ n. n < length net.first) (range_with_len 0 (length net.first)) (range_below (length net.first)))
+    (All-filter (is_reader net c.args.node) (λ n. n < length net.first) (range_with_len 0 (length net.first)) (range_below (length net.first)))
 
 pub returns-in-None : goal.returns-in-None
 returns-in-None c = λ before is was.

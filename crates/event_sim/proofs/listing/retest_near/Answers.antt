@@ -4,7 +4,7 @@ use Rattle.std.specs.List.{range_with_len}
 use Rattle.std.proofs.lemmas.List.Elements.{All-filter}
 use Rattle.prs_core.specs.declared.wires.Wires.{Wires}
 use Rattle.prs_core.specs.Nets.{NetValue}
-use Rattle.prs_core.specs.Fans.{reads}
+use Rattle.prs_core.specs.Fans.{is_reader}
 use Rattle.event_sim.specs.Locality.{is_ready, IsRetested}
 use Rattle.event_sim.proofs.Following.{range_below}
 use Rattle.event_sim.proofs.Behind.{near_alone, near_wires, retested_more}
@@ -14,7 +14,7 @@ pub retest-lost-requires-clause-nodes : goal.retest-lost-requires-clause-nodes
 retest-lost-requires-clause-nodes c =
     let net = c.args.indexed.now.net in
     subst (λ (xs : List ℕ). All (λ n. n < length net.first) xs) (sym c.readers.ensures)
-    (All-filter (reads net c.args.node) (λ n. n < length net.first) (range_with_len 0 (length net.first)) (range_below (length net.first)))
+    (All-filter (is_reader net c.args.node) (λ n. n < length net.first) (range_with_len 0 (length net.first)) (range_below (length net.first)))
 
 pub returns-in-None : goal.returns-in-None
 returns-in-None c =

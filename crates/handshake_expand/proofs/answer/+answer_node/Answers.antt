@@ -2,10 +2,9 @@ use Rattle.std.proofs.Common.{◌≡◌, ◌+◌, ◌-◌, ◌<◌, length, get_
 use Rattle.std.proofs.lemmas.List.{get_or_read}
 use Rattle.width_check.specs.declared.typed.TStmt.{the_lemmas}
 use Rattle.width_check.specs.Typed.{program_of}
-use Rattle.width_check.specs.View.{process_of}
+use Rattle.width_check.specs.View.{process_of, members_in}
 use Rattle.handshake_expand.specs.Answers.{answer_of, turn_answer}
 use Rattle.handshake_expand.specs.Layout.{size_of}
-use Rattle.handshake_expand.specs.PartTree.{members_of}
 use Rattle.handshake_expand.proofs.Rows.{then_is}
 use Rattle.handshake_expand.proofs.Turns.{turn_typed, this_typed, size_here, size_last, answer_here, answer_last}
 use Rattle.handshake_expand.proofs.answer.+answer_node.Goals as goal
@@ -47,7 +46,7 @@ loop-place-preserved t c =
     let next : c.loop-place.next + (3 + c.statement_nodes.result) ≡ c.loop-place.next + 3 + size_of p (process_of c.index.result.now) =
     omega (arith, size, c.loop-place.invariant.room, c.statement_nodes.ensures) in
     record {
-      answer = ap (turn_answer p (members_of (drop (i + 1) items))) next
+      answer = ap (turn_answer p (members_in (drop (i + 1) items))) next
           ∙ (sym (answer_here p items i c.index.result.now c.index.ensures c.loop-place.next within) ∙ c.loop-place.invariant.answer);
       room = omega (arith, size, next, c.loop-place.invariant.room);
       formed = (this_typed _ _ items i c.index.result.now c.index.ensures (omega (arith, within)) c.loop-place.invariant.formed).1;

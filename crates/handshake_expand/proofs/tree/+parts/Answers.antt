@@ -5,12 +5,12 @@ use Rattle.width_check.specs.declared.typed.TStmt.{the_lemmas}
 use Rattle.width_check.specs.Processes.{Process, in_turn, side_by_side, choosing, repeating, choice_count}
 use Rattle.width_check.specs.Typed.{program_of}
 use Rattle.width_check.specs.Typing.{IsProcess}
-use Rattle.width_check.specs.View.{process_of}
+use Rattle.width_check.specs.View.{process_of, members_in, choices_in}
 use Rattle.handshake_expand.specs.declared.parts.Part.{Part, out-Part}
 use Rattle.handshake_expand.specs.declared.parts.PartKind.TheVariants.{Loop, Sequence, Parallel, Select, Again}
 use Rattle.handshake_expand.specs.Layout.{size_of, turn_size}
 use Rattle.handshake_expand.specs.Answers.{turn_answer, bodies_from}
-use Rattle.handshake_expand.specs.PartTree.{no_children, and_child, tree_of, expanded, expanded_in_turn, expanded_branches, expanded_bodies, members_of, arms_of, own_before}
+use Rattle.handshake_expand.specs.PartTree.{no_children, and_child, tree_of, expanded, expanded_in_turn, expanded_branches, expanded_bodies, own_before}
 use Rattle.handshake_expand.specs.Sites.{own_sites, sites_in, sites_in_turn, sites_in_branches, sites_in_bodies}
 use Rattle.handshake_expand.proofs.Branches.{branch_size_here, branch_expanded_here, branch_sites_here, branch_size_end, branch_expanded_end, body_size_here, body_expanded_here, body_sites_here, arm_typed, body_size_end, body_expanded_end, body_sites_end, choosing_sites, choosing_size, guards_formed, three_each, sites_more, sites_done}
 use Rattle.handshake_expand.proofs.Rows.{then_is, beside_is, select_is, members_counted, arms_counted}
@@ -64,7 +64,7 @@ sequence-loop-place-preserved t c =
     let at = c.index-members-place.is in
     let next = c.loop-place.next in
     let child = c.in_ok-child.child in
-    let behind = members_of (drop (i + 1) members) in
+    let behind = members_in (drop (i + 1) members) in
     let within : i + 1 < length members = omega arith in
     let size = size_here p members i s at within in
     let count = child_count child p (process_of s) next (next + 3) c.in_ok-child.ensures.part in
@@ -109,7 +109,7 @@ sequence-returns-clause-part t c =
     let at : s ≡ get_or members i s = c.index-members-last.is ∙ ap (λ n. get_or members n s) end in
     let child = c.in_ok-child-2.child in
     let count = child_count child p (process_of s) c.loop-place.asked next c.in_ok-child-2.ensures.part in
-    let counts : next - c.args.from + (out-Part child).count ≡ turn_size p (members_of members) =
+    let counts : next - c.args.from + (out-Part child).count ≡ turn_size p (members_in members) =
     omega (arith, size_last p members i s at whole, count, c.loop-place.invariant.size, c.loop-place.invariant.low) in
     made_part Sequence Sequence c.args.request _ _ c.args.from _ _ c.push-2.new.self _ refl
     (child_answer child p (process_of s) c.loop-place.asked next c.in_ok-child-2.ensures.part
@@ -158,7 +158,7 @@ parallel-loop-branch-preserved t c =
     let within = c.loop-branch-test.true in
     let next = c.loop-branch.next in
     let child = c.in_ok-child.child in
-    let behind = members_of (drop (i + 1) branches) in
+    let behind = members_in (drop (i + 1) branches) in
     let size = branch_size_here p branches i s within at in
     let count = child_count child p (process_of s) next (next + 3) c.in_ok-child.ensures.part in
     let step : next + 3 + size_of p (process_of s) ≡ next + (3 + (out-Part child).count) = omega (arith, count) in
@@ -178,7 +178,7 @@ parallel-loop-branch-preserved t c =
 
 pub parallel-overflow_cast-count : goal.parallel-overflow_cast-count
 parallel-overflow_cast-count t c =
-    let ms = members_of c.args.branches.now in
+    let ms = members_in c.args.branches.now in
     omega (arith, three_each (program_of c.args.program.now) ms, members_counted c.args.branches.now, c.requires.room)
 
 pub parallel-overflow_add-count : goal.parallel-overflow_add-count
@@ -210,7 +210,7 @@ parallel-returns-clause-part t c =
     let i = c.loop-branch.branch-index in
     let from = c.args.from in
     let end = branch_size_end p branches i c.loop-branch-test.false in
-    let counts : c.loop-branch.next - from + (length branches - 1) ≡ size_of p (side_by_side (members_of branches)) =
+    let counts : c.loop-branch.next - from + (length branches - 1) ≡ size_of p (side_by_side (members_in branches)) =
     omega (arith, end, members_counted branches, c.loop-branch.invariant.size) in
     made_part Parallel Parallel c.args.request _ _ from _ _ c.loop-branch.children _ refl
     (ap (λ n. from + n - 1) counts)
@@ -227,7 +227,7 @@ pub selection-overflow_add-start-2 : goal.selection-overflow_add-start-2
 selection-overflow_add-start-2 t c =
     omega (
       arith,
-      choosing_size (program_of c.args.program.now) c.args.again (arms_of c.args.arms.now),
+      choosing_size (program_of c.args.program.now) c.args.again (choices_in c.args.arms.now),
       arms_counted c.args.arms.now,
       c.own_nodes.ensures,
       c.requires.room,
@@ -237,20 +237,20 @@ pub selection-overflow_add-next : goal.selection-overflow_add-next
 selection-overflow_add-next t c =
     omega (
       arith,
-      choosing_size (program_of c.args.program.now) c.args.again (arms_of c.args.arms.now),
+      choosing_size (program_of c.args.program.now) c.args.again (choices_in c.args.arms.now),
       arms_counted c.args.arms.now,
       c.own_nodes.ensures,
       c.requires.room,
     )
 
 pub selection-guard_nodes-requires : goal.selection-guard_nodes-requires
-selection-guard_nodes-requires t c = guards_formed _ _ (arms_of c.args.arms.now) c.requires.process.2
+selection-guard_nodes-requires t c = guards_formed _ _ (choices_in c.args.arms.now) c.requires.process.2
 
 pub selection-overflow_add-next-2 : goal.selection-overflow_add-next-2
 selection-overflow_add-next-2 t c =
     omega (
       arith,
-      choosing_size (program_of c.args.program.now) c.args.again (arms_of c.args.arms.now),
+      choosing_size (program_of c.args.program.now) c.args.again (choices_in c.args.arms.now),
       arms_counted c.args.arms.now,
       c.own_nodes.ensures,
       c.guard_nodes.ensures,
@@ -261,7 +261,7 @@ pub selection-loop-arm-init : goal.selection-loop-arm-init
 selection-loop-arm-init t c =
     let p = program_of c.args.program.now in
     let arms = c.args.arms.now in
-    let choices = arms_of arms in
+    let choices = choices_in arms in
     let again = c.args.again in
     let from = c.args.from in
     let size = choosing_size p again choices in
@@ -298,7 +298,7 @@ selection-loop-arm-preserved t c =
     let start = c.loop-arm.start in
     let next = c.loop-arm.next in
     let child = c.in_ok-child.child in
-    let behind = arms_of (drop (i + 1) arms) in
+    let behind = choices_in (drop (i + 1) arms) in
     let size = body_size_here p arms i a within at in
     let count = child_count child p (process_of a.body) start next c.in_ok-child.ensures.part in
     let step : next + size_of p (process_of a.body) ≡ next + (out-Part child).count = omega (arith, count) in
@@ -327,7 +327,7 @@ selection-returns-clause-part t c =
       | selection-then-again w ↦ w.result-is ∙ ap (λ (b : Bool). if b then Again else Select) (sym w.if-again.true)
       | selection-else-again w ↦ w.result-is ∙ ap (λ (b : Bool). if b then Again else Select) (sym w.if-again.false)
     ] in
-    let counts : c.loop-arm.next - c.args.from ≡ size_of p (choosing again (arms_of arms)) =
+    let counts : c.loop-arm.next - c.args.from ≡ size_of p (choosing again (choices_in arms)) =
     omega (arith, body_size_end p arms i c.loop-arm-test.false, c.loop-arm.invariant.size) in
     made_part _ _ c.args.request _ _ c.args.from _ _ c.loop-arm.children _ kind refl counts
     (front_done c.loop-arm.children.items _ _ (body_expanded_end p arms i c.loop-arm-test.false c.loop-arm.start c.loop-arm.next) c.loop-arm.invariant.children)
@@ -338,29 +338,29 @@ selection-returns-clause-sites t c =
     let arms = c.args.arms.now in
     sites_done c.loop-arm.sites.items _ _ (body_sites_end p arms c.loop-arm.arm-index c.loop-arm-test.false (own_sites p) c.loop-arm.next)
     c.loop-arm.invariant.sites
-    ∙ ap (λ xs. c.args.sites.now.items ++ xs) (sym (choosing_sites p (own_sites p) c.args.again (arms_of arms) c.args.from))
+    ∙ ap (λ xs. c.args.sites.now.items ++ xs) (sym (choosing_sites p (own_sites p) c.args.again (choices_in arms) c.args.from))
 
 -- all statements
 
 pub part-sequence-requires : goal.part-sequence-requires
 part-sequence-requires t c =
     let p = program_of c.args.program.now in
-    let is : process_of c.args.s.now ≡ in_turn (members_of c.deref.result.now) =
-    then_is _ c.in-Then.parts c.in-Then.is ∙ ap (λ xs. in_turn (members_of xs)) (sym c.deref.ensures.value) in
+    let is : process_of c.args.s.now ≡ in_turn (members_in c.deref.result.now) =
+    then_is _ c.in-Then.parts c.in-Then.is ∙ ap (λ xs. in_turn (members_in xs)) (sym c.deref.ensures.value) in
     (search (rules, the_lemmas, get_or_read), (subst (IsProcess p.channels p.vars) is c.requires.process, omega (arith, ap (size_of p) is, c.requires.room)))
 
 pub part-parallel-requires : goal.part-parallel-requires
 part-parallel-requires t c =
     let p = program_of c.args.program.now in
-    let is : process_of c.args.s.now ≡ side_by_side (members_of c.deref-in-Beside.result.now) = beside_is _ c.in-Beside.parts c.in-Beside.is
-    ∙ ap (λ xs. side_by_side (members_of xs)) (sym c.deref-in-Beside.ensures.value) in
+    let is : process_of c.args.s.now ≡ side_by_side (members_in c.deref-in-Beside.result.now) = beside_is _ c.in-Beside.parts c.in-Beside.is
+    ∙ ap (λ xs. side_by_side (members_in xs)) (sym c.deref-in-Beside.ensures.value) in
     (search (rules, the_lemmas, get_or_read), (subst (IsProcess p.channels p.vars) is c.requires.process, omega (arith, ap (size_of p) is, c.requires.room)))
 
 pub part-selection-requires : goal.part-selection-requires
 part-selection-requires t c =
     let p = program_of c.args.program.now in
-    let is : process_of c.args.s.now ≡ choosing c.in-Select.again (arms_of c.deref-in-Select.result.now) =
-    select_is _ c.in-Select.again c.in-Select.arms c.in-Select.is ∙ ap (λ xs. choosing c.in-Select.again (arms_of xs)) (sym c.deref-in-Select.ensures.value)
+    let is : process_of c.args.s.now ≡ choosing c.in-Select.again (choices_in c.deref-in-Select.result.now) =
+    select_is _ c.in-Select.again c.in-Select.arms c.in-Select.is ∙ ap (λ xs. choosing c.in-Select.again (choices_in xs)) (sym c.deref-in-Select.ensures.value)
     in
     (search (rules, the_lemmas, get_or_read), (subst (IsProcess p.channels p.vars) is c.requires.process, omega (arith, ap (size_of p) is, c.requires.room)))
 
@@ -375,46 +375,46 @@ part-overflow_add-result t c =
 pub part-returns-in-Then-clause-part : goal.part-returns-in-Then-clause-part
 part-returns-in-Then-clause-part t c =
     let p = program_of c.args.program.now in
-    let is : process_of c.args.s.now ≡ in_turn (members_of c.deref.result.now) =
-    then_is _ c.in-Then.parts c.in-Then.is ∙ ap (λ xs. in_turn (members_of xs)) (sym c.deref.ensures.value) in
+    let is : process_of c.args.s.now ≡ in_turn (members_in c.deref.result.now) =
+    then_is _ c.in-Then.parts c.in-Then.is ∙ ap (λ xs. in_turn (members_in xs)) (sym c.deref.ensures.value) in
     subst (λ (q : Process). IfOk c.sequence.result (λ (x : Part). tree_of x ≡ expanded p q c.args.request c.args.from)) (sym is) c.sequence.ensures.part
 
 pub part-returns-in-Then-clause-sites : goal.part-returns-in-Then-clause-sites
 part-returns-in-Then-clause-sites t c =
     let p = program_of c.args.program.now in
-    let is : process_of c.args.s.now ≡ in_turn (members_of c.deref.result.now) =
-    then_is _ c.in-Then.parts c.in-Then.is ∙ ap (λ xs. in_turn (members_of xs)) (sym c.deref.ensures.value) in
+    let is : process_of c.args.s.now ≡ in_turn (members_in c.deref.result.now) =
+    then_is _ c.in-Then.parts c.in-Then.is ∙ ap (λ xs. in_turn (members_in xs)) (sym c.deref.ensures.value) in
     subst (λ (q : Process). OnOk c.sequence.result (c.sequence.new.sites.items ≡ c.args.sites.now.items ++ sites_in p (own_sites p) q c.args.from)) (sym is)
     c.sequence.ensures.sites
 
 pub part-returns-in-Beside-clause-part : goal.part-returns-in-Beside-clause-part
 part-returns-in-Beside-clause-part t c =
     let p = program_of c.args.program.now in
-    let is : process_of c.args.s.now ≡ side_by_side (members_of c.deref-in-Beside.result.now) = beside_is _ c.in-Beside.parts c.in-Beside.is
-    ∙ ap (λ xs. side_by_side (members_of xs)) (sym c.deref-in-Beside.ensures.value) in
+    let is : process_of c.args.s.now ≡ side_by_side (members_in c.deref-in-Beside.result.now) = beside_is _ c.in-Beside.parts c.in-Beside.is
+    ∙ ap (λ xs. side_by_side (members_in xs)) (sym c.deref-in-Beside.ensures.value) in
     subst (λ (q : Process). IfOk c.parallel.result (λ (x : Part). tree_of x ≡ expanded p q c.args.request c.args.from)) (sym is) c.parallel.ensures.part
 
 pub part-returns-in-Beside-clause-sites : goal.part-returns-in-Beside-clause-sites
 part-returns-in-Beside-clause-sites t c =
     let p = program_of c.args.program.now in
-    let is : process_of c.args.s.now ≡ side_by_side (members_of c.deref-in-Beside.result.now) = beside_is _ c.in-Beside.parts c.in-Beside.is
-    ∙ ap (λ xs. side_by_side (members_of xs)) (sym c.deref-in-Beside.ensures.value) in
+    let is : process_of c.args.s.now ≡ side_by_side (members_in c.deref-in-Beside.result.now) = beside_is _ c.in-Beside.parts c.in-Beside.is
+    ∙ ap (λ xs. side_by_side (members_in xs)) (sym c.deref-in-Beside.ensures.value) in
     subst (λ (q : Process). OnOk c.parallel.result (c.parallel.new.sites.items ≡ c.args.sites.now.items ++ sites_in p (own_sites p) q c.args.from)) (sym is)
     c.parallel.ensures.sites
 
 pub part-returns-in-Select-clause-part : goal.part-returns-in-Select-clause-part
 part-returns-in-Select-clause-part t c =
     let p = program_of c.args.program.now in
-    let is : process_of c.args.s.now ≡ choosing c.in-Select.again (arms_of c.deref-in-Select.result.now) =
-    select_is _ c.in-Select.again c.in-Select.arms c.in-Select.is ∙ ap (λ xs. choosing c.in-Select.again (arms_of xs)) (sym c.deref-in-Select.ensures.value)
+    let is : process_of c.args.s.now ≡ choosing c.in-Select.again (choices_in c.deref-in-Select.result.now) =
+    select_is _ c.in-Select.again c.in-Select.arms c.in-Select.is ∙ ap (λ xs. choosing c.in-Select.again (choices_in xs)) (sym c.deref-in-Select.ensures.value)
     in
     subst (λ (q : Process). IfOk c.selection.result (λ (x : Part). tree_of x ≡ expanded p q c.args.request c.args.from)) (sym is) c.selection.ensures.part
 
 pub part-returns-in-Select-clause-sites : goal.part-returns-in-Select-clause-sites
 part-returns-in-Select-clause-sites t c =
     let p = program_of c.args.program.now in
-    let is : process_of c.args.s.now ≡ choosing c.in-Select.again (arms_of c.deref-in-Select.result.now) =
-    select_is _ c.in-Select.again c.in-Select.arms c.in-Select.is ∙ ap (λ xs. choosing c.in-Select.again (arms_of xs)) (sym c.deref-in-Select.ensures.value)
+    let is : process_of c.args.s.now ≡ choosing c.in-Select.again (choices_in c.deref-in-Select.result.now) =
+    select_is _ c.in-Select.again c.in-Select.arms c.in-Select.is ∙ ap (λ xs. choosing c.in-Select.again (choices_in xs)) (sym c.deref-in-Select.ensures.value)
     in
     subst (λ (q : Process). OnOk c.selection.result (c.selection.new.sites.items ≡ c.args.sites.now.items ++ sites_in p (own_sites p) q c.args.from)) (sym is)
     c.selection.ensures.sites

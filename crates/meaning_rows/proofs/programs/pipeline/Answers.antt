@@ -1,9 +1,8 @@
 use Rattle.std.proofs.Common.{◌+◌, length, ap, arith, List, subst, sym, refl}
 use Rattle.std.proofs.lemmas.List.{length_push}
 use Rattle.width_check.specs.declared.typed.TStmt.{TStmt}
-use Rattle.width_check.specs.View.{process_of}
+use Rattle.width_check.specs.View.{process_of, members_in}
 use Rattle.meaning_rows.specs.Apart.{IsStage}
-use Rattle.chp_meaning.specs.Remaining.{statement_processes}
 use Rattle.meaning_rows.proofs.Stages.{AreStages, one_more_stage, stages_meet}
 use Rattle.meaning_rows.proofs.programs.pipeline.Goals as goal
 
@@ -14,7 +13,7 @@ loop-stage-preserved c =
     subst (λ n. IsStage n (process_of s)) (omega (arith, c.loop-stage.invariant.count)) (c.in_ok-copies.ensures.stage refl) in
     let more = one_more_stage 0 c.loop-stage.parts.items s c.loop-stage.invariant.stages c.in_ok-copies.ensures.sequential stage in
     record {
-      stages = subst (λ (ss : List TStmt). AreStages 0 (statement_processes ss)) (sym c.in_ok-push.ensures.items) more;
+      stages = subst (λ (ss : List TStmt). AreStages 0 (members_in ss)) (sym c.in_ok-push.ensures.items) more;
       count = omega (
         arith,
         ap (λ (ss : List TStmt). length ss) c.in_ok-push.ensures.items,

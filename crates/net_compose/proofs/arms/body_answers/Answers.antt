@@ -1,9 +1,8 @@
 use Rattle.std.proofs.Common.{◌≡◌, ◌+◌, ◌∷◌, [], ◌++◌, drop, refl, ap, ◌∙◌, arith}
 use Rattle.width_check.specs.Typed.{program_of}
-use Rattle.width_check.specs.View.{process_of}
+use Rattle.width_check.specs.View.{process_of, choices_in}
 use Rattle.handshake_expand.specs.Layout.{size_of}
 use Rattle.handshake_expand.specs.Answers.{answer_of}
-use Rattle.handshake_expand.specs.PartTree.{arms_of}
 use Rattle.handshake_expand.proofs.Branches.{body_size_here, arm_typed, sites_more, sites_done}
 use Rattle.net_compose.specs.Translation.{branch_answers}
 use Rattle.net_compose.proofs.RulesInTurn.{body_answers_here, body_answers_end}
@@ -11,7 +10,7 @@ use Rattle.net_compose.proofs.arms.body_answers.Goals as goal
 
 pub loop-arm-init : goal.loop-arm-init
 loop-arm-init c = record {
-  answers = ap (λ ns. ns ++ branch_answers (program_of c.args.program.now) (arms_of c.args.arms.now) c.args.from) c.new-answers.ensures.items;
+  answers = ap (λ ns. ns ++ branch_answers (program_of c.args.program.now) (choices_in c.args.arms.now) c.args.from) c.new-answers.ensures.items;
   size = refl;
   formed = c.requires.choices;
 }
@@ -54,7 +53,7 @@ loop-arm-preserved c =
       answers = sites_more c.loop-arm.answers.items _ (answer_of p s next ∷ []) _ _ _
           (c.in_ok-push.ensures.items ∙ ap (λ n. c.loop-arm.answers.items ++ n ∷ []) c.answer_node-answer.ensures)
           (body_answers_here p arms i a c.loop-arm-test.true c.arm-item.is next
-          ∙ ap (λ n. answer_of p s next ∷ branch_answers p (arms_of (drop (i + 1) arms)) n) to)
+          ∙ ap (λ n. answer_of p s next ∷ branch_answers p (choices_in (drop (i + 1) arms)) n) to)
           c.loop-arm.invariant.answers;
       size = omega (arith, size, to, c.loop-arm.invariant.size);
       formed = (arm_typed p arms i a c.loop-arm-test.true c.arm-item.is _ _ c.loop-arm.invariant.formed).1;

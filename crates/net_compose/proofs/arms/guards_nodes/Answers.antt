@@ -1,18 +1,18 @@
 use Rattle.std.proofs.Common.{◌≡◌, ◌<◌, ◌+◌, length, get_or, drop, List, ℕ, ap, subst, arith}
 use Rattle.width_check.specs.declared.typed.TArm.{TArm}
 use Rattle.width_check.specs.Values.{IsWellFormed}
-use Rattle.width_check.specs.View.{formula_of}
+use Rattle.width_check.specs.View.{formula_of, choices_in}
 use Rattle.handshake_expand.specs.Layout.{formula_size, guards_size}
-use Rattle.handshake_expand.specs.PartTree.{arms_of, HasFormedGuards}
+use Rattle.handshake_expand.specs.PartTree.{HasFormedGuards}
 use Rattle.handshake_expand.proofs.Rows.{arm_at, no_more_arms}
 use Rattle.net_compose.proofs.arms.guards_nodes.Goals as goal
 
 guard_here : (arms : List TArm) (i : ℕ) (a : TArm) → i < length arms → a ≡ get_or arms i a
-    → guards_size (arms_of (drop i arms)) ≡ formula_size (formula_of a.guard) + guards_size (arms_of (drop (i + 1) arms))
+    → guards_size (choices_in (drop i arms)) ≡ formula_size (formula_of a.guard) + guards_size (choices_in (drop (i + 1) arms))
 guard_here arms i a within is = ap guards_size (arm_at arms i a within is)
 
-guard_formed : (arms : List TArm) (i : ℕ) (a : TArm) → i < length arms → a ≡ get_or arms i a → HasFormedGuards (arms_of (drop i arms))
-    → IsWellFormed (formula_of a.guard) × HasFormedGuards (arms_of (drop (i + 1) arms))
+guard_formed : (arms : List TArm) (i : ℕ) (a : TArm) → i < length arms → a ≡ get_or arms i a → HasFormedGuards (choices_in (drop i arms))
+    → IsWellFormed (formula_of a.guard) × HasFormedGuards (choices_in (drop (i + 1) arms))
 guard_formed arms i a within is h = subst HasFormedGuards (arm_at arms i a within is) h
 
 pub loop-arm-init : goal.loop-arm-init
@@ -41,6 +41,6 @@ loop-arm-preserved c =
 
 pub returns : goal.returns
 returns c =
-    let left : guards_size (arms_of (drop c.loop-arm.arm-index c.args.arms.now)) ≡ 0 = ap guards_size
+    let left : guards_size (choices_in (drop c.loop-arm.arm-index c.args.arms.now)) ≡ 0 = ap guards_size
     (no_more_arms c.args.arms.now c.loop-arm.arm-index c.loop-arm-test.false) in
     omega (arith, c.loop-arm.invariant.counted, left)

@@ -5,10 +5,10 @@ use Rattle.width_check.specs.declared.typed.TStmt.{TStmt, the_lemmas}
 use Rattle.width_check.specs.Processes.{skipping, assigning, sending, receiving, in_turn, side_by_side, choosing, repeating, choice_count, TypedProgram}
 use Rattle.width_check.specs.Typed.{program_of}
 use Rattle.width_check.specs.Typing.{IsProcess}
-use Rattle.width_check.specs.View.{formula_of, process_of}
+use Rattle.width_check.specs.View.{formula_of, process_of, members_in, choices_in}
 use Rattle.handshake_expand.specs.Layout.{size_of, root_request}
 use Rattle.handshake_expand.specs.Answers.{answer_of, bodies_from}
-use Rattle.handshake_expand.specs.PartTree.{members_of, arms_of, own_before}
+use Rattle.handshake_expand.specs.PartTree.{own_before}
 use Rattle.handshake_expand.proofs.Branches.{branch_size_here, branch_size_end, body_size_here, arm_typed, choosing_size, guards_formed, sites_more, sites_done}
 use Rattle.handshake_expand.proofs.Rows.{then_is, beside_is, select_is, members_counted, arms_counted}
 use Rattle.handshake_expand.proofs.Turns.{this_typed, size_here, size_last}
@@ -94,7 +94,7 @@ sequence-loop-place-preserved t c =
     let at = c.index-members-place.is in
     let next = c.loop-place.next in
     let asked = c.loop-place.asked in
-    let behind = members_of (drop (i + 1) members) in
+    let behind = members_in (drop (i + 1) members) in
     let within : i + 1 < length members = omega arith in
     let size = size_here p members i m at within in
     let typed = this_typed _ _ members i m at (omega (arith, within)) c.loop-place.invariant.formed in
@@ -191,7 +191,7 @@ parallel-loop-branch-init t c =
       rules = refl;
       sites = refl;
       first = refl;
-      ends = ap (λ ns. ns ++ branch_ends (program_of c.args.program.now) (members_of c.args.branches.now) c.args.from) c.new-ends.ensures.items;
+      ends = ap (λ ns. ns ++ branch_ends (program_of c.args.program.now) (members_in c.args.branches.now) c.args.from) c.new-ends.ensures.items;
       nodes = refl;
       values = refl;
       size = refl;
@@ -278,7 +278,7 @@ parallel-loop-branch-preserved t c =
     let at = c.branch-item.is in
     let within = c.loop-branch-test.true in
     let next = c.loop-branch.next in
-    let behind = members_of (drop (i + 1) branches) in
+    let behind = members_in (drop (i + 1) branches) in
     let size = branch_size_here p branches i b within at in
     let typed = this_typed _ _ branches i b at within c.loop-branch.invariant.formed in
     let count : c.statement_nodes-size.result ≡ size_of p s = omega (
@@ -314,14 +314,14 @@ parallel-loop-branch-preserved t c =
     }
 
 ends_are : (p : TypedProgram) (branches : List TStmt) (i from next : ℕ) (ends nodes : List ℕ) → length branches ≤ i
-    → ends ++ branch_ends p (members_of (drop i branches)) next ≡ branch_ends p (members_of branches) from → nodes ≡ ends
-    → nodes ≡ branch_ends p (members_of branches) from
+    → ends ++ branch_ends p (members_in (drop i branches)) next ≡ branch_ends p (members_in branches) from → nodes ≡ ends
+    → nodes ≡ branch_ends p (members_in branches) from
 ends_are p branches i from next ends nodes over so_far is = is ∙ sites_done ends _ _ (branch_ends_end p branches i over next) so_far
 
 pub parallel-emit_tree-requires-clause-some : goal.parallel-emit_tree-requires-clause-some
 parallel-emit_tree-requires-clause-some t c =
     let p = program_of c.args.program.now in
-    let ms = members_of c.args.branches.now in
+    let ms = members_in c.args.branches.now in
     let are = ends_are p c.args.branches.now c.loop-branch.branch-index c.args.from c.loop-branch.next c.loop-branch.ends.items c.deref.result.now
     c.loop-branch-test.false c.loop-branch.invariant.ends c.deref.ensures.value in
     omega (arith, ap length are, length-branch_ends p ms c.args.from, c.requires.process.0)
@@ -329,7 +329,7 @@ parallel-emit_tree-requires-clause-some t c =
 pub parallel-emit_tree-requires-clause-leaves : goal.parallel-emit_tree-requires-clause-leaves
 parallel-emit_tree-requires-clause-leaves t c =
     let p = program_of c.args.program.now in
-    let ms = members_of c.args.branches.now in
+    let ms = members_in c.args.branches.now in
     let are = ends_are p c.args.branches.now c.loop-branch.branch-index c.args.from c.loop-branch.next c.loop-branch.ends.items c.deref.result.now
     c.loop-branch-test.false c.loop-branch.invariant.ends c.deref.ensures.value in
     subst (All (λ leaf. leaf < length c.loop-branch.rules.up)) (sym are)
@@ -338,7 +338,7 @@ parallel-emit_tree-requires-clause-leaves t c =
 pub parallel-emit_tree-requires-clause-own : goal.parallel-emit_tree-requires-clause-own
 parallel-emit_tree-requires-clause-own t c =
     let p = program_of c.args.program.now in
-    let ms = members_of c.args.branches.now in
+    let ms = members_in c.args.branches.now in
     let are = ends_are p c.args.branches.now c.loop-branch.branch-index c.args.from c.loop-branch.next c.loop-branch.ends.items c.deref.result.now
     c.loop-branch-test.false c.loop-branch.invariant.ends c.deref.ensures.value in
     let end = branch_size_end p c.args.branches.now c.loop-branch.branch-index c.loop-branch-test.false in
@@ -357,7 +357,7 @@ pub parallel-returns-clause-made : goal.parallel-returns-clause-made
 parallel-returns-clause-made t c =
     let p = program_of c.args.program.now in
     let branches = c.args.branches.now in
-    let ms = members_of branches in
+    let ms = members_in branches in
     let i = c.loop-branch.branch-index in
     let over = c.loop-branch-test.false in
     let end = branch_size_end p branches i over in
@@ -389,7 +389,7 @@ pub selection-overflow_add-start-2 : goal.selection-overflow_add-start-2
 selection-overflow_add-start-2 t c =
     omega (
       arith,
-      choosing_size (program_of c.args.program.now) c.args.again (arms_of c.args.arms.now),
+      choosing_size (program_of c.args.program.now) c.args.again (choices_in c.args.arms.now),
       arms_counted c.args.arms.now,
       c.own_nodes.ensures,
       c.requires.own,
@@ -401,7 +401,7 @@ pub selection-overflow_add-next : goal.selection-overflow_add-next
 selection-overflow_add-next t c =
     omega (
       arith,
-      choosing_size (program_of c.args.program.now) c.args.again (arms_of c.args.arms.now),
+      choosing_size (program_of c.args.program.now) c.args.again (choices_in c.args.arms.now),
       arms_counted c.args.arms.now,
       c.own_nodes.ensures,
       c.requires.own,
@@ -410,13 +410,13 @@ selection-overflow_add-next t c =
     )
 
 pub selection-guards_nodes-requires-clause-formed : goal.selection-guards_nodes-requires-clause-formed
-selection-guards_nodes-requires-clause-formed t c = guards_formed _ _ (arms_of c.args.arms.now) c.requires.process.2
+selection-guards_nodes-requires-clause-formed t c = guards_formed _ _ (choices_in c.args.arms.now) c.requires.process.2
 
 pub selection-guards_nodes-requires-clause-room : goal.selection-guards_nodes-requires-clause-room
 selection-guards_nodes-requires-clause-room t c =
     omega (
       arith,
-      choosing_size (program_of c.args.program.now) c.args.again (arms_of c.args.arms.now),
+      choosing_size (program_of c.args.program.now) c.args.again (choices_in c.args.arms.now),
       c.requires.own,
       c.nodes-count.ensures,
       c.nodes-count.type_inv,
@@ -426,7 +426,7 @@ pub selection-overflow_add-next-2 : goal.selection-overflow_add-next-2
 selection-overflow_add-next-2 t c =
     omega (
       arith,
-      choosing_size (program_of c.args.program.now) c.args.again (arms_of c.args.arms.now),
+      choosing_size (program_of c.args.program.now) c.args.again (choices_in c.args.arms.now),
       arms_counted c.args.arms.now,
       c.own_nodes.ensures,
       c.guards_nodes.ensures,
@@ -442,7 +442,7 @@ pub selection-body_answers-requires-clause-room : goal.selection-body_answers-re
 selection-body_answers-requires-clause-room t c =
     omega (
       arith,
-      choosing_size (program_of c.args.program.now) c.args.again (arms_of c.args.arms.now),
+      choosing_size (program_of c.args.program.now) c.args.again (choices_in c.args.arms.now),
       arms_counted c.args.arms.now,
       c.own_nodes.ensures,
       c.guards_nodes.ensures,
@@ -454,7 +454,7 @@ selection-body_answers-requires-clause-room t c =
 pub selection-emit_choice-requires-clause-answers : goal.selection-emit_choice-requires-clause-answers
 selection-emit_choice-requires-clause-answers t c =
     let p = program_of c.args.program.now in
-    let choices = arms_of c.args.arms.now in
+    let choices = choices_in c.args.arms.now in
     let again = c.args.again in
     let from = c.args.from in
     let next : from + c.own_nodes.result + length c.args.arms.now + length c.args.arms.now + c.guards_nodes.result ≡ bodies_from choices
@@ -465,7 +465,7 @@ pub selection-loop-arm-init : goal.selection-loop-arm-init
 selection-loop-arm-init t c =
     let p = program_of c.args.program.now in
     let arms = c.args.arms.now in
-    let choices = arms_of arms in
+    let choices = choices_in arms in
     let again = c.args.again in
     let from = c.args.from in
     let size = choosing_size p again choices in
@@ -544,7 +544,7 @@ selection-loop-arm-preserved t c =
     let within = c.loop-arm-test.true in
     let start = c.loop-arm.start in
     let next = c.loop-arm.next in
-    let behind = arms_of (drop (i + 1) arms) in
+    let behind = choices_in (drop (i + 1) arms) in
     let size = body_size_here p arms i a within at in
     let typed = arm_typed p arms i a within at _ _ c.loop-arm.invariant.formed in
     let count : c.statement_nodes-size.result ≡ size_of p s = omega (
@@ -741,10 +741,10 @@ statement-emit_skip-requires-clause-distinct t c =
 pub statement-sequence-requires : goal.statement-sequence-requires
 statement-sequence-requires t c =
     let p = program_of c.args.program.now in
-    let is : process_of c.args.s.now ≡ in_turn (members_of c.deref.result.now) =
-    then_is _ c.in-Then.parts c.in-Then.is ∙ ap (λ xs. in_turn (members_of xs)) (sym c.deref.ensures.value) in
+    let is : process_of c.args.s.now ≡ in_turn (members_in c.deref.result.now) =
+    then_is _ c.in-Then.parts c.in-Then.is ∙ ap (λ xs. in_turn (members_in xs)) (sym c.deref.ensures.value) in
     let typed = subst (IsProcess p.channels p.vars) is c.requires.process in
-    let room : c.args.from + size_of p (in_turn (members_of c.deref.result.now)) ≤ length c.args.rules.now.up = omega
+    let room : c.args.from + size_of p (in_turn (members_in c.deref.result.now)) ≤ length c.args.rules.now.up = omega
     (arith, ap (size_of p) is, c.requires.own) in (
       search (rules, the_lemmas, get_or_read),
       (
@@ -759,33 +759,33 @@ statement-sequence-requires t c =
 pub statement-returns-in-Then-clause-made : goal.statement-returns-in-Then-clause-made
 statement-returns-in-Then-clause-made t c =
     let p = program_of c.args.program.now in
-    let is : process_of c.args.s.now ≡ in_turn (members_of c.deref.result.now) = then_is _ c.in-Then.parts c.in-Then.is
-    ∙ ap (λ xs. in_turn (members_of xs)) (sym c.deref.ensures.value) in
+    let is : process_of c.args.s.now ≡ in_turn (members_in c.deref.result.now) = then_is _ c.in-Then.parts c.in-Then.is
+    ∙ ap (λ xs. in_turn (members_in xs)) (sym c.deref.ensures.value) in
     on_ok c.sequence.result (λ f. f ∙ ap (λ q. with_owned (owned_from c.args.from (rules_of p q c.args.request c.args.from)) c.args.rules.now) (sym is))
     c.sequence.ensures.made
 
 pub statement-returns-in-Then-clause-sites : goal.statement-returns-in-Then-clause-sites
 statement-returns-in-Then-clause-sites t c =
     let p = program_of c.args.program.now in
-    let is : process_of c.args.s.now ≡ in_turn (members_of c.deref.result.now) = then_is _ c.in-Then.parts c.in-Then.is
-    ∙ ap (λ xs. in_turn (members_of xs)) (sym c.deref.ensures.value) in
+    let is : process_of c.args.s.now ≡ in_turn (members_in c.deref.result.now) = then_is _ c.in-Then.parts c.in-Then.is
+    ∙ ap (λ xs. in_turn (members_in xs)) (sym c.deref.ensures.value) in
     on_ok c.sequence.result (λ f. f ∙ ap (λ q. site_values c.args.sites.now.items ++ sites_in p (every_site p) q c.args.from) (sym is))
     c.sequence.ensures.sites
 
 pub statement-returns-in-Then-clause-first : goal.statement-returns-in-Then-clause-first
 statement-returns-in-Then-clause-first t c =
     let p = program_of c.args.program.now in
-    let is : process_of c.args.s.now ≡ in_turn (members_of c.deref.result.now) = then_is _ c.in-Then.parts c.in-Then.is
-    ∙ ap (λ xs. in_turn (members_of xs)) (sym c.deref.ensures.value) in
+    let is : process_of c.args.s.now ≡ in_turn (members_in c.deref.result.now) = then_is _ c.in-Then.parts c.in-Then.is
+    ∙ ap (λ xs. in_turn (members_in xs)) (sym c.deref.ensures.value) in
     on_ok c.sequence.result (λ f. f ∙ ap (λ q. with_raised c.args.first.now (sites_in p (hidden_high p) q c.args.from)) (sym is)) c.sequence.ensures.first
 
 pub statement-parallel-requires : goal.statement-parallel-requires
 statement-parallel-requires t c =
     let p = program_of c.args.program.now in
-    let is : process_of c.args.s.now ≡ side_by_side (members_of c.deref-in-Beside.result.now) =
-    beside_is _ c.in-Beside.parts c.in-Beside.is ∙ ap (λ xs. side_by_side (members_of xs)) (sym c.deref-in-Beside.ensures.value) in
+    let is : process_of c.args.s.now ≡ side_by_side (members_in c.deref-in-Beside.result.now) =
+    beside_is _ c.in-Beside.parts c.in-Beside.is ∙ ap (λ xs. side_by_side (members_in xs)) (sym c.deref-in-Beside.ensures.value) in
     let typed = subst (IsProcess p.channels p.vars) is c.requires.process in
-    let room : c.args.from + size_of p (side_by_side (members_of c.deref-in-Beside.result.now)) ≤ length c.args.rules.now.up = omega
+    let room : c.args.from + size_of p (side_by_side (members_in c.deref-in-Beside.result.now)) ≤ length c.args.rules.now.up = omega
     (arith, ap (size_of p) is, c.requires.own) in (
       search (rules, the_lemmas, get_or_read),
       (
@@ -800,34 +800,34 @@ statement-parallel-requires t c =
 pub statement-returns-in-Beside-clause-made : goal.statement-returns-in-Beside-clause-made
 statement-returns-in-Beside-clause-made t c =
     let p = program_of c.args.program.now in
-    let is : process_of c.args.s.now ≡ side_by_side (members_of c.deref-in-Beside.result.now) = beside_is _ c.in-Beside.parts c.in-Beside.is
-    ∙ ap (λ xs. side_by_side (members_of xs)) (sym c.deref-in-Beside.ensures.value) in
+    let is : process_of c.args.s.now ≡ side_by_side (members_in c.deref-in-Beside.result.now) = beside_is _ c.in-Beside.parts c.in-Beside.is
+    ∙ ap (λ xs. side_by_side (members_in xs)) (sym c.deref-in-Beside.ensures.value) in
     on_ok c.parallel.result (λ f. f ∙ ap (λ q. with_owned (owned_from c.args.from (rules_of p q c.args.request c.args.from)) c.args.rules.now) (sym is))
     c.parallel.ensures.made
 
 pub statement-returns-in-Beside-clause-sites : goal.statement-returns-in-Beside-clause-sites
 statement-returns-in-Beside-clause-sites t c =
     let p = program_of c.args.program.now in
-    let is : process_of c.args.s.now ≡ side_by_side (members_of c.deref-in-Beside.result.now) = beside_is _ c.in-Beside.parts c.in-Beside.is
-    ∙ ap (λ xs. side_by_side (members_of xs)) (sym c.deref-in-Beside.ensures.value) in
+    let is : process_of c.args.s.now ≡ side_by_side (members_in c.deref-in-Beside.result.now) = beside_is _ c.in-Beside.parts c.in-Beside.is
+    ∙ ap (λ xs. side_by_side (members_in xs)) (sym c.deref-in-Beside.ensures.value) in
     on_ok c.parallel.result (λ f. f ∙ ap (λ q. site_values c.args.sites.now.items ++ sites_in p (every_site p) q c.args.from) (sym is))
     c.parallel.ensures.sites
 
 pub statement-returns-in-Beside-clause-first : goal.statement-returns-in-Beside-clause-first
 statement-returns-in-Beside-clause-first t c =
     let p = program_of c.args.program.now in
-    let is : process_of c.args.s.now ≡ side_by_side (members_of c.deref-in-Beside.result.now) = beside_is _ c.in-Beside.parts c.in-Beside.is
-    ∙ ap (λ xs. side_by_side (members_of xs)) (sym c.deref-in-Beside.ensures.value) in
+    let is : process_of c.args.s.now ≡ side_by_side (members_in c.deref-in-Beside.result.now) = beside_is _ c.in-Beside.parts c.in-Beside.is
+    ∙ ap (λ xs. side_by_side (members_in xs)) (sym c.deref-in-Beside.ensures.value) in
     on_ok c.parallel.result (λ f. f ∙ ap (λ q. with_raised c.args.first.now (sites_in p (hidden_high p) q c.args.from)) (sym is)) c.parallel.ensures.first
 
 pub statement-selection-requires : goal.statement-selection-requires
 statement-selection-requires t c =
     let p = program_of c.args.program.now in
-    let is : process_of c.args.s.now ≡ choosing c.in-Select.again (arms_of c.deref-in-Select.result.now) =
-    select_is _ c.in-Select.again c.in-Select.arms c.in-Select.is ∙ ap (λ xs. choosing c.in-Select.again (arms_of xs))
+    let is : process_of c.args.s.now ≡ choosing c.in-Select.again (choices_in c.deref-in-Select.result.now) =
+    select_is _ c.in-Select.again c.in-Select.arms c.in-Select.is ∙ ap (λ xs. choosing c.in-Select.again (choices_in xs))
     (sym c.deref-in-Select.ensures.value) in
     let typed = subst (IsProcess p.channels p.vars) is c.requires.process in
-    let room : c.args.from + size_of p (choosing c.in-Select.again (arms_of c.deref-in-Select.result.now)) ≤ length c.args.rules.now.up = omega
+    let room : c.args.from + size_of p (choosing c.in-Select.again (choices_in c.deref-in-Select.result.now)) ≤ length c.args.rules.now.up = omega
     (arith, ap (size_of p) is, c.requires.own) in (
       search (rules, the_lemmas, get_or_read),
       (
@@ -842,24 +842,24 @@ statement-selection-requires t c =
 pub statement-returns-in-Select-clause-made : goal.statement-returns-in-Select-clause-made
 statement-returns-in-Select-clause-made t c =
     let p = program_of c.args.program.now in
-    let is : process_of c.args.s.now ≡ choosing c.in-Select.again (arms_of c.deref-in-Select.result.now) = select_is _ c.in-Select.again c.in-Select.arms
-    c.in-Select.is ∙ ap (λ xs. choosing c.in-Select.again (arms_of xs)) (sym c.deref-in-Select.ensures.value) in
+    let is : process_of c.args.s.now ≡ choosing c.in-Select.again (choices_in c.deref-in-Select.result.now) = select_is _ c.in-Select.again c.in-Select.arms
+    c.in-Select.is ∙ ap (λ xs. choosing c.in-Select.again (choices_in xs)) (sym c.deref-in-Select.ensures.value) in
     on_ok c.selection.result (λ f. f ∙ ap (λ q. with_owned (owned_from c.args.from (rules_of p q c.args.request c.args.from)) c.args.rules.now) (sym is))
     c.selection.ensures.made
 
 pub statement-returns-in-Select-clause-sites : goal.statement-returns-in-Select-clause-sites
 statement-returns-in-Select-clause-sites t c =
     let p = program_of c.args.program.now in
-    let is : process_of c.args.s.now ≡ choosing c.in-Select.again (arms_of c.deref-in-Select.result.now) = select_is _ c.in-Select.again c.in-Select.arms
-    c.in-Select.is ∙ ap (λ xs. choosing c.in-Select.again (arms_of xs)) (sym c.deref-in-Select.ensures.value) in
+    let is : process_of c.args.s.now ≡ choosing c.in-Select.again (choices_in c.deref-in-Select.result.now) = select_is _ c.in-Select.again c.in-Select.arms
+    c.in-Select.is ∙ ap (λ xs. choosing c.in-Select.again (choices_in xs)) (sym c.deref-in-Select.ensures.value) in
     on_ok c.selection.result (λ f. f ∙ ap (λ q. site_values c.args.sites.now.items ++ sites_in p (every_site p) q c.args.from) (sym is))
     c.selection.ensures.sites
 
 pub statement-returns-in-Select-clause-first : goal.statement-returns-in-Select-clause-first
 statement-returns-in-Select-clause-first t c =
     let p = program_of c.args.program.now in
-    let is : process_of c.args.s.now ≡ choosing c.in-Select.again (arms_of c.deref-in-Select.result.now) = select_is _ c.in-Select.again c.in-Select.arms
-    c.in-Select.is ∙ ap (λ xs. choosing c.in-Select.again (arms_of xs)) (sym c.deref-in-Select.ensures.value) in
+    let is : process_of c.args.s.now ≡ choosing c.in-Select.again (choices_in c.deref-in-Select.result.now) = select_is _ c.in-Select.again c.in-Select.arms
+    c.in-Select.is ∙ ap (λ xs. choosing c.in-Select.again (choices_in xs)) (sym c.deref-in-Select.ensures.value) in
     on_ok c.selection.result (λ f. f ∙ ap (λ q. with_raised c.args.first.now (sites_in p (hidden_high p) q c.args.from)) (sym is)) c.selection.ensures.first
 
 pub statement-overflow_add-start : goal.statement-overflow_add-start

@@ -3,9 +3,10 @@ use Rattle.prs_core.specs.Parts.{owned_from, with_owned}
 use Rattle.width_check.specs.Processes.{choosing}
 use Rattle.width_check.specs.Typed.{program_of}
 use Rattle.width_check.specs.Typing.{AreProcesses, AreChoices}
+use Rattle.width_check.specs.View.{members_in, choices_in}
 use Rattle.handshake_expand.specs.Layout.{size_of, turn_size, branches_size, bodies_size, root_request}
 use Rattle.handshake_expand.specs.Answers.{bodies_from}
-use Rattle.handshake_expand.specs.PartTree.{members_of, arms_of, own_before}
+use Rattle.handshake_expand.specs.PartTree.{own_before}
 use Rattle.net_compose.specs.EverySite.{every_site}
 use Rattle.net_compose.specs.SiteLists.{site_values}
 use Rattle.handshake_expand.specs.Sites.{sites_in_turn, sites_in_branches, sites_in_bodies}
@@ -16,17 +17,17 @@ use Rattle.net_compose.proofs.body.+statements.Given as goal
 abbrev pub invariant-sequence-loop-place : goal.invariant-sequence-loop-place
 invariant-sequence-loop-place l =
     let p = program_of l.program in
-    let behind = members_of (drop l.place l.members) in
+    let behind = members_in (drop l.place l.members) in
     record {
       rules : with_owned (owned_from l.next (turn_rules p behind l.asked l.next)) l.rules ≡ with_owned
-          (owned_from l.fn.from (turn_rules p (members_of l.members) l.fn.request l.fn.from)) l.fn.rules;
+          (owned_from l.fn.from (turn_rules p (members_in l.members) l.fn.request l.fn.from)) l.fn.rules;
       sites : site_values l.sites.items ++ sites_in_turn p (every_site p) behind l.next ≡ site_values l.fn.sites.items ++ sites_in_turn p (every_site p)
-          (members_of l.members) l.fn.from;
+          (members_in l.members) l.fn.from;
       first : with_raised l.first (sites_in_turn p (hidden_high p) behind l.next) ≡ with_raised l.fn.first
-          (sites_in_turn p (hidden_high p) (members_of l.members) l.fn.from);
+          (sites_in_turn p (hidden_high p) (members_in l.members) l.fn.from);
       nodes : length l.rules.up ≡ length l.fn.rules.up;
       values : length l.first ≡ length l.fn.first;
-      size : l.next + turn_size p behind ≡ l.fn.from + turn_size p (members_of l.members);
+      size : l.next + turn_size p behind ≡ l.fn.from + turn_size p (members_in l.members);
       formed : AreProcesses l.program.channels l.program.vars behind;
       asked : root_request p ≤ l.asked;
       before : l.asked < l.next;
@@ -36,18 +37,18 @@ invariant-sequence-loop-place l =
 abbrev pub invariant-parallel-loop-branch : goal.invariant-parallel-loop-branch
 invariant-parallel-loop-branch l =
     let p = program_of l.program in
-    let behind = members_of (drop l.branch-index l.branches) in
+    let behind = members_in (drop l.branch-index l.branches) in
     record {
       rules : with_owned (owned_from l.next (branches_rules p behind l.request l.next)) l.rules ≡ with_owned
-          (owned_from l.fn.from (branches_rules p (members_of l.branches) l.request l.fn.from)) l.fn.rules;
+          (owned_from l.fn.from (branches_rules p (members_in l.branches) l.request l.fn.from)) l.fn.rules;
       sites : site_values l.sites.items ++ sites_in_branches p (every_site p) behind l.next ≡ site_values l.fn.sites.items ++ sites_in_branches p
-          (every_site p) (members_of l.branches) l.fn.from;
+          (every_site p) (members_in l.branches) l.fn.from;
       first : with_raised l.first (sites_in_branches p (hidden_high p) behind l.next) ≡ with_raised l.fn.first
-          (sites_in_branches p (hidden_high p) (members_of l.branches) l.fn.from);
-      ends : l.ends.items ++ branch_ends p behind l.next ≡ branch_ends p (members_of l.branches) l.fn.from;
+          (sites_in_branches p (hidden_high p) (members_in l.branches) l.fn.from);
+      ends : l.ends.items ++ branch_ends p behind l.next ≡ branch_ends p (members_in l.branches) l.fn.from;
       nodes : length l.rules.up ≡ length l.fn.rules.up;
       values : length l.first ≡ length l.fn.first;
-      size : l.next + branches_size p behind ≡ l.fn.from + branches_size p (members_of l.branches);
+      size : l.next + branches_size p behind ≡ l.fn.from + branches_size p (members_in l.branches);
       formed : AreProcesses l.program.channels l.program.vars behind;
       before : l.request < l.next;
     }
@@ -55,8 +56,8 @@ invariant-parallel-loop-branch l =
 abbrev pub invariant-selection-loop-arm : goal.invariant-selection-loop-arm
 invariant-selection-loop-arm l =
     let p = program_of l.program in
-    let choices = arms_of l.arms in
-    let behind = arms_of (drop l.arm-index l.arms) in
+    let choices = choices_in l.arms in
+    let behind = choices_in (drop l.arm-index l.arms) in
     let bodies = bodies_from choices (own_before l.again) l.fn.from in
     record {
       rules : with_owned (owned_from l.next (bodies_rules p behind l.start l.next)) l.rules ≡ with_owned

@@ -1,9 +1,8 @@
 use Rattle.std.proofs.Common.{◌≡◌, ◌+◌, ◌++◌, refl, ap, ◌∙◌, arith}
 use Rattle.prs_core.specs.Pairs.{rails_of}
 use Rattle.width_check.specs.Typed.{program_of}
-use Rattle.width_check.specs.View.{formula_of}
+use Rattle.width_check.specs.View.{formula_of, choices_in}
 use Rattle.handshake_expand.specs.Layout.{formula_size}
-use Rattle.handshake_expand.specs.PartTree.{arms_of}
 use Rattle.net_compose.specs.Translation.{bits_at, guard_pairs}
 use Rattle.net_compose.proofs.GuardsWritten.{guard_size_here, guard_typed, guards_step, pairs_step, guards_done, pairs_done}
 use Rattle.net_compose.proofs.Sizes.{has_bits}
@@ -12,7 +11,7 @@ use Rattle.net_compose.proofs.guards.emit_guards.Goals as goal
 pub loop-arm-init : goal.loop-arm-init
 loop-arm-init c = record {
   rules = refl;
-  rails = ap (λ ns. ns ++ rails_of (guard_pairs (arms_of c.args.arms.now) c.args.from)) c.new-rails.ensures.items;
+  rails = ap (λ ns. ns ++ rails_of (guard_pairs (choices_in c.args.arms.now) c.args.from)) c.new-rails.ensures.items;
   count = refl;
   size = refl;
   low = omega arith;

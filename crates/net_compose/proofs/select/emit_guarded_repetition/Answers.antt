@@ -3,8 +3,8 @@ use Rattle.std.specs.List.{range_with_len}
 use Rattle.prs_core.specs.Pairs.{rails_of}
 use Rattle.width_check.specs.Processes.{choice_count}
 use Rattle.width_check.specs.Typed.{program_of}
+use Rattle.width_check.specs.View.{choices_in}
 use Rattle.handshake_expand.specs.Answers.{guards_from, again_own}
-use Rattle.handshake_expand.specs.PartTree.{arms_of}
 use Rattle.handshake_expand.proofs.Rows.{arms_counted}
 use Rattle.net_compose.specs.Translation.{guard_pairs}
 use Rattle.net_compose.proofs.SelectionReady.{again_ready, again_wrote}
@@ -45,7 +45,7 @@ numbered_nodes-requires-2 c =
 pub emit_again-requires : goal.emit_again-requires
 emit_again-requires c =
     let p = program_of c.args.program.now in
-    let cs = arms_of c.args.arms.now in
+    let cs = choices_in c.args.arms.now in
     let count : length c.args.arms.now ≡ choice_count cs = sym (arms_counted c.args.arms.now) in
     let at : c.args.from + 6 + length c.args.arms.now + length c.args.arms.now ≡ guards_from cs again_own c.args.from = omega (arith, count) in
     again_ready p cs c.args.request c.args.from c.requires.before _ refl refl refl refl refl refl refl (c.in_ok-latches.ensures
@@ -58,7 +58,7 @@ emit_again-requires c =
 pub returns-clause-made : goal.returns-clause-made
 returns-clause-made c =
     let p = program_of c.args.program.now in
-    let cs = arms_of c.args.arms.now in
+    let cs = choices_in c.args.arms.now in
     let count : length c.args.arms.now ≡ choice_count cs = sym (arms_counted c.args.arms.now) in
     let at : c.args.from + 6 + length c.args.arms.now + length c.args.arms.now ≡ guards_from cs again_own c.args.from = omega (arith, count) in
     again_wrote p cs c.args.request c.args.from c.requires.before _ _ _ _ (c.in_ok-latches.ensures ∙ ap (range_with_len (c.args.from + 6)) count)

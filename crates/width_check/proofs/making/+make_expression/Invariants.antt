@@ -4,7 +4,7 @@ use Rattle.chp_base.specs.declared.span.Span.{Span}
 use Rattle.chp_syntax.specs.Shape.{AreShapedParts, AreShapedLinks}
 use Rattle.width_check.specs.Form.{parts_form, operations_form}
 use Rattle.width_check.specs.Sound.{IsSound}
-use Rattle.width_check.specs.Walk.{lacking_parts, met_in_parts, met_in_links, join_parts, links_of}
+use Rattle.width_check.specs.Walk.{lacking_parts, met_in_parts, met_in_links, join_parts, links_in}
 use Rattle.width_check.proofs.Makings.{before_parts, before_links}
 use Rattle.width_check.proofs.making.+make_expression.Given as goal
 
@@ -19,10 +19,10 @@ invariant-loop-part l = record {
 
 abbrev pub invariant-loop-link : goal.invariant-loop-link
 invariant-loop-link l = record {
-  made : before_links l.made.items (operations_form l.scope.decls.now l.width (links_of (drop l.link-index l.link-items))) ≡
-      operations_form l.scope.decls.now l.width (links_of l.link-items);
-  shaped : AreShapedLinks (links_of (drop l.link-index l.link-items));
-  sound : IsSound l.scope.decls.now (met_in_links l.scope.decls.now l.width (links_of (drop l.link-index l.link-items)));
+  made : before_links l.made.items (operations_form l.scope.decls.now l.width (links_in (drop l.link-index l.link-items))) ≡
+      operations_form l.scope.decls.now l.width (links_in l.link-items);
+  shaped : AreShapedLinks (links_in (drop l.link-index l.link-items));
+  sound : IsSound l.scope.decls.now (met_in_links l.scope.decls.now l.width (links_in (drop l.link-index l.link-items)));
   front : l.front ≡ l.initial.front;
 }
 

@@ -1,6 +1,6 @@
 use Rattle.std.proofs.Common.{◌≡◌, ◌+◌, ◌≤◌, drop}
 use Rattle.width_check.specs.Places.{own_widths}
-use Rattle.width_check.specs.Walk.{noted, capped_width, met_in_links, join_parts, links_of}
+use Rattle.width_check.specs.Walk.{noted, capped_width, met_in_links, join_parts, links_in}
 use Rattle.width_check.proofs.Swapping.{noted_parts}
 use Rattle.width_check.proofs.survey.+with_expression.Given as goal
 
@@ -14,8 +14,8 @@ invariant-loop-part l = record {
 }
 
 abbrev pub invariant-loop-link : goal.invariant-loop-link
-invariant-loop-link l = noted l.scope.decls.now l.findings (met_in_links l.scope.decls.now l.width (links_of (drop l.link-index l.link-items))) ≡
-    noted l.scope.decls.now l.initial.findings (met_in_links l.scope.decls.now l.width (links_of l.link-items))
+invariant-loop-link l = noted l.scope.decls.now l.findings (met_in_links l.scope.decls.now l.width (links_in (drop l.link-index l.link-items))) ≡
+    noted l.scope.decls.now l.initial.findings (met_in_links l.scope.decls.now l.width (links_in l.link-items))
 
 abbrev pub decreases-with_expression : goal.decreases-with_expression
 decreases-with_expression l = goal.size-with_expression l

@@ -1,7 +1,7 @@
 use Rattle.std.proofs.Common.{◌≡◌, ◌+◌, ◌≤◌, drop}
 use Rattle.std.specs.Prelude.{option_map}
 use Rattle.width_check.specs.Places.{own_widths, first_width}
-use Rattle.width_check.specs.Walk.{capped_width, join_parts, links_of}
+use Rattle.width_check.specs.Walk.{capped_width, join_parts, links_in}
 use Rattle.width_check.proofs.scope.Scope.+own_width.Given as goal
 
 abbrev pub decreases-own_width : goal.decreases-own_width
@@ -15,5 +15,5 @@ invariant-loop-part l = record {
 }
 
 abbrev pub invariant-loop-link : goal.invariant-loop-link
-invariant-loop-link l = option_map capped_width (first_width l.self.decls.now (links_of (drop l.link-index l.link-items))) ≡
-    option_map capped_width (first_width l.self.decls.now (links_of l.link-items))
+invariant-loop-link l = option_map capped_width (first_width l.self.decls.now (links_in (drop l.link-index l.link-items))) ≡
+    option_map capped_width (first_width l.self.decls.now (links_in l.link-items))
