@@ -8,7 +8,7 @@ use Rattle.prs_file.specs.Spelling.{NetText, spelling}
 use Rattle.reset_net.specs.Resets.{reset_of}
 use Rattle.width_check.specs.Processes.{TypedProgram}
 use Rattle.chp_cli.specs.Compiling.{IsCompiled}
-use Rattle.chp_cli.proofs.NoReset.{names_free}
+use Rattle.net_compose.proofs.NamesFree.{names_free}
 
 module _ (p : TypedProgram) (net : NetValue) (is : net ≡ translation p) (kept : IsNet net) (carried : Carries (translation p) p)
     (law : ResetCarries (translation p) p) where

@@ -38,6 +38,7 @@ pub mod Writes
 pub mod SitesPicked
 pub mod EndsReady
 pub mod NamesWritten
+pub mod NamesFree
 pub mod WiresMade
 pub mod RulesInTurn
 pub mod ElementsWritten

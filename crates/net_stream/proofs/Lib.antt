@@ -1,4 +1,2 @@
-pub mod RuleTexts
 pub mod PlaceSteps
-pub mod NamesFree
 pub mod Pieces

@@ -22,7 +22,7 @@ mod ReadOnce
 mod RuleEnds
 mod RuleFaults
 mod RuleLines
-mod Rules
+pub mod Rules
 mod RulesBegin
 mod RulesRead
 mod TableLoop

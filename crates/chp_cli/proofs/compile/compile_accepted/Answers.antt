@@ -8,7 +8,7 @@ use Rattle.chp_cli.specs.Lines.{nodes_line}
 use Rattle.chp_cli.specs.Steps.{FromNodes, too_many, few_enough}
 use Rattle.chp_cli.proofs.Compiled.{net_compiled}
 use Rattle.chp_cli.proofs.Counted.{counted_few, counted_many}
-use Rattle.chp_cli.proofs.NoReset.{names_free}
+use Rattle.net_compose.proofs.NamesFree.{names_free}
 use Rattle.chp_cli.proofs.compile.compile_accepted.Goals as goal
 
 pub net_text-requires-clause-plain : goal.net_text-requires-clause-plain

@@ -1,4 +1,4 @@
-use Rattle.net_stream.proofs.RuleTexts.{guard_over}
+use Rattle.prs_file.proofs.Rules.{guard_over}
 use Rattle.net_stream.proofs.guard.guard_text.Goals as goal
 
 pub returns-clause-ok : goal.returns-clause-ok

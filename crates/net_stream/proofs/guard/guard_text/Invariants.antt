@@ -1,7 +1,7 @@
 use Rattle.std.proofs.Common.{◌≡◌, ◌+◌, ◌*◌, ◌≤◌, ◌++◌, drop, take, vec_len, vec_capacity}
 use Rattle.prs_core.specs.Nets.{guard_literals}
 use Rattle.prs_file.specs.declared.forms.Lead.TheVariants.{Rule}
-use Rattle.net_stream.proofs.RuleTexts.{terms_behind}
+use Rattle.prs_file.proofs.Rules.{terms_behind}
 use Rattle.net_stream.proofs.guard.guard_text.Given as goal
 
 abbrev pub invariant-loop-term : goal.invariant-loop-term

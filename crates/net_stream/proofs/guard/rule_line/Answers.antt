@@ -3,7 +3,7 @@ use Rattle.std.proofs.lemmas.Result.{on_ok_weaker}
 use Rattle.std.proofs.lemmas.Bool.Decides.{nat_tests}
 use Rattle.prs_core.specs.Nets.{name_at}
 use Rattle.prs_file.specs.Spelling.{end_spelling}
-use Rattle.net_stream.proofs.RuleTexts.{rule_is}
+use Rattle.prs_file.proofs.Rules.{rule_is}
 use Rattle.net_stream.proofs.guard.rule_line.Goals as goal
 
 pub returns-clause-ok : goal.returns-clause-ok

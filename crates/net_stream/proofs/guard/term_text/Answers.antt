@@ -1,4 +1,4 @@
-use Rattle.net_stream.proofs.RuleTexts.{term_over}
+use Rattle.prs_file.proofs.Rules.{term_over}
 use Rattle.net_stream.proofs.guard.term_text.Goals as goal
 
 pub returns-clause-ok : goal.returns-clause-ok

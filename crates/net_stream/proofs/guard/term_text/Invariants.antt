@@ -1,5 +1,5 @@
 use Rattle.std.proofs.Common.{◌≡◌, ◌+◌, ◌*◌, ◌≤◌, ◌++◌, drop, vec_len, vec_capacity}
-use Rattle.net_stream.proofs.RuleTexts.{literals_behind}
+use Rattle.prs_file.proofs.Rules.{literals_behind}
 use Rattle.net_stream.proofs.guard.term_text.Given as goal
 
 abbrev pub invariant-loop-literal : goal.invariant-loop-literal

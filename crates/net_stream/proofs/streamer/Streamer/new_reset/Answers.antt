@@ -2,7 +2,7 @@ use Rattle.std.proofs.Common.{refl, subst}
 use Rattle.prs_core.specs.Nets.{IsNet}
 use Rattle.width_check.specs.Typed.{program_of}
 use Rattle.net_compose.specs.Translation.{translation}
-use Rattle.net_stream.proofs.NamesFree.{names_free}
+use Rattle.net_compose.proofs.NamesFree.{names_free}
 use Rattle.net_stream.proofs.streamer.Streamer.new_reset.Goals as goal
 
 pub stream_reset-requires-clause-free : goal.stream_reset-requires-clause-free
