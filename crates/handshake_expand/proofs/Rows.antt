@@ -15,7 +15,8 @@ use Rattle.width_check.specs.declared.typed.TStmt.TheBlock.{hidden-the_row-TStmt
 use Rattle.width_check.specs.declared.typed.TArm.{TArm}
 use Rattle.width_check.specs.Processes.{joined, chained, Formulas, no_parts, and_part, Operations, no_operations, and_operation, in_turn, side_by_side, choosing, Processes, no_members, and_member, member_count, Choices, no_choices, and_choice, choice_count, TypedProgram}
 use Rattle.width_check.specs.Typing.{channel_width, var_width}
-use Rattle.width_check.specs.View.{formula_of, formulas_of, operations_of, process_of, processes_of, choices_of, members_in, choices_in}
+use Rattle.width_check.specs.View.{formula_of, formulas_of, operations_of, process_of, processes_of, choices_of}
+pub use Rattle.width_check.specs.View.{members_in, choices_in}
 use Rattle.handshake_expand.specs.Answers.{select_own, again_own}
 use Rattle.handshake_expand.specs.Layout.{wires_size, block_size, wires_before, blocks_before, size_of, turn_size, branches_size, guards_size, bodies_size}
 
