@@ -14,3 +14,4 @@ pub mod HomeLemmas
 pub mod Members
 pub mod Behind
 pub mod HomesMade
+pub mod Concerning

@@ -12,7 +12,7 @@ use Rattle.prs_core.specs.Fans.{term_names, guard_names, is_reader, fan_value}
 use Rattle.env_script.specs.Scripts.{OfferValue, gives, takes, nothing, offer_at}
 use Rattle.env_script.specs.Environment.{in_reset, is_reset, is_odd, raises_bit, raises_value, raises_next, lowers, offer_moves, channels_move, raises_go}
 use Rattle.env_script.specs.Runs.{RunState, move_enabled, moved, completed, history_at, histories_after, with_values}
-use Rattle.event_sim.specs.Locality.{is_wire, share_channel, IndexedValue, is_ready}
+use Rattle.event_sim.specs.Locality.{is_wire, share_channel, IndexedValue, is_ready, is_among, IsNear}
 
 -- a node that the environment may move for a channel is a wire of it
 
@@ -250,3 +250,34 @@ near only net script st n m off other whole n_in m_in apart unread shares =
     counts : (i : ℕ) (d : Wires) → i < length net.channels → (n == (get_or net.channels i d).ack) ≡ false →
         completed (histories_after net st n) (0 + i) ≡ completed st.histories (0 + i)
     counts i d less ack = let same : 0 + i ≡ i = omega arith in rw same (counts_kept net st n i d whole less ack)
+
+env_same : (b c x y z w r : Bool) → b ≡ c → r ≡ false → y ≡ w → (if b then r && x else y) ≡ (if c then r && z else w)
+env_same true true x y z w false same off e = refl
+env_same false false x y z w false same off e = e
+env_same b c x y z w true same off e = absurd (cc off)
+env_same true false x y z w r same off e = absurd (cc same)
+env_same false true x y z w r same off e = absurd (cc same)
+
+-- with a reset on too, but for the reset node
+pub near_state : (x : IndexedValue) (st : RunState) (n m : ℕ) (nodes : List ℕ) → IsNear x n nodes → is_reset x.net.reset n ≡ false →
+    is_reset x.net.reset m ≡ false → length st.histories ≡ length x.net.channels → m < length x.net.first → m ≢ n → is_among nodes m ≡ false →
+    move_enabled x.net x.script (moved x.net st n) m ≡ move_enabled x.net x.script st m
+near_state x st n m nodes is other apart_reset whole within apart unnamed =
+    either_same _ _ _ _ (rule_near x.net st.values n m apart (is.readers m within unnamed))
+    (env_same _ _ _ _ _ _ _ (reset_near x.net.reset v u n agree other) apart_reset
+    (either_same _ _ _ _ (go_near v u n m apart agree)
+    (channels_near v u n m (offer_at x.script) (completed st.histories) (completed (histories_after x.net st n)) apart agree 0 x.net.channels
+    (λ i d less wire. let same : 0 + i ≡ i = omega arith in rw same (is.wires m i d unnamed less wire)) counts)))
+  where
+    v : ℕ → Bool
+    v = high st.values
+
+    u : ℕ → Bool
+    u = high (fired st.values n)
+
+    agree : (r : ℕ) → r ≢ n → u r ≡ v r
+    agree r r_apart = fired_agree st.values n r r_apart
+
+    counts : (i : ℕ) (d : Wires) → i < length x.net.channels → (n == (get_or x.net.channels i d).ack) ≡ false →
+        completed (histories_after x.net st n) (0 + i) ≡ completed st.histories (0 + i)
+    counts i d less ack = let same : 0 + i ≡ i = omega arith in rw same (counts_kept x.net st n i d whole less ack)

@@ -1,14 +1,14 @@
 -- How far a simulation has come.
-use Rattle.std.specs.Prelude.{◌≡◌, ℕ, ◌+◌, ◌<◌, ◌≤◌, Bool, List, [], length, take, map, All, Option, Some, None}
+use Rattle.std.specs.Prelude.{◌≡◌, ℕ, ◌+◌, ◌<◌, ◌≤◌, Bool, true, false, List, [], length, take, map, All, Option, Some, None}
 use Rattle.prs_core.specs.Nets.{NetValue, IsNet}
 use Rattle.prs_core.specs.Moves.{high, both_ways}
 use Rattle.env_script.specs.Scripts.{OfferValue, IsScript}
 use Rattle.env_script.specs.Environment.{net_channels}
-use Rattle.env_script.specs.Runs.{RunState, move_enabled, after}
+use Rattle.env_script.specs.Runs.{RunState, move_enabled, moved, after}
 use Rattle.env_script.specs.declared.hazard.Hazard.{Hazard}
 use Rattle.env_script.specs.declared.hazard.Hazard.TheVariants.{BothWays, Unstable, Protocol}
 use Rattle.env_script.specs.Hazards.{least_below}
-use Rattle.event_sim.specs.Locality.{IsPassing}
+use Rattle.event_sim.specs.Locality.{IsPassing, is_among}
 use Rattle.event_sim.specs.Following.{enabled_moves, follow, power_of, ArePicks}
 use Rattle.event_sim.specs.Ends.{last_hazard, end_after}
 use Rattle.event_sim.specs.Simulating.{SimValue, start_at}
@@ -43,6 +43,13 @@ pub record IsKeptBeside (s : StageValue) (counts : List ℕ) (moves : List Bool)
   pub passed : All (λ (p : ℕ × ℕ). p.0 < length s.net.channels) s.passed
   pub moves_are : IsPassing (length s.net.first) (move_enabled s.net s.script (now_of s)) moves
   pub pulled_is : pulled ≡ least_below (length s.net.first) (both_ways s.net (high s.values))
+
+-- Behind a move of the node: these nodes have it among them, and each node that has a move now and had none before.
+pub record AreConcerned (s : StageValue) (n : ℕ) (nodes : List ℕ) : Type 0 where
+  pub own : is_among nodes n ≡ true
+  pub others : (before : RunState) (m : ℕ) → now_of s ≡ moved s.net before n →
+      length before.histories ≡ length s.net.channels → m < length s.net.first → is_among nodes m ≡ false →
+      move_enabled s.net s.script (now_of s) m ≡ true → move_enabled s.net s.script before m ≡ true
 
 -- a node that is pulled both ways, else one whose move was taken away, else a channel whose phases are broken
 abbrev pub worst_cause : Option ℕ → Option ℕ → Option ℕ → Option Hazard

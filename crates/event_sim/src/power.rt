@@ -40,7 +40,7 @@ fn settle(state: &mut State, node: u32, value: bool)
 
 /// The state at power-up: in a net with a reset node each node that has rules has this value, and every other its
 /// first value. A net without one begins with its first values.
-pub(crate) fn power_state(alloc: Global, net: &Net, high: bool) -> Result<State, AllocError>
+pub fn power_state(alloc: Global, net: &Net, high: bool) -> Result<State, AllocError>
     ensures values { IfOk result (λ s. s ≡ power_of net.now high) }
     ensures count { IfOk result (λ s. length s ≡ length net.now.first) }
 {

@@ -56,7 +56,8 @@ fn choose(picker: &mut Box<dyn Picker>, enabled: &[u32]) -> usize
     picker.pick(enabled)
 }
 
-fn end_from(hazard: Hazard) -> End
+/// The end at the hazard.
+pub fn end_from(hazard: Hazard) -> End
     ensures { result ≡ end_from hazard }
 {
     match hazard {

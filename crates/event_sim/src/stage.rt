@@ -1,10 +1,10 @@
 //! A run that goes on.
 
-ghost use Rattle.std.specs.Prelude.{◌≡◌, ◌<◌, ◌≤◌, ◌+◌, ◌++◌, ℕ, true, List, [], length, map, replicate, vec_len, vec_capacity, option_to_list, IfOk, IfSome};
+ghost use Rattle.std.specs.Prelude.{◌≡◌, ◌<◌, ◌≤◌, ◌+◌, ◌++◌, ◌==◌, ℕ, true, false, All, List, [], length, map, replicate, vec_len, vec_capacity, option_to_list, IfOk, IfSome};
 ghost use Rattle.prs_core.specs.Nets.{IsNet};
 ghost use Rattle.prs_core.specs.Moves.{high};
 ghost use Rattle.env_script.specs.Scripts.{IsScript};
-ghost use Rattle.env_script.specs.Environment.{net_channels};
+ghost use Rattle.env_script.specs.Environment.{net_channels, is_reset};
 ghost use Rattle.env_script.specs.Runs.{moved, move_enabled};
 ghost use Rattle.env_script.specs.Hazards.{first_hazard, hazard_of};
 ghost use Rattle.event_sim.specs.Passing.{completion, channel_histories};
@@ -12,6 +12,7 @@ ghost use Rattle.event_sim.specs.Passing.{completion, channel_histories};
 use crate::hazards::{first_pulled, pulled_behind, worst_cause};
 use crate::indexed::IndexedNet;
 use crate::listing::{add_reset, list_ready, relist};
+use crate::moves::is_reset;
 use crate::node_set::NodeSet;
 use crate::ran::{End, Ran};
 use env_script::{Hazard, Script};
@@ -19,11 +20,22 @@ use prs_core::{Net, State, fire};
 use std::alloc::{AllocError, Global};
 use std::marker::Model;
 
+/// The nodes that a move of a node concerns, in three parts.
+#[derive(Clone, Copy, Debug)]
+pub struct Concerned<'a> {
+    /// Those that read it.
+    pub readers: &'a [u32],
+    /// The rails of its channel.
+    pub rails: &'a [u32],
+    /// Itself, the acknowledge of its channel, and the reset node.
+    pub others: [u32; 3],
+}
+
 /// How far a run has come: its net and script, the values of the nodes, and what has passed. Beside that it keeps how
 /// many values are completed on each channel, the list of the enabled moves, and the least node that is pulled both
 /// ways.
 #[derive(Debug, Drop)]
-pub(crate) struct Stage {
+pub struct Stage {
     indexed: IndexedNet,
     state: State,
     done: Vec<u64>,
@@ -73,12 +85,24 @@ fn note(done: &mut Vec<u64>, passed: &mut Vec<(u32, u64)>, completed: Option<(u3
     }
 }
 
+/// The reset node, or this one where there is none.
+fn reset_or(net: &Net, node: u32) -> u32
+    requires { node < length net.now.first }
+    ensures within { result < length net.now.first }
+    ensures other { (m : ℕ) → (result == m) ≡ false → is_reset net.now.reset m ≡ false }
+{
+    match net.reset() {
+        None => node,
+        Some(reset) => reset,
+    }
+}
+
 impl Stage {
     ghost use Rattle.event_sim.specs.Simulating.{RanValue, IsEndIn};
-    ghost use Rattle.event_sim.specs.Stages.{StageValue, stage_with, now_of, moves_now};
+    ghost use Rattle.event_sim.specs.Stages.{StageValue, stage_with, now_of, moves_now, AreConcerned};
 
     /// The run that has made no move, from this state, with room for so many values.
-    pub(crate) fn new(
+    pub fn new(
         alloc: Global,
         net: Net,
         script: Script,
@@ -108,14 +132,58 @@ impl Stage {
     }
 
     /// The enabled moves, in ascending order.
-    pub(crate) fn moves(&self) -> &[u32]
+    pub fn moves(&self) -> &[u32]
         ensures { result.now ≡ moves_now self.now }
     {
         self.moves.nodes()
     }
 
+    /// Whether the node has an enabled move.
+    pub fn is_enabled(&self, node: u32) -> bool
+        requires { node < length self.now.net.first }
+        ensures { result ≡ move_enabled self.now.net self.now.script (now_of self.now) node }
+    {
+        self.moves.contains(node)
+    }
+
+    /// Behind a move of the node: the node, and at least all that have an enabled move now and had none before. Where
+    /// that is the reset node, these are all that have one.
+    pub fn concerned(&self, node: u32) -> Concerned<'_>
+        requires { node < length self.now.net.first }
+        ensures concerned { AreConcerned self.now node (result.readers.now ++ result.rails.now ++ result.others) }
+        ensures readers { All (λ n. n < length self.now.net.first) result.readers.now }
+        ensures rails { All (λ n. n < length self.now.net.first) result.rails.now }
+        ensures others { All (λ n. n < length self.now.net.first) result.others }
+    {
+        let net = self.indexed.net();
+        let readers = self.indexed.readers(node);
+        if is_reset(net, node) {
+            return Concerned {
+                readers: self.moves.nodes(),
+                rails: &readers[..0],
+                others: [node, node, node],
+            };
+        }
+        let reset = reset_or(net, node);
+        match self.indexed.shared_channel(node) {
+            None => Concerned {
+                readers,
+                rails: &readers[..0],
+                others: [node, node, reset],
+            },
+            Some(chan) => {
+                let wires = &net.channels()[chan as usize];
+                Concerned {
+                    readers,
+                    rails: wires.rails.nodes(),
+                    others: [node, wires.ack, reset],
+                }
+            }
+        }
+    }
+
     /// The hazard in the first state: a node that is pulled both ways.
-    pub(crate) fn first_hazard(&self) -> Option<Hazard>
+    pub fn first_hazard(&self) -> Option<Hazard>
         ensures hazard { result ≡ first_hazard self.now.net (now_of self.now) }
         ensures net { IsNet self.now.net }
     {
@@ -124,7 +192,7 @@ impl Stage {
     }
 
     /// Makes the enabled move of the node, and tells the hazard that this brings.
-    pub(crate) fn make(&mut self, node: u32) -> Option<Hazard>
+    pub fn make(&mut self, node: u32) -> Option<Hazard>
         requires node { node < length self.old.net.first }
         requires enabled { move_enabled self.old.net self.old.script (now_of self.old) node ≡ true }
         requires room { 1 ≤ self.old.room }
@@ -151,8 +219,16 @@ impl Stage {
         worst_cause(self.pulled, lost, broken)
     }
 
+    /// Whether the node is high.
+    pub fn is_high(&self, node: u32) -> bool
+        requires { node < length self.now.net.first }
+        ensures { result ≡ high self.now.values node }
+    {
+        self.state.is_high(node)
+    }
+
     /// The run, which has ended so after so many moves.
-    pub(crate) fn ran(self, end: End, moves: u32) -> Ran
+    pub fn ran(self, end: End, moves: u32) -> Ran
         requires { IsEndIn self.net end }
         ensures { result ≡ record {
           net = self.net;
