@@ -177,7 +177,7 @@ listed vars e w reads_from = record {
       (only_both _ _ (block_parts e 0) (parts_only (λ x i. i < var_width vars x → (one : Bool) → v (node_of (nodes.pair_of (bits x) i) one) ≡ now x i one) e 0
       (λ x i h l one. s.read x i one h l)) (parts_within vars e 0 w reads_from)) in
       let t = gates_told bits request from v r now n (pair_in n u) s.asked s.gates (block_parts e 0) n u 0
-          (parts_length e 0 w) (omega arith) (parts_ordered e 0 w)
+      (parts_length e 0 w) (omega arith) (parts_ordered e 0 w)
       seen k one in
       let is = formula_list vars bits has request from e 0 from (omega arith) w reads_from in
       record {

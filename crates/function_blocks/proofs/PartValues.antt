@@ -215,7 +215,7 @@ module _ (v : ℕ → Bool) (bits : ℕ → Rails) (vars : List Var) where
         let same : length vs ≡ length us = outs_length f fb h.3 ∙ (h.1 ∙ sym is) in
         let right = agrees_right v bits from (gate_count e) (block_parts e from) (block_parts f fb ++ own) (parts_length e from h.2) a in
         operator_is v bits op us vs fo same (omega (arith, is, some))
-          (agrees_right v bits fb (gate_count f) (block_parts f fb) own (parts_length f fb h.3) right)
+        (agrees_right v bits fb (gate_count f) (block_parts f fb) own (parts_length f fb h.3) right)
         ∙ (ap (λ n. operated op n (number_of (bits_in v us)) (number_of (bits_in v vs))) is
         ∙ (ap (λ n. operated op (width_of e) n (number_of (bits_in v vs)))
         (value_at e from h.2 r.0 (agrees_left v bits from (block_parts e from) (block_parts f fb ++ own) a))

@@ -85,7 +85,7 @@ cold _ _ u = true
 abbrev pub good : Bool → (bits : ℕ → Rails) → (e : Formula) → Pairs (gate_count e) → Bool
 good r bits e u =
     all_fit r (pair_in (gate_count e) u) bits (block_parts e 0) (gate_count e) u
-        && cold (block_parts e 0) (gate_count e) u
+    && cold (block_parts e 0) (gate_count e) u
 
 -- the rails of its value
 abbrev pub input_rails : List Input → (look : ℕ → RailLevels) → Rails
