@@ -3,10 +3,10 @@
 use crate::bench::Bench;
 use crate::cells::{again, emit, put_rules, select};
 use crate::names::{bits, name, node_name, symbols};
-use crate::nets::{copy, first, readers, show};
+use crate::nets::{first, readers, show};
+use crate::orders::orders;
 use crate::runs::moved;
 use crate::scripts::offers;
-use crate::simulated::simulated;
 use case_text::{bytes_of, numbers_of};
 use prs_core::Rules;
 use std::alloc::{AllocError, Global};
@@ -85,14 +85,13 @@ fn act(
         "selection" => put_rules(page, &select(alloc)?)?,
         "repetition" => put_rules(page, &again(alloc)?)?,
         "show" => show(alloc, bench, page)?,
-        "copy" => copy(alloc, bench, page)?,
         "readers" => readers(alloc, bench, page)?,
         "first" => first(alloc, bench, page)?,
         "moves" => match rest.parse::<u32>() {
             Ok(most) => moved(alloc, bench, most, page)?,
             Err(_) => return Ok(false),
         },
-        "simulate" => return simulated(alloc, bench, rest, page),
+        "orders" => return orders(alloc, bench, rest, page),
         _ => return Ok(false),
     }
     Ok(true)

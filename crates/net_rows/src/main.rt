@@ -7,15 +7,15 @@ mod cases;
 mod cells;
 mod names;
 mod nets;
+mod orders;
 mod runs;
 mod scripts;
-mod simulated;
 
 use bench::Bench;
 use cases::obey;
 use std::{fs, io};
 
-const TOPICS: [&str; 5] = ["names", "scripts", "cells", "nets", "simulations"];
+const TOPICS: [&str; 5] = ["names", "scripts", "cells", "nets", "orders"];
 
 fn main(rt: HostRuntime) -> io::Result<()> {
     let mut page = String::new(rt.alloc());

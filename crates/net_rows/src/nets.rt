@@ -1,10 +1,10 @@
-//! Rule files read and printed back, and what stands in their nets.
+//! Rule files read, and what stands in their nets.
 
 use crate::bench::Bench;
 use crate::cells::put_guard;
-use case_text::{put_bytes, put_lines};
+use case_text::put_bytes;
 use prs_core::{Net, enabled, fan_of, first_state};
-use prs_file::{print_net, read_net};
+use prs_file::read_net;
 use std::alloc::{AllocError, Global};
 use std::fmt::Write;
 
@@ -48,14 +48,6 @@ fn put_net(page: &mut String, net: &Net) -> Result<(), AllocError> {
 pub fn show(alloc: Global, bench: &Bench, page: &mut String) -> Result<(), AllocError> {
     match net_of(alloc, bench) {
         Some(net) => put_net(page, &net),
-        None => page.push_str("no net\n"),
-    }
-}
-
-/// The rule file of the net that the rule file spells.
-pub fn copy(alloc: Global, bench: &Bench, page: &mut String) -> Result<(), AllocError> {
-    match net_of(alloc, bench) {
-        Some(net) => put_lines(page, &print_net(alloc, &net)?),
         None => page.push_str("no net\n"),
     }
 }

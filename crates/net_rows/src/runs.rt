@@ -95,15 +95,25 @@ fn moves(alloc: Global, run: &mut Run, most: u32) -> Result<(Vec<u32>, Option<Ha
     Ok((moves, None))
 }
 
-/// The run of so many moves at most of the net under the script, or None where a text is refused.
-fn ran(alloc: Global, bench: &Bench, most: u32) -> Result<Option<Outcome>, AllocError> {
+/// The net and the script of the case, or None where a text is refused.
+pub fn read(alloc: Global, bench: &Bench) -> Result<Option<(Net, Script)>, AllocError>
+    ensures { IfOk result (λ read. IfSome read (λ r. IsScript (net_channels r.0) r.1)) }
+{
     let Some(net) = net_of(alloc, bench) else {
         return Ok(None);
     };
     if bench.script.len() > MOST_OF_SCRIPT {
         return Ok(None);
     }
-    let Ok(script) = script_of(alloc, &net, &bench.script) else {
+    match script_of(alloc, &net, &bench.script) {
+        Ok(script) => Ok(Some((net, script))),
+        Err(_) => Ok(None),
+    }
+}
+
+/// The run of so many moves at most of the net under the script, or None where a text is refused.
+fn ran(alloc: Global, bench: &Bench, most: u32) -> Result<Option<Outcome>, AllocError> {
+    let Some((net, script)) = read(alloc, bench)? else {
         return Ok(None);
     };
     let Ok(channels) = u32::try_from(net.channels().len()) else {

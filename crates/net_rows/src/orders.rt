@@ -1,0 +1,228 @@
+//! Simulations by each order, and plain runs by the picks of those that go by age.
+
+ghost use Rattle.std.specs.Prelude.{◌≤◌};
+
+use crate::bench::Bench;
+use crate::runs::read;
+use case_text::numbers_of;
+use event_sim::{End, Lowest, Newest, Oldest, Picker, Random, Sim};
+use plain_runs::Run;
+use std::alloc::{AllocError, Global};
+use std::fmt::Write;
+
+/// What a simulation came to, with what passed channel by channel, and the places that its order picked.
+#[derive(Drop)]
+struct Simulated {
+    end: End,
+    moves: u32,
+    done: bool,
+    passed: Vec<(u32, u64)>,
+    picks: Vec<usize>,
+}
+
+impl Simulated {
+    /// Whether both came to the same.
+    fn agrees(&self, other: &Simulated) -> bool {
+        self.end == other.end
+            && self.moves == other.moves
+            && self.done == other.done
+            && self.passed == other.passed
+    }
+}
+
+/// The simulation by the picker, or None where a text is refused.
+fn simulate(
+    alloc: Global,
+    bench: &Bench,
+    seed: u64,
+    steps: u32,
+    mut picker: Box<dyn Picker>,
+) -> Result<Option<Simulated>, AllocError>
+    requires { steps ≤ 1000000 }
+{
+    let Some((net, script)) = read(alloc, bench)? else {
+        return Ok(None);
+    };
+    let Ok(nodes) = u32::try_from(net.first().len()) else {
+        return Ok(None);
+    };
+    picker.seed(seed);
+    picker.make_room(steps, nodes)?;
+    let ran = Sim::new(alloc, net, script, steps)?.run(&mut picker);
+    let mut passed = Vec::from_slice(alloc, ran.passed())?;
+    passed.sort_by_key(|value| value.0)?;
+    Ok(Some(Simulated {
+        end: ran.end(),
+        moves: ran.moves(),
+        done: ran.done_high(),
+        passed,
+        picks: Vec::from_slice(alloc, picker.log())?,
+    }))
+}
+
+/// The simulation by the order of this name.
+fn by_order(
+    alloc: Global,
+    bench: &Bench,
+    seed: u64,
+    steps: u32,
+    order: &str,
+) -> Result<Option<Simulated>, AllocError>
+    requires { steps ≤ 1000000 }
+{
+    match order {
+        "lowest" => simulate(
+            alloc,
+            bench,
+            seed,
+            steps,
+            Box::new(alloc, Lowest::new(alloc))?,
+        ),
+        "oldest" => simulate(
+            alloc,
+            bench,
+            seed,
+            steps,
+            Box::new(alloc, Oldest::new(alloc))?,
+        ),
+        "newest" => simulate(
+            alloc,
+            bench,
+            seed,
+            steps,
+            Box::new(alloc, Newest::new(alloc))?,
+        ),
+        _ => simulate(
+            alloc,
+            bench,
+            seed,
+            steps,
+            Box::new(alloc, Random::new(alloc))?,
+        ),
+    }
+}
+
+/// A node with an enabled move, and the number of the list in which it began to stand without a break.
+#[derive(Clone, Copy)]
+struct Waiting {
+    node: usize,
+    since: usize,
+}
+
+/// The list of this number, of the nodes that have an enabled move, the least first, where the list before it was this
+/// one.
+fn listed(
+    alloc: Global,
+    enabled: &[bool],
+    before: &[Waiting],
+    number: usize,
+) -> Result<Vec<Waiting>, AllocError> {
+    let mut list = Vec::new(alloc);
+    for (node, is_enabled) in enabled.iter().enumerate() {
+        if *is_enabled {
+            let known = before.iter().find(|other| other.node == node);
+            let since = known.map_or(number, |other| other.since);
+            list.push(Waiting { node, since })?;
+        }
+    }
+    Ok(list)
+}
+
+/// The first place of a node that has waited longest, or shortest.
+fn by_age(list: &[Waiting], longest: bool) -> Option<usize> {
+    let times = list.iter().map(|waiting| waiting.since);
+    let since = if longest { times.min() } else { times.max() }?;
+    list.iter().position(|waiting| waiting.since == since)
+}
+
+/// Makes the move of the node at this place of the list of this number. The list, where that was the first node of those
+/// that have waited longest, or shortest, and the move brought no hazard; else None.
+#[tactic(auto, using(crate::proofs::ScriptChannels::counted))]
+fn step(
+    alloc: Global,
+    run: &mut Run,
+    before: &[Waiting],
+    number: usize,
+    place: usize,
+    longest: bool,
+) -> Result<Option<Vec<Waiting>>, AllocError> {
+    let enabled = run.enabled_nodes(alloc)?;
+    let list = listed(alloc, &enabled, before, number)?;
+    let Some(waiting) = list.get(place) else {
+        return Ok(None);
+    };
+    let Ok(node) = u32::try_from(waiting.node) else {
+        return Ok(None);
+    };
+    if by_age(&list, longest) != Some(place) || node as usize >= enabled.len() {
+        return Ok(None);
+    }
+    match run.make(alloc, node)? {
+        None => Ok(Some(list)),
+        Some(_) => Ok(None),
+    }
+}
+
+/// Whether each of these picks takes the first node of those that have waited longest, or shortest, in a run without a
+/// hazard.
+fn go_by_age(
+    alloc: Global,
+    bench: &Bench,
+    picks: &[usize],
+    longest: bool,
+) -> Result<bool, AllocError> {
+    let Some((net, script)) = read(alloc, bench)? else {
+        return Ok(false);
+    };
+    let mut run = Run::new(alloc, net, script)?;
+    let mut list = Vec::new(alloc);
+    for (number, place) in picks.iter().enumerate() {
+        match step(alloc, &mut run, &list, number, *place, longest)? {
+            Some(next) => list = next,
+            None => return Ok(false),
+        }
+    }
+    Ok(true)
+}
+
+/// Simulates by each order, with a seed and for so many moves at most. It prints of each how many picks it made, and
+/// whether each took the oldest node and whether each took the newest one; then whether all came to the same, and whether
+/// all picks differ.
+pub fn orders(
+    alloc: Global,
+    bench: &Bench,
+    line: &str,
+    page: &mut String,
+) -> Result<bool, AllocError> {
+    let Some(numbers) = numbers_of(alloc, line)? else {
+        return Ok(false);
+    };
+    let [seed, steps] = numbers.as_slice() else {
+        return Ok(false);
+    };
+    let Ok(steps) = u32::try_from(*steps) else {
+        return Ok(false);
+    };
+    if steps > 1_000_000 {
+        return Ok(false);
+    }
+    let mut earlier: Vec<Simulated> = Vec::new(alloc);
+    let (mut agree, mut differ) = (true, true);
+    for order in ["lowest", "oldest", "newest", "random"] {
+        let Some(run) = by_order(alloc, bench, *seed, steps, order)? else {
+            return Ok(false);
+        };
+        let oldest = go_by_age(alloc, bench, &run.picks, true)?;
+        let newest = go_by_age(alloc, bench, &run.picks, false)?;
+        let picks = run.picks.len();
+        writeln!(
+            page,
+            "{order}: {picks} picks, oldest {oldest}, newest {newest}"
+        )?;
+        agree = agree && earlier.iter().all(|other| other.agrees(&run));
+        differ = differ && earlier.iter().all(|other| other.picks != run.picks);
+        earlier.push(run)?;
+    }
+    writeln!(page, "all agree {agree}, all picks differ {differ}")?;
+    Ok(true)
+}
