@@ -54,7 +54,7 @@ abbrev pub choice_branches : (P : TypedProgram) (env : Seen) → Clean P env →
 choice_branches P env clean choices = record {
   At = ChosenAt choices;
   low = low_choices choices;
-  flipped = turned_choice choices;
+  turned = turned_choice choices;
   rule = choice_rule choices env;
   answers = choice_answers choices;
   index = λ {k} a. chosen_index a;
