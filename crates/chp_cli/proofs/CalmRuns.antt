@@ -1,5 +1,5 @@
 -- What the simulation of a net that carries a program comes to.
-use Rattle.std.proofs.Common.{◌≡◌, ◌∙◌, ◌↔◌, ℕ, zero, suc, ◌<◌, ◌==◌, Bool, true, false, List, [], ◌∷◌, length, Option, Some, None, is_some, inl, inr, ◌⊎◌, refl, sym, ap, subst, cond}
+use Rattle.std.proofs.Common.{◌≡◌, ◌≢◌, ◌∙◌, ◌↔◌, ℕ, zero, suc, ◌<◌, ◌==◌, Bool, true, false, List, [], ◌∷◌, length, Option, Some, None, is_some, inl, inr, ◌⊎◌, refl, sym, ap, subst, cond}
 use Rattle.std.specs.Prelude.{IsSome, option_map}
 use Rattle.prs_core.specs.Nets.{NetValue, IsNet}
 use Rattle.prs_core.specs.Moves.{high, both_ways}
@@ -15,32 +15,37 @@ use Rattle.event_sim.specs.declared.ran.End.{End}
 use Rattle.event_sim.specs.declared.ran.End.TheVariants.{AtRest, Spent}
 use Rattle.event_sim.specs.Ends.{calm_end, end_after, end_from, end_with, last_hazard, EndsSo}
 use Rattle.event_sim.specs.Following.{enabled_moves, follow, power_of}
-use Rattle.event_sim.specs.Simulating.{SimValue, growth, picked_moves, start_at}
+use Rattle.event_sim.specs.Simulating.{SimValue, RanValue, growth, picked_moves, start_at}
+use Rattle.history_report.specs.declared.comparison.Against.{Against}
+use Rattle.history_report.specs.declared.comparison.Against.TheVariants.{Agrees, Channels, Differs}
 use Rattle.event_sim.proofs.Following.{picked_run}
 use Rattle.event_sim.proofs.Ranges.{rests}
 use Rattle.net_compose.specs.Carries.{Carries, CarriesReset, HasChannels}
 use Rattle.width_check.specs.Processes.{TypedProgram}
 use Rattle.prs_file.specs.Spelling.{NetText}
 use Rattle.chp_cli.specs.declared.answer.Ending.{Ending}
-use Rattle.chp_cli.specs.declared.answer.Ending.TheVariants.{Done}
+use Rattle.chp_cli.specs.declared.answer.Ending.TheVariants.{Done, Hazard as Hazardous}
 use Rattle.chp_cli.specs.Answers.{Given, Answer, writes}
 use Rattle.chp_cli.specs.Orders.{Played}
+use Rattle.chp_cli.specs.RunReporting.{IsReported, alone, hazardous, compared, ending_against, ending_for}
 use Rattle.chp_cli.specs.RunSteps.{an_order, has_power, a_script}
 use Rattle.chp_cli.specs.Simulated.{IsFileSimulated, HoldsCarrying, EndsAllAtRest}
-use Rattle.chp_cli.specs.Simulating.{AskedRun, Simulates, ending_for, simulation_for}
+use Rattle.chp_cli.specs.Simulating.{AskedRun, Simulates, ran_value, simulation_for}
 use Rattle.chp_cli.specs.Steps.{a_file, a_net}
 use Rattle.chp_cli.proofs.OneAnswers.{same_text}
+use Rattle.chp_cli.proofs.Referring.{reference_read}
 
 -- ---- what is reported
 
 pub simulation_written : (s : AskedRun) (given : Given) (played : Played) → given.tells ≡ true → (end : Ending) (text : List ℕ) →
     Simulates s given played (writes end text) → IsFileSimulated s given played (writes end text)
 simulation_written s given played told end text (an_order {place = k} named (a_file {text = x} gives short (a_net {net = n} is (has_power powered
-    (a_file {text = t} reads fits (a_script {script = sc} are plays)))))) = record {
+    (a_file {text = t} reads fits (a_script {script = sc} are next)))))) = let read = reference_read given _ s.against end text next in let plays = read.2 in record {
       rules = x;
       net = n;
       told = t;
       script = sc;
+      program = read.0;
       place = k;
       was = plays.was;
       is = plays.is;
@@ -49,6 +54,7 @@ simulation_written s given played told end text (an_order {place = k} named (a_f
       held_script = reads told;
       told_is = are;
       powered = powered;
+      referred = read.1;
       named = named;
       before = plays.before;
       after = plays.after;
@@ -76,6 +82,18 @@ calm_done [] spent e is = let same : AtRest ≡ e = cc is in ap ending_for (sym 
 calm_done (x ∷ xs) true e is = let same : Spent ≡ e = cc is in ap ending_for (sym same)
 calm_done (x ∷ xs) false e is = absurd (cc is)
 
+-- so its report doesn't end in one
+against_calm : (x : Against) → ending_against x ≢ Hazardous
+against_calm Agrees = λ e. cc e
+against_calm Channels = λ e. cc e
+against_calm (Differs chan place) = λ e. cc e
+
+pub reported_calm : (script : List OfferValue) (time : Option ℕ) (r : RanValue) (p : Option TypedProgram) (end : Ending) (text : List ℕ) →
+    IsReported script time r p (writes end text) → ending_for r.end ≡ Done → end ≢ Hazardous
+reported_calm script time r p end text alone calm = λ e. cc (calm, e)
+reported_calm script time r p end text (hazardous hazard) calm = λ e. cc (calm, hazard)
+reported_calm script time r p end text (compared x also is) calm = against_calm x
+
 rest_empties : (last : Option Hazard) (xs : List ℕ) (spent : Bool) → end_with last xs spent ≡ Some AtRest → xs ≡ []
 rest_empties last [] spent ended = refl
 rest_empties None (x ∷ xs) true ended = absurd (cc ended)
@@ -90,7 +108,7 @@ rest_empties (Some h) (x ∷ xs) spent ended = absurd (by_hazard h ended)
 -- ---- all runs of a net that carries a program are safe
 
 module _ (powered : (net : NetValue) (high : Bool) → IsNet net → IsSome net.reset → IsPowered net (power_of net high)) where
-  all_safe : (n : NetValue) (p : TypedProgram) (script : List OfferValue) (high : Bool) → IsNet n → IsScript (net_channels n) script →
+  pub all_safe : (n : NetValue) (p : TypedProgram) (script : List OfferValue) (high : Bool) → IsNet n → IsScript (net_channels n) script →
       ((n.reset ≡ None) × Carries n p) ⊎ CarriesReset n p → AllSafe n script (begin_at n (power_of n high))
   all_safe n p script high net suits (inl c) = λ ns run.
       let low : power_of n high ≡ n.first = first_values n high c.0 in
@@ -105,24 +123,29 @@ module _ (powered : (net : NetValue) (high : Bool) → IsNet net → IsSome net.
 
   module _ (law : (net : NetValue) (script : List OfferValue) (st : RunState) (n : ℕ) → IsNet net →
       ((IsSafeMove net script st n × IsApart net (moved net st n)) ↔ (hazard_of net script st n ≡ None))) where
+    -- so such a run ends without a hazard
+    pub run_calm : (n : NetValue) (script : List OfferValue) (st : RunState) (steps : ℕ) (ns : List ℕ) (end : End) → IsNet n → AllSafe n script st →
+        IsRun n script st ns → EndsSo n script steps st ns end → ending_for end ≡ Done
+    run_calm n script st steps ns end net safe run ends =
+        let calm : last_hazard n script st ns ≡ None = safe_calm n script (λ st m is. (law n script st m net).0 is) st ns (safe ns run) in
+        let ended : calm_end (enabled_moves n script (after n st ns)) (length ns == steps) ≡ Some end =
+        sym (ap (λ h. end_with h (enabled_moves n script (after n st ns)) (length ns == steps)) calm) ∙ ends.ended in
+        calm_done _ _ end ended
+
     module _ (s : AskedRun) (given : Given) (played : Played) (p : TypedProgram) (holds : HoldsCarrying given s.net p) where
       carried_safe : (a : Answer) (f : IsFileSimulated s given played a) → AllSafe f.net f.script (start_at (simulation_for f.net f.script s.steps s.power))
       carried_safe a f =
           let same : holds.net ≡ f.net = f.file.only holds.net holds.kept (subst (λ x. NetText x holds.net) (same_text holds.held f.held) holds.spelled) in
           all_safe f.net p f.script _ f.file.kept f.told_is.kept (subst (λ n. ((n.reset ≡ None) × Carries n p) ⊎ CarriesReset n p) same holds.carries)
 
-      pub carried_done : (end : Ending) (text : List ℕ) → IsFileSimulated s given played (writes end text) → end ≡ Done
-      carried_done end text f =
+      pub carried_calm : (a : Answer) (f : IsFileSimulated s given played a) → ending_for f.plays.end ≡ Done
+      carried_calm a f =
           let sim = simulation_for f.net f.script s.steps s.power in
-          let moves = picked_moves sim f.was.log f.is.log in
-          let run : IsRun f.net f.script (start_at sim) moves = picked_run f.net f.script (start_at sim) _ f.plays.run.picks in
-          let calm : last_hazard f.net f.script (start_at sim) moves ≡ None =
-          safe_calm f.net f.script (λ st n safe. (law f.net f.script st n f.file.kept).0 safe) (start_at sim) moves (carried_safe _ f moves run) in
-          let ended : calm_end (enabled_moves f.net f.script (after f.net (start_at sim) moves)) (length moves == s.steps) ≡ Some f.plays.end =
-          sym (ap (λ h. end_with h (enabled_moves f.net f.script (after f.net (start_at sim) moves)) (length moves == s.steps)) calm)
-          ∙ f.plays.run.ends.ended in
-          let told : end ≡ ending_for f.plays.end = let is = f.plays.written in cc is in
-          told ∙ calm_done _ _ f.plays.end ended
+          run_calm f.net f.script (start_at sim) s.steps _ f.plays.end f.file.kept (carried_safe a f)
+          (picked_run f.net f.script (start_at sim) _ f.plays.run.picks) f.plays.run.ends
+
+      pub carried_no_hazard : (end : Ending) (text : List ℕ) → IsFileSimulated s given played (writes end text) → end ≢ Hazardous
+      carried_no_hazard end text f = reported_calm f.script None _ f.program end text f.plays.written (carried_calm _ f)
 
       pub carried_ends : (a : Answer) (f : IsFileSimulated s given played a) → EndsAllAtRest s given played a f
       carried_ends a f = λ rest.

@@ -19,6 +19,7 @@ use Rattle.chp_cli.specs.Statuses.{is_whole, is_refusing}
 whole_status : (end : Ending) → is_whole (status_with end) ≡ true
 whole_status ending.Done = refl
 whole_status ending.Hazard = refl
+whole_status ending.Differs = refl
 
 refusing_status : (r : Refusal) → is_refusing (refusal_status r) ≡ true
 refusing_status (refusal.Text fault) = refl
@@ -27,6 +28,7 @@ refusing_status (refusal.TooManyNodes count) = refl
 refusing_status refusal.TooManyValues = refl
 refusing_status (refusal.BadNet fault line) = refl
 refusing_status (refusal.BadScript fault line) = refl
+refusing_status (refusal.BadDelays fault line) = refl
 refusing_status refusal.NoReset = refl
 refusing_status (refusal.NoOrder name) = refl
 refusing_status refusal.NotBuilt = refl
@@ -35,6 +37,7 @@ refusing_status refusal.NotBuilt = refl
 own_status : (end : Ending) → (status_with end ≢ Usage) × (status_with end ≢ Read) × (status_with end ≢ Write)
 own_status ending.Done = (λ e. cc, λ e. cc, λ e. cc)
 own_status ending.Hazard = (λ e. cc, λ e. cc, λ e. cc)
+own_status ending.Differs = (λ e. cc, λ e. cc, λ e. cc)
 
 pub no_refusal : (s other : Status) → is_refusing s ≡ true → is_refusing other ≡ false → s ≢ other
 no_refusal s other is not same = cc (ap is_refusing same, is, not)

@@ -7,10 +7,9 @@ use Rattle.std.proofs.lemmas.List.{length-map, map-set, set-get_or}
 use Rattle.std.proofs.lemmas.List.Quantifiers.{position-Some}
 use Rattle.std.proofs.lemmas.Option.{get_or_from_slice_get, slice_get-get_or, slice_get-map, unwrap_or-slice_get}
 use Rattle.std.proofs.Math.Seq.{map-set_same}
-use Rattle.event_sim.specs.Simulating.{SimValue}
-use Rattle.chp_cli.specs.Answers.{Answer}
+use Rattle.event_sim.specs.Simulating.{SimValue, RanValue}
 use Rattle.chp_cli.specs.Orders.{OrderState, Played, IsPlayedAt, KeepsOrders, order_state, place_named, played_by}
-use Rattle.chp_cli.specs.Simulating.{PlaysOut, SimulatesNet}
+use Rattle.chp_cli.specs.Simulating.{HasPlayed, IsPlayed, ran_value}
 
 -- ---- lists with one item changed
 
@@ -89,9 +88,9 @@ module _ {X : Type 0} (f : X → OrderState) (xs : List X) (place : ℕ) (item x
   is_there : slice_get (map f (set xs place x)) place ≡ Some (f x)
   is_there = slice_get-map f (set xs place x) place ∙ ap (option_map f) (get_same xs place x within)
 
-  pub simulates_at : (seed : ℕ) (s : SimValue) (a : Answer) → PlaysOut s seed (f item) (f x) a →
-      SimulatesNet (played_by (map f xs) (map f (set xs place x))) place seed s a
-  simulates_at seed s a plays = record { was = f item; is = f x; before = was_there; after = is_there; plays = plays }
+  pub led_at : (seed : ℕ) (s : SimValue) (r : RanValue) → IsPlayed s seed (f item) (f x) r.end → r ≡ ran_value s (f item).log (f x).log r.end →
+      HasPlayed (played_by (map f xs) (map f (set xs place x))) place seed s r
+  led_at seed s r run led = record { was = f item; is = f x; before = was_there; after = is_there; run = run; led = led }
 
   pub played_at : name_of (f x) ≡ name_of (f item) → IsPlayedAt place (played_by (map f xs) (map f (set xs place x)))
   played_at same = record {

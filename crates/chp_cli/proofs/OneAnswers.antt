@@ -18,7 +18,7 @@ use Rattle.chp_cli.specs.declared.answer.Ending.TheVariants.{Done}
 use Rattle.chp_cli.specs.declared.status.Status.TheVariants.{RefusedText, BadFile}
 use Rattle.chp_cli.specs.Answers.{Given, Answer, writes, refuses, OneAnswer}
 use Rattle.chp_cli.specs.Checking.{AcceptedReport, ChecksProgram}
-use Rattle.chp_cli.specs.Commands.{Asked, compiles, migrates, checks, expands, simulates, runs, grows, IsAnswer}
+use Rattle.chp_cli.specs.Commands.{Asked, compiles, migrates, checks, expands, simulates, times, runs, grows, IsAnswer}
 use Rattle.chp_cli.specs.Compiling.{CompilesNet, CompilesProgram, compiled}
 use Rattle.chp_cli.specs.Expanding.{ExpandsProgram, TreeReport}
 use Rattle.chp_cli.specs.Lines.{refused_line, bad_net_line}
@@ -27,6 +27,7 @@ use Rattle.chp_cli.specs.Orders.{Played}
 use Rattle.chp_cli.specs.RoundsReporting.{Runs}
 use Rattle.chp_cli.specs.RoundsWords.{AskedRounds}
 use Rattle.chp_cli.specs.Simulating.{AskedRun, Simulates}
+use Rattle.chp_cli.specs.Timing.{AskedTiming, SimulatesTimed}
 use Rattle.chp_cli.specs.Steps.{FromFile, no_file, long_file, a_file, FromProgram, no_program, a_program, IsFaulty, of_names, of_sharing, FromChecks, has_calls, faulty, accepted, FromNodes, too_many, few_enough, FromNet, no_net, a_net}
 
 pub same_text : {held : Option (List ℕ)} {a b : List ℕ} → held ≡ Some a → held ≡ Some b → a ≡ b
@@ -135,6 +136,7 @@ module _ (cause : (text : List ℕ) (k j : FaultCode) (s t : Span) → IsRefused
     (place : (text : List ℕ) (k j : FaultCode) (s t : Span) → IsRefusedText text k s → IsRefusedText text j t → s ≡ t)
     (once : (text : List ℕ) (f g : NetFault) (l m : ℕ) → IsRefused text f l → IsRefused text g m → (f ≡ g) × (l ≡ m))
     (simulate_once : (run : AskedRun) (given : Given) (played : Played) → given.tells ≡ true → OneAnswer (Simulates run given played))
+    (times_once : (t : AskedTiming) (given : Given) → given.tells ≡ true → OneAnswer (SimulatesTimed t given))
     (rounds_once : (r : AskedRounds) (given : Given) → given.tells ≡ true → OneAnswer (Runs r given))
     (checked : (program : ProgramTree) (Next : Answer → Type 0) → OneAnswer Next → OneAnswer (FromChecks program Next)) where
   pub command_once : (command : Asked) (given : Given) (played : Played) → given.tells ≡ true → OneAnswer (IsAnswer command given played)
@@ -151,5 +153,6 @@ module _ (cause : (text : List ℕ) (k j : FaultCode) (s t : Span) → IsRefused
       (λ program. checked program (FromNodes (typed_form program) TreeReport) (nodes_once (typed_form program) TreeReport (λ a b is are. is ∙ sym are)))
       (cause text) (place text))
   command_once (simulates run) given played told = simulate_once run given played told
+  command_once (times t) given played told = times_once t given told
   command_once (runs r) given played told = rounds_once r given told
   command_once (grows growth) given played told = λ a b is are. is ∙ sym are

@@ -1,5 +1,5 @@
 -- Each step of a command that makes runs, and so `simulate`, has at most one answer.
-use Rattle.std.proofs.Common.{◌≡◌, ◌∙◌, ℕ, Bool, true, false, List, Option, Some, None, refl, sym, ap, subst}
+use Rattle.std.proofs.Common.{◌≡◌, ◌∙◌, ℕ, Bool, true, false, List, ◌++◌, Option, Some, None, refl, sym, ap, subst}
 use Rattle.chp_base.specs.declared.channel.Channel.{Channel}
 use Rattle.env_script.specs.declared.fault.ScriptFault.{ScriptFault}
 use Rattle.env_script.specs.Environment.{net_channels}
@@ -7,18 +7,29 @@ use Rattle.env_script.specs.Scripts.{OfferValue}
 use Rattle.env_script.specs.ScriptText.{IsScriptRefused}
 use Rattle.event_sim.specs.declared.ran.End.{End}
 use Rattle.event_sim.specs.Ends.{EndsSo, end_after}
-use Rattle.event_sim.specs.Simulating.{SimValue, picked_moves, start_at}
+use Rattle.event_sim.specs.Simulating.{SimValue, RanValue, picked_moves, start_at}
 use Rattle.prs_core.specs.Nets.{NetValue}
 use Rattle.prs_file.specs.declared.fault.NetFault.{NetFault}
 use Rattle.prs_file.specs.Reading.{IsRefused}
+use Rattle.chp_base.specs.declared.fault.FaultCode.{FaultCode}
+use Rattle.chp_base.specs.declared.span.Span.{Span}
+use Rattle.chp_syntax.specs.Trees.{ProgramTree}
+use Rattle.chp_syntax.specs.Refusals.{RefusedText as IsRefusedText}
+use Rattle.history_report.specs.declared.comparison.Against.{Against}
+use Rattle.history_report.specs.Comparing.{IsAgainst, against_line}
 use Rattle.history_report.specs.Reports.{report_of}
+use Rattle.width_check.specs.Form.{typed_form}
+use Rattle.width_check.specs.Processes.{TypedProgram}
 use Rattle.chp_cli.specs.declared.status.Status.TheVariants.{BadFile}
 use Rattle.chp_cli.specs.Answers.{Given, Answer, writes, refuses, OneAnswer}
 use Rattle.chp_cli.specs.Lines.{bad_script_line}
 use Rattle.chp_cli.specs.Orders.{OrderState, Played}
+use Rattle.chp_cli.specs.References.{FromReference}
+use Rattle.chp_cli.specs.RunReporting.{IsReported, alone, hazardous, compared, ending_against}
 use Rattle.chp_cli.specs.RunSteps.{FromOrder, no_order, an_order, FromPower, no_reset, has_power, FromScript, no_script, a_script}
-use Rattle.chp_cli.specs.Simulating.{AskedRun, PlaysOut, SimulatesNet, SimulatesFile, Simulates, ran_value, ending_for, simulation_for}
-use Rattle.chp_cli.proofs.OneAnswers.{file_once, net_once}
+use Rattle.chp_cli.specs.Simulating.{AskedRun, PlaysOut, SimulatesNet, SimulatesFile, Simulates, ran_value, simulation_for}
+use Rattle.chp_cli.specs.Steps.{FromChecks}
+use Rattle.chp_cli.proofs.OneAnswers.{file_once, net_once, program_once}
 
 module _ (played : Played) (name : List ℕ) (Next : ℕ → Answer → Type 0) (next : (place : ℕ) → OneAnswer (Next place)) where
   pub order_once : (a b : Answer) → FromOrder played name Next a → FromOrder played name Next b → a ≡ b
@@ -52,29 +63,56 @@ one_end : (s : SimValue) (was now : List ℕ) (e f : End) → EndsSo s.net s.scr
     EndsSo s.net s.script s.steps (start_at s) (picked_moves s was now) f → e ≡ f
 one_end s was now e f is are = let p = is.ended in let q = are.ended in cc (p, q)
 
-plays_once : (s : SimValue) (seed : ℕ) (was is : OrderState) (a b : Answer) → PlaysOut s seed was is a → PlaysOut s seed was is b → a ≡ b
-plays_once s seed was is a b p q =
-    let same : p.end ≡ q.end = one_end s was.log is.log p.end q.end p.run.ends q.run.ends in
-    p.written ∙ (ap (λ (e : End). writes (ending_for e) (report_of (ran_value s was.log is.log e) None)) same ∙ sym q.written)
+module _ (Next : RanValue → Answer → Type 0) (next : (r : RanValue) → OneAnswer (Next r)) where
+  plays_once : (s : SimValue) (seed : ℕ) (was is : OrderState) (a b : Answer) → PlaysOut s seed was is Next a → PlaysOut s seed was is Next b → a ≡ b
+  plays_once s seed was is a b p q =
+      let same : q.end ≡ p.end = one_end s was.log is.log q.end p.end q.run.ends p.run.ends in
+      next (ran_value s was.log is.log p.end) a b p.written (subst (λ (e : End). Next (ran_value s was.log is.log e) b) same q.written)
 
 same_order : {held : Option OrderState} {a b : OrderState} → held ≡ Some a → held ≡ Some b → a ≡ b
 same_order e f = cc (e, f)
 
-net_run_once : (played : Played) (place seed : ℕ) (s : SimValue) (a b : Answer) → SimulatesNet played place seed s a → SimulatesNet played place seed s b →
-    a ≡ b
-net_run_once played place seed s a b p q =
-    let before : q.was ≡ p.was = same_order q.before p.before in
-    let after : q.is ≡ p.is = same_order q.after p.after in
-    plays_once s seed p.was p.is a b p.plays (subst (λ is. PlaysOut s seed p.was is b) after (subst (λ was. PlaysOut s seed was q.is b) before q.plays))
+module _ (Next : RanValue → Answer → Type 0) (next : (r : RanValue) → OneAnswer (Next r)) where
+  net_run_once : (played : Played) (place seed : ℕ) (s : SimValue) (a b : Answer) → SimulatesNet played place seed s Next a →
+      SimulatesNet played place seed s Next b → a ≡ b
+  net_run_once played place seed s a b p q =
+      let before : q.was ≡ p.was = same_order q.before p.before in
+      let after : q.is ≡ p.is = same_order q.after p.after in
+      plays_once Next next s seed p.was p.is a b p.plays
+      (subst (λ is. PlaysOut s seed p.was is Next b) after (subst (λ was. PlaysOut s seed was q.is Next b) before q.plays))
 
-module _ (once : (text : List ℕ) (f g : NetFault) (l m : ℕ) → IsRefused text f l → IsRefused text g m → (f ≡ g) × (l ≡ m)) where
-  file_run_once : (run : AskedRun) (given : Given) (played : Played) → given.tells ≡ true → (place : ℕ) (net : NetValue) →
-      OneAnswer (SimulatesFile run given played place net)
-  file_run_once run given played told place net = power_once net run.power _
-      (file_once given run.script _ _ told (λ text. script_once (net_channels net) text _
-      (λ script. net_run_once played place run.seed (simulation_for net script run.steps run.power))))
+-- ---- what is compared with what, and how it stands
 
-  pub simulate_once : (run : AskedRun) (given : Given) (played : Played) → given.tells ≡ true → OneAnswer (Simulates run given played)
-  simulate_once run given played told = order_once played run.order _
-      (λ place. file_once given run.net _ _ told (λ text. net_once text (SimulatesFile run given played place)
-      (file_run_once run given played told place) (once text)))
+module _ (law : (r : RanValue) (p : TypedProgram) (script : List OfferValue) (a b : Against) → IsAgainst r p script a → IsAgainst r p script b → a ≡ b) where
+  pub reported_once : (script : List OfferValue) (time : Option ℕ) (r : RanValue) (p : Option TypedProgram) (a b : Answer) → IsReported script time r p a →
+      IsReported script time r p b → a ≡ b
+  reported_once script time r p a b alone alone = refl
+  reported_once script time r p a b (hazardous hazard) (hazardous also) = refl
+  reported_once script time r p a b (hazardous hazard) (compared x calm is) = absurd (cc (hazard, calm))
+  reported_once script time r p a b (compared x calm is) (hazardous hazard) = absurd (cc (hazard, calm))
+  reported_once script time r (Some p) a b (compared x calm is) (compared y also are) =
+      ap (λ (against : Against). writes (ending_against against) (report_of r time ++ against_line r.net against)) (law r p script x y is are)
+
+module _ (cause : (text : List ℕ) (k j : FaultCode) (s t : Span) → IsRefusedText text k s → IsRefusedText text j t → k ≡ j)
+    (place : (text : List ℕ) (k j : FaultCode) (s t : Span) → IsRefusedText text k s → IsRefusedText text j t → s ≡ t)
+    (checked : (program : ProgramTree) (Next : Answer → Type 0) → OneAnswer Next → OneAnswer (FromChecks program Next)) where
+  pub reference_once : (given : Given) → given.tells ≡ true → (Next : Option TypedProgram → Answer → Type 0) → ((p : Option TypedProgram) → OneAnswer (Next p)) →
+      (file : Option (List ℕ)) → OneAnswer (FromReference given file Next)
+  reference_once given told Next next None = next None
+  reference_once given told Next next (Some file) = file_once given file _ _ told
+      (λ text. program_once text _ (λ program. checked program _ (next (Some (typed_form program)))) (cause text) (place text))
+
+  module _ (once : (text : List ℕ) (f g : NetFault) (l m : ℕ) → IsRefused text f l → IsRefused text g m → (f ≡ g) × (l ≡ m))
+      (law : (r : RanValue) (p : TypedProgram) (script : List OfferValue) (a b : Against) → IsAgainst r p script a → IsAgainst r p script b → a ≡ b) where
+    file_run_once : (run : AskedRun) (given : Given) (played : Played) → given.tells ≡ true → (place : ℕ) (net : NetValue) →
+        OneAnswer (SimulatesFile run given played place net)
+    file_run_once run given played told place net = power_once net run.power _
+        (file_once given run.script _ _ told (λ text. script_once (net_channels net) text _
+        (λ script. reference_once given told _
+        (λ p. net_run_once (λ ran. IsReported script None ran p) (λ ran. reported_once law script None ran p) played place run.seed
+        (simulation_for net script run.steps run.power)) run.against)))
+
+    pub simulate_once : (run : AskedRun) (given : Given) (played : Played) → given.tells ≡ true → OneAnswer (Simulates run given played)
+    simulate_once run given played told = order_once played run.order _
+        (λ place. file_once given run.net _ _ told (λ text. net_once text (SimulatesFile run given played place)
+        (file_run_once run given played told place) (once text)))

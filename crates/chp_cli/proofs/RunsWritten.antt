@@ -1,18 +1,30 @@
 -- Where nothing speaks against it, `simulate` writes.
-use Rattle.std.proofs.Common.{◌≡◌, ◌∙◌, ℕ, Bool, true, false, List, Option, refl, sym, ap, subst}
+use Rattle.std.proofs.Common.{◌≡◌, ◌∙◌, ℕ, Bool, true, false, List, Option, Some, None, refl, sym, ap, subst}
+use Rattle.chp_base.specs.declared.fault.Fault.{Fault}
+use Rattle.chp_syntax.specs.Reading.{Reads}
+use Rattle.chp_syntax.specs.Trees.{ProgramTree}
 use Rattle.env_script.specs.Environment.{net_channels}
+use Rattle.env_script.specs.Scripts.{OfferValue}
 use Rattle.env_script.specs.ScriptText.{IsScriptText}
 use Rattle.event_sim.specs.declared.ran.End.{End}
 use Rattle.event_sim.specs.declared.ran.End.TheVariants as end
+use Rattle.event_sim.specs.Simulating.{RanValue}
+use Rattle.history_report.specs.declared.comparison.Against.{Against}
+use Rattle.history_report.specs.declared.comparison.Against.TheVariants as against
 use Rattle.prs_core.specs.Nets.{NetValue}
 use Rattle.prs_file.specs.Spelling.{NetText}
+use Rattle.width_check.specs.Accepted.{IsAccepted}
+use Rattle.width_check.specs.Form.{typed_form}
+use Rattle.width_check.specs.Processes.{TypedProgram}
 use Rattle.chp_cli.specs.Answers.{Given, Answer, status_of, status_with}
 use Rattle.chp_cli.specs.Orders.{Played}
+use Rattle.chp_cli.specs.References.{FromReference, IsToReferTo}
+use Rattle.chp_cli.specs.RunReporting.{IsReported, alone, hazardous, compared, ending_against, ending_for}
 use Rattle.chp_cli.specs.RunSteps.{no_order, an_order, no_reset, has_power, no_script, a_script, lacks_reset}
 use Rattle.chp_cli.specs.Simulated.{IsToSimulate}
-use Rattle.chp_cli.specs.Simulating.{AskedRun, Simulates, SimulatesFile, ending_for}
+use Rattle.chp_cli.specs.Simulating.{AskedRun, Simulates, SimulatesFile}
 use Rattle.chp_cli.specs.Statuses.{is_whole}
-use Rattle.chp_cli.specs.Steps.{no_file, long_file, a_file, no_net, a_net}
+use Rattle.chp_cli.specs.Steps.{FromChecks, IsFaulty, no_file, long_file, a_file, no_net, a_net, no_program, a_program, has_calls, faulty, accepted}
 use Rattle.chp_cli.proofs.OneAnswers.{same_text, too_long, not_there}
 
 whole_end : (e : End) → is_whole (status_with (ending_for e)) ≡ true
@@ -22,7 +34,37 @@ whole_end (end.Unstable n) = refl
 whole_end (end.BothWays n) = refl
 whole_end (end.Protocol c) = refl
 
-module _ (s : AskedRun) (given : Given) (played : Played) (told : given.tells ≡ true) (t : IsToSimulate s given played) where
+whole_against : (x : Against) → is_whole (status_with (ending_against x)) ≡ true
+whole_against against.Agrees = refl
+whole_against against.Channels = refl
+whole_against (against.Differs chan place) = refl
+
+whole_report : (script : List OfferValue) (time : Option ℕ) (r : RanValue) (p : Option TypedProgram) (a : Answer) → IsReported script time r p a →
+    is_whole (status_of a) ≡ true
+whole_report script time r p a alone = whole_end r.end
+whole_report script time r p a (hazardous hazard) = refl
+whole_report script time r p a (compared x calm is) = whole_against x
+
+-- the program that is read
+module _ (no_fault : (program : ProgramTree) (f : Fault) → IsAccepted program → ¬ IsFaulty program f) (given : Given) (told : given.tells ≡ true)
+    (Next : Option TypedProgram → Answer → Type 0) (next : (p : Option TypedProgram) (a : Answer) → Next p a → is_whole (status_of a) ≡ true) where
+  reference_writes : (file : Option (List ℕ)) → IsToReferTo given file → (a : Answer) → FromReference given file Next a → is_whole (status_of a) ≡ true
+  reference_writes None t a is = next None a is
+  reference_writes (Some file) t a (no_file lacks) = not_there lacks.none t.held
+  reference_writes (Some file) t a (long_file long) = too_long (long told).1 t.held (long told).2 t.short
+  reference_writes (Some file) t a (a_file gives short (no_program none)) =
+      absurd (none.never t.program (subst (λ x. Reads x t.program) (same_text t.held (gives told)) t.reads))
+  reference_writes (Some file) t a (a_file gives short (a_program {program = p} is checks)) =
+      let same = is.only t.program (subst (λ x. Reads x t.program) (same_text t.held (gives told)) t.reads) in
+      checked p (subst IsAccepted same t.accepted) checks
+    where
+      checked : (p : ProgramTree) → IsAccepted p → FromChecks p (Next (Some (typed_form p))) a → is_whole (status_of a) ≡ true
+      checked p are (has_calls some) = absurd (some are.call_free)
+      checked p are (faulty {fault = f} free bad) = absurd (no_fault p f are bad)
+      checked p are (accepted also is) = next (Some (typed_form p)) a is
+
+module _ (no_fault : (program : ProgramTree) (f : Fault) → IsAccepted program → ¬ IsFaulty program f)
+    (s : AskedRun) (given : Given) (played : Played) (told : given.tells ≡ true) (t : IsToSimulate s given played) where
   net_writes : (place : ℕ) (n : NetValue) → t.net ≡ n → (a : Answer) → SimulatesFile s given played place n a → is_whole (status_of a) ≡ true
   net_writes place n same a (no_reset lacks) = absurd (cc (subst (λ (m : NetValue). lacks_reset s.power m.reset ≡ false) same t.powered, lacks))
   net_writes place n same a (has_power is (no_file lacks)) = not_there lacks.none t.held_script
@@ -30,8 +72,8 @@ module _ (s : AskedRun) (given : Given) (played : Played) (told : given.tells �
   net_writes place n same a (has_power is (a_file gives short (no_script none))) =
       absurd (none.never t.script (subst (λ x. IsScriptText (net_channels n) x t.script) (same_text t.held_script (gives told))
       (subst (λ (m : NetValue). IsScriptText (net_channels m) t.told t.script) same t.says)))
-  net_writes place n same a (has_power is (a_file gives short (a_script are plays))) =
-      ap (λ (b : Answer). is_whole (status_of b)) plays.plays.written ∙ whole_end plays.plays.end
+  net_writes place n same a (has_power is (a_file gives short (a_script {script = sc} are next))) =
+      reference_writes no_fault given told _ (λ p b plays. whole_report sc None _ p b plays.plays.written) s.against t.referable a next
 
   pub simulate_writes : (a : Answer) → Simulates s given played a → is_whole (status_of a) ≡ true
   simulate_writes a (no_order none) = absurd (cc (none, t.named))

@@ -84,6 +84,10 @@ pub ok_in : {T E : Type 0} (r : Result T E) (P Q : T → Type 0) → ((value : T
 ok_in (Ok value) P Q is p = is value p
 ok_in (Err e) P Q is p = tt
 
+pub ok_both : {T E : Type 0} (r : Result T E) (P Q R : T → Type 0) → ((value : T) → P value → Q value → R value) → IfOk r P → IfOk r Q → IfOk r R
+ok_both (Ok value) P Q R is p q = is value p q
+ok_both (Err e) P Q R is p q = tt
+
 pub err_in : {T E : Type 0} (r : Result T E) (P Q : E → Type 0) → ((e : E) → P e → Q e) → IfErr r P → IfErr r Q
 err_in (Ok value) P Q is p = tt
 err_in (Err e) P Q is p = is e p

@@ -4,7 +4,7 @@ use Rattle.chp_cli.specs.declared.answer.Ending.{Ending}
 use Rattle.chp_cli.specs.declared.answer.Ending.TheVariants as ending
 use Rattle.chp_cli.specs.declared.status.Status.{Status}
 use Rattle.chp_cli.specs.declared.status.Status.TheVariants as statuses
-use Rattle.chp_cli.specs.Lines.{hazard_found_line}
+use Rattle.chp_cli.specs.Lines.{differs_line, hazard_found_line}
 
 -- whether the shelf tells its bytes, and what it holds under each name
 pub record Given : Type 0 where
@@ -33,11 +33,13 @@ pub data Answer : Type 0 where
 abbrev pub status_with : Ending → Status
 status_with ending.Done = statuses.Done
 status_with ending.Hazard = statuses.Hazard
+status_with ending.Differs = statuses.Differs
 
 -- what is said then
 abbrev pub line_with : Ending → List ℕ
 line_with ending.Done = []
 line_with ending.Hazard = hazard_found_line
+line_with ending.Differs = differs_line
 
 -- the status of a command that answers so, where nothing fails
 abbrev pub status_of : Answer → Status

@@ -1,5 +1,5 @@
 -- The words of a command, what they ask for, and the list of all commands.
-use Rattle.std.specs.Prelude.{ℕ, ◌≤◌, ◌&&◌, ◌||◌, Bool, true, false, not, List, [], ◌∷◌, Option, Some, None, codes, option_map}
+use Rattle.std.specs.Prelude.{ℕ, ◌≤◌, ◌&&◌, ◌||◌, Bool, true, false, not, List, [], ◌∷◌, Option, Some, None, codes, option_map, option_to_list}
 use Rattle.std.specs.Prelude.{if◌then◌else◌, option_and_then}
 use Rattle.std.specs.Str.{bytes_eq}
 use Rattle.std.specs.declared.alloc.Global.{Global}
@@ -15,16 +15,20 @@ use Rattle.chp_cli.specs.RoundsReporting.{Runs}
 use Rattle.chp_cli.specs.RoundsWords.{AskedRounds, rounds_of}
 use Rattle.chp_cli.specs.Orders.{OrderState, Played, place_named}
 use Rattle.chp_cli.specs.Simulating.{AskedRun, Simulates}
-use Rattle.chp_cli.specs.SimulateWords.{most_of_steps, simulate_of}
+use Rattle.chp_cli.specs.SimulateWords.{AskedSimulation, by_order, by_delays, most_of_steps, simulate_of}
+use Rattle.chp_cli.specs.Timing.{AskedTiming, SimulatesTimed}
 use Rattle.chp_cli.specs.Forms.{texts_of}
 pub use Rattle.chp_cli.specs.Words.{is_flag, is_set}
 use Rattle.clap.specs.Words.{App, Rule, Text, first_of, matches_of, new_app, new_rule, takes, with_rule}
 use Rattle.clap.specs.Simple.{on_top}
 use Rattle.clap.specs.declared.builder.ArgAction.TheVariants.{Set, SetTrue}
 use Rattle.chp_cli.specs.declared.command.Command.{Command}
-use Rattle.chp_cli.specs.declared.command.Command.TheVariants.{Compile, Migrate, Check, Expand, Simulate, Run, Grow}
+use Rattle.chp_cli.specs.declared.command.Command.TheVariants.{Compile, Migrate, Check, Expand, Simulate, Time, Run, Grow}
 use Rattle.chp_cli.specs.declared.rounds_words.Rounds.{Rounds}
 use Rattle.chp_cli.specs.declared.simulation.Simulation.{Simulation}
+use Rattle.chp_cli.specs.declared.simulation.Timing.{Timing}
+use Rattle.chp_cli.specs.declared.simulation.Choosing.{Choosing}
+use Rattle.chp_cli.specs.declared.simulation.Choosing.TheVariants.{ByOrder, ByDelays}
 use Rattle.chp_cli.specs.declared.command.Verb.{Verb}
 use Rattle.chp_cli.specs.declared.grow_words.Growth.{Growth}
 use Rattle.chp_cli.specs.declared.command.Verb.TheVariants as verb
@@ -74,6 +78,7 @@ pub data Asked : Type 0 where
   checks : Text → Asked
   expands : Text → Asked
   simulates : AskedRun → Asked
+  times : AskedTiming → Asked
   runs : AskedRounds → Asked
   grows : Growth → Asked
 
@@ -86,7 +91,22 @@ run_asked run = record {
   seed = run.seed;
   steps = run.steps;
   power = run.power;
+  against = option_map (λ file. file.now) run.against;
 }
+
+abbrev pub timing_asked : Timing → AskedTiming
+timing_asked t = record {
+  net = t.net.now;
+  script = t.script.now;
+  delays = t.delays.now;
+  steps = t.steps;
+  power = t.power;
+  against = option_map (λ file. file.now) t.against;
+}
+
+abbrev pub simulation_asked : Choosing → AskedSimulation
+simulation_asked (ByOrder run) = by_order (run_asked run)
+simulation_asked (ByDelays timing) = by_delays (timing_asked timing)
 
 -- rounds that are asked for, with the names as their bytes
 abbrev pub rounds_asked : Rounds → AskedRounds
@@ -98,14 +118,25 @@ asked (Migrate net) = migrates net.now
 asked (Check file) = checks file.now
 asked (Expand file) = expands file.now
 asked (Simulate run) = simulates (run_asked run)
+asked (Time timing) = times (timing_asked timing)
 asked (Run r) = runs (rounds_asked r)
 asked (Grow growth) = grows growth
 
 -- the numbers of a command are within their bounds
 abbrev pub IsWithinBounds : Command → Type 0
 IsWithinBounds (Simulate run) = run.steps ≤ most_of_steps
+IsWithinBounds (Time timing) = timing.steps ≤ most_of_steps
 IsWithinBounds (Grow growth) = IsGrowable growth
 IsWithinBounds _ = Unit {0}
+
+-- no more moves are asked for than may be
+abbrev pub HasFewSteps : Choosing → Type 0
+HasFewSteps (ByOrder run) = run.steps ≤ most_of_steps
+HasFewSteps (ByDelays timing) = timing.steps ≤ most_of_steps
+
+abbrev pub simulate_asked : AskedSimulation → Asked
+simulate_asked (by_order run) = simulates run
+simulate_asked (by_delays timing) = times timing
 
 -- a summary isn't served yet
 abbrev pub grow_asked : Growth → Option Asked
@@ -127,7 +158,7 @@ command_with verb.Compile word rest = compile_of word rest
 command_with verb.Migrate word rest = option_map migrates (file_of word rest)
 command_with verb.Check word rest = option_map checks (file_of word rest)
 command_with verb.Expand word rest = option_map expands (file_of word rest)
-command_with verb.Simulate word rest = option_map simulates (simulate_of word rest)
+command_with verb.Simulate word rest = option_map simulate_asked (simulate_of word rest)
 command_with verb.Run word rest = option_map runs (rounds_of word rest)
 command_with verb.Grow word rest = option_and_then grow_asked (growth_of word rest)
 
@@ -169,7 +200,7 @@ plain_with verb.Compile word rest = plain_compile rest
 plain_with verb.Migrate word rest = option_map migrates (plain_file rest)
 plain_with verb.Check word rest = option_map checks (plain_file rest)
 plain_with verb.Expand word rest = option_map expands (plain_file rest)
-plain_with verb.Simulate word rest = option_map simulates (simulate_of word rest)
+plain_with verb.Simulate word rest = option_map simulate_asked (simulate_of word rest)
 plain_with verb.Run word rest = option_map runs (rounds_of word rest)
 plain_with verb.Grow word rest = option_and_then grow_asked (plain_growth rest)
 
@@ -190,6 +221,7 @@ IsAnswer (migrates net) given played = Migrates given net
 IsAnswer (checks file) given played = Checks given file
 IsAnswer (expands file) given played = Expands given file
 IsAnswer (simulates run) given played = Simulates run given played
+IsAnswer (times timing) given played = SimulatesTimed timing given
 IsAnswer (runs r) given played = Runs r given
 IsAnswer (grows growth) given played = Grows growth
 
@@ -199,7 +231,8 @@ files_of (compiles file reset) = file ∷ []
 files_of (migrates net) = net ∷ []
 files_of (checks file) = file ∷ []
 files_of (expands file) = file ∷ []
-files_of (simulates run) = run.net ∷ run.script ∷ []
+files_of (simulates run) = run.net ∷ run.script ∷ option_to_list run.against
+files_of (times t) = t.net ∷ t.script ∷ t.delays ∷ option_to_list t.against
 files_of (runs r) = r.file ∷ r.script ∷ []
 files_of (grows growth) = []
 

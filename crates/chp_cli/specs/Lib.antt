@@ -5,9 +5,12 @@ pub mod Steps
 pub mod Orders
 pub mod RunSteps
 pub mod Held
-pub mod Simulating
-pub mod SimulateWords
+pub mod RunReporting
 pub mod HeldPrograms
+pub mod References
+pub mod Simulating
+pub mod Timing
+pub mod SimulateWords
 pub mod RoundsWords
 pub mod RoundsReporting
 pub mod Simulated
@@ -20,6 +23,7 @@ pub mod Words
 pub mod GrowWords
 pub mod Growing
 pub mod Commands
+pub mod TimedFiles
 pub mod Replies
 pub mod Ends
 pub use Rattle.chp_edge.specs.Faults

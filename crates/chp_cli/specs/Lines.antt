@@ -6,6 +6,9 @@ use Rattle.chp_base.specs.declared.fault.Fault.{Fault}
 use Rattle.chp_base.specs.declared.fault.FaultCode.{FaultCode}
 use Rattle.chp_base.specs.declared.fault.FaultCode.TheVariants as code
 use Rattle.chp_base.specs.Faults.{number_of}
+use Rattle.delay_script.specs.declared.fault.DelayFault.{DelayFault}
+use Rattle.delay_script.specs.declared.fault.DelayFault.TheVariants as delay
+use Rattle.delay_script.specs.DelayFaults.{delay_fault_number}
 use Rattle.env_script.specs.declared.fault.ScriptFault.{ScriptFault}
 use Rattle.env_script.specs.declared.fault.ScriptFault.TheVariants as script
 use Rattle.env_script.specs.Faults.{script_fault_number}
@@ -31,6 +34,10 @@ no_memory_line = codes "chp: 6 no memory\n"
 -- a hazard was found, and all was written
 abbrev pub hazard_found_line : List ℕ
 hazard_found_line = codes "chp: 5 hazard\n"
+
+-- the run isn't behind the rounds that it is compared with, and all was written
+abbrev pub differs_line : List ℕ
+differs_line = codes "chp: 10 differs\n"
 
 -- there is no order of this name
 abbrev pub no_order_line : (name : List ℕ) → List ℕ
@@ -128,4 +135,17 @@ script_fault_name script.TooManyValues = codes "TooManyValues"
 abbrev pub bad_script_line : ScriptFault → (line : ℕ) → List ℕ
 bad_script_line fault line = concat (
     codes "chp: 8 " ∷ decimal (script_fault_number fault) ∷ codes " " ∷ script_fault_name fault ∷ codes " at line "
+    ∷ decimal line ∷ codes "\n" ∷ [])
+
+-- ---- of a refused delay file
+
+abbrev pub delay_fault_name : DelayFault → List ℕ
+delay_fault_name delay.BadLine = codes "BadLine"
+delay_fault_name delay.UnknownNode = codes "UnknownNode"
+delay_fault_name delay.TooLarge = codes "TooLarge"
+delay_fault_name delay.DoubleNode = codes "DoubleNode"
+
+abbrev pub bad_delays_line : DelayFault → (line : ℕ) → List ℕ
+bad_delays_line fault line = concat (
+    codes "chp: 8 " ∷ decimal (delay_fault_number fault) ∷ codes " " ∷ delay_fault_name fault ∷ codes " at line "
     ∷ decimal line ∷ codes "\n" ∷ [])

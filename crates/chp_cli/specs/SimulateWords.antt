@@ -1,5 +1,5 @@
 -- The words of `simulate`.
-use Rattle.std.specs.Prelude.{◌==◌, ◌&&◌, ◌+◌, ◌-◌, ℕ, nat_le, nat_lt, Bool, true, false, if◌then◌else◌, List, length, Option, Some, None, codes, option_and_then, option_map}
+use Rattle.std.specs.Prelude.{◌==◌, ◌&&◌, ◌||◌, ◌+◌, ◌-◌, ℕ, nat_le, nat_lt, Bool, true, false, if◌then◌else◌, List, length, Option, Some, None, codes, is_some, option_and_then, option_map}
 use Rattle.std.specs.List.{list_all}
 use Rattle.std.specs.Str.{bytes_eq}
 use Rattle.chp_base.specs.Names.{digit}
@@ -10,6 +10,7 @@ use Rattle.clap.specs.declared.builder.ArgAction.TheVariants.{Set}
 use Rattle.std.specs.Borrow.{Bor}
 use Rattle.chp_cli.specs.declared.run_words.Texts.{Texts}
 use Rattle.chp_cli.specs.Simulating.{AskedRun}
+use Rattle.chp_cli.specs.Timing.{AskedTiming}
 
 -- ---- numbers in words
 
@@ -27,7 +28,7 @@ abbrev pub number_or : (otherwise most : ℕ) → Option Text → Option ℕ
 number_or otherwise most None = Some otherwise
 number_or otherwise most (Some text) = number_up_to most text
 
--- ---- the form: two files, and four options, each with a value
+-- ---- the form: two files, and six options, each with a value
 
 -- a positional that has to be there, and is given once
 abbrev pub word_rule : Text → Rule
@@ -43,10 +44,11 @@ bare_form name = on_top (λ s. record s { no_binary_name = true; disable_help_fl
 
 abbrev pub simulate_form : Text → App
 simulate_form name =
-    with_rule (with_rule (with_rule (with_rule (with_rule (with_rule (bare_form name)
+    with_rule (with_rule (with_rule (with_rule (with_rule (with_rule (with_rule (with_rule (bare_form name)
     (word_rule (codes "PRS"))) (word_rule (codes "SCRIPT")))
     (option_rule (codes "order"))) (option_rule (codes "seed")))
-    (option_rule (codes "steps"))) (option_rule (codes "power"))
+    (option_rule (codes "steps"))) (option_rule (codes "power"))) (option_rule (codes "against")))
+    (option_rule (codes "delays"))
 
 -- ---- what is asked for
 
@@ -58,6 +60,8 @@ pub record GivenTexts : Type 0 where
   pub seed : Option Text
   pub steps : Option Text
   pub power : Option Text
+  pub against : Option Text
+  pub delays : Option Text
 
 abbrev pub given_texts : List Row → GivenTexts
 given_texts rows = record {
@@ -67,6 +71,8 @@ given_texts rows = record {
   seed = first_of (codes "seed") rows;
   steps = first_of (codes "steps") rows;
   power = first_of (codes "power") rows;
+  against = first_of (codes "against") rows;
+  delays = first_of (codes "delays") rows;
 }
 
 -- a text that is given, as its bytes
@@ -81,6 +87,8 @@ texts_given t = record {
   seed = text_given t.seed;
   steps = text_given t.steps;
   power = text_given t.power;
+  against = text_given t.against;
+  delays = text_given t.delays;
 }
 
 abbrev pub order_or : Option Text → Text
@@ -109,10 +117,35 @@ run_with t = option_and_then (λ net. option_and_then (λ script.
       seed = seed;
       steps = steps;
       power = power;
+      against = t.against;
     }) (power_of_words t.power)) (number_or 100000 most_of_steps t.steps)) (number_or 0 most_of_seed t.seed))
     t.script) t.net
 
+-- with delays neither an order nor a seed
+abbrev pub timing_with : GivenTexts → (delays : Text) → Option AskedTiming
+timing_with t delays = if is_some t.order || is_some t.seed then None else option_and_then (λ net. option_and_then
+    (λ script. option_and_then (λ steps. option_map (λ power. record {
+      net = net;
+      script = script;
+      delays = delays;
+      steps = steps;
+      power = power;
+      against = t.against;
+    }) (power_of_words t.power)) (number_or 100000 most_of_steps t.steps)) t.script) t.net
+
+-- a simulation whose moves an order chooses, or delays
+pub data AskedSimulation : Type 0 where
+  by_order : AskedRun → AskedSimulation
+  by_delays : AskedTiming → AskedSimulation
+
+abbrev pub simulation_by : GivenTexts → (delays : Option Text) → Option AskedSimulation
+simulation_by t None = option_map by_order (run_with t)
+simulation_by t (Some delays) = option_map by_delays (timing_with t delays)
+
+abbrev pub simulation_with : GivenTexts → Option AskedSimulation
+simulation_with t = simulation_by t t.delays
+
 -- what the words behind `simulate` ask for, where its form takes them
-unfoldable pub simulate_of : Text → List Text → Option AskedRun
+unfoldable pub simulate_of : Text → List Text → Option AskedSimulation
 simulate_of name words = if takes (simulate_form name) words
-    then run_with (given_texts (matches_of (simulate_form name) words)) else None
+    then simulation_with (given_texts (matches_of (simulate_form name) words)) else None

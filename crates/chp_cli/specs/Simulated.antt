@@ -15,17 +15,20 @@ use Rattle.chp_cli.specs.Answers.{Given, Answer, writes}
 use Rattle.chp_cli.specs.Commands.{Asked, simulates}
 use Rattle.chp_cli.specs.Compiling.{IsCompiled}
 use Rattle.chp_cli.specs.Orders.{OrderState, Played, place_named}
+use Rattle.chp_cli.specs.References.{HoldsReference, IsToReferTo}
+use Rattle.chp_cli.specs.RunReporting.{IsReported}
 use Rattle.chp_cli.specs.RunSteps.{IsScriptOf, lacks_reset, most_of_script}
 use Rattle.chp_cli.specs.Simulating.{AskedRun, PlaysOut, simulation_for}
 use Rattle.chp_cli.specs.Steps.{IsFileOf, most_of_net}
 
--- The files hold the rule file of a net and a script of its channels; and the order of the wanted name led to a run of
--- this net under this script, which is reported.
+-- The files hold the rule file of a net, a script of its channels, and the program to compare with, if one is wanted;
+-- and the order of the wanted name led to a run of this net under this script, which is reported.
 pub record IsFileSimulated (s : AskedRun) (given : Given) (played : Played) (answer : Answer) : Type 0 where
   pub rules : List ℕ
   pub net : NetValue
   pub told : List ℕ
   pub script : List OfferValue
+  pub program : Option TypedProgram
   pub place : ℕ
   pub was : OrderState
   pub is : OrderState
@@ -34,10 +37,12 @@ pub record IsFileSimulated (s : AskedRun) (given : Given) (played : Played) (ans
   pub held_script : given.files s.script ≡ Some told
   pub told_is : IsScriptOf (net_channels net) told script
   pub powered : lacks_reset s.power net.reset ≡ false
+  pub referred : HoldsReference given s.against program
   pub named : place_named played.before s.order ≡ Some place
   pub before : slice_get played.before place ≡ Some was
   pub after : slice_get played.after place ≡ Some is
-  pub plays : PlaysOut (simulation_for net script s.steps s.power) s.seed was is answer
+  pub plays : PlaysOut (simulation_for net script s.steps s.power) s.seed was is
+      (λ ran. IsReported script None ran program) answer
 
 -- the file holds the rule file of a net that carries the program: from its first values, or with a reset node from
 -- every power-up state
@@ -57,7 +62,8 @@ pub record HoldsCompiled (given : Given) (file : List ℕ) (p : TypedProgram) : 
   pub compiled : IsCompiled reset p text
 
 -- the files hold what can be simulated: a rule file within its limit, of a net that can have the power that is asked
--- for, and a script of its channels within its own; and there is an order of the wanted name
+-- for, a script of its channels within its own, and an accepted program, if one is wanted; and there is an order of the
+-- wanted name
 pub record IsToSimulate (s : AskedRun) (given : Given) (played : Played) : Type 0 where
   pub rules : List ℕ
   pub net : NetValue
@@ -72,6 +78,7 @@ pub record IsToSimulate (s : AskedRun) (given : Given) (played : Played) : Type 
   pub held_script : given.files s.script ≡ Some told
   pub short_script : length told ≤ most_of_script
   pub says : IsScriptText (net_channels net) told script
+  pub referable : IsToReferTo given s.against
   pub named : place_named played.before s.order ≡ Some place
 
 -- where it reports rest, no run from that state has more moves than the one that was made, and each one that rests has

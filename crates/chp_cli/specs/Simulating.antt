@@ -6,21 +6,20 @@ use Rattle.env_script.specs.Environment.{net_channels}
 use Rattle.env_script.specs.Scripts.{OfferValue}
 use Rattle.env_script.specs.Runs.{after}
 use Rattle.event_sim.specs.declared.ran.End.{End}
-use Rattle.event_sim.specs.declared.ran.End.TheVariants.{AtRest, Spent}
 use Rattle.event_sim.specs.Ends.{EndsSo}
 use Rattle.event_sim.specs.Following.{ArePicks}
 use Rattle.event_sim.specs.Passing.{passed_in}
 use Rattle.event_sim.specs.Simulating.{SimValue, RanValue, start_at, growth, picked_moves}
-use Rattle.history_report.specs.Reports.{report_of}
-use Rattle.chp_cli.specs.declared.answer.Ending.{Ending}
-use Rattle.chp_cli.specs.declared.answer.Ending.TheVariants.{Done, Hazard}
-use Rattle.chp_cli.specs.Answers.{Given, Answer, writes}
+use Rattle.chp_cli.specs.Answers.{Given, Answer}
 use Rattle.chp_cli.specs.Orders.{OrderState, Played}
+use Rattle.chp_cli.specs.References.{FromReference}
+use Rattle.chp_cli.specs.RunReporting.{IsReported}
 use Rattle.chp_cli.specs.RunSteps.{FromOrder, FromPower, FromScript, most_of_script}
 use Rattle.chp_cli.specs.Steps.{FromFile, FromNet, most_of_net}
 
 -- what a simulation is asked for: the names of its rule file and of its script, the name of the order and its seed, the
--- most moves, and the value of the nodes that have rules at power-up, where one is given
+-- most moves, the value of the nodes that have rules at power-up, where one is given, and the name of the program text
+-- with whose rounds the run is compared, where it is
 pub record AskedRun : Type 0 where
   pub net : List ℕ
   pub script : List ℕ
@@ -28,6 +27,7 @@ pub record AskedRun : Type 0 where
   pub seed : ℕ
   pub steps : ℕ
   pub power : Option Bool
+  pub against : Option (List ℕ)
 
 -- low where none is given
 abbrev pub power_or_low : Option Bool → Bool
@@ -56,36 +56,39 @@ ran_value s before now end = record {
   passed = passed_in s.net (start_at s) (picked_moves s before now);
 }
 
--- a hazard was found, or none
-abbrev pub ending_for : End → Ending
-ending_for AtRest = Done
-ending_for Spent = Done
-ending_for _ = Hazard
-
--- the report of a run is written
-abbrev pub IsReported : RanValue → Answer → Type 0
-IsReported ran answer = answer ≡ writes (ending_for ran.end) (report_of ran None)
-
--- an order led to a run of the simulation, which is reported
-pub record PlaysOut (s : SimValue) (seed : ℕ) (was is : OrderState) (answer : Answer) : Type 0 where
-  pub end : End
-  pub run : IsPlayed s seed was is end
-  pub written : IsReported (ran_value s was.log is.log end) answer
-
--- the order at this place did
-pub record SimulatesNet (played : Played) (place seed : ℕ) (s : SimValue) (answer : Answer) : Type 0 where
+-- the order at this place led to this run of the simulation
+pub record HasPlayed (played : Played) (place seed : ℕ) (s : SimValue) (ran : RanValue) : Type 0 where
   pub was : OrderState
   pub is : OrderState
   pub before : slice_get played.before place ≡ Some was
   pub after : slice_get played.after place ≡ Some is
-  pub plays : PlaysOut s seed was is answer
+  pub run : IsPlayed s seed was is ran.end
+  pub led : ran ≡ ran_value s was.log is.log ran.end
 
--- the net may have the power that is asked for, and the script is read behind it
+-- an order led to a run of the simulation, and goes on with what comes of it
+pub record PlaysOut (s : SimValue) (seed : ℕ) (was is : OrderState) (Next : RanValue → Answer → Type 0)
+    (answer : Answer) : Type 0 where
+  pub end : End
+  pub run : IsPlayed s seed was is end
+  pub written : Next (ran_value s was.log is.log end) answer
+
+-- the order at this place did
+pub record SimulatesNet (played : Played) (place seed : ℕ) (s : SimValue) (Next : RanValue → Answer → Type 0)
+    (answer : Answer) : Type 0 where
+  pub was : OrderState
+  pub is : OrderState
+  pub before : slice_get played.before place ≡ Some was
+  pub after : slice_get played.after place ≡ Some is
+  pub plays : PlaysOut s seed was is Next answer
+
+-- the net may have the power that is asked for; the script is read behind it, and then what the run is compared with
 abbrev pub SimulatesFile : AskedRun → Given → Played → (place : ℕ) → NetValue → Answer → Type 0
 SimulatesFile s given played place net =
     FromPower net s.power
     (FromFile given s.script most_of_script (λ text. FromScript (net_channels net) text (λ script.
-    SimulatesNet played place s.seed (simulation_for net script s.steps s.power))))
+    FromReference given s.against (λ program.
+    SimulatesNet played place s.seed (simulation_for net script s.steps s.power)
+    (λ ran. IsReported script None ran program)))))
 
 -- the order at this place is wanted, and the rule file is read
 abbrev pub SimulatesAt : AskedRun → Given → Played → (place : ℕ) → Answer → Type 0

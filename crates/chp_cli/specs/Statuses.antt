@@ -1,7 +1,7 @@
 -- The number of each status, and what it tells.
 use Rattle.std.specs.Prelude.{ℕ, Bool, true, false}
 use Rattle.chp_cli.specs.declared.status.Status.{Status}
-use Rattle.chp_cli.specs.declared.status.Status.TheVariants.{Done, RefusedText, Usage, Read, Write, Hazard, NoMemory, TooLarge, BadFile, NoOrder, NotBuilt}
+use Rattle.chp_cli.specs.declared.status.Status.TheVariants.{Done, RefusedText, Usage, Read, Write, Hazard, NoMemory, TooLarge, BadFile, NoOrder, Differs, NotBuilt}
 
 abbrev pub status_number : Status → ℕ
 status_number Done = 0
@@ -14,12 +14,14 @@ status_number NoMemory = 6
 status_number TooLarge = 7
 status_number BadFile = 8
 status_number NoOrder = 9
+status_number Differs = 10
 status_number NotBuilt = 19
 
 -- the statuses with which the whole output was written
 abbrev pub is_whole : Status → Bool
 is_whole Done = true
 is_whole Hazard = true
+is_whole Differs = true
 is_whole _ = false
 
 -- the statuses with which a command refuses

@@ -6,6 +6,7 @@ ghost use Rattle.chp_cli.specs.Replies.{refusal_status, stop_status, end_status}
 
 use crate::status::Status;
 use chp_base::Fault;
+use delay_script::DelayFault;
 use env_script::ScriptFault;
 use prs_file::NetFault;
 
@@ -15,6 +16,8 @@ pub enum Ending {
     Done,
     /// The run that is reported ends in a hazard.
     Hazard,
+    /// The run that is reported isn't behind the rounds that it is compared with.
+    Differs,
 }
 
 impl Ending {
@@ -24,6 +27,7 @@ impl Ending {
         match self {
             Ending::Done => Status::Done,
             Ending::Hazard => Status::Hazard,
+            Ending::Differs => Status::Differs,
         }
     }
 }
@@ -50,6 +54,8 @@ pub enum Refusal<'a> {
     BadNet { fault: NetFault, line: u32 },
     /// A script is refused at this line.
     BadScript { fault: ScriptFault, line: u32 },
+    /// A delay file is refused at this line.
+    BadDelays { fault: DelayFault, line: u32 },
     /// The net has no reset node, and its power-up was asked for.
     NoReset,
     /// There is no order of this name.
@@ -67,8 +73,10 @@ impl Refusal<'_> {
             Refusal::TooLong { .. } | Refusal::TooManyNodes(_) | Refusal::TooManyValues => {
                 Status::TooLarge
             }
-            Refusal::BadNet { .. } | Refusal::BadScript { .. } | Refusal::NoReset =>
-                Status::BadFile,
+            Refusal::BadNet { .. }
+            | Refusal::BadScript { .. }
+            | Refusal::BadDelays { .. }
+            | Refusal::NoReset => Status::BadFile,
             Refusal::NoOrder(_) => Status::NoOrder,
             Refusal::NotBuilt => Status::NotBuilt,
         }

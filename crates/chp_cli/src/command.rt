@@ -2,7 +2,7 @@
 
 ghost use Rattle.std.specs.Prelude.{◌≡◌, IfOk, IfSome, Some, is_some, option_and_then, option_map, true};
 ghost use Rattle.clap.specs.Words.{app_of, found_of, matches_of, rows_of, takes};
-ghost use Rattle.chp_cli.specs.Commands.{IsWithinBounds, asked, command_of, compile_form, compile_of, file_form, file_of, grow_asked, plain_command, plain_compile, plain_file, simulates, verb_of};
+ghost use Rattle.chp_cli.specs.Commands.{IsWithinBounds, asked, command_of, compile_form, compile_of, file_form, file_of, grow_asked, plain_command, plain_compile, plain_file, simulate_asked, verb_of};
 ghost use Rattle.chp_cli.specs.SimulateWords.{simulate_of};
 ghost use Rattle.chp_cli.specs.Forms.{is_form, texts_of};
 ghost use Rattle.chp_cli.specs.GrowWords.{growth_of, plain_growth};
@@ -11,7 +11,7 @@ ghost use Rattle.chp_cli.specs.Words.{is_set};
 use crate::grow_words::{Growth, growth_of};
 use crate::rounds_words::{Rounds, rounds_in};
 use crate::run_words::simulation_in;
-use crate::simulation::Simulation;
+use crate::simulation::{Choosing, Simulation, Timing};
 use clap::error::ErrorKind;
 use clap::{Arg, ArgAction, ArgMatches};
 use std::alloc::{AllocError, Global};
@@ -30,6 +30,8 @@ pub enum Command<'a> {
     Expand { file: &'a str },
     /// `simulate PRS SCRIPT`: make one run of a net under a script, and write its report.
     Simulate(Simulation<'a>),
+    /// `simulate PRS SCRIPT --delays FILE`: make one timed run of a net under a script, and write its report.
+    Time(Timing<'a>),
     /// `run FILE SCRIPT`: report rounds of the program text in this file under this script.
     Run(Rounds<'a>),
     /// `grow SEED STAGES`: write the text of the program that is made of these numbers.
@@ -152,11 +154,12 @@ fn simulate_in<'a>(
     words: &'a [String],
 ) -> Result<Option<Command<'a>>, AllocError>
     ensures form { IfOk result (λ found. option_map asked found
-        ≡ option_map simulates (simulate_of name.entry.now (texts_of words.entry.now))) }
+        ≡ option_map simulate_asked (simulate_of name.entry.now (texts_of words.entry.now))) }
     ensures bounds { IfOk result (λ found. IfSome found IsWithinBounds) }
 {
     match simulation_in(alloc, name, words)? {
-        Some(run) => Ok(Some(Command::Simulate(run))),
+        Some(Choosing::ByOrder(run)) => Ok(Some(Command::Simulate(run))),
+        Some(Choosing::ByDelays(timing)) => Ok(Some(Command::Time(timing))),
         None => Ok(None),
     }
 }

@@ -1,6 +1,6 @@
 //! Laws of what commands answer.
 
-ghost use Rattle.std.specs.Prelude.{◌≡◌, ℕ, Bool, List, true};
+ghost use Rattle.std.specs.Prelude.{◌≡◌, ◌≢◌, ℕ, Bool, List, true};
 ghost use Rattle.chp_cli.specs.declared.answer.Ending.{Ending};
 ghost use Rattle.chp_cli.specs.declared.answer.Ending.TheVariants as ending;
 ghost use Rattle.chp_cli.specs.declared.status.Status.TheVariants.{Done};
@@ -9,12 +9,15 @@ ghost use Rattle.chp_cli.specs.Compiling.{Compiles, IsFileCompiled, IsToCompile}
 ghost use Rattle.chp_cli.specs.Migrating.{Migrates, IsToMigrate};
 ghost use Rattle.chp_cli.specs.Commands.{Asked, IsAnswer};
 ghost use Rattle.chp_cli.specs.Orders.{Played};
+ghost use Rattle.chp_cli.specs.References.{IsReferredTo};
 ghost use Rattle.chp_cli.specs.Simulated.{EndsAllAtRest, HoldsCarrying, HoldsCompiled, IsFileSimulated, IsToSimulate};
 ghost use Rattle.chp_cli.specs.Simulating.{AskedRun, Simulates};
 ghost use Rattle.chp_cli.specs.Statuses.{is_whole};
+ghost use Rattle.chp_cli.specs.TimedFiles.{IsFileTimed};
+ghost use Rattle.chp_cli.specs.Timing.{AskedTiming, SimulatesTimed};
 ghost use Rattle.width_check.specs.Processes.{TypedProgram};
 
-use event_sim::laws::{power_is_powered, safe_moves_bring_no_hazard};
+use event_sim::laws::{passed_are_histories, power_is_powered, safe_moves_bring_no_hazard};
 
 /// Law: to the same files, where the shelf tells them, and by the same orders a command has at most one answer.
 pub fn one_answer()
@@ -25,6 +28,8 @@ pub fn one_answer()
     prs_file::laws::one_refusal();
     width_check::laws::one_fault();
     sharing_check::laws::one_shared_fault();
+    history_report::laws::one_comparison();
+    delay_script::laws::one_timed_run();
 }
 
 /// Law: what `compile` writes for a file is the one text of the net of the one program that its text reads as, which is
@@ -62,14 +67,30 @@ pub fn simulated_right()
 pub fn simulates_all()
     ensures { (s : AskedRun) (given : Given) (played : Played) → given.tells ≡ true → IsToSimulate s given played →
         (answer : Answer) → Simulates s given played answer → is_whole (status_of answer) ≡ true }
-{}
+{
+    width_check::laws::one_fault();
+    sharing_check::laws::one_shared_fault();
+}
 
 /// Law: the simulation of a rule file whose net carries a program finds no hazard, by whatever order and under whatever
 /// script; with a reset node from whatever power-up is asked for.
 pub fn carried_runs_are_safe()
     ensures { (s : AskedRun) (given : Given) (played : Played) (p : TypedProgram) → HoldsCarrying given s.net p →
+        (end : Ending) (text : List ℕ) → IsFileSimulated s given played (writes end text) → end ≢ ending.Hazard }
+{
+    power_is_powered();
+    safe_moves_bring_no_hazard();
+}
+
+/// Law: the run of such a rule file agrees with the rounds of that program, if it is compared with it: so it ends well.
+pub fn carried_runs_agree()
+    ensures { (s : AskedRun) (given : Given) (played : Played) (p : TypedProgram) → given.tells ≡ true →
+        HoldsCarrying given s.net p → IsReferredTo given s.against p →
         (end : Ending) (text : List ℕ) → IsFileSimulated s given played (writes end text) → end ≡ ending.Done }
 {
+    chp_meaning::laws::rounds_hold();
+    history_report::laws::one_comparison();
+    passed_are_histories();
     power_is_powered();
     safe_moves_bring_no_hazard();
 }
@@ -90,3 +111,33 @@ pub fn compiled_files_carry()
     ensures { (given : Given) (file : List ℕ) (p : TypedProgram) → HoldsCompiled given file p →
         HoldsCarrying given file p }
 {}
+
+/// Law: what `simulate` writes with delays is the report of the timed run of the net under the script by the delays that
+/// its files hold: each move comes its delay later than the move since which it is enabled, and of the enabled ones the
+/// first by time and by node is made; the run has ended as is reported, and no shorter part of it has.
+pub fn timed_right()
+    ensures { (t : AskedTiming) (given : Given) → given.tells ≡ true → (end : Ending) (text : List ℕ) →
+        SimulatesTimed t given (writes end text) → IsFileTimed t given (writes end text) }
+{}
+
+/// Law: the timed simulation of a rule file whose net carries a program finds no hazard, whatever its delays are.
+pub fn timed_runs_are_safe()
+    ensures { (t : AskedTiming) (given : Given) (p : TypedProgram) → HoldsCarrying given t.net p →
+        (end : Ending) (text : List ℕ) → IsFileTimed t given (writes end text) → end ≢ ending.Hazard }
+{
+    power_is_powered();
+    safe_moves_bring_no_hazard();
+}
+
+/// Law: its run agrees with the rounds of that program, if it is compared with it: so it ends well.
+pub fn timed_runs_agree()
+    ensures { (t : AskedTiming) (given : Given) (p : TypedProgram) → given.tells ≡ true →
+        HoldsCarrying given t.net p → IsReferredTo given t.against p →
+        (end : Ending) (text : List ℕ) → IsFileTimed t given (writes end text) → end ≡ ending.Done }
+{
+    chp_meaning::laws::rounds_hold();
+    history_report::laws::one_comparison();
+    passed_are_histories();
+    power_is_powered();
+    safe_moves_bring_no_hazard();
+}

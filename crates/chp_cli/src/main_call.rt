@@ -6,10 +6,13 @@ ghost use Rattle.chp_cli.specs.Answers.{Answer, given_by, status_of};
 ghost use Rattle.chp_cli.specs.Commands.{IsWithinBounds, IsAnswer, asked, asked_by, files_of, order_of};
 ghost use Rattle.chp_cli.specs.Ends.{AnswersTo, Ends, IsFile, asked_order};
 ghost use Rattle.chp_cli.specs.Orders.{KeepsOrders, order_state, played_by};
+ghost use Rattle.chp_cli.specs.References.{IsReferredTo};
 ghost use Rattle.chp_cli.specs.Replies.{Stops, end_line, end_status, told_answer};
 ghost use Rattle.chp_cli.specs.Simulated.{AsksForCompiled, IsCalm};
 ghost use Rattle.chp_cli.specs.Simulating.{AskedRun};
 ghost use Rattle.chp_cli.specs.Statuses.{is_whole};
+ghost use Rattle.chp_cli.specs.TimedFiles.{AsksForTimed};
+ghost use Rattle.chp_cli.specs.Timing.{AskedTiming};
 ghost use Rattle.width_check.specs.Processes.{TypedProgram};
 
 use crate::answer::{End, Output, Stop};
@@ -19,8 +22,8 @@ use crate::compile::compile;
 use crate::expand::expand;
 use crate::grow::grow;
 use crate::laws::{
-    carried_runs_are_safe, carried_runs_have_one_length, compiled_files_carry, one_answer,
-    simulated_right,
+    carried_runs_agree, carried_runs_are_safe, carried_runs_have_one_length, compiled_files_carry,
+    one_answer, simulated_right, timed_right, timed_runs_agree, timed_runs_are_safe,
 };
 use crate::migrate::migrate;
 use crate::players::Players;
@@ -28,6 +31,7 @@ use crate::rounds::rounds;
 use crate::say::tell;
 use crate::simulate::simulate;
 use crate::status::Status;
+use crate::timing::time;
 use chp_edge::{Failed, Shelf, Sink, write_all};
 use std::alloc::{AllocError, Global};
 
@@ -64,6 +68,7 @@ fn answer<'a, S: Shelf>(
         Command::Check { file } => check(alloc, shelf, file),
         Command::Expand { file } => expand(alloc, shelf, file),
         Command::Simulate(run) => simulate(alloc, shelf, players, run),
+        Command::Time(timing) => time(alloc, shelf, timing),
         Command::Run(asked) => rounds(alloc, shelf, asked),
         Command::Grow(growth) => grow(alloc, growth),
     }
@@ -157,6 +162,15 @@ pub fn chp_main<S: Shelf, K: Sink, W: Sink>(
     ensures calm { (s : AskedRun) (p : TypedProgram) → S.tells shelf.old ≡ true →
         AsksForCompiled (asked_by words.now) (given_by (S.tells shelf.old) (S.holds shelf.old)) s p →
         result ≢ Status.Hazard }
+    ensures agreed { (s : AskedRun) (p : TypedProgram) → S.tells shelf.old ≡ true →
+        AsksForCompiled (asked_by words.now) (given_by (S.tells shelf.old) (S.holds shelf.old)) s p →
+        IsReferredTo (given_by (S.tells shelf.old) (S.holds shelf.old)) s.against p → result ≢ Status.Differs }
+    ensures timed_calm { (t : AskedTiming) (p : TypedProgram) → S.tells shelf.old ≡ true →
+        AsksForTimed (asked_by words.now) (given_by (S.tells shelf.old) (S.holds shelf.old)) t p →
+        result ≢ Status.Hazard }
+    ensures timed_agreed { (t : AskedTiming) (p : TypedProgram) → S.tells shelf.old ≡ true →
+        AsksForTimed (asked_by words.now) (given_by (S.tells shelf.old) (S.holds shelf.old)) t p →
+        IsReferredTo (given_by (S.tells shelf.old) (S.holds shelf.old)) t.against p → result ≢ Status.Differs }
     ensures steady { (s : AskedRun) (p : TypedProgram) → S.tells shelf.old ≡ true →
         AsksForCompiled (asked_by words.now) (given_by (S.tells shelf.old) (S.holds shelf.old)) s p →
         result ≡ Status.Done → K.tells out.old ≡ true → (report : List ℕ)
@@ -176,6 +190,10 @@ pub fn chp_main<S: Shelf, K: Sink, W: Sink>(
     simulated_right();
     compiled_files_carry();
     carried_runs_are_safe();
+    carried_runs_agree();
+    timed_right();
+    timed_runs_are_safe();
+    timed_runs_agree();
     carried_runs_have_one_length();
     let end = run(alloc, words, shelf, out, players);
     tell(say, &end);

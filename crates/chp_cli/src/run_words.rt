@@ -5,12 +5,12 @@ ghost use Rattle.std.specs.List.{list_all};
 ghost use Rattle.chp_base.specs.Names.{digit};
 ghost use Rattle.clap.specs.Words.{app_of, rule_of};
 ghost use Rattle.env_script.specs.Numbers.{digit_of_word, number_of_word};
-ghost use Rattle.chp_cli.specs.Commands.{run_asked};
+ghost use Rattle.chp_cli.specs.Commands.{HasFewSteps, run_asked, simulation_asked, timing_asked};
 ghost use Rattle.chp_cli.specs.Forms.{texts_of};
-ghost use Rattle.chp_cli.specs.SimulateWords.{bare_form, number_or, number_up_to, option_rule, order_or, power_of_words, run_with, simulate_form, simulate_of, word_rule};
+ghost use Rattle.chp_cli.specs.SimulateWords.{bare_form, number_or, number_up_to, option_rule, order_or, power_of_words, run_with, simulate_form, simulate_of, simulation_with, timing_with, word_rule};
 
 use crate::command::matches_in;
-use crate::simulation::Simulation;
+use crate::simulation::{Choosing, Simulation, Timing};
 use clap::{Arg, ArgAction, ArgMatches, Command};
 use std::alloc::{AllocError, Global};
 
@@ -27,19 +27,20 @@ const MOST_OF_STEPS: u64 = 1_000_000;
 const STEPS: u64 = 100_000;
 
 /// What the words behind `simulate` ask for, where they are its form: the names of a rule file and of a script, and the
-/// options `--order`, `--seed`, `--steps` and `--power`, each at most once.
+/// options `--order`, `--seed`, `--steps`, `--power`, `--against` and `--delays`, each at most once. With `--delays` there is
+/// neither `--order` nor `--seed`.
 pub(crate) fn simulation_in<'a>(
     alloc: Global,
     name: &'a str,
     words: &'a [String],
-) -> Result<Option<Simulation<'a>>, AllocError>
+) -> Result<Option<Choosing<'a>>, AllocError>
     ensures form { IfOk result (λ found.
-        option_map run_asked found ≡ simulate_of name.entry.now (texts_of words.entry.now)) }
-    ensures few { IfOk result (λ found. IfSome found (λ run. run.steps ≤ 1000000)) }
+        option_map simulation_asked found ≡ simulate_of name.entry.now (texts_of words.entry.now)) }
+    ensures few { IfOk result (λ found. IfSome found HasFewSteps) }
 {
     let form = simulate_form(alloc, name)?;
     match matches_in(form, words) {
-        Ok(Some(matches)) => Ok(Texts::of(&matches).simulation()),
+        Ok(Some(matches)) => Ok(Texts::of(&matches).choosing()),
         Ok(None) => Ok(None),
         Err(error) => Err(error),
     }
@@ -54,6 +55,8 @@ struct Texts<'a> {
     seed: Option<&'a str>,
     steps: Option<&'a str>,
     power: Option<&'a str>,
+    against: Option<&'a str>,
+    delays: Option<&'a str>,
 }
 
 impl<'a> Texts<'a> {
@@ -70,10 +73,46 @@ impl<'a> Texts<'a> {
             seed: matches.get_str("seed"),
             steps: matches.get_str("steps"),
             power: matches.get_str("power"),
+            against: matches.get_str("against"),
+            delays: matches.get_str("delays"),
         }
     }
 
-    /// What they ask for, where both files are given and each option has a value of its kind.
+    /// What they ask for.
+    fn choosing(self) -> Option<Choosing<'a>>
+        ensures asked { option_map simulation_asked result ≡ simulation_with (texts_given self.entry) }
+        ensures few { IfSome result HasFewSteps }
+    {
+        match self.delays {
+            None => Some(Choosing::ByOrder(self.simulation()?)),
+            Some(delays) => Some(Choosing::ByDelays(self.timing(delays)?)),
+        }
+    }
+
+    /// What they ask for by these delays, where both other files are given, each option has a value of its kind, and
+    /// there is neither an order nor a seed.
+    fn timing(self, delays: &'a str) -> Option<Timing<'a>>
+        ensures asked { option_map timing_asked result ≡ timing_with (texts_given self.entry) delays.entry.now }
+        ensures few { IfSome result (λ timing. timing.steps ≤ 1000000) }
+    {
+        if self.order.is_some() || self.seed.is_some() {
+            return None;
+        }
+        let net = self.net?;
+        let script = self.script?;
+        let steps = number_or(self.steps, STEPS, MOST_OF_STEPS)?;
+        let power = power_of(self.power)?;
+        Some(Timing {
+            net,
+            script,
+            delays,
+            steps: steps as u32,
+            power,
+            against: self.against,
+        })
+    }
+
+    /// What they ask for where no delays are given, if both files are given and each option has a value of its kind.
     fn simulation(self) -> Option<Simulation<'a>>
         ensures asked { option_map run_asked result ≡ run_with (texts_given self.entry) }
         ensures few { IfSome result (λ run. run.steps ≤ 1000000) }
@@ -90,6 +129,7 @@ impl<'a> Texts<'a> {
             seed,
             steps: steps as u32,
             power,
+            against: self.against,
         })
     }
 }
@@ -202,7 +242,7 @@ pub(crate) fn bare_form<'a>(alloc: Global, name: &'a str) -> Command<'a>
         .disable_help_flag(true)
 }
 
-/// The form of `simulate`: two files, and four options, each with a value.
+/// The form of `simulate`: two files, and six options, each with a value.
 fn simulate_form<'a>(alloc: Global, name: &'a str) -> Result<Command<'a>, AllocError>
     ensures { IfOk result (λ form. app_of form ≡ simulate_form name.entry.now) }
 {
@@ -212,5 +252,7 @@ fn simulate_form<'a>(alloc: Global, name: &'a str) -> Result<Command<'a>, AllocE
         .arg(option_arg(alloc, "order"))?
         .arg(option_arg(alloc, "seed"))?
         .arg(option_arg(alloc, "steps"))?
-        .arg(option_arg(alloc, "power"))
+        .arg(option_arg(alloc, "power"))?
+        .arg(option_arg(alloc, "against"))?
+        .arg(option_arg(alloc, "delays"))
 }

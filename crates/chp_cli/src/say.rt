@@ -5,12 +5,13 @@ ghost use Rattle.std.specs.Prelude.{◌≡◌, ◌≤◌, ◌++◌, true, OnOk, 
 ghost use Rattle.std.specs.List.{flat_map};
 ghost use Rattle.chp_base.specs.Faults.{number_of};
 ghost use Rattle.chp_edge.specs.Faults.{Rose};
-ghost use Rattle.chp_cli.specs.Lines.{refused_line, bad_net_line, bad_script_line, too_long_line, nodes_line, fault_name, net_fault_name, script_fault_name, has_two_places};
+ghost use Rattle.chp_cli.specs.Lines.{refused_line, bad_delays_line, bad_net_line, bad_script_line, too_long_line, nodes_line, delay_fault_name, fault_name, net_fault_name, script_fault_name, has_two_places};
 ghost use Rattle.chp_cli.specs.Replies.{refusal_line, stop_line, end_line};
 
 use crate::answer::{End, Ending, Refusal, Stop};
 use chp_base::{Fault, FaultCode};
 use chp_edge::{Failed, Sink, write_all};
+use delay_script::DelayFault;
 use env_script::ScriptFault;
 use itoa::Buffer;
 use prs_file::NetFault;
@@ -194,6 +195,36 @@ fn say_bad_script<W: Sink>(say: &mut W, fault: ScriptFault, line: u32)
     );
 }
 
+/// The name of the cause for which a delay file is refused.
+fn name_of_delay_fault(fault: DelayFault) -> &'static str
+    ensures { result.now ≡ delay_fault_name fault }
+{
+    match fault {
+        DelayFault::BadLine => "BadLine",
+        DelayFault::UnknownNode => "UnknownNode",
+        DelayFault::TooLarge => "TooLarge",
+        DelayFault::DoubleNode => "DoubleNode",
+    }
+}
+
+/// Says the line of a delay file that is refused.
+fn say_bad_delays<W: Sink>(say: &mut W, fault: DelayFault, line: u32)
+    ensures faults { W.faults say.old ≤ W.faults say.new }
+    ensures same { W.tells say.new ≡ W.tells say.old }
+    ensures said { W.tells say.old ≡ true → ¬ Rose (W.faults say.old) (W.faults say.new) →
+        W.written say.new ≡ W.written say.old ++ bad_delays_line fault line }
+{
+    let mut number = Buffer::new();
+    let mut place = Buffer::new();
+    let number = number.format(fault.number());
+    let name = name_of_delay_fault(fault);
+    let place = place.format(line);
+    say_pieces(
+        say,
+        &["chp: 8 ", number, " ", name, " at line ", place, "\n"],
+    );
+}
+
 /// Says the line of a file with more bytes than it may have.
 fn say_too_long<W: Sink>(say: &mut W, name: &str, limit: usize)
     ensures faults { W.faults say.old ≤ W.faults say.new }
@@ -232,6 +263,7 @@ fn say_refusal<W: Sink>(say: &mut W, refusal: &Refusal)
         Refusal::TooManyValues => say_pieces(say, &["chp: 7 values over 1048576\n"]),
         Refusal::BadNet { fault, line } => say_bad_net(say, *fault, *line),
         Refusal::BadScript { fault, line } => say_bad_script(say, *fault, *line),
+        Refusal::BadDelays { fault, line } => say_bad_delays(say, *fault, *line),
         Refusal::NoReset => say_pieces(say, &["chp: 8 49 NoReset at line 1\n"]),
         Refusal::NoOrder(name) => say_pieces(say, &["chp: 9 order ", name, "\n"]),
         Refusal::NotBuilt => say_pieces(say, &["chp: 19 not built\n"]),
@@ -262,6 +294,7 @@ pub fn tell<W: Sink>(say: &mut W, end: &End)
     match end {
         End::Whole(Ending::Done) => {}
         End::Whole(Ending::Hazard) => say_pieces(say, &["chp: 5 hazard\n"]),
+        End::Whole(Ending::Differs) => say_pieces(say, &["chp: 10 differs\n"]),
         End::CutOff => say_pieces(say, &["chp: 4 write\n"]),
         End::Usage => say_pieces(say, &["chp: 2 usage\n"]),
         End::Stopped(stop) => say_stop(say, stop),

@@ -1,38 +1,33 @@
 //! `simulate PRS SCRIPT`: one run of a net under a script, whose moves a handed-in order chooses.
 
-ghost use Rattle.std.specs.Prelude.{◌≡◌, ◌<◌, ◌≤◌, ◌∷◌, [], false, length, map, IfOk, IfErr, OnOk, Some};
+ghost use Rattle.std.specs.Prelude.{◌≡◌, ◌<◌, ◌≤◌, ◌∷◌, false, length, map, IfOk, IfErr, OnOk, None, Some, option_map, option_to_list};
 ghost use Rattle.env_script.specs.Environment.{net_channels};
 ghost use Rattle.env_script.specs.Scripts.{IsScript};
 ghost use Rattle.chp_cli.specs.Answers.{given_by};
 ghost use Rattle.chp_cli.specs.Commands.{run_asked};
 ghost use Rattle.chp_cli.specs.Orders.{IsPlayedAt, KeepsOrders, order_state, place_named, played_by};
 ghost use Rattle.chp_cli.specs.Replies.{Stops, told_answer};
+ghost use Rattle.chp_cli.specs.RunReporting.{IsReported};
 ghost use Rattle.chp_cli.specs.RunSteps.{lacks_reset};
-ghost use Rattle.chp_cli.specs.Simulating.{IsReported, PlaysOut, Simulates, SimulatesAt, SimulatesNet, ending_for, simulation_for};
+ghost use Rattle.chp_cli.specs.Simulating.{HasPlayed, IsPlayed, Simulates, SimulatesAt, SimulatesNet, ran_value, simulation_for};
+ghost use Rattle.chp_cli.specs.SimulateWords.{text_given};
+ghost use Rattle.width_check.specs.Typed.{program_of as typed_of};
 
-use crate::answer::{Ending, Output, Refusal, Stop};
+use crate::answer::{Output, Refusal, Stop};
 use crate::players::{Players, place_of};
+use crate::reference::reference_in;
 use crate::run_files::{channels_of, net_in, script_in};
+use crate::run_reports::{copied_script, reported};
 use crate::simulation::Simulation;
 use chp_edge::Shelf;
 use env_script::Script;
-use event_sim::{End, Picker, Ran, Sim};
-use history_report::report_text;
+use event_sim::{Picker, Ran, Sim};
 use prs_core::Net;
+use sharing_check::Disjoint;
 use std::alloc::{AllocError, Global};
 
-/// How a command ends that reports a run that ended so.
-fn ending_for(end: End) -> Ending
-    ensures { result ≡ ending_for end }
-{
-    match end {
-        End::AtRest | End::Spent => Ending::Done,
-        End::Unstable { .. } | End::BothWays { .. } | End::Protocol { .. } => Ending::Hazard,
-    }
-}
-
 /// Whether a power is asked for, and the net has no reset node.
-fn is_powerless(net: &Net, power: Option<bool>) -> bool
+pub(crate) fn is_powerless(net: &Net, power: Option<bool>) -> bool
     ensures { result ≡ lacks_reset power net.now.reset }
 {
     power.is_some() && net.reset().is_none()
@@ -76,69 +71,52 @@ fn prepare(picker: &mut Box<dyn Picker>, seed: u64, room: Room) -> Result<(), Al
     picker.make_room(room.picks, room.nodes)
 }
 
-/// What is written of a run.
-fn reported(alloc: Global, ran: &Ran) -> Result<Output, AllocError>
-    ensures { IfOk result (λ output. IsReported ran.now (told_answer output)) }
-{
-    let text = report_text(alloc, ran, None)?;
-    Ok(Output {
-        text,
-        end: ending_for(ran.end()),
-    })
-}
-
-/// Lets the order choose the moves of a run, and reports it.
-fn play(
-    alloc: Global,
-    picker: &mut Box<dyn Picker>,
-    sim: Sim,
-    seed: u64,
-    room: Room,
-) -> Result<Output, AllocError>
+/// Lets the order choose the moves of a run.
+fn play(picker: &mut Box<dyn Picker>, sim: Sim, seed: u64, room: Room) -> Result<Ran, AllocError>
     requires steps { sim.steps ≤ room.picks }
     requires nodes { length sim.net.first ≤ room.nodes }
-    ensures answered { IfOk result (λ output.
-        PlaysOut sim seed (order_state (name picker.old) (log picker.old) (seeded picker.old))
-        (order_state (name picker.new) (log picker.new) (seeded picker.new)) (told_answer output)) }
+    ensures played { IfOk result (λ ran.
+        IsPlayed sim seed (order_state (name picker.old) (log picker.old) (seeded picker.old))
+        (order_state (name picker.new) (log picker.new) (seeded picker.new)) ran.end) }
+    ensures led { IfOk result (λ ran. ran ≡ ran_value sim (log picker.old) (log picker.new) ran.end) }
     ensures name { name picker.new ≡ name picker.old }
 {
     prepare(picker, seed, room)?;
-    let ran = sim.run(picker);
-    reported(alloc, &ran)
+    Ok(sim.run(picker))
 }
 
-/// Lets the order at this place choose the moves of a run, and reports it.
+/// Lets the order at this place choose the moves of a run.
 fn play_at(
-    alloc: Global,
     orders: &mut Vec<Box<dyn Picker>>,
     place: usize,
     sim: Sim,
     seed: u64,
     room: Room,
-) -> Result<Output, AllocError>
+) -> Result<Ran, AllocError>
     requires place { place < length orders.old.items }
     requires steps { sim.steps ≤ room.picks }
     requires nodes { length sim.net.first ≤ room.nodes }
-    ensures answered { IfOk result (λ output. SimulatesNet (played_by
+    ensures led { IfOk result (λ ran. HasPlayed (played_by
         (map (λ order. order_state (name order) (log order) (seeded order)) orders.old.items)
         (map (λ order. order_state (name order) (log order) (seeded order)) orders.new.items))
-        place seed sim (told_answer output)) }
+        place seed sim ran) }
     ensures played { IsPlayedAt place (played_by
         (map (λ order. order_state (name order) (log order) (seeded order)) orders.old.items)
         (map (λ order. order_state (name order) (log order) (seeded order)) orders.new.items)) }
 {
-    play(alloc, &mut orders[place], sim, seed, room)
+    play(&mut orders[place], sim, seed, room)
 }
 
-/// Lets the order at this place choose the moves of the run of the net under the script.
-fn run_at<'a>(
+/// Lets the order at this place choose the moves of the run of the net under the script, and reports it.
+fn report_at(
     alloc: Global,
     players: &mut Players,
     place: usize,
     net: Net,
     script: Script,
+    program: &Option<Disjoint>,
     run: &Simulation,
-) -> Result<Output, Stop<'a>>
+) -> Result<Output, AllocError>
     requires place { place < length players.old.orders.items }
     requires script { IsScript (net_channels net) script }
     requires steps { run.now.steps ≤ 1000000 }
@@ -146,8 +124,8 @@ fn run_at<'a>(
     ensures answered { IfOk result (λ output. SimulatesNet (played_by
         (map (λ order. order_state (name order) (log order) (seeded order)) players.old.orders.items)
         (map (λ order. order_state (name order) (log order) (seeded order)) players.new.orders.items))
-        place run.now.seed (simulation_for net script run.now.steps run.now.power) (told_answer output)) }
-    ensures stopped { IfErr result (λ stop. stop ≡ Stop.NoMemory) }
+        place run.now.seed (simulation_for net script run.now.steps run.now.power)
+        (λ ran. IsReported script None ran (option_map typed_of program.now)) (told_answer output)) }
     ensures played { IsPlayedAt place (played_by
         (map (λ order. order_state (name order) (log order) (seeded order)) players.old.orders.items)
         (map (λ order. order_state (name order) (log order) (seeded order)) players.new.orders.items)) }
@@ -156,14 +134,10 @@ fn run_at<'a>(
         picks: run.steps,
         nodes: net.first().len() as u32,
     };
-    let sim = match simulation(alloc, net, script, run.steps, run.power) {
-        Ok(sim) => sim,
-        Err(_) => return Err(Stop::NoMemory),
-    };
-    match play_at(alloc, &mut players.orders, place, sim, run.seed, room) {
-        Ok(output) => Ok(output),
-        Err(_) => Err(Stop::NoMemory),
-    }
+    let told = copied_script(alloc, &script)?;
+    let sim = simulation(alloc, net, script, run.steps, run.power)?;
+    let ran = play_at(&mut players.orders, place, sim, run.seed, room)?;
+    reported(alloc, &ran, None, &told, program)
 }
 
 /// What `simulate` answers, where the order at this place is wanted.
@@ -185,7 +159,8 @@ fn simulate_at<'a, S: Shelf>(
         (given_by (S.tells shelf.old) (S.holds shelf.old)) (played_by
         (map (λ order. order_state (name order) (log order) (seeded order)) players.old.orders.items)
         (map (λ order. order_state (name order) (log order) (seeded order)) players.new.orders.items)) place)
-        (run.now.net.now ∷ run.now.script.now ∷ []) (given_by (S.tells shelf.old) (S.holds shelf.old))
+        (run.now.net.now ∷ run.now.script.now ∷ option_to_list (text_given run.now.against))
+        (given_by (S.tells shelf.old) (S.holds shelf.old))
         (S.faults shelf.old) (S.faults shelf.new)) }
     ensures played { IsPlayedAt place (played_by
         (map (λ order. order_state (name order) (log order) (seeded order)) players.old.orders.items)
@@ -209,7 +184,14 @@ fn simulate_at<'a, S: Shelf>(
         Ok(script) => script,
         Err(stop) => return Err(stop),
     };
-    run_at(alloc, players, place, net, script, run)
+    let program = match reference_in(alloc, shelf, run.against) {
+        Ok(program) => program,
+        Err(stop) => return Err(stop),
+    };
+    match report_at(alloc, players, place, net, script, &program, run) {
+        Ok(output) => Ok(output),
+        Err(_) => Err(Stop::NoMemory),
+    }
 }
 
 /// What `simulate` answers.
@@ -229,7 +211,8 @@ pub fn simulate<'a, S: Shelf>(
         (given_by (S.tells shelf.old) (S.holds shelf.old)) (played_by
         (map (λ order. order_state (name order) (log order) (seeded order)) players.old.orders.items)
         (map (λ order. order_state (name order) (log order) (seeded order)) players.new.orders.items)))
-        (run.now.net.now ∷ run.now.script.now ∷ []) (given_by (S.tells shelf.old) (S.holds shelf.old))
+        (run.now.net.now ∷ run.now.script.now ∷ option_to_list (text_given run.now.against))
+        (given_by (S.tells shelf.old) (S.holds shelf.old))
         (S.faults shelf.old) (S.faults shelf.new)) }
     ensures orders { let before = map (λ order. order_state (name order) (log order) (seeded order))
         players.old.orders.items in

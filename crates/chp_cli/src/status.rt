@@ -22,11 +22,13 @@ pub enum Status {
     NoMemory,
     /// A file has more bytes than it may have, a circuit more nodes, or some rounds pass more values.
     TooLarge,
-    /// A rule file or a script isn't in its grammar or limits, a rule file can't be migrated, or it has no reset node
+    /// A rule file, a script or a delay file isn't in its grammar or limits, a rule file can't be migrated, or it has no reset node
     /// and is to be run from power-up.
     BadFile,
     /// No handed-in order has the wanted name.
     NoOrder,
+    /// The run that was made isn't behind the rounds that it was compared with, and its report was written whole.
+    Differs,
     /// The program has procedures or calls, which aren't served yet.
     NotBuilt,
 }
@@ -47,6 +49,7 @@ impl Status {
             Status::TooLarge => 7,
             Status::BadFile => 8,
             Status::NoOrder => 9,
+            Status::Differs => 10,
             Status::NotBuilt => 19,
         }
     }

@@ -15,9 +15,9 @@ use bench::Bench;
 use cases::obey;
 use std::{fs, io};
 
-const TOPICS: [&str; 10] = [
+const TOPICS: [&str; 12] = [
     "texts", "compile", "stream", "check", "expand", "grow", "migrate", "simulate", "rounds",
-    "edge",
+    "edge", "against", "delays",
 ];
 
 fn main(rt: HostRuntime) -> io::Result<()> {

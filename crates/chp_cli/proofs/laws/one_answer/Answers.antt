@@ -1,6 +1,7 @@
 use Rattle.chp_cli.proofs.OneAnswers.{checks_once, command_once}
 use Rattle.chp_cli.proofs.OneRounds.{rounds_once}
 use Rattle.chp_cli.proofs.OneRuns.{simulate_once}
+use Rattle.chp_cli.proofs.OneTimings.{times_once}
 use Rattle.chp_cli.proofs.laws.one_answer.Goals as goal
 
 pub returns : goal.returns
@@ -9,4 +10,7 @@ returns c =
     let names = c.one_fault-2.ensures in
     let sharing = c.one_shared_fault.ensures in
     let checked = checks_once names.cause names.place names.none sharing.cause sharing.first sharing.second sharing.none in
-    command_once text.cause text.place c.one_refusal.ensures.once (simulate_once c.one_refusal.ensures.once) (rounds_once text.cause text.place checked) checked
+    command_once text.cause text.place c.one_refusal.ensures.once
+    (simulate_once text.cause text.place checked c.one_refusal.ensures.once c.one_comparison.ensures)
+    (times_once c.one_timed_run.ensures.ran c.one_timed_run.ensures.time c.one_comparison.ensures text.cause text.place checked c.one_refusal.ensures.once)
+    (rounds_once text.cause text.place checked) checked

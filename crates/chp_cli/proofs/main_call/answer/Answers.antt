@@ -40,6 +40,15 @@ returns-in-Simulate-clause-orders g c = rw c.in-Simulate.is c.simulate.ensures.o
 pub simulate-requires : goal.simulate-requires
 simulate-requires g c = rw c.in-Simulate.is at c.requires
 
+pub returns-in-Time-clause-answered : goal.returns-in-Time-clause-answered
+returns-in-Time-clause-answered g c = rw c.in-Time.is c.time.ensures.answered
+
+pub returns-in-Time-clause-stopped : goal.returns-in-Time-clause-stopped
+returns-in-Time-clause-stopped g c = rw c.in-Time.is c.time.ensures.stopped
+
+pub time-requires : goal.time-requires
+time-requires g c = rw c.in-Time.is at c.requires
+
 pub returns-in-Run-clause-answered : goal.returns-in-Run-clause-answered
 returns-in-Run-clause-answered g c = rw c.in-Run.is c.rounds.ensures.answered
 

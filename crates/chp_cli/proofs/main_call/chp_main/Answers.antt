@@ -1,8 +1,9 @@
 use Rattle.std.proofs.Common.{◌∙◌, ◌++◌, ap, sym, append-nil}
+use Rattle.chp_cli.specs.Commands.{simulates, times}
 use Rattle.chp_cli.specs.Replies.{end_line}
 use Rattle.chp_cli.specs.Statuses.{is_whole}
 use Rattle.chp_cli.proofs.Ending.{complete_of, read_of, silent_of, usage_of, write_of}
-use Rattle.chp_cli.proofs.Calm.{calm_of, steady_of}
+use Rattle.chp_cli.proofs.Calm.{agreed_of, calm_of, steady_of}
 use Rattle.chp_cli.proofs.main_call.chp_main.Goals as goal
 
 pub returns-clause-ended : goal.returns-clause-ended
@@ -32,8 +33,30 @@ returns-clause-silent g c = λ not cut told.
 pub returns-clause-calm : goal.returns-clause-calm
 returns-clause-calm g c = λ s p told asks is.
     let carries = c.compiled_files_carry.ensures _ s.net p asks.holds in
-    calm_of _ _ _ _ _ _ _ s asks.is (c.simulated_right.ensures s _ _ told) (c.carried_runs_are_safe.ensures s _ _ p carries) c.run-end.ensures.ended.1
+    calm_of _ _ _ _ _ _ _ (simulates s) asks.is
+    (λ end text are. c.carried_runs_are_safe.ensures s _ _ p carries end text (c.simulated_right.ensures s _ _ told end text are)) c.run-end.ensures.ended.1
     (sym c.status.ensures ∙ is)
+
+pub returns-clause-agreed : goal.returns-clause-agreed
+returns-clause-agreed g c = λ s p told asks refers is.
+    let carries = c.compiled_files_carry.ensures _ s.net p asks.holds in
+    agreed_of _ _ _ _ _ _ _ (simulates s) asks.is
+    (λ end text are. c.carried_runs_agree.ensures s _ _ p told carries refers end text (c.simulated_right.ensures s _ _ told end text are))
+    c.run-end.ensures.ended.1 (sym c.status.ensures ∙ is)
+
+pub returns-clause-timed_calm : goal.returns-clause-timed_calm
+returns-clause-timed_calm g c = λ t p told asks is.
+    let carries = c.compiled_files_carry.ensures _ t.net p asks.holds in
+    calm_of _ _ _ _ _ _ _ (times t) asks.is
+    (λ end text are. c.timed_runs_are_safe.ensures t _ p carries end text (c.timed_right.ensures t _ told end text are)) c.run-end.ensures.ended.1
+    (sym c.status.ensures ∙ is)
+
+pub returns-clause-timed_agreed : goal.returns-clause-timed_agreed
+returns-clause-timed_agreed g c = λ t p told asks refers is.
+    let carries = c.compiled_files_carry.ensures _ t.net p asks.holds in
+    agreed_of _ _ _ _ _ _ _ (times t) asks.is
+    (λ end text are. c.timed_runs_agree.ensures t _ p told carries refers end text (c.timed_right.ensures t _ told end text are))
+    c.run-end.ensures.ended.1 (sym c.status.ensures ∙ is)
 
 pub returns-clause-steady : goal.returns-clause-steady
 returns-clause-steady g c = λ s p told asks is writes.
@@ -41,6 +64,6 @@ returns-clause-steady g c = λ s p told asks is writes.
     let carries = c.compiled_files_carry.ensures _ s.net p asks.holds in (
       e.0,
       e.2 writes,
-      steady_of _ _ _ _ _ _ _ s asks.is (c.simulated_right.ensures s _ _ told) (c.carried_runs_are_safe.ensures s _ _ p carries)
-          (c.carried_runs_have_one_length.ensures s _ _ p carries) e.1 (sym c.status.ensures ∙ is),
+      steady_of _ _ _ _ _ _ _ s asks.is (c.simulated_right.ensures s _ _ told) (c.carried_runs_have_one_length.ensures s _ _ p carries) e.1
+          (sym c.status.ensures ∙ is),
     )

@@ -12,5 +12,7 @@ returns c =
     let three = c.in_ok-arg-3.ensures.shape c.option_arg.ensures.local ∙ ap₂ with_rule two c.option_arg.ensures.rule in
     let four = c.in_ok-arg-4.ensures.shape c.option_arg-2.ensures.local ∙ ap₂ with_rule three c.option_arg-2.ensures.rule in
     let five = c.in_ok-arg-5.ensures.shape c.option_arg-3.ensures.local ∙ ap₂ with_rule four c.option_arg-3.ensures.rule in
-    ok_in c.arg-6.result _ (λ form. app_of form ≡ simulate_form c.args.name.now)
-    (λ form adds. adds.shape c.option_arg-4.ensures.local ∙ ap₂ with_rule five c.option_arg-4.ensures.rule) c.arg-6.ensures
+    let six = c.in_ok-arg-6.ensures.shape c.option_arg-4.ensures.local ∙ ap₂ with_rule five c.option_arg-4.ensures.rule in
+    let seven = c.in_ok-arg-7.ensures.shape c.option_arg-5.ensures.local ∙ ap₂ with_rule six c.option_arg-5.ensures.rule in
+    ok_in c.arg-8.result _ (λ form. app_of form ≡ simulate_form c.args.name.now)
+    (λ form adds. adds.shape c.option_arg-6.ensures.local ∙ ap₂ with_rule seven c.option_arg-6.ensures.rule) c.arg-8.ensures

@@ -1,7 +1,7 @@
 use Rattle.std.proofs.Common.{◌≡◌, ◌∙◌, ap}
 use Rattle.clap.specs.Words.{found_of, rows_of}
 use Rattle.chp_cli.specs.Forms.{texts_of}
-use Rattle.chp_cli.specs.SimulateWords.{run_with}
+use Rattle.chp_cli.specs.SimulateWords.{simulation_with}
 use Rattle.chp_cli.proofs.Commanded.{refused_run, taken_run}
 use Rattle.chp_cli.proofs.run_words.simulation_in.Goals as goal
 
@@ -10,7 +10,7 @@ returns-in-Ok-Some-clause-form c =
     let taken = rw c.in-Ok-Some.field-0-is at c.in-Ok-Some.ensures.taken in
     let is = rw c.in-Ok-Some.field-0-is at c.in-Ok-Some.ensures.matches in
     taken_run _ _ (texts_of c.args.words.now) (rows_of (found_of c.in-Ok-Some.matches)) _ c.in_ok-form.ensures taken is
-    (c.simulation.ensures.asked ∙ ap run_with c.of.ensures)
+    (c.choosing.ensures.asked ∙ ap simulation_with c.of.ensures)
 
 pub returns-in-Ok-None-clause-form : goal.returns-in-Ok-None-clause-form
 returns-in-Ok-None-clause-form c =

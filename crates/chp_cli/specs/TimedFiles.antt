@@ -1,0 +1,39 @@
+-- What follows from what `simulate` answers with delays.
+use Rattle.std.specs.Prelude.{◌≡◌, ℕ, false, List, Option, Some}
+use Rattle.delay_script.specs.DelayTables.{DelayTable}
+use Rattle.env_script.specs.Environment.{net_channels}
+use Rattle.env_script.specs.Scripts.{OfferValue}
+use Rattle.prs_core.specs.Nets.{NetValue}
+use Rattle.width_check.specs.Processes.{TypedProgram}
+use Rattle.chp_cli.specs.Answers.{Given, Answer}
+use Rattle.chp_cli.specs.Commands.{Asked, times}
+use Rattle.chp_cli.specs.References.{HoldsReference}
+use Rattle.chp_cli.specs.RunSteps.{IsScriptOf, lacks_reset}
+use Rattle.chp_cli.specs.Simulated.{HoldsCompiled}
+use Rattle.chp_cli.specs.Steps.{IsFileOf}
+use Rattle.chp_cli.specs.Timing.{AskedTiming, AreDelaysOf, TimesNet, timing_for}
+
+-- The files hold the rule file of a net, a script of its channels, delays of its nodes, and the program to compare with,
+-- if one is wanted; and the timed run of this net under this script by these delays is reported.
+pub record IsFileTimed (t : AskedTiming) (given : Given) (answer : Answer) : Type 0 where
+  pub rules : List ℕ
+  pub net : NetValue
+  pub told : List ℕ
+  pub script : List OfferValue
+  pub said : List ℕ
+  pub delays : DelayTable
+  pub program : Option TypedProgram
+  pub held : given.files t.net ≡ Some rules
+  pub file : IsFileOf rules net
+  pub powered : lacks_reset t.power net.reset ≡ false
+  pub held_script : given.files t.script ≡ Some told
+  pub told_is : IsScriptOf (net_channels net) told script
+  pub held_delays : given.files t.delays ≡ Some said
+  pub said_are : AreDelaysOf net.names said delays
+  pub referred : HoldsReference given t.against program
+  pub timed : TimesNet (timing_for t net script delays) program answer
+
+-- it is asked to simulate with delays the rule file that `compile` writes for the program
+pub record AsksForTimed (asked : Option Asked) (given : Given) (t : AskedTiming) (p : TypedProgram) : Type 0 where
+  pub is : asked ≡ Some (times t)
+  pub holds : HoldsCompiled given t.net p

@@ -1,0 +1,59 @@
+//! The step from the name of a file to the delays of a net's nodes.
+
+ghost use Rattle.std.specs.Prelude.{◌≡◌, ◌≤◌, ◌∷◌, [], length, IfOk, IfErr};
+ghost use Rattle.delay_script.specs.DelayTables.{IsDelayTable};
+ghost use Rattle.chp_cli.specs.Answers.{given_by};
+ghost use Rattle.chp_cli.specs.Replies.{Halts, Stops};
+ghost use Rattle.chp_cli.specs.Steps.{FromFile, Never};
+ghost use Rattle.chp_cli.specs.Timing.{AreDelaysOf, FromDelays, HoldsDelays, most_of_delays};
+
+use crate::answer::{Refusal, Stop};
+use crate::files::text_of_file;
+use chp_edge::Shelf;
+use delay_script::{DelayError, Delays, read_delays};
+use prs_core::Net;
+use std::alloc::Global;
+
+/// The most bytes of a delay file.
+const MOST_OF_DELAYS: usize = 4_194_304;
+
+/// The delays that the text says of the net's nodes.
+fn delays_of_text<'a>(alloc: Global, text: &[u8], net: &Net) -> Result<Delays, Stop<'a>>
+    requires { length text.now ≤ most_of_delays }
+    ensures read { IfOk result (AreDelaysOf net.now.names text.now) }
+    ensures table { IfOk result (IsDelayTable (length net.now.first)) }
+    ensures stopped { IfErr result (Halts (FromDelays net.now.names text.now Never)) }
+{
+    match read_delays(alloc, text, net) {
+        Ok(delays) => Ok(delays),
+        Err(DelayError::Refused { fault, line }) => {
+            Err(Stop::Refused(Refusal::BadDelays { fault, line }))
+        }
+        Err(DelayError::NoMemory(_)) => Err(Stop::NoMemory),
+    }
+}
+
+/// The delays of the net's nodes whose file has this name.
+pub fn delays_in<'a, S: Shelf>(
+    alloc: Global,
+    shelf: &mut S,
+    file: &'a str,
+    net: &Net,
+) -> Result<Delays, Stop<'a>>
+    ensures read { IfOk result (λ delays.
+        HoldsDelays (given_by (S.tells shelf.old) (S.holds shelf.old)) file.entry.now net.now.names delays) }
+    ensures table { IfOk result (IsDelayTable (length net.now.first)) }
+    ensures stopped { IfErr result (Stops
+        (FromFile (given_by (S.tells shelf.old) (S.holds shelf.old)) file.entry.now most_of_delays
+        (λ text. FromDelays net.now.names text Never))
+        (file.entry.now ∷ []) (given_by (S.tells shelf.old) (S.holds shelf.old)) (S.faults shelf.old)
+        (S.faults shelf.new)) }
+    ensures same { S.tells shelf.new ≡ S.tells shelf.old }
+    ensures kept { S.holds shelf.new ≡ S.holds shelf.old }
+    ensures faults { S.faults shelf.old ≤ S.faults shelf.new }
+{
+    match text_of_file(alloc, shelf, file, MOST_OF_DELAYS) {
+        Ok(text) => delays_of_text(alloc, &text, net),
+        Err(stop) => Err(stop),
+    }
+}
