@@ -16,11 +16,13 @@ use Rattle.width_check.specs.Processes.{Process, TypedProgram}
 use Rattle.width_check.specs.Sharing.{MeetsSharing, IsFirstSharedFault, sharing_faults}
 use Rattle.chp_cli.specs.declared.answer.Ending.TheVariants.{Done}
 use Rattle.chp_cli.specs.declared.status.Status.TheVariants.{RefusedText, BadFile}
+use Rattle.chp_cli.specs.declared.grow_words.Growth.{Growth}
 use Rattle.chp_cli.specs.Answers.{Given, Answer, writes, refuses, OneAnswer}
 use Rattle.chp_cli.specs.Checking.{AcceptedReport, ChecksProgram}
 use Rattle.chp_cli.specs.Commands.{Asked, compiles, migrates, checks, expands, simulates, times, runs, grows, IsAnswer}
 use Rattle.chp_cli.specs.Compiling.{CompilesNet, CompilesProgram, compiled}
 use Rattle.chp_cli.specs.Expanding.{ExpandsProgram, TreeReport}
+use Rattle.chp_cli.specs.Growing.{Grows}
 use Rattle.chp_cli.specs.Lines.{refused_line, bad_net_line}
 use Rattle.chp_cli.specs.Migrating.{MigratesNet, taken, migrated}
 use Rattle.chp_cli.specs.Orders.{Played}
@@ -138,6 +140,7 @@ module _ (cause : (text : List ℕ) (k j : FaultCode) (s t : Span) → IsRefused
     (simulate_once : (run : AskedRun) (given : Given) (played : Played) → given.tells ≡ true → OneAnswer (Simulates run given played))
     (times_once : (t : AskedTiming) (given : Given) → given.tells ≡ true → OneAnswer (SimulatesTimed t given))
     (rounds_once : (r : AskedRounds) (given : Given) → given.tells ≡ true → OneAnswer (Runs r given))
+    (growth_once : (growth : Growth) (played : Played) → OneAnswer (Grows growth played))
     (checked : (program : ProgramTree) (Next : Answer → Type 0) → OneAnswer Next → OneAnswer (FromChecks program Next)) where
   pub command_once : (command : Asked) (given : Given) (played : Played) → given.tells ≡ true → OneAnswer (IsAnswer command given played)
   command_once (compiles file reset) given played told = file_once given file _ _ told
@@ -155,4 +158,4 @@ module _ (cause : (text : List ℕ) (k j : FaultCode) (s t : Span) → IsRefused
   command_once (simulates run) given played told = simulate_once run given played told
   command_once (times t) given played told = times_once t given told
   command_once (runs r) given played told = rounds_once r given told
-  command_once (grows growth) given played told = λ a b is are. is ∙ sym are
+  command_once (grows growth) given played told = growth_once growth played

@@ -59,7 +59,7 @@ module _ (channels : List Channel) (text : List ℕ) (Next : List OfferValue →
 
 -- ---- the run to which the growth of a log leads
 
-one_end : (s : SimValue) (was now : List ℕ) (e f : End) → EndsSo s.net s.script s.steps (start_at s) (picked_moves s was now) e →
+pub one_end : (s : SimValue) (was now : List ℕ) (e f : End) → EndsSo s.net s.script s.steps (start_at s) (picked_moves s was now) e →
     EndsSo s.net s.script s.steps (start_at s) (picked_moves s was now) f → e ≡ f
 one_end s was now e f is are = let p = is.ended in let q = are.ended in cc (p, q)
 
@@ -69,7 +69,7 @@ module _ (Next : RanValue → Answer → Type 0) (next : (r : RanValue) → OneA
       let same : q.end ≡ p.end = one_end s was.log is.log q.end p.end q.run.ends p.run.ends in
       next (ran_value s was.log is.log p.end) a b p.written (subst (λ (e : End). Next (ran_value s was.log is.log e) b) same q.written)
 
-same_order : {held : Option OrderState} {a b : OrderState} → held ≡ Some a → held ≡ Some b → a ≡ b
+pub same_order : {held : Option OrderState} {a b : OrderState} → held ≡ Some a → held ≡ Some b → a ≡ b
 same_order e f = cc (e, f)
 
 module _ (Next : RanValue → Answer → Type 0) (next : (r : RanValue) → OneAnswer (Next r)) where

@@ -9,7 +9,7 @@ use Rattle.chp_cli.specs.Checking.{Checks}
 use Rattle.chp_cli.specs.Compiling.{Compiles}
 use Rattle.chp_cli.specs.Expanding.{Expands}
 use Rattle.chp_cli.specs.GrowWords.{IsGrowable, growth_of, plain_growth}
-use Rattle.chp_cli.specs.Growing.{Grows}
+use Rattle.chp_cli.specs.Growing.{Grows, grow_order}
 use Rattle.chp_cli.specs.Migrating.{Migrates}
 use Rattle.chp_cli.specs.RoundsReporting.{Runs}
 use Rattle.chp_cli.specs.RoundsWords.{AskedRounds, rounds_of}
@@ -138,10 +138,6 @@ abbrev pub simulate_asked : AskedSimulation → Asked
 simulate_asked (by_order run) = simulates run
 simulate_asked (by_delays timing) = times timing
 
--- a summary isn't served yet
-abbrev pub grow_asked : Growth → Option Asked
-grow_asked growth = if growth.sum then None else Some (grows growth)
-
 abbrev pub compile_with : (file reset : Option Text) → Option Asked
 compile_with file reset = option_map (λ name. compiles name (is_set reset)) file
 
@@ -160,7 +156,7 @@ command_with verb.Check word rest = option_map checks (file_of word rest)
 command_with verb.Expand word rest = option_map expands (file_of word rest)
 command_with verb.Simulate word rest = option_map simulate_asked (simulate_of word rest)
 command_with verb.Run word rest = option_map runs (rounds_of word rest)
-command_with verb.Grow word rest = option_and_then grow_asked (growth_of word rest)
+command_with verb.Grow word rest = option_map grows (growth_of word rest)
 
 -- what the words ask for, where they are a command's name and words that its form takes
 abbrev pub command_of : List Text → Option Asked
@@ -202,7 +198,7 @@ plain_with verb.Check word rest = option_map checks (plain_file rest)
 plain_with verb.Expand word rest = option_map expands (plain_file rest)
 plain_with verb.Simulate word rest = option_map simulate_asked (simulate_of word rest)
 plain_with verb.Run word rest = option_map runs (rounds_of word rest)
-plain_with verb.Grow word rest = option_and_then grow_asked (plain_growth rest)
+plain_with verb.Grow word rest = option_map grows (plain_growth rest)
 
 abbrev pub plain_command : List Text → Option Asked
 plain_command [] = None
@@ -223,7 +219,7 @@ IsAnswer (expands file) given played = Expands given file
 IsAnswer (simulates run) given played = Simulates run given played
 IsAnswer (times timing) given played = SimulatesTimed timing given
 IsAnswer (runs r) given played = Runs r given
-IsAnswer (grows growth) given played = Grows growth
+IsAnswer (grows growth) given played = Grows growth played
 
 -- the names of its files
 abbrev pub files_of : Asked → List Text
@@ -239,4 +235,5 @@ files_of (grows growth) = []
 -- the place of the order that it asks for
 abbrev pub order_of : Asked → List OrderState → Option ℕ
 order_of (simulates run) orders = place_named orders run.order
+order_of (grows growth) orders = grow_order growth.sum orders
 order_of _ orders = None

@@ -21,6 +21,7 @@ pub mod Expanding
 pub mod Forms
 pub mod Words
 pub mod GrowWords
+pub mod Summing
 pub mod Growing
 pub mod Commands
 pub mod TimedFiles

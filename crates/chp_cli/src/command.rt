@@ -1,8 +1,8 @@
 //! The words of a command.
 
-ghost use Rattle.std.specs.Prelude.{◌≡◌, IfOk, IfSome, Some, is_some, option_and_then, option_map, true};
+ghost use Rattle.std.specs.Prelude.{◌≡◌, IfOk, IfSome, Some, is_some, option_map, true};
 ghost use Rattle.clap.specs.Words.{app_of, found_of, matches_of, rows_of, takes};
-ghost use Rattle.chp_cli.specs.Commands.{IsWithinBounds, asked, command_of, compile_form, compile_of, file_form, file_of, grow_asked, plain_command, plain_compile, plain_file, simulate_asked, verb_of};
+ghost use Rattle.chp_cli.specs.Commands.{IsWithinBounds, asked, command_of, compile_form, compile_of, file_form, file_of, grows, plain_command, plain_compile, plain_file, simulate_asked, verb_of};
 ghost use Rattle.chp_cli.specs.SimulateWords.{simulate_of};
 ghost use Rattle.chp_cli.specs.Forms.{is_form, texts_of};
 ghost use Rattle.chp_cli.specs.GrowWords.{growth_of, plain_growth};
@@ -34,7 +34,7 @@ pub enum Command<'a> {
     Time(Timing<'a>),
     /// `run FILE SCRIPT`: report rounds of the program text in this file under this script.
     Run(Rounds<'a>),
-    /// `grow SEED STAGES`: write the text of the program that is made of these numbers.
+    /// `grow SEED STAGES [--sum]`: write the text of the program that is made of these numbers, or its summary.
     Grow(Growth),
 }
 
@@ -101,21 +101,21 @@ fn verb_in(word: &str) -> Option<Verb>
     }
 }
 
-/// What the words behind `grow` ask for, where they are its form. A summary isn't served yet.
+/// What the words behind `grow` ask for, where they are its form.
 fn grow_in<'a>(
     alloc: Global,
     name: &'a str,
     words: &'a [String],
 ) -> Result<Option<Command<'a>>, AllocError>
     ensures form { IfOk result (λ found. option_map asked found
-        ≡ option_and_then grow_asked (growth_of name.entry.now (texts_of words.entry.now))) }
+        ≡ option_map grows (growth_of name.entry.now (texts_of words.entry.now))) }
     ensures plain { IfOk result (λ found. option_map asked found
-        ≡ option_and_then grow_asked (plain_growth (texts_of words.entry.now))) }
+        ≡ option_map grows (plain_growth (texts_of words.entry.now))) }
     ensures bounds { IfOk result (λ found. IfSome found IsWithinBounds) }
 {
     match growth_of(alloc, name, words)? {
-        Some(growth) if !growth.sum => Ok(Some(Command::Grow(growth))),
-        _ => Ok(None),
+        Some(growth) => Ok(Some(Command::Grow(growth))),
+        None => Ok(None),
     }
 }
 

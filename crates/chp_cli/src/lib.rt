@@ -9,6 +9,7 @@ mod delay_files;
 mod expand;
 mod files;
 mod grow;
+mod grow_summary;
 mod grow_words;
 pub mod laws;
 mod main_call;

@@ -70,7 +70,7 @@ fn answer<'a, S: Shelf>(
         Command::Simulate(run) => simulate(alloc, shelf, players, run),
         Command::Time(timing) => time(alloc, shelf, timing),
         Command::Run(asked) => rounds(alloc, shelf, asked),
-        Command::Grow(growth) => grow(alloc, growth),
+        Command::Grow(growth) => grow(alloc, players, growth),
     }
 }
 

@@ -17,7 +17,7 @@ use std::alloc::Global;
 use width_check::laws::form_is_typed;
 
 /// The accepted program that the text reads as.
-fn accepted_program<'a>(alloc: Global, text: &[u8]) -> Result<Disjoint, Stop<'a>>
+pub fn accepted_program<'a>(alloc: Global, text: &[u8]) -> Result<Disjoint, Stop<'a>>
     requires { length text.now ≤ most_of_text }
     ensures read { IfOk result (λ program. IsProgramOf text.now (typed_of program)) }
     ensures typed { IfOk result (λ program. IsTyped program.channels program.vars (process_of program.body)) }

@@ -54,9 +54,9 @@ fn simulation(
 
 /// The room that a run takes: for so many picks, from lists of nodes below this number.
 #[derive(Clone, Copy)]
-struct Room {
-    picks: u32,
-    nodes: u32,
+pub(crate) struct Room {
+    pub(crate) picks: u32,
+    pub(crate) nodes: u32,
 }
 
 /// Gives the order its seed, and then its room.
@@ -86,7 +86,7 @@ fn play(picker: &mut Box<dyn Picker>, sim: Sim, seed: u64, room: Room) -> Result
 }
 
 /// Lets the order at this place choose the moves of a run.
-fn play_at(
+pub(crate) fn play_at(
     orders: &mut Vec<Box<dyn Picker>>,
     place: usize,
     sim: Sim,

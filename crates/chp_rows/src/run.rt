@@ -4,7 +4,7 @@ ghost use Rattle.std.specs.Prelude.{◌<◌, length, IfOk};
 
 use crate::bench::Bench;
 use crate::pickers::{ByText, Starve, Swing};
-use case_text::{put_bytes, put_lines, words_of};
+use case_text::{bytes_of, put_bytes, put_lines, words_of};
 use chp_cli::{Players, Status, chp_main};
 use chp_edge::{MemSink, Shelf, SureShelf};
 use event_sim::{Lowest, Newest, Oldest, Picker, Random};
@@ -100,10 +100,9 @@ pub fn run_count(
     let ran = command(alloc, bench, line, &mut shelf)?;
     writeln!(page, "> {line}")?;
     put_end(page, &ran)?;
+    let begins = bytes_of(alloc, front)?;
     let lines = ran.out.written().split(|byte| *byte == b'\n');
-    let count = lines
-        .filter(|line| line.starts_with(front.as_bytes()))
-        .count();
+    let count = lines.filter(|line| line.starts_with(&begins)).count();
     writeln!(page, "{front}: {count}")
 }
 

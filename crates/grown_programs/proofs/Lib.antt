@@ -7,3 +7,4 @@ pub mod Lookups
 pub mod Naming
 pub mod Sharing
 pub mod Counting
+pub mod Channels

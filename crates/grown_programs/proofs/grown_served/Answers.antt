@@ -3,6 +3,7 @@ use Rattle.std.specs.List.{list_all}
 use Rattle.chp_syntax.specs.Grammar.{the_program}
 use Rattle.chp_syntax.specs.Reading.{few_arms}
 use Rattle.chp_syntax.specs.Trees.{Procedure, ProgramTree}
+use Rattle.grown_programs.proofs.Channels.{all_channels}
 use Rattle.grown_programs.proofs.Counting.{body_free, few_nodes}
 use Rattle.grown_programs.proofs.Cuts.{all_cut, all_shallow}
 use Rattle.grown_programs.proofs.Lines.{rest_program}
@@ -33,5 +34,6 @@ returns c = λ seed stages some few.
         named = no_naming_fault stages some few program.decls here.are program refl here.body.is;
         sharing = nothing_shared stages some few program.decls here.are program.body here.body.is;
       };
+      wired = all_channels stages program.decls here.are;
       few = few_nodes stages program some few here.are here.body.is;
     }

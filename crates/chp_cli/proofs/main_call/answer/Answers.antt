@@ -1,6 +1,5 @@
 use Rattle.std.proofs.Common.{[]}
 use Rattle.chp_cli.specs.Answers.{given_by}
-use Rattle.chp_cli.specs.Growing.{Grows}
 use Rattle.chp_cli.proofs.Stopping.{halts_stops}
 use Rattle.chp_cli.proofs.main_call.answer.Goals as goal
 
@@ -65,4 +64,7 @@ pub returns-in-Grow-clause-stopped : goal.returns-in-Grow-clause-stopped
 returns-in-Grow-clause-stopped g c =
     let S = g.S.Shelf in
     let given = given_by (S.tells c.args.shelf.now) (S.holds c.args.shelf.now) in
-    rw c.in-Grow.is (halts_stops (Grows c.in-Grow.growth) c.grow.result [] given _ _ c.grow.ensures.stopped)
+    rw c.in-Grow.is (halts_stops _ c.grow.result [] given _ _ c.grow.ensures.stopped)
+
+pub returns-in-Grow-clause-orders : goal.returns-in-Grow-clause-orders
+returns-in-Grow-clause-orders g c = rw c.in-Grow.is c.grow.ensures.orders
