@@ -1,29 +1,33 @@
 -- Each step, and so each command, has at most one answer.
-use Rattle.std.proofs.Common.{◌≡◌, ◌∙◌, ℕ, ◌+◌, ◌<◌, ◌≤◌, Bool, List, length, true, Option, Some, None, refl, sym, ap, subst, arith}
+use Rattle.std.proofs.Common.{◌≡◌, ◌∙◌, ℕ, ◌+◌, ◌<◌, ◌≤◌, Bool, List, length, true, Option, Some, None, ◌⊎◌, inl, inr, refl, sym, ap, subst, arith}
+use Rattle.std.proofs.lemmas.Bool.{cases_order}
 use Rattle.chp_base.specs.declared.span.Span.{Span}
 use Rattle.chp_base.specs.declared.fault.Fault.{Fault}
 use Rattle.chp_base.specs.declared.fault.FaultCode.{FaultCode}
 use Rattle.chp_syntax.specs.Trees.{ProgramTree}
+use Rattle.chp_syntax.specs.declared.tree.Decl.{Decl}
 use Rattle.chp_syntax.specs.Refusals.{RefusedText as IsRefusedText}
 use Rattle.prs_core.specs.Nets.{NetValue}
 use Rattle.prs_file.specs.declared.fault.NetFault.{NetFault}
 use Rattle.prs_file.specs.declared.fault.NetFault.TheVariants.{DoubleName}
 use Rattle.prs_file.specs.Reading.{IsRefused}
+use Rattle.slack_buffer.specs.BufferedTrees.{IsFreeNumber, IsInnerChannel, buffered_tree}
 use Rattle.width_check.specs.Accepted.{IsAccepted}
 use Rattle.width_check.specs.Faults.{naming_faults, HasNone, IsFirstFault}
 use Rattle.width_check.specs.Form.{typed_form}
 use Rattle.width_check.specs.Processes.{Process, TypedProgram}
 use Rattle.width_check.specs.Sharing.{MeetsSharing, IsFirstSharedFault, sharing_faults}
 use Rattle.chp_cli.specs.declared.answer.Ending.TheVariants.{Done}
-use Rattle.chp_cli.specs.declared.status.Status.TheVariants.{RefusedText, BadFile}
+use Rattle.chp_cli.specs.declared.status.Status.TheVariants.{RefusedText, BadFile, NoChannel}
 use Rattle.chp_cli.specs.declared.grow_words.Growth.{Growth}
 use Rattle.chp_cli.specs.Answers.{Given, Answer, writes, refuses, OneAnswer}
 use Rattle.chp_cli.specs.Checking.{AcceptedReport, ChecksProgram}
 use Rattle.chp_cli.specs.Commands.{Asked, compiles, migrates, checks, expands, simulates, times, runs, grows, IsAnswer}
-use Rattle.chp_cli.specs.Compiling.{CompilesNet, CompilesProgram, compiled}
+use Rattle.chp_cli.specs.Compiling.{CompilesNet, compiled}
+use Rattle.chp_cli.specs.BufferSteps.{FromBuffer, no_channel, has_channel, FromProgramFile, IsBuffered, PutsBuffer}
 use Rattle.chp_cli.specs.Expanding.{ExpandsProgram, TreeReport}
 use Rattle.chp_cli.specs.Growing.{Grows}
-use Rattle.chp_cli.specs.Lines.{refused_line, bad_net_line}
+use Rattle.chp_cli.specs.Lines.{refused_line, bad_net_line, no_channel_line}
 use Rattle.chp_cli.specs.Migrating.{MigratesNet, taken, migrated}
 use Rattle.chp_cli.specs.Orders.{Played}
 use Rattle.chp_cli.specs.RoundsReporting.{Runs}
@@ -122,6 +126,50 @@ module _ (named : (p : ProgramTree) (c d : FaultCode) (s t : Span) → IsFirstFa
   checks_once p Next next a b (accepted is n) (faulty {fault = f} free m) = absurd (no_fault p f is m)
   checks_once p Next next a b (accepted is n) (accepted are m) = next a b n m
 
+-- ---- a program with its buffer
+
+one_number : (ds : List Decl) (j k : ℕ) → IsFreeNumber ds j → IsFreeNumber ds k → j ≡ k
+one_number ds j k f g = go (cases_order j k)
+  where
+    go : (j ≡ k) ⊎ ((j < k) ⊎ (k < j)) → j ≡ k
+    go (inl same) = same
+    go (inr (inl less)) = absurd (f.free (g.least j less))
+    go (inr (inr more)) = absurd (g.free (f.least k more))
+
+pub one_buffered : (program : ProgramTree) (chan : Option (List ℕ)) (made other : ProgramTree) → IsBuffered program chan made → IsBuffered program chan other →
+    made ≡ other
+one_buffered program None made other is are = is ∙ sym are
+one_buffered program (Some chan) made other is are =
+    is.buffer.tree ∙ (ap (λ (k : ℕ). buffered_tree program chan k)
+    (one_number program.decls is.buffer.number are.buffer.number is.buffer.free are.buffer.free) ∙ sym are.buffer.tree)
+
+pub needs_channel : {X : Type 0} (program : ProgramTree) (chan : Option (List ℕ)) (name : List ℕ) (made : ProgramTree) → chan ≡ Some name →
+    ¬ IsInnerChannel program.decls name → IsBuffered program chan made → X
+needs_channel program chan name made named not is =
+    let puts : PutsBuffer program name made = subst (λ (o : Option (List ℕ)). IsBuffered program o made) named is in
+    absurd (not puts.inner)
+
+same_name : {chan : Option (List ℕ)} {a b : List ℕ} → chan ≡ Some a → chan ≡ Some b → a ≡ b
+same_name e f = cc (e, f)
+
+module _ (program : ProgramTree) (chan : Option (List ℕ)) (Next : TypedProgram → Answer → Type 0) (next : (p : TypedProgram) → OneAnswer (Next p)) where
+  buffer_once : (a b : Answer) → FromBuffer program chan Next a → FromBuffer program chan Next b → a ≡ b
+  buffer_once a b (no_channel {name = x} is n) (no_channel {name = y} are m) =
+      ap (λ (name : List ℕ). refuses NoChannel (no_channel_line name)) (same_name is are)
+  buffer_once a b (no_channel {name = x} is n) (has_channel p has m) = needs_channel program chan x p is n has
+  buffer_once a b (has_channel p has n) (no_channel {name = x} is m) = needs_channel program chan x p is m has
+  buffer_once a b (has_channel p is n) (has_channel q are m) =
+      next (typed_form p) a b n (subst (λ (r : ProgramTree). Next (typed_form r) b) (one_buffered program chan q p are is) m)
+
+module _ (cause : (text : List ℕ) (k j : FaultCode) (s t : Span) → IsRefusedText text k s → IsRefusedText text j t → k ≡ j)
+    (place : (text : List ℕ) (k j : FaultCode) (s t : Span) → IsRefusedText text k s → IsRefusedText text j t → s ≡ t)
+    (checked : (program : ProgramTree) (Next : Answer → Type 0) → OneAnswer Next → OneAnswer (FromChecks program Next)) where
+  pub program_file_once : (given : Given) (file : List ℕ) (chan : Option (List ℕ)) (Next : TypedProgram → Answer → Type 0) → given.tells ≡ true →
+      ((p : TypedProgram) → OneAnswer (Next p)) → OneAnswer (FromProgramFile given file chan Next)
+  program_file_once given file chan Next told next = file_once given file _ _ told
+      (λ text. program_once text (λ program. FromChecks program (FromBuffer program chan Next))
+      (λ program. checked program (FromBuffer program chan Next) (buffer_once program chan Next next)) (cause text) (place text))
+
 -- ---- the commands
 
 compile_once : (reset : Bool) (p : TypedProgram) (a b : Answer) → CompilesNet reset p a → CompilesNet reset p b → a ≡ b
@@ -143,11 +191,9 @@ module _ (cause : (text : List ℕ) (k j : FaultCode) (s t : Span) → IsRefused
     (growth_once : (growth : Growth) (played : Played) → OneAnswer (Grows growth played))
     (checked : (program : ProgramTree) (Next : Answer → Type 0) → OneAnswer Next → OneAnswer (FromChecks program Next)) where
   pub command_once : (command : Asked) (given : Given) (played : Played) → given.tells ≡ true → OneAnswer (IsAnswer command given played)
-  command_once (compiles file reset) given played told = file_once given file _ _ told
-      (λ text. program_once text (CompilesProgram reset)
-      (λ program. checked program (FromNodes (typed_form program) (CompilesNet reset))
-      (nodes_once (typed_form program) (CompilesNet reset) (compile_once reset (typed_form program))))
-      (cause text) (place text))
+  command_once (compiles c) given played told = program_file_once cause place checked given c.file c.buffer
+      (λ (p : TypedProgram). FromNodes p (CompilesNet c.reset)) told
+      (λ p. nodes_once p (CompilesNet c.reset) (compile_once c.reset p))
   command_once (migrates file) given played told = file_once given file _ _ told (λ text. net_once text MigratesNet migrate_once (once text))
   command_once (checks file) given played told = file_once given file _ _ told
       (λ text. program_once text ChecksProgram (λ program. checked program (AcceptedReport program) (λ a b is are. is ∙ sym are)) (cause text) (place text))

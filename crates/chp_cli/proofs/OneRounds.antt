@@ -5,13 +5,12 @@ use Rattle.chp_base.specs.declared.span.Span.{Span}
 use Rattle.chp_syntax.specs.Trees.{ProgramTree}
 use Rattle.chp_syntax.specs.Refusals.{RefusedText as IsRefusedText}
 use Rattle.env_script.specs.Scripts.{OfferValue}
-use Rattle.width_check.specs.Form.{typed_form}
 use Rattle.width_check.specs.Processes.{TypedProgram}
 use Rattle.chp_cli.specs.Answers.{Given, Answer, OneAnswer}
 use Rattle.chp_cli.specs.RoundsReporting.{ReportsRounds, too_full, at_rest, spent, RunsProgram, Runs}
 use Rattle.chp_cli.specs.RoundsWords.{AskedRounds}
 use Rattle.chp_cli.specs.Steps.{FromChecks}
-use Rattle.chp_cli.proofs.OneAnswers.{file_once, program_once}
+use Rattle.chp_cli.proofs.OneAnswers.{file_once, program_file_once}
 use Rattle.chp_cli.proofs.OneRuns.{script_once}
 
 too_many : {X : Type 0} {held most : ℕ} → most < held → held ≤ most → X
@@ -32,8 +31,5 @@ module _ (cause : (text : List ℕ) (k j : FaultCode) (s t : Span) → IsRefused
     (place : (text : List ℕ) (k j : FaultCode) (s t : Span) → IsRefusedText text k s → IsRefusedText text j t → s ≡ t)
     (checked : (program : ProgramTree) (Next : Answer → Type 0) → OneAnswer Next → OneAnswer (FromChecks program Next)) where
   pub rounds_once : (r : AskedRounds) (given : Given) → given.tells ≡ true → OneAnswer (Runs r given)
-  rounds_once r given told = file_once given r.file _ _ told
-      (λ text. program_once text (RunsProgram r given)
-      (λ program. checked program _ (file_once given r.script _ _ told
-      (λ words. script_once (typed_form program).channels words _ (λ script. report_once (typed_form program) script r.rounds))))
-      (cause text) (place text))
+  rounds_once r given told = program_file_once cause place checked given r.file r.buffer (RunsProgram r given) told
+      (λ p. file_once given r.script _ _ told (λ words. script_once p.channels words _ (λ script. report_once p script r.rounds)))

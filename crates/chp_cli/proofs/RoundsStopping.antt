@@ -4,28 +4,24 @@ use Rattle.std.specs.Prelude.{Contains}
 use Rattle.chp_base.specs.declared.channel.Channel.{Channel}
 use Rattle.chp_syntax.specs.Trees.{ProgramTree}
 use Rattle.env_script.specs.Scripts.{OfferValue}
-use Rattle.width_check.specs.Form.{typed_form}
 use Rattle.width_check.specs.Processes.{TypedProgram}
 use Rattle.chp_cli.specs.declared.answer.Stop.{Stop}
 use Rattle.chp_cli.specs.Answers.{Given, Answer}
 use Rattle.chp_cli.specs.Held.{HoldsScript}
-use Rattle.chp_cli.specs.HeldPrograms.{IsProgramOf, HoldsProgram}
+use Rattle.chp_cli.specs.BufferSteps.{FromProgramFile}
+use Rattle.chp_cli.specs.HeldBuffered.{HoldsBuffered}
 use Rattle.chp_cli.specs.Replies.{Halts, Stops}
 use Rattle.chp_cli.specs.RoundsReporting.{ReportsRounds, RunsProgram, Runs}
 use Rattle.chp_cli.specs.RoundsWords.{AskedRounds}
 use Rattle.chp_cli.specs.RunSteps.{FromScript, a_script, most_of_script}
-use Rattle.chp_cli.specs.Steps.{FromFile, a_file, FromProgram, no_program, a_program, FromChecks, accepted, Never, most_of_text}
+use Rattle.chp_cli.specs.Steps.{FromFile, a_file, FromChecks, Never}
+use Rattle.chp_cli.proofs.BufferStopping.{buffered_on, buffered_stopped}
 use Rattle.chp_cli.proofs.RunStopping.{file_as, script_goes}
-use Rattle.chp_cli.proofs.Stopping.{checks_go, stops_in, stops_where}
+use Rattle.chp_cli.proofs.Stopping.{stops_in, stops_where}
 
 -- a program by itself, accepted or not
 abbrev pub OnlyChecks : ProgramTree → Answer → Type 0
 OnlyChecks tree = FromChecks tree (Never tree)
-
-pub program_as : {text : List ℕ} {One Next : ProgramTree → Answer → Type 0} {a : Answer} → ((tree : ProgramTree) → One tree a → Next tree a) →
-    FromProgram text One a → FromProgram text Next a
-program_as goes (no_program none) = no_program none
-program_as goes (a_program {program = tree} read is) = a_program read (goes tree is)
 
 first_of_two : (a b name : List ℕ) → Contains (a ∷ []) name → Contains (a ∷ b ∷ []) name
 first_of_two a b name (zero, within, is) = (0, omega arith, is)
@@ -36,34 +32,22 @@ second_of_two a b name (zero, within, is) = (1, omega arith, is)
 second_of_two a b name (suc k, within, is) = absurd (omega arith)
 
 module _ (r : AskedRounds) (given : Given) where
-  files : List (List ℕ)
-  files = r.file ∷ r.script ∷ []
-
-  pub program_stopped : (before after : ℕ) (stop : Stop) →
-      Stops (FromFile given r.file most_of_text (λ text. FromProgram text OnlyChecks)) (r.file ∷ []) given before after stop
-      → Stops (Runs r given) (r.file ∷ r.script ∷ []) given before after stop
+  pub program_stopped : (before after : ℕ) (stop : Stop) → Stops (FromProgramFile given r.file r.buffer Never) (r.file ∷ []) given before after stop →
+      Stops (Runs r given) (r.file ∷ r.script ∷ []) given before after stop
   program_stopped before after stop stops =
-      stops_in (FromFile given r.file most_of_text (λ text. FromProgram text OnlyChecks)) (Runs r given)
-      (λ answer is. file_as (λ text there. program_as (λ tree so. checks_go so) there) is) (r.file ∷ []) (r.file ∷ r.script ∷ []) given before before after
-      (λ name own. first_of_two r.file r.script name own) (omega arith) stop stops
+      buffered_stopped given r.file r.buffer (RunsProgram r given) (r.file ∷ r.script ∷ []) (λ name own. first_of_two r.file r.script name own) before after
+      stop stops
 
-  module _ (program : TypedProgram) (holds : HoldsProgram given r.file program) where
+  module _ (program : TypedProgram) (holds : HoldsBuffered given r.file r.buffer program) where
     -- the command goes on with the script
-    abbrev Behind : (List ℕ → Answer → Type 0) → Answer → Type 0
-    Behind Next = FromFile given r.script most_of_script Next
-
-    pub goes_on : (a : Answer) → Behind (λ words. FromScript program.channels words (λ script. ReportsRounds program script r.rounds)) a → Runs r given a
-    goes_on a is =
-        let tree = holds.is.tree in
-        let same : (λ (p : TypedProgram). p) program ≡ typed_form tree = holds.is.form in
-        a_file holds.gives holds.short (a_program holds.is.read (accepted holds.is.accepted
-        (subst (λ (p : TypedProgram). Behind (λ words. FromScript p.channels words (λ script. ReportsRounds p script r.rounds)) a) same is)))
+    goes_on : (a : Answer) → RunsProgram r given program a → Runs r given a
+    goes_on a is = buffered_on given r.file r.buffer (RunsProgram r given) program holds a is
 
     pub script_stopped : (first before after : ℕ) → first ≤ before → (stop : Stop) →
-        Stops (Behind (λ words. FromScript program.channels words Never)) (r.script ∷ []) given before after stop
+        Stops (FromFile given r.script most_of_script (λ words. FromScript program.channels words Never)) (r.script ∷ []) given before after stop
         → Stops (Runs r given) (r.file ∷ r.script ∷ []) given first after stop
     script_stopped first before after early stop stops =
-        stops_in (Behind (λ words. FromScript program.channels words Never)) (Runs r given)
+        stops_in (FromFile given r.script most_of_script (λ words. FromScript program.channels words Never)) (Runs r given)
         (λ answer is. goes_on answer (file_as (λ words there. script_goes there) is))
         (r.script ∷ []) (r.file ∷ r.script ∷ []) given first before after (λ name own. second_of_two r.file r.script name own) early stop stops
 

@@ -1,5 +1,5 @@
 -- Where nothing speaks against it, a command writes.
-use Rattle.std.proofs.Common.{◌≡◌, ◌∙◌, ℕ, ◌≤◌, Bool, List, true, refl, ap, subst, arith}
+use Rattle.std.proofs.Common.{◌≡◌, ◌∙◌, ℕ, ◌≤◌, List, true, refl, ap, subst, arith}
 use Rattle.chp_syntax.specs.Reading.{Reads}
 use Rattle.chp_base.specs.declared.fault.Fault.{Fault}
 use Rattle.chp_syntax.specs.Trees.{ProgramTree}
@@ -11,35 +11,41 @@ use Rattle.prs_file.specs.Spelling.{NetText}
 use Rattle.chp_cli.specs.declared.status.Status.TheVariants.{Done}
 use Rattle.chp_cli.specs.declared.answer.Ending.{Ending}
 use Rattle.chp_cli.specs.Answers.{Given, Answer, writes, status_of}
-use Rattle.chp_cli.specs.Compiling.{Compiles, CompilesProgram, IsFileCompiled, IsToCompile, compiled}
+use Rattle.chp_cli.specs.BufferSteps.{FromBuffer, no_channel, has_channel, IsBuffered}
+use Rattle.chp_cli.specs.Compiling.{Compiles, CompilesNet, IsFileCompiled, IsToCompile, compiled}
+use Rattle.chp_cli.specs.CompileWords.{AskedCompilation}
 use Rattle.chp_cli.specs.Migrating.{Migrates, IsToMigrate, named_reset, taken, migrated}
-use Rattle.chp_cli.specs.Steps.{IsFaulty, has_calls, faulty, accepted, no_file, long_file, a_file, no_program, a_program, too_many, few_enough, no_net, a_net, most_of_nodes}
-use Rattle.chp_cli.proofs.OneAnswers.{same_text, too_long, not_there}
+use Rattle.chp_cli.specs.Steps.{FromChecks, FromNodes, IsFaulty, has_calls, faulty, accepted, no_file, long_file, a_file, no_program, a_program, too_many, few_enough, no_net, a_net, most_of_nodes}
+use Rattle.chp_cli.proofs.OneAnswers.{same_text, too_long, not_there, needs_channel, one_buffered}
 
--- to an accepted program whose circuit isn't too large
-module _ (reset : Bool) (no_fault : (program : ProgramTree) (f : Fault) → IsAccepted program → ¬ IsFaulty program f) where
-  accepted_writes : (program : ProgramTree) (a : Answer) → node_count (typed_form program) ≤ most_of_nodes → IsAccepted program →
-      CompilesProgram reset program a → status_of a ≡ Done
-  accepted_writes p a few is (has_calls some) = absurd (some is.call_free)
-  accepted_writes p a few is (faulty {fault = f} free bad) = absurd (no_fault p f is bad)
-  accepted_writes p a few is (accepted are (too_many many)) = absurd (omega arith)
-  accepted_writes p a few is (accepted are (few_enough also (compiled c))) = refl
+-- to an accepted program that can have its buffer, whose circuit isn't too large then
+module _ (c : AskedCompilation) (no_fault : (program : ProgramTree) (f : Fault) → IsAccepted program → ¬ IsFaulty program f) where
+  accepted_writes : (program made : ProgramTree) (a : Answer) → node_count (typed_form made) ≤ most_of_nodes → IsBuffered program c.buffer made →
+      IsAccepted program → FromChecks program (FromBuffer program c.buffer (λ p. FromNodes p (CompilesNet c.reset))) a → status_of a ≡ Done
+  accepted_writes p q a few buffered is (has_calls some) = absurd (some is.call_free)
+  accepted_writes p q a few buffered is (faulty {fault = f} free bad) = absurd (no_fault p f is bad)
+  accepted_writes p q a few buffered is (accepted are (no_channel {name = x} named not)) = needs_channel p c.buffer x q named not buffered
+  accepted_writes p q a few buffered is (accepted are (has_channel r also (too_many many))) =
+      let within : node_count (typed_form r) ≤ most_of_nodes =
+      subst (λ (t : ProgramTree). node_count (typed_form t) ≤ most_of_nodes) (one_buffered p c.buffer q r buffered also) few in
+      absurd (omega (arith, within, many))
+  accepted_writes p q a few buffered is (accepted are (has_channel r also (few_enough within (compiled d)))) = refl
 
-  pub compile_writes : (given : Given) (file : List ℕ) → given.tells ≡ true → IsToCompile given file → (a : Answer) → Compiles reset given file a →
-      status_of a ≡ Done
-  compile_writes given file told t a (no_file lacks) = not_there lacks.none t.held
-  compile_writes given file told t a (long_file long) = too_long (long told).1 t.held (long told).2 t.short
-  compile_writes given file told t a (a_file gives short (no_program none)) =
+  pub compile_writes : (given : Given) → given.tells ≡ true → IsToCompile c given → (a : Answer) → Compiles c given a → status_of a ≡ Done
+  compile_writes given told t a (no_file lacks) = not_there lacks.none t.held
+  compile_writes given told t a (long_file long) = too_long (long told).1 t.held (long told).2 t.short
+  compile_writes given told t a (a_file gives short (no_program none)) =
       absurd (none.never t.program (subst (λ x. Reads x t.program) (same_text t.held (gives told)) t.reads))
-  compile_writes given file told t a (a_file gives short (a_program {program = p} is next)) =
-      let same = is.only t.program (subst (λ x. Reads x t.program) (same_text t.held (gives told)) t.reads) in
-      accepted_writes p a (subst (λ q. node_count (typed_form q) ≤ most_of_nodes) same t.few) (subst IsAccepted same t.accepted) next
+  compile_writes given told t a (a_file gives short (a_program {program = p} is next)) =
+      let same : t.program ≡ p = is.only t.program (subst (λ x. Reads x t.program) (same_text t.held (gives told)) t.reads) in
+      accepted_writes p t.made a t.few (subst (λ (q : ProgramTree). IsBuffered q c.buffer t.made) same t.buffered) (subst IsAccepted same t.accepted) next
 
 -- what is written is the text of the program's net
-module _ (reset : Bool) (given : Given) (file : List ℕ) (told : given.tells ≡ true) where
-  pub written_right : (end : Ending) (text : List ℕ) → Compiles reset given file (writes end text) → IsFileCompiled reset given file text
-  written_right end text (a_file {text = x} gives short (a_program {program = p} is (accepted are (few_enough few (compiled c))))) =
-      record { text = x; program = p; held = gives told; reads = is; accepted = are; compiled = c }
+module _ (c : AskedCompilation) (given : Given) (told : given.tells ≡ true) where
+  pub written_right : (end : Ending) (text : List ℕ) → Compiles c given (writes end text) → IsFileCompiled c given text
+  written_right end text (a_file {text = x} gives short (a_program {program = p} is (accepted are (has_channel q buffered
+      (few_enough few (compiled d)))))) =
+      record { text = x; program = p; made = q; held = gives told; reads = is; accepted = are; buffered = buffered; compiled = d }
 
 module _ (given : Given) (file : List ℕ) (told : given.tells ≡ true) where
   pub migrate_writes : IsToMigrate given file → (a : Answer) → Migrates given file a → status_of a ≡ Done

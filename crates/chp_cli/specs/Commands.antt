@@ -1,12 +1,14 @@
 -- The words of a command, what they ask for, and the list of all commands.
 use Rattle.std.specs.Prelude.{ℕ, ◌≤◌, ◌&&◌, ◌||◌, Bool, true, false, not, List, [], ◌∷◌, Option, Some, None, codes, option_map, option_to_list}
 use Rattle.std.specs.Prelude.{if◌then◌else◌, option_and_then}
+use Rattle.std.specs.Borrow.{Bor}
 use Rattle.std.specs.Str.{bytes_eq}
 use Rattle.std.specs.declared.alloc.Global.{Global}
 use Rattle.std.specs.declared.string.String.{String}
 use Rattle.chp_cli.specs.Answers.{Given, Answer}
 use Rattle.chp_cli.specs.Checking.{Checks}
 use Rattle.chp_cli.specs.Compiling.{Compiles}
+use Rattle.chp_cli.specs.CompileWords.{AskedCompilation, compilation_asked, compile_of, plain_compile}
 use Rattle.chp_cli.specs.Expanding.{Expands}
 use Rattle.chp_cli.specs.GrowWords.{IsGrowable, growth_of, plain_growth}
 use Rattle.chp_cli.specs.Growing.{Grows, grow_order}
@@ -18,10 +20,10 @@ use Rattle.chp_cli.specs.Simulating.{AskedRun, Simulates}
 use Rattle.chp_cli.specs.SimulateWords.{AskedSimulation, by_order, by_delays, most_of_steps, simulate_of}
 use Rattle.chp_cli.specs.Timing.{AskedTiming, SimulatesTimed}
 use Rattle.chp_cli.specs.Forms.{texts_of}
-pub use Rattle.chp_cli.specs.Words.{is_flag, is_set}
+pub use Rattle.chp_cli.specs.Words.{is_flag, is_set, plain_file}
 use Rattle.clap.specs.Words.{App, Rule, Text, first_of, matches_of, new_app, new_rule, takes, with_rule}
 use Rattle.clap.specs.Simple.{on_top}
-use Rattle.clap.specs.declared.builder.ArgAction.TheVariants.{Set, SetTrue}
+use Rattle.clap.specs.declared.builder.ArgAction.TheVariants.{Set}
 use Rattle.chp_cli.specs.declared.command.Command.{Command}
 use Rattle.chp_cli.specs.declared.command.Command.TheVariants.{Compile, Migrate, Check, Expand, Simulate, Time, Run, Grow}
 use Rattle.chp_cli.specs.declared.rounds_words.Rounds.{Rounds}
@@ -50,14 +52,6 @@ abbrev pub file_of : Text → List Text → Option Text
 file_of name words = if takes (file_form name) words
     then first_of (codes "FILE") (matches_of (file_form name) words) else None
 
--- ---- the form of `compile`: one file, and the flag `--reset`
-
-abbrev pub reset_rule : Rule
-reset_rule = record (new_rule (codes "reset")) { long = Some (codes "reset"); action = Some SetTrue }
-
-abbrev pub compile_form : Text → App
-compile_form name = with_rule (file_form name) reset_rule
-
 -- ---- the commands
 
 -- the command that a word names
@@ -71,9 +65,9 @@ verb_of word = if bytes_eq word (codes "compile") then Some verb.Compile
     else if bytes_eq word (codes "grow") then Some verb.Grow
     else None
 
--- a command and its file, as its bytes; `compile` with or without a reset node; `grow` with its numbers
+-- a command and its file, as its bytes, or what else it is asked for
 pub data Asked : Type 0 where
-  compiles : Text → (reset : Bool) → Asked
+  compiles : AskedCompilation → Asked
   migrates : Text → Asked
   checks : Text → Asked
   expands : Text → Asked
@@ -110,10 +104,15 @@ simulation_asked (ByDelays timing) = by_delays (timing_asked timing)
 
 -- rounds that are asked for, with the names as their bytes
 abbrev pub rounds_asked : Rounds → AskedRounds
-rounds_asked r = record { file = r.file.now; script = r.script.now; rounds = r.rounds }
+rounds_asked r = record {
+  file = r.file.now;
+  script = r.script.now;
+  rounds = r.rounds;
+  buffer = option_map (λ (t : Bor Text). t.now) r.buffer;
+}
 
 abbrev pub asked : Command → Asked
-asked (Compile file reset) = compiles file.now reset
+asked (Compile c) = compiles (compilation_asked c)
 asked (Migrate net) = migrates net.now
 asked (Check file) = checks file.now
 asked (Expand file) = expands file.now
@@ -138,19 +137,9 @@ abbrev pub simulate_asked : AskedSimulation → Asked
 simulate_asked (by_order run) = simulates run
 simulate_asked (by_delays timing) = times timing
 
-abbrev pub compile_with : (file reset : Option Text) → Option Asked
-compile_with file reset = option_map (λ name. compiles name (is_set reset)) file
-
--- what the words behind `compile` ask for, where its form takes them
-abbrev pub compile_of : Text → List Text → Option Asked
-compile_of name words = if takes (compile_form name) words
-    then compile_with (first_of (codes "FILE") (matches_of (compile_form name) words))
-    (first_of (codes "reset") (matches_of (compile_form name) words))
-    else None
-
 -- what the words behind this word ask for
 abbrev pub command_with : Verb → Text → List Text → Option Asked
-command_with verb.Compile word rest = compile_of word rest
+command_with verb.Compile word rest = option_map compiles (compile_of word rest)
 command_with verb.Migrate word rest = option_map migrates (file_of word rest)
 command_with verb.Check word rest = option_map checks (file_of word rest)
 command_with verb.Expand word rest = option_map expands (file_of word rest)
@@ -165,34 +154,9 @@ command_of (word ∷ rest) = option_and_then (λ v. command_with v word rest) (v
 
 -- ---- the same in plain words
 
--- one word that is no flag, with or without `--` behind it, or one word of any kind behind `--`
-abbrev pub plain_file : List Text → Option Text
-plain_file (word ∷ []) = if is_flag word then None else Some word
-plain_file (first ∷ second ∷ []) = if bytes_eq first (codes "--") then Some second
-    else if is_flag first then None
-    else if bytes_eq second (codes "--") then Some first
-    else None
-plain_file _ = None
-
--- `--reset` stands among the words, and no `--` before it
-abbrev pub asks_reset : List Text → Bool
-asks_reset [] = false
-asks_reset (word ∷ rest) = not (bytes_eq word (codes "--")) && (bytes_eq word (codes "--reset") || asks_reset rest)
-
--- the words without the first `--reset`
-abbrev pub without_reset : List Text → List Text
-without_reset [] = []
-without_reset (word ∷ rest) = if bytes_eq word (codes "--reset") then rest else word ∷ without_reset rest
-
--- the words of `compile`: those of a file, and `--reset` once at most at any place before `--`
-abbrev pub plain_compile : List Text → Option Asked
-plain_compile words = if asks_reset words
-    then option_map (λ file. compiles file true) (plain_file (without_reset words))
-    else option_map (λ file. compiles file false) (plain_file words)
-
 -- the words of `simulate` and of `run` are told by their forms alone
 abbrev pub plain_with : Verb → Text → List Text → Option Asked
-plain_with verb.Compile word rest = plain_compile rest
+plain_with verb.Compile word rest = option_map compiles (plain_compile rest)
 plain_with verb.Migrate word rest = option_map migrates (plain_file rest)
 plain_with verb.Check word rest = option_map checks (plain_file rest)
 plain_with verb.Expand word rest = option_map expands (plain_file rest)
@@ -212,7 +176,7 @@ asked_by words = command_of (texts_of words)
 -- ---- what each command reads and answers
 
 abbrev pub IsAnswer : Asked → Given → Played → Answer → Type 0
-IsAnswer (compiles file reset) given played = Compiles reset given file
+IsAnswer (compiles c) given played = Compiles c given
 IsAnswer (migrates net) given played = Migrates given net
 IsAnswer (checks file) given played = Checks given file
 IsAnswer (expands file) given played = Expands given file
@@ -223,7 +187,7 @@ IsAnswer (grows growth) given played = Grows growth played
 
 -- the names of its files
 abbrev pub files_of : Asked → List Text
-files_of (compiles file reset) = file ∷ []
+files_of (compiles c) = c.file ∷ []
 files_of (migrates net) = net ∷ []
 files_of (checks file) = file ∷ []
 files_of (expands file) = file ∷ []

@@ -13,7 +13,9 @@ use Rattle.width_check.specs.Form.{typed_form}
 use Rattle.width_check.specs.Processes.{TypedProgram}
 use Rattle.chp_cli.specs.declared.answer.Ending.TheVariants.{Done}
 use Rattle.chp_cli.specs.Answers.{Given, Answer, writes}
-use Rattle.chp_cli.specs.Steps.{FromFile, FromProgram, FromChecks, FromNodes, IsTextOf, most_of_nodes, most_of_text}
+use Rattle.chp_cli.specs.BufferSteps.{IsBuffered, FromProgramFile}
+use Rattle.chp_cli.specs.CompileWords.{AskedCompilation}
+use Rattle.chp_cli.specs.Steps.{FromNodes, IsTextOf, most_of_nodes, most_of_text}
 
 -- the net that is written for a program, with a reset node where that is asked for
 abbrev pub net_for : (reset : Bool) → TypedProgram → NetValue
@@ -34,31 +36,34 @@ pub record IsCompiled (reset : Bool) (p : TypedProgram) (file : List ℕ) : Type
 pub data CompilesNet (reset : Bool) (p : TypedProgram) : Answer → Type 0 where
   compiled : {file : List ℕ} → IsCompiled reset p file → CompilesNet reset p (writes Done file)
 
-abbrev pub CompilesProgram : (reset : Bool) → ProgramTree → Answer → Type 0
-CompilesProgram reset program = FromChecks program (FromNodes (typed_form program) (CompilesNet reset))
-
-abbrev pub Compiles : (reset : Bool) → Given → (file : List ℕ) → Answer → Type 0
-Compiles reset given file = FromFile given file most_of_text (λ text. FromProgram text (CompilesProgram reset))
+-- the program is that of the file, with a buffer where one is asked for
+abbrev pub Compiles : AskedCompilation → Given → Answer → Type 0
+Compiles c given = FromProgramFile given c.file c.buffer (λ p. FromNodes p (CompilesNet c.reset))
 
 -- ---- what follows from that
 
 -- The file holds a text that reads as a program, and as no other one; the program is accepted; and what is written is
--- the one text of its net, which carries it.
-pub record IsFileCompiled (reset : Bool) (given : Given) (file written : List ℕ) : Type 0 where
+-- the one text of its net, or of that of the program with a buffer on the channel that is named, and the net carries
+-- that program.
+pub record IsFileCompiled (c : AskedCompilation) (given : Given) (written : List ℕ) : Type 0 where
   pub text : List ℕ
   pub program : ProgramTree
-  pub held : given.files file ≡ Some text
+  pub made : ProgramTree
+  pub held : given.files c.file ≡ Some text
   pub reads : IsTextOf text program
   pub accepted : IsAccepted program
-  pub compiled : IsCompiled reset (typed_form program) written
+  pub buffered : IsBuffered program c.buffer made
+  pub compiled : IsCompiled c.reset (typed_form made) written
 
--- the file holds what is to be compiled: a text within the limit that reads as an accepted program, whose circuit isn't
--- too large
-pub record IsToCompile (given : Given) (file : List ℕ) : Type 0 where
+-- the file holds what is to be compiled: a text within the limit that reads as an accepted program, which can have the
+-- buffer that is asked for; and its circuit isn't too large then
+pub record IsToCompile (c : AskedCompilation) (given : Given) : Type 0 where
   pub text : List ℕ
   pub program : ProgramTree
-  pub held : given.files file ≡ Some text
+  pub made : ProgramTree
+  pub held : given.files c.file ≡ Some text
   pub short : length text ≤ most_of_text
   pub reads : Reads text program
   pub accepted : IsAccepted program
-  pub few : node_count (typed_form program) ≤ most_of_nodes
+  pub buffered : IsBuffered program c.buffer made
+  pub few : node_count (typed_form made) ≤ most_of_nodes

@@ -4,6 +4,7 @@ pub mod Lines
 pub mod Steps
 pub mod Orders
 pub mod RunSteps
+pub mod BufferSteps
 pub mod Held
 pub mod RunReporting
 pub mod HeldPrograms
@@ -11,9 +12,11 @@ pub mod References
 pub mod Simulating
 pub mod Timing
 pub mod SimulateWords
+pub mod HeldBuffered
 pub mod RoundsWords
 pub mod RoundsReporting
 pub mod Simulated
+pub mod CompileWords
 pub mod Compiling
 pub mod Migrating
 pub mod Checking

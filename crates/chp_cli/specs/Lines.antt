@@ -43,6 +43,10 @@ differs_line = codes "chp: 10 differs\n"
 abbrev pub no_order_line : (name : List ℕ) → List ℕ
 no_order_line name = concat (codes "chp: 9 order " ∷ name ∷ codes "\n" ∷ [])
 
+-- the program has no channel inside of it of this name
+abbrev pub no_channel_line : (name : List ℕ) → List ℕ
+no_channel_line name = concat (codes "chp: 16 channel " ∷ name ∷ codes "\n" ∷ [])
+
 -- ---- of a refused program
 
 abbrev pub fault_name : FaultCode → List ℕ

@@ -1,8 +1,6 @@
 -- What `run` answers.
 use Rattle.std.specs.Prelude.{◌≡◌, ℕ, ◌<◌, ◌≤◌, List}
-use Rattle.chp_syntax.specs.Trees.{ProgramTree}
 use Rattle.env_script.specs.Scripts.{OfferValue}
-use Rattle.width_check.specs.Form.{typed_form}
 use Rattle.width_check.specs.Processes.{TypedProgram}
 use Rattle.chp_meaning.specs.declared.run.RunEnd.TheVariants.{Rest, Spent}
 use Rattle.chp_meaning.specs.Rounds.{rounds}
@@ -11,10 +9,11 @@ use Rattle.history_report.specs.RoundsReports.{rounds_report_of}
 use Rattle.chp_cli.specs.declared.answer.Ending.TheVariants.{Done}
 use Rattle.chp_cli.specs.declared.status.Status.TheVariants.{TooLarge}
 use Rattle.chp_cli.specs.Answers.{Given, Answer, writes, refuses}
+use Rattle.chp_cli.specs.BufferSteps.{FromProgramFile}
 use Rattle.chp_cli.specs.Lines.{values_line}
 use Rattle.chp_cli.specs.RoundsWords.{AskedRounds}
 use Rattle.chp_cli.specs.RunSteps.{FromScript, most_of_script}
-use Rattle.chp_cli.specs.Steps.{FromFile, FromProgram, FromChecks, most_of_text}
+use Rattle.chp_cli.specs.Steps.{FromFile}
 
 -- the most values that may have passed on all channels together
 abbrev pub most_of_values : ℕ
@@ -28,11 +27,12 @@ pub data ReportsRounds (p : TypedProgram) (script : List OfferValue) (n : ℕ) :
   spent : held_in (rounds p script n) ≤ most_of_values → CanStep (rounds p script n) →
       ReportsRounds p script n (writes Done (rounds_report_of p.channels n Spent (rounds p script n)))
 
--- the script is read once the program is accepted
-abbrev pub RunsProgram : AskedRounds → Given → ProgramTree → Answer → Type 0
-RunsProgram r given program = FromChecks program
-    (FromFile given r.script most_of_script (λ text. FromScript (typed_form program).channels text (λ script.
-    ReportsRounds (typed_form program) script r.rounds)))
+-- the script of the program is read, and its rounds are reported
+abbrev pub RunsProgram : AskedRounds → Given → TypedProgram → Answer → Type 0
+RunsProgram r given p =
+    FromFile given r.script most_of_script (λ text. FromScript p.channels text (λ script.
+    ReportsRounds p script r.rounds))
 
+-- the program comes first, with a buffer where one is asked for
 abbrev pub Runs : AskedRounds → Given → Answer → Type 0
-Runs r given = FromFile given r.file most_of_text (λ text. FromProgram text (RunsProgram r given))
+Runs r given = FromProgramFile given r.file r.buffer (RunsProgram r given)

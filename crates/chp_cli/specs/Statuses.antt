@@ -1,7 +1,7 @@
 -- The number of each status, and what it tells.
 use Rattle.std.specs.Prelude.{ℕ, Bool, true, false}
 use Rattle.chp_cli.specs.declared.status.Status.{Status}
-use Rattle.chp_cli.specs.declared.status.Status.TheVariants.{Done, RefusedText, Usage, Read, Write, Hazard, NoMemory, TooLarge, BadFile, NoOrder, Differs, NotBuilt}
+use Rattle.chp_cli.specs.declared.status.Status.TheVariants.{Done, RefusedText, Usage, Read, Write, Hazard, NoMemory, TooLarge, BadFile, NoOrder, NoChannel, Differs, NotBuilt}
 
 abbrev pub status_number : Status → ℕ
 status_number Done = 0
@@ -15,6 +15,7 @@ status_number TooLarge = 7
 status_number BadFile = 8
 status_number NoOrder = 9
 status_number Differs = 10
+status_number NoChannel = 16
 status_number NotBuilt = 19
 
 -- the statuses with which the whole output was written
@@ -30,5 +31,6 @@ is_refusing RefusedText = true
 is_refusing TooLarge = true
 is_refusing BadFile = true
 is_refusing NoOrder = true
+is_refusing NoChannel = true
 is_refusing NotBuilt = true
 is_refusing _ = false

@@ -13,6 +13,15 @@ abbrev pub is_flag : Text → Bool
 is_flag (first ∷ second ∷ rest) = first == 45
 is_flag _ = false
 
+-- one word that is no flag, with or without `--` behind it, or one word of any kind behind `--`
+abbrev pub plain_file : List Text → Option Text
+plain_file (word ∷ []) = if is_flag word then None else Some word
+plain_file (first ∷ second ∷ []) = if bytes_eq first (codes "--") then Some second
+    else if is_flag first then None
+    else if bytes_eq second (codes "--") then Some first
+    else None
+plain_file _ = None
+
 -- this word stands among the words, and no `--` before it
 abbrev pub asks : Text → List Text → Bool
 asks flag [] = false

@@ -60,6 +60,8 @@ pub enum Refusal<'a> {
     NoReset,
     /// There is no order of this name.
     NoOrder(&'a str),
+    /// The program has no channel inside of it of this name.
+    NoChannel(&'a str),
     /// The program has procedures or calls, which aren't served yet.
     NotBuilt,
 }
@@ -78,6 +80,7 @@ impl Refusal<'_> {
             | Refusal::BadDelays { .. }
             | Refusal::NoReset => Status::BadFile,
             Refusal::NoOrder(_) => Status::NoOrder,
+            Refusal::NoChannel(_) => Status::NoChannel,
             Refusal::NotBuilt => Status::NotBuilt,
         }
     }

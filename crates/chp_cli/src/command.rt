@@ -2,12 +2,13 @@
 
 ghost use Rattle.std.specs.Prelude.{◌≡◌, IfOk, IfSome, Some, is_some, option_map, true};
 ghost use Rattle.clap.specs.Words.{app_of, found_of, matches_of, rows_of, takes};
-ghost use Rattle.chp_cli.specs.Commands.{IsWithinBounds, asked, command_of, compile_form, compile_of, file_form, file_of, grows, plain_command, plain_compile, plain_file, simulate_asked, verb_of};
+ghost use Rattle.chp_cli.specs.Commands.{IsWithinBounds, asked, command_of, file_form, file_of, grows, plain_command, plain_file, simulate_asked, verb_of};
 ghost use Rattle.chp_cli.specs.SimulateWords.{simulate_of};
 ghost use Rattle.chp_cli.specs.Forms.{is_form, texts_of};
 ghost use Rattle.chp_cli.specs.GrowWords.{growth_of, plain_growth};
 ghost use Rattle.chp_cli.specs.Words.{is_set};
 
+use crate::compile_words::{Compilation, compilation_of};
 use crate::grow_words::{Growth, growth_of};
 use crate::rounds_words::{Rounds, rounds_in};
 use crate::run_words::simulation_in;
@@ -19,9 +20,9 @@ use std::alloc::{AllocError, Global};
 /// What the words ask for. The commands are this project's own.
 #[derive(Clone, Copy, Debug, PartialEq, Eq)]
 pub enum Command<'a> {
-    /// `compile FILE [--reset]`: write the rule file of the program text in this file, with a reset node where that is
-    /// asked for.
-    Compile { file: &'a str, reset: bool },
+    /// `compile FILE [--reset] [--buffer X]`: write the rule file of the program text in this file, with a reset node
+    /// and with a buffer on a channel where these are asked for.
+    Compile(Compilation<'a>),
     /// `migrate FILE`: write the rule file of this name as one of version 2.
     Migrate { net: &'a str },
     /// `check FILE`: write that the program text in this file is accepted.
@@ -54,8 +55,9 @@ enum Verb {
 /// program's name.
 ///
 /// The first word names the command. The words behind it are read by `clap`, by the form of that command: one file and,
-/// for `compile`, the flag `--reset`, which may stand once, before the file or behind it; for `simulate` two files and
-/// options with a value each; for `run` two files and one such option. A file is one word, which may be empty or `-`.
+/// for `compile`, the flag `--reset` and the option `--buffer` with a value, each of which may stand once, before the
+/// file or behind it; for `simulate` and `run` two files and such options. A file is one word, which may be empty or
+/// `-`.
 /// Any other word that begins with a hyphen and has more is taken for a flag and refused, a call for help too, but
 /// behind `--` any word may stand; `--` may also end the words.
 ///
@@ -75,7 +77,7 @@ pub fn command_in<'a>(alloc: Global, words: &'a [String]) -> Result<Option<Comma
     };
     let word = first.as_str();
     match verb {
-        Verb::Compile => compile_in(alloc, word, rest),
+        Verb::Compile => Ok(compilation_of(alloc, word, rest)?.map(Command::Compile)),
         Verb::Migrate => Ok(file_in(alloc, word, rest)?.map(|net| Command::Migrate { net })),
         Verb::Check => Ok(file_in(alloc, word, rest)?.map(|file| Command::Check { file })),
         Verb::Expand => Ok(file_in(alloc, word, rest)?.map(|file| Command::Expand { file })),
@@ -116,34 +118,6 @@ fn grow_in<'a>(
     match growth_of(alloc, name, words)? {
         Some(growth) => Ok(Some(Command::Grow(growth))),
         None => Ok(None),
-    }
-}
-
-/// What the words behind `compile` ask for, where they are its form.
-fn compile_in<'a>(
-    alloc: Global,
-    name: &'a str,
-    words: &'a [String],
-) -> Result<Option<Command<'a>>, AllocError>
-    ensures form { IfOk result (λ found.
-        option_map asked found ≡ compile_of name.entry.now (texts_of words.entry.now)) }
-    ensures plain { IfOk result (λ found.
-        option_map asked found ≡ plain_compile (texts_of words.entry.now)) }
-{
-    let reset = Arg::new(alloc, "reset")
-        .long("reset")
-        .action(ArgAction::SetTrue);
-    let form = file_form(alloc, name)?.arg(reset)?;
-    match matches_in(form, words) {
-        Ok(Some(matches)) => match matches.get_str("FILE") {
-            Some(file) => Ok(Some(Command::Compile {
-                file,
-                reset: is_set(matches.get_str("reset")),
-            })),
-            None => Ok(None),
-        },
-        Ok(None) => Ok(None),
-        Err(error) => Err(error),
     }
 }
 

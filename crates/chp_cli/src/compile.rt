@@ -1,22 +1,21 @@
-//! `compile FILE [--reset]`: from a program text to its rule file.
+//! `compile FILE [--reset] [--buffer X]`: from a program text to its rule file.
 
-ghost use Rattle.std.specs.Prelude.{◌≡◌, ◌≢◌, ◌≤◌, ◌∷◌, [], All, None, codes, length, if◌then◌else◌, IfOk, IfErr};
-ghost use Rattle.chp_syntax.specs.Shape.{IsShaped};
-ghost use Rattle.chp_syntax.specs.View.{program_tree};
+ghost use Rattle.std.specs.Prelude.{◌≡◌, ◌≢◌, ◌≤◌, ◌∷◌, [], All, None, codes, if◌then◌else◌, IfOk, IfErr};
 ghost use Rattle.prs_core.specs.Nets.{IsNet};
 ghost use Rattle.prs_file.specs.Spelling.{NetText};
 ghost use Rattle.reset_net.specs.Resets.{reset_of};
 ghost use Rattle.width_check.specs.Typed.{program_of as typed_of};
 ghost use Rattle.chp_cli.specs.Answers.{given_by};
-ghost use Rattle.chp_cli.specs.Compiling.{Compiles, CompilesNet, CompilesProgram};
+ghost use Rattle.chp_cli.specs.Compiling.{Compiles, CompilesNet};
+ghost use Rattle.chp_cli.specs.CompileWords.{compilation_asked};
 ghost use Rattle.chp_cli.specs.Replies.{Halts, Stops, told_answer};
-ghost use Rattle.chp_cli.specs.Steps.{FromNodes, FromProgram, most_of_text};
+ghost use Rattle.chp_cli.specs.Steps.{FromNodes};
 
 use crate::answer::{Ending, Output, Refusal, Stop};
-use crate::files::{MOST_OF_TEXT, checked_program, program_of_text, text_of_file};
+use crate::buffered::buffered_program_in;
+use crate::compile_words::Compilation;
 use crate::migrate::reset_text;
 use chp_edge::Shelf;
-use chp_syntax::Program;
 use net_compose::laws::carries_reset;
 use net_compose::{NetError, translate};
 use prs_core::Net;
@@ -62,47 +61,23 @@ fn compile_accepted<'a>(alloc: Global, program: &Disjoint, reset: bool) -> Resul
     }
 }
 
-fn compile_program<'a>(alloc: Global, program: &Program, reset: bool) -> Result<Output, Stop<'a>>
-    requires shaped { IsShaped (program_tree program.now) }
-    requires few { program.now.procs.items ≡ [] → length program.now.decls.items ≤ most_of_text }
-    ensures answered { IfOk result (λ output. CompilesProgram reset (program_tree program.now) (told_answer output)) }
-    ensures stopped { IfErr result (Halts (CompilesProgram reset (program_tree program.now))) }
-{
-    match checked_program(alloc, program) {
-        Ok(disjoint) => compile_accepted(alloc, &disjoint, reset),
-        Err(stop) => Err(stop),
-    }
-}
-
-fn compile_text<'a>(alloc: Global, text: &[u8], reset: bool) -> Result<Output, Stop<'a>>
-    requires { length text.now ≤ most_of_text }
-    ensures answered { IfOk result (λ output. FromProgram text.now (CompilesProgram reset) (told_answer output)) }
-    ensures stopped { IfErr result (Halts (FromProgram text.now (CompilesProgram reset))) }
-{
-    match program_of_text(alloc, text) {
-        Ok(program) => compile_program(alloc, &program, reset),
-        Err(stop) => Err(stop),
-    }
-}
-
-/// What `compile` answers for the file of this name, where the net is to have a reset node or not.
+/// What `compile` answers. The program gets its buffer, where one is asked for, before its nodes are counted.
 pub fn compile<'a, S: Shelf>(
     alloc: Global,
     shelf: &mut S,
-    file: &'a str,
-    reset: bool,
+    asked: &Compilation<'a>,
 ) -> Result<Output, Stop<'a>>
-    ensures answered { IfOk result (λ output. Compiles reset (given_by (S.tells shelf.old) (S.holds shelf.old))
-        file.entry.now (told_answer output)) }
-    ensures stopped { IfErr result (Stops
-        (Compiles reset (given_by (S.tells shelf.old) (S.holds shelf.old)) file.entry.now) (file.entry.now ∷ [])
+    ensures answered { IfOk result (λ output. Compiles (compilation_asked asked.now)
+        (given_by (S.tells shelf.old) (S.holds shelf.old)) (told_answer output)) }
+    ensures stopped { IfErr result (Stops (Compiles (compilation_asked asked.now)
+        (given_by (S.tells shelf.old) (S.holds shelf.old))) (asked.now.file.now ∷ [])
         (given_by (S.tells shelf.old) (S.holds shelf.old)) (S.faults shelf.old) (S.faults shelf.new)) }
     ensures same { S.tells shelf.new ≡ S.tells shelf.old }
     ensures kept { S.holds shelf.new ≡ S.holds shelf.old }
     ensures faults { S.faults shelf.old ≤ S.faults shelf.new }
 {
-    match text_of_file(alloc, shelf, file, MOST_OF_TEXT) {
-        Ok(text) => compile_text(alloc, &text, reset),
+    match buffered_program_in(alloc, shelf, asked.file, asked.buffer) {
+        Ok(program) => compile_accepted(alloc, &program, asked.reset),
         Err(stop) => Err(stop),
     }
 }

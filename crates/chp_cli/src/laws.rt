@@ -1,11 +1,12 @@
 //! Laws of what commands answer.
 
-ghost use Rattle.std.specs.Prelude.{◌≡◌, ◌≢◌, ℕ, Bool, List, true};
+ghost use Rattle.std.specs.Prelude.{◌≡◌, ◌≢◌, ℕ, List, true};
 ghost use Rattle.chp_cli.specs.declared.answer.Ending.{Ending};
 ghost use Rattle.chp_cli.specs.declared.answer.Ending.TheVariants as ending;
 ghost use Rattle.chp_cli.specs.declared.status.Status.TheVariants.{Done};
 ghost use Rattle.chp_cli.specs.Answers.{Answer, Given, OneAnswer, status_of, writes};
 ghost use Rattle.chp_cli.specs.Compiling.{Compiles, IsFileCompiled, IsToCompile};
+ghost use Rattle.chp_cli.specs.CompileWords.{AskedCompilation};
 ghost use Rattle.chp_cli.specs.Migrating.{Migrates, IsToMigrate};
 ghost use Rattle.chp_cli.specs.Commands.{Asked, IsAnswer};
 ghost use Rattle.chp_cli.specs.Orders.{Played};
@@ -33,16 +34,17 @@ pub fn one_answer()
 }
 
 /// Law: what `compile` writes for a file is the one text of the net of the one program that its text reads as, which is
-/// accepted; and the net carries the program.
+/// accepted; and the net carries the program. Where a buffer is asked for, both are said of the program with that
+/// buffer, which keeps what passes on each channel.
 pub fn compiled_right()
-    ensures { (reset : Bool) (given : Given) (file : List ℕ) → given.tells ≡ true → (end : Ending) (text : List ℕ) →
-        Compiles reset given file (writes end text) → IsFileCompiled reset given file text }
+    ensures { (c : AskedCompilation) (given : Given) → given.tells ≡ true → (end : Ending) (text : List ℕ) →
+        Compiles c given (writes end text) → IsFileCompiled c given text }
 {}
 
 /// Law: the only answer of `compile` to a file that holds what is to be compiled is to write.
 pub fn compiles_all()
-    ensures { (reset : Bool) (given : Given) (file : List ℕ) → given.tells ≡ true → IsToCompile given file →
-        (answer : Answer) → Compiles reset given file answer → status_of answer ≡ Done }
+    ensures { (c : AskedCompilation) (given : Given) → given.tells ≡ true → IsToCompile c given →
+        (answer : Answer) → Compiles c given answer → status_of answer ≡ Done }
 {
     width_check::laws::one_fault();
     sharing_check::laws::one_shared_fault();

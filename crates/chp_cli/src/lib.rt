@@ -2,10 +2,12 @@
 #![tactic(auto)]
 
 mod answer;
+mod buffered;
 mod check;
 mod command;
 mod compile;
 mod delay_files;
+mod compile_words;
 mod expand;
 mod files;
 mod grow;

@@ -63,7 +63,7 @@ fn answer<'a, S: Shelf>(
     ensures faults { S.faults shelf.old ≤ S.faults shelf.new }
 {
     match command {
-        Command::Compile { file, reset } => compile(alloc, shelf, file, *reset),
+        Command::Compile(asked) => compile(alloc, shelf, asked),
         Command::Migrate { net } => migrate(alloc, shelf, net),
         Command::Check { file } => check(alloc, shelf, file),
         Command::Expand { file } => expand(alloc, shelf, file),

@@ -13,7 +13,7 @@ ghost use Rattle.chp_cli.specs.Replies.{Halts, Stops, told_answer};
 ghost use Rattle.chp_cli.specs.RoundsReporting.{ReportsRounds, Runs, most_of_values};
 
 use crate::answer::{Ending, Output, Refusal, Stop};
-use crate::program_files::program_in;
+use crate::buffered::buffered_program_in;
 use crate::rounds_words::Rounds;
 use crate::run_files::script_in;
 use chp_edge::Shelf;
@@ -72,7 +72,7 @@ fn report_rounds<'a>(
     }
 }
 
-/// What `run` answers. It reads the program, and once that is accepted the script.
+/// What `run` answers. It reads the program, and once that is accepted and has its buffer the script.
 pub fn rounds<'a, S: Shelf>(
     alloc: Global,
     shelf: &mut S,
@@ -88,11 +88,13 @@ pub fn rounds<'a, S: Shelf>(
     ensures kept { S.holds shelf.new ≡ S.holds shelf.old }
     ensures faults { S.faults shelf.old ≤ S.faults shelf.new }
 {
-    let program = match program_in(alloc, shelf, asked.file) {
+    let program = match buffered_program_in(alloc, shelf, asked.file, asked.buffer) {
         Ok(program) => program,
         Err(stop) => return Err(stop),
     };
     let program = program.typed();
+    // what its type keeps is told of its channels
+    let _kept = program.body();
     let script = match script_in(alloc, shelf, asked.script, program.channels()) {
         Ok(script) => script,
         Err(stop) => return Err(stop),

@@ -26,10 +26,12 @@ pub struct Rounds<'a> {
     pub script: &'a str,
     /// How many rounds, at most 1,000,000.
     pub rounds: u32,
+    /// The name of the channel that is to get a buffer, which may be any text.
+    pub buffer: Option<&'a str>,
 }
 
 /// What the words behind `run` ask for, where they are its form: the names of a program text and of a script, and the
-/// option `--rounds`, which may be given once.
+/// options `--rounds` and `--buffer`, each at most once.
 pub fn rounds_in<'a>(
     alloc: Global,
     name: &'a str,
@@ -44,6 +46,7 @@ pub fn rounds_in<'a>(
             matches.get_str("FILE"),
             matches.get_str("SCRIPT"),
             matches.get_str("rounds"),
+            matches.get_str("buffer"),
         )),
         Ok(None) => Ok(None),
         Err(error) => Err(error),
@@ -55,9 +58,11 @@ fn rounds_with<'a>(
     file: Option<&'a str>,
     script: Option<&'a str>,
     rounds: Option<&'a str>,
+    buffer: Option<&'a str>,
 ) -> Option<Rounds<'a>>
     ensures { option_map rounds_asked result ≡ rounds_with (option_map (λ t. t.now) file.entry)
-        (option_map (λ t. t.now) script.entry) (option_map (λ t. t.now) rounds.entry) }
+        (option_map (λ t. t.now) script.entry) (option_map (λ t. t.now) rounds.entry)
+        (option_map (λ t. t.now) buffer.entry) }
 {
     match (file, script) {
         (Some(file), Some(script)) => match number_or(rounds, ROUNDS, MOST_OF_ROUNDS) {
@@ -65,6 +70,7 @@ fn rounds_with<'a>(
                 file,
                 script,
                 rounds: rounds as u32,
+                buffer,
             }),
             None => None,
         },
@@ -72,12 +78,13 @@ fn rounds_with<'a>(
     }
 }
 
-/// The form of `run` under this name: two files, and an option with a value.
+/// The form of `run` under this name: two files, and two options with a value each.
 fn rounds_form<'a>(alloc: Global, name: &'a str) -> Result<Command<'a>, AllocError>
     ensures { IfOk result (λ form. app_of form ≡ rounds_form name.entry.now) }
 {
     bare_form(alloc, name)
         .arg(word_arg(alloc, "FILE"))?
         .arg(word_arg(alloc, "SCRIPT"))?
-        .arg(option_arg(alloc, "rounds"))
+        .arg(option_arg(alloc, "rounds"))?
+        .arg(option_arg(alloc, "buffer"))
 }

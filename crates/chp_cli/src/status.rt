@@ -29,6 +29,8 @@ pub enum Status {
     NoOrder,
     /// The run that was made isn't behind the rounds that it was compared with, and its report was written whole.
     Differs,
+    /// The program has no channel inside of it of the name that is to be buffered.
+    NoChannel,
     /// The program has procedures or calls, which aren't served yet.
     NotBuilt,
 }
@@ -50,6 +52,7 @@ impl Status {
             Status::BadFile => 8,
             Status::NoOrder => 9,
             Status::Differs => 10,
+            Status::NoChannel => 16,
             Status::NotBuilt => 19,
         }
     }

@@ -15,9 +15,9 @@ use bench::Bench;
 use cases::obey;
 use std::{fs, io};
 
-const TOPICS: [&str; 12] = [
+const TOPICS: [&str; 13] = [
     "texts", "compile", "stream", "check", "expand", "grow", "migrate", "simulate", "rounds",
-    "edge", "against", "delays",
+    "buffers", "edge", "against", "delays",
 ];
 
 fn main(rt: HostRuntime) -> io::Result<()> {

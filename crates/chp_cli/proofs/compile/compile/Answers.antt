@@ -1,31 +1,41 @@
-use Rattle.std.proofs.Common.{◌∷◌, [], arith}
-use Rattle.chp_cli.specs.Compiling.{Compiles, CompilesProgram}
-use Rattle.chp_cli.specs.Steps.{FromFile, FromProgram, Never, most_of_text}
+use Rattle.std.proofs.Common.{◌∷◌, []}
+use Rattle.width_check.specs.Processes.{TypedProgram}
+use Rattle.width_check.specs.Typed.{program_of as typed_of}
 use Rattle.chp_cli.specs.Answers.{given_by}
-use Rattle.chp_cli.proofs.Stopping.{file_answers, file_goes, file_stops, stops_in}
+use Rattle.chp_cli.specs.Compiling.{Compiles, CompilesNet}
+use Rattle.chp_cli.specs.CompileWords.{compilation_asked}
+use Rattle.chp_cli.specs.Steps.{FromNodes}
+use Rattle.chp_cli.proofs.BufferStopping.{buffered_on, buffered_stopped}
+use Rattle.chp_cli.proofs.Stopping.{err_in, ok_in, stops_where}
 use Rattle.chp_cli.proofs.compile.compile.Goals as goal
 
 pub returns-in-Ok-clause-answered : goal.returns-in-Ok-clause-answered
 returns-in-Ok-clause-answered g c =
     let S = g.S.Shelf in
     let given = given_by (S.tells c.args.shelf.now) (S.holds c.args.shelf.now) in
-    file_answers given c.args.file.now most_of_text c.in-Ok.text.items (λ text. FromProgram text (CompilesProgram c.args.reset)) c.in-Ok.ensures.read
-    c.in-Ok.ensures.short c.compile_text.result
-    (rw c.deref.ensures.value at c.compile_text.ensures.answered)
+    let asked = compilation_asked c.args.asked.now in
+    ok_in c.compile_accepted.result _ _
+    (λ output is. buffered_on given asked.file asked.buffer (λ (p : TypedProgram). FromNodes p (CompilesNet asked.reset)) (typed_of c.in-Ok.program)
+    c.in-Ok.ensures.read _ is)
+    c.compile_accepted.ensures.answered
 
 pub returns-in-Ok-clause-stopped : goal.returns-in-Ok-clause-stopped
 returns-in-Ok-clause-stopped g c =
     let S = g.S.Shelf in
     let given = given_by (S.tells c.args.shelf.now) (S.holds c.args.shelf.now) in
-    file_stops given c.args.file.now most_of_text c.in-Ok.text.items (λ text. FromProgram text (CompilesProgram c.args.reset)) c.in-Ok.ensures.read
-    c.in-Ok.ensures.short c.compile_text.result
-    (c.args.file.now ∷ []) _ _ (rw c.deref.ensures.value at c.compile_text.ensures.stopped)
+    let asked = compilation_asked c.args.asked.now in
+    let next = FromNodes (typed_of c.in-Ok.program) (CompilesNet asked.reset) in
+    err_in c.compile_accepted.result _ _
+    (λ stop halts. stops_where next (Compiles asked given)
+    (λ answer is. buffered_on given asked.file asked.buffer (λ (p : TypedProgram). FromNodes p (CompilesNet asked.reset)) (typed_of c.in-Ok.program)
+    c.in-Ok.ensures.read answer is)
+    (asked.file ∷ []) given _ _ stop halts)
+    c.compile_accepted.ensures.stopped
 
 pub returns-in-Err-clause-stopped : goal.returns-in-Err-clause-stopped
 returns-in-Err-clause-stopped g c =
     let S = g.S.Shelf in
     let given = given_by (S.tells c.args.shelf.now) (S.holds c.args.shelf.now) in
-    let before = S.faults c.args.shelf.now in
-    stops_in (FromFile given c.args.file.now most_of_text Never) (Compiles c.args.reset given c.args.file.now) (λ answer is. file_goes is)
-    (c.args.file.now ∷ []) (c.args.file.now ∷ []) given before before (S.faults c.text_of_file.new.shelf) (λ name own. own) (omega arith) c.in-Err.stop
-    c.in-Err.ensures.stopped
+    let asked = compilation_asked c.args.asked.now in
+    buffered_stopped given asked.file asked.buffer (λ (p : TypedProgram). FromNodes p (CompilesNet asked.reset)) (asked.file ∷ []) (λ name own. own) _ _
+    c.in-Err.stop c.in-Err.ensures.stopped

@@ -6,4 +6,4 @@ pub returns : goal.returns
 returns c =
     let names = c.one_fault.ensures in
     let sharing = c.one_shared_fault.ensures in
-    λ reset. compile_writes reset (no_fault names.cause names.place names.none sharing.cause sharing.first sharing.second sharing.none)
+    λ asked. compile_writes asked (no_fault names.cause names.place names.none sharing.cause sharing.first sharing.second sharing.none)

@@ -20,22 +20,25 @@ pub script_in-requires-clause-distinct : goal.script_in-requires-clause-distinct
 script_in-requires-clause-distinct g c =
     let p = c.in-Ok.program in
     subst (λ (cs : List Channel). AllPairs (λ (a b : Channel). a.name ≢ b.name) cs) (sym (handed c.channels.ensures c.typed-program.ensures.program))
-    (typed_distinct p.channels p.vars (process_of p.body) c.in-Ok.ensures.typed)
+    (typed_distinct p.channels p.vars (process_of p.body) (rw c.typed-program.ensures.program at c.body-kept.ensures.typed))
 
 pub script_in-requires-clause-widths : goal.script_in-requires-clause-widths
 script_in-requires-clause-widths g c =
     let p = c.in-Ok.program in
     subst (λ (cs : List Channel). All (λ (channel : Channel). (1 ≤ channel.width) × (channel.width ≤ 64)) cs)
-    (sym (handed c.channels.ensures c.typed-program.ensures.program)) (typed_wide p.channels p.vars (process_of p.body) c.in-Ok.ensures.typed)
+    (sym (handed c.channels.ensures c.typed-program.ensures.program)) (typed_wide p.channels p.vars (process_of p.body)
+    (rw c.typed-program.ensures.program at c.body-kept.ensures.typed))
 
 pub returns-in-Err-script_in-clause-stopped : goal.returns-in-Err-script_in-clause-stopped
 returns-in-Err-script_in-clause-stopped g c =
-    script_stopped (rounds_asked c.args.asked.now) _ (typed_of c.in-Ok.program) c.in-Ok.ensures.read _ _ _ c.program_in.ensures.faults c.in-Err-script_in.stop
-    (rw (handed c.channels.ensures c.typed-program.ensures.program, c.program_in.ensures.same, c.program_in.ensures.kept) at c.in-Err-script_in.ensures.stopped)
+    script_stopped (rounds_asked c.args.asked.now) _ (typed_of c.in-Ok.program) c.in-Ok.ensures.read _ _ _ c.buffered_program_in.ensures.faults
+    c.in-Err-script_in.stop
+    (rw (handed c.channels.ensures c.typed-program.ensures.program, c.buffered_program_in.ensures.same, c.buffered_program_in.ensures.kept)
+    at c.in-Err-script_in.ensures.stopped)
 
 pub returns-clause-answered : goal.returns-clause-answered
 returns-clause-answered g c =
-    let told = rw (handed c.channels.ensures c.typed-program.ensures.program, c.program_in.ensures.same, c.program_in.ensures.kept)
+    let told = rw (handed c.channels.ensures c.typed-program.ensures.program, c.buffered_program_in.ensures.same, c.buffered_program_in.ensures.kept)
     at c.in-Ok-script_in.ensures.read in
     ok_in c.report_rounds.result _ _
     (λ output is. reports (rounds_asked c.args.asked.now) _ (typed_of c.in-Ok.program) c.in-Ok.ensures.read c.in-Ok-script_in.script told _ is)
@@ -43,7 +46,7 @@ returns-clause-answered g c =
 
 pub returns-clause-stopped : goal.returns-clause-stopped
 returns-clause-stopped g c =
-    let told = rw (handed c.channels.ensures c.typed-program.ensures.program, c.program_in.ensures.same, c.program_in.ensures.kept)
+    let told = rw (handed c.channels.ensures c.typed-program.ensures.program, c.buffered_program_in.ensures.same, c.buffered_program_in.ensures.kept)
     at c.in-Ok-script_in.ensures.read in
     err_in c.report_rounds.result _ _
     (λ stop is. report_stopped (rounds_asked c.args.asked.now) _ (typed_of c.in-Ok.program) c.in-Ok.ensures.read c.in-Ok-script_in.script told _ _ stop is)

@@ -7,14 +7,16 @@ use Rattle.chp_cli.specs.RoundsWords.{AskedRounds, rounds_with}
 use Rattle.chp_cli.proofs.rounds_words.rounds_in.Goals as goal
 
 abbrev rows_ask : List Row → Option AskedRounds
-rows_ask rows = rounds_with (first_of (codes "FILE") rows) (first_of (codes "SCRIPT") rows) (first_of (codes "rounds") rows)
+rows_ask rows =
+    rounds_with (first_of (codes "FILE") rows) (first_of (codes "SCRIPT") rows) (first_of (codes "rounds") rows) (first_of (codes "buffer") rows)
 
 taken_rounds : (a b : App) (words : List Text) (rows : List Row) → a ≡ b → true ≡ takes a words → rows ≡ matches_of a words
     → rows_ask rows ≡ cond (takes b words) (rows_ask (matches_of b words)) None
 taken_rounds a b words rows same taken is = rw (← same, ← taken, is) refl
 
-same_texts : (file script rounds f s r : Option Text) → file ≡ f → script ≡ s → rounds ≡ r → rounds_with file script rounds ≡ rounds_with f s r
-same_texts file script rounds f s r one two three = rw (one, two, three) refl
+same_texts : (file script rounds buffer f s r b : Option Text) → file ≡ f → script ≡ s → rounds ≡ r → buffer ≡ b →
+    rounds_with file script rounds buffer ≡ rounds_with f s r b
+same_texts file script rounds buffer f s r b one two three four = rw (one, two, three, four) refl
 
 pub returns-in-Ok-Some : goal.returns-in-Ok-Some
 returns-in-Ok-Some c =
@@ -23,6 +25,7 @@ returns-in-Ok-Some c =
     let taken = rw c.in-Ok-Some.field-0-is at c.in-Ok-Some.ensures.taken in
     let is = rw c.in-Ok-Some.field-0-is at c.in-Ok-Some.ensures.matches in
     c.rounds_with.ensures
-    ∙ (same_texts _ _ _ _ _ _ (c.get_str.ensures ∙ first_value-rows found (codes "FILE"))
+    ∙ (same_texts _ _ _ _ _ _ _ _ (c.get_str.ensures ∙ first_value-rows found (codes "FILE"))
     (c.get_str-in-Ok-Some.ensures ∙ first_value-rows found (codes "SCRIPT")) (c.get_str-in-Ok-Some-2.ensures ∙ first_value-rows found (codes "rounds"))
+    (c.get_str-in-Ok-Some-3.ensures ∙ first_value-rows found (codes "buffer"))
     ∙ taken_rounds _ _ words (rows_of found) c.in_ok-form.ensures taken is)
