@@ -1,7 +1,8 @@
 //! The delays of a net's nodes.
 
-ghost use Rattle.std.specs.Prelude.{◌≡◌, ◌<◌, length};
+ghost use Rattle.std.specs.Prelude.{◌≡◌, ◌<◌, length, IfOk};
 
+use std::alloc::AllocError;
 use std::marker::Model;
 
 /// For each node of a net how long its rise takes and how long its fall takes, whoever moves it: 0 to 1,000,000 units
@@ -32,6 +33,15 @@ impl Delays {
         ensures { result ≡ delay_table up.items down.items }
     {
         Delays { up, down }
+    }
+
+    /// A copy of the table.
+    pub fn copy(&self) -> Result<Delays, AllocError>
+        ensures { IfOk result (λ d. d ≡ self.now) }
+    {
+        let up = self.up.clone()?;
+        let down = self.down.clone()?;
+        Ok(Delays { up, down })
     }
 
     /// How long the node's rise takes.

@@ -1,2 +1,4 @@
 mod Dumps
 mod Examples
+pub mod Chains
+pub mod TimedWaves

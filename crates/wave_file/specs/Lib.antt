@@ -1,2 +1,4 @@
 pub mod Waves
 pub mod Unwaved
+pub mod RunWaves
+pub mod CauseChains

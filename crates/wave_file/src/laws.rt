@@ -1,0 +1,35 @@
+//! Laws of waves and of causes.
+
+ghost use Rattle.std.specs.Prelude.{◌≡◌, ◌<◌, ℕ, Bool, List, length, All, false};
+ghost use Rattle.prs_core.specs.Nets.{IsNet};
+ghost use Rattle.event_sim.specs.Following.{power_of};
+ghost use Rattle.event_sim.specs.Simulating.{RanValue};
+ghost use Rattle.delay_script.specs.declared.noted.NotedMove.{NotedMove};
+ghost use Rattle.delay_script.specs.DelayTables.{DelayTable};
+ghost use Rattle.delay_script.specs.TimedRuns.{TimedValue, IsTimedRan};
+ghost use Rattle.wave_file.specs.CauseChains.{AreCaused, TellsCauses, values_given};
+ghost use Rattle.wave_file.specs.RunWaves.{wave_of_run};
+ghost use Rattle.wave_file.specs.Waves.{IsWave};
+
+/// Law: the moves of a timed run that wasn't given a power are a wave, and each has its cause.
+pub fn timed_runs_are_waves()
+    ensures wave { (t : TimedValue) (ms : List NotedMove) (r : RanValue) (u : ℕ)
+        → IsNet t.net
+        → IsTimedRan t ms r u
+        → IsWave (wave_of_run t.net ms) }
+    ensures nodes { (t : TimedValue) (ms : List NotedMove) (r : RanValue) (u : ℕ)
+        → IsNet t.net
+        → IsTimedRan t ms r u
+        → All (λ (m : NotedMove). m.node < length t.net.first) ms }
+    ensures caused { (t : TimedValue) (ms : List NotedMove) (r : RanValue) (u : ℕ)
+        → IsTimedRan t ms r u
+        → AreCaused t.delays (values_given (power_of t.net t.high) ms) ms }
+{}
+
+/// Law: the causes of some moves are told by one text.
+pub fn one_causes_text()
+    ensures { (names : List (List ℕ)) (d : DelayTable) (given : List Bool) (ms : List NotedMove) (a b : List ℕ)
+        → TellsCauses names d given ms a
+        → TellsCauses names d given ms b
+        → a ≡ b }
+{}
