@@ -9,15 +9,15 @@ mod pickers;
 mod printer;
 mod reading;
 mod run;
-mod streamed;
 
 use bench::Bench;
 use cases::obey;
 use std::{fs, io};
 
-const TOPICS: [&str; 13] = [
-    "texts", "compile", "stream", "check", "expand", "grow", "migrate", "simulate", "rounds",
-    "buffers", "edge", "against", "delays",
+const TOPICS: [&str; 12] = [
+    "texts", "compile", "check", "expand", "grow", "migrate", "simulate", "rounds", "buffers", "edge",
+    "against", "delays",
+];
 ];
 
 fn main(rt: HostRuntime) -> io::Result<()> {

@@ -8,12 +8,9 @@ mod fault;
 pub mod laws;
 mod line;
 mod noted;
-mod number;
-mod power;
 mod reader;
 mod step;
 mod timed;
-mod words;
 
 pub use delays::Delays;
 pub use fault::{DelayError, DelayFault};
