@@ -18,7 +18,6 @@ const TOPICS: [&str; 12] = [
     "texts", "compile", "check", "expand", "grow", "migrate", "simulate", "rounds", "buffers", "edge",
     "against", "delays",
 ];
-];
 
 fn main(rt: HostRuntime) -> io::Result<()> {
     let mut page = String::new(rt.alloc());
