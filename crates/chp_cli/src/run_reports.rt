@@ -26,6 +26,17 @@ fn is_hazard(end: End) -> bool
     }
 }
 
+/// How a command ends that reports a run which ended so.
+fn ending_for(end: End) -> Ending
+    ensures { result ≡ ending_for end }
+{
+    if is_hazard(end) {
+        Ending::Hazard
+    } else {
+        Ending::Done
+    }
+}
+
 /// How a command ends that reports how a run stands against a program.
 fn ending_against(against: Against) -> Ending
     ensures { result ≡ ending_against against }
@@ -95,12 +106,10 @@ fn uncompared(alloc: Global, ran: &Ran, time: Option<u64>) -> Result<Output, All
         IsReported script time ran.now None (told_answer output)) }
 {
     let text = report_text(alloc, ran, time)?;
-    let end = if is_hazard(ran.end()) {
-        Ending::Hazard
-    } else {
-        Ending::Done
-    };
-    Ok(Output { text, end })
+    Ok(Output {
+        text,
+        end: ending_for(ran.end()),
+    })
 }
 
 /// What is reported of a run under this script, with its time if it has one, and of how it stands against the program,
