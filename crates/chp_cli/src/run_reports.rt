@@ -17,8 +17,8 @@ use std::alloc::{AllocError, Global};
 
 /// Whether a run that ended so has a hazard.
 fn is_hazard(end: End) -> bool
-    ensures hazard { result ≡ true → ending_for end ≡ Ending::Hazard }
-    ensures calm { result ≡ false → ending_for end ≡ Ending::Done }
+    ensures hazard { result ≡ true → ending_for end ≡ Ending.Hazard }
+    ensures calm { result ≡ false → ending_for end ≡ Ending.Done }
 {
     match end {
         End::AtRest | End::Spent => false,
