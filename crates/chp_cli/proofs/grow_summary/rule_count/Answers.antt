@@ -25,9 +25,9 @@ loop-node-preserved c =
     let downs : n < length net.down = omega (arith, here, is_net.downs) in
     record {
       count = added c.loop-node.count _ _ _ _ _ _ c.loop-node.invariant.count
-          (one_more net.up n _ c.up.result.now ups c.guard_rules.ensures.value c.up.ensures)
-          (one_more net.down n _ c.down.result.now downs c.guard_rules-2.ensures.value c.down.ensures);
-      few = omega (arith, c.loop-node.invariant.few, c.guard_rules.ensures.most, c.guard_rules-2.ensures.most);
+          (one_more net.up n _ c.up.result.now ups c.guard_rules-count.ensures.value c.up.ensures)
+          (one_more net.down n _ c.down.result.now downs c.guard_rules-count-in-loop-node.ensures.value c.down.ensures);
+      few = omega (arith, c.loop-node.invariant.few, c.guard_rules-count.ensures.most, c.guard_rules-count-in-loop-node.ensures.most);
     }
 
 pub returns : goal.returns
