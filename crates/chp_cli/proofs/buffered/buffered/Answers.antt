@@ -6,7 +6,6 @@ use Rattle.slack_buffer.specs.BufferedTrees.{IsInnerChannel}
 use Rattle.width_check.specs.Typed.{program_of as typed_of}
 use Rattle.chp_cli.specs.BufferSteps.{no_channel}
 use Rattle.chp_cli.proofs.Buffering.{form_as, no_name, that_name}
-use Rattle.chp_cli.proofs.Stopping.{ok_in}
 use Rattle.chp_cli.proofs.buffered.buffered.Goals as goal
 
 pub returns-in-None-clause-goes_on : goal.returns-in-None-clause-goes_on

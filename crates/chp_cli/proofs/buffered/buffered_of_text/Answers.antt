@@ -1,8 +1,6 @@
-use Rattle.std.proofs.Common.{◌≤◌, length, refl, arith}
-use Rattle.std.specs.Prelude.{option_map}
+use Rattle.std.proofs.Common.{refl}
 use Rattle.chp_syntax.specs.View.{program_tree}
-use Rattle.chp_cli.specs.Replies.{Halts}
-use Rattle.chp_cli.specs.Steps.{FromProgram, Never, a_program, accepted}
+use Rattle.chp_cli.specs.Steps.{FromProgram, a_program, accepted}
 use Rattle.chp_cli.proofs.BufferStopping.{OnlyBuffer, checks_halt, program_halts}
 use Rattle.chp_cli.proofs.Faulty.{no_procedures}
 use Rattle.chp_cli.proofs.Stopping.{err_in, halts_in, ok_in}
