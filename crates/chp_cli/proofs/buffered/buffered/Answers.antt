@@ -8,17 +8,17 @@ use Rattle.chp_cli.specs.BufferSteps.{no_channel}
 use Rattle.chp_cli.proofs.Buffering.{form_as, no_name, that_name}
 use Rattle.chp_cli.proofs.buffered.buffered.Goals as goal
 
-pub returns-in-None-clause-goes_on : goal.returns-in-None-clause-goes_on
-returns-in-None-clause-goes_on c = rw c.in-None.is (record { made = program_tree c.args.program.now; buffered = refl; form = c.requires.form })
+pub returns-in_default-clause-goes_on : goal.returns-in_default-clause-goes_on
+returns-in_default-clause-goes_on c = rw c.in_default.is (record { made = program_tree c.args.program.now; buffered = refl; form = c.requires.form })
 
 -- what was asked for
 named : (o : Option (Bor (List ℕ))) (text : Bor (List ℕ)) → o ≡ Some text → option_map (λ (t : Bor (List ℕ)). t.now) o ≡ Some text.now
 named o text is = ap (option_map (λ (t : Bor (List ℕ)). t.now)) is
 
-pub returns-in-None-declared_name-clause-stopped : goal.returns-in-None-declared_name-clause-stopped
-returns-in-None-declared_name-clause-stopped c =
+pub returns-in_default-declared_name-clause-stopped : goal.returns-in_default-declared_name-clause-stopped
+returns-in_default-declared_name-clause-stopped c =
     let told = rw c.deref.ensures.value at c.declared_name.ensures in
-    no_channel (named _ _ c.in-Some.is) (no_name c.args.program.now.decls.items c.in-Some.text.now c.declared_name.result told c.in-None-declared_name.is)
+    no_channel (named _ _ c.in-Some.is) (no_name c.args.program.now.decls.items c.in-Some.text.now c.declared_name.result told c.in_default-declared_name.is)
 
 pub returns-then-not-is_inner_channel-clause-stopped : goal.returns-then-not-is_inner_channel-clause-stopped
 returns-then-not-is_inner_channel-clause-stopped c =
