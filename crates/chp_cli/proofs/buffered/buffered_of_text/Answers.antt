@@ -9,8 +9,8 @@ use Rattle.chp_cli.proofs.buffered.buffered_of_text.Goals as goal
 pub returns-in-Err-clause-stopped : goal.returns-in-Err-clause-stopped
 returns-in-Err-clause-stopped c = program_halts c.args.text.now _ c.in-Err.stop c.in-Err.ensures.stopped
 
-pub returns-in-Err-checked_program-clause-stopped : goal.returns-in-Err-checked_program-clause-stopped
-returns-in-Err-checked_program-clause-stopped c =
+pub returns-clause-stopped : goal.returns-clause-stopped
+returns-clause-stopped c =
     checks_halt c.args.text.now _ (program_tree c.in-Ok.program) c.in-Ok.ensures.read c.in-Err-checked_program.stop c.in-Err-checked_program.ensures.stopped
 
 pub buffered-requires-clause-few : goal.buffered-requires-clause-few
