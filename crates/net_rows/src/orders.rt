@@ -30,13 +30,23 @@ impl Simulated {
     }
 }
 
+/// The four orders.
+fn orders_of_all(alloc: Global) -> Result<Vec<Box<dyn Picker>>, AllocError> {
+    let mut pickers: Vec<Box<dyn Picker>> = Vec::new(alloc);
+    pickers.push(Box::new(alloc, Lowest::new(alloc))?)?;
+    pickers.push(Box::new(alloc, Oldest::new(alloc))?)?;
+    pickers.push(Box::new(alloc, Newest::new(alloc))?)?;
+    pickers.push(Box::new(alloc, Random::new(alloc))?)?;
+    Ok(pickers)
+}
+
 /// The simulation by the picker, or None where a text is refused.
 fn simulate(
     alloc: Global,
     bench: &Bench,
     seed: u64,
     steps: u32,
-    mut picker: Box<dyn Picker>,
+    picker: &mut Box<dyn Picker>,
 ) -> Result<Option<Simulated>, AllocError>
     requires { steps ≤ 1000000 }
 {
@@ -48,7 +58,7 @@ fn simulate(
     };
     picker.seed(seed);
     picker.make_room(steps, nodes)?;
-    let ran = Sim::new(alloc, net, script, steps)?.run(&mut picker);
+    let ran = Sim::new(alloc, net, script, steps)?.run(picker);
     let mut passed = Vec::from_slice(alloc, ran.passed())?;
     passed.sort_by_key(|value| value.0)?;
     Ok(Some(Simulated {
@@ -58,48 +68,6 @@ fn simulate(
         passed,
         picks: Vec::from_slice(alloc, picker.log())?,
     }))
-}
-
-/// The simulation by the order of this name.
-fn by_order(
-    alloc: Global,
-    bench: &Bench,
-    seed: u64,
-    steps: u32,
-    order: &str,
-) -> Result<Option<Simulated>, AllocError>
-    requires { steps ≤ 1000000 }
-{
-    match order {
-        "lowest" => simulate(
-            alloc,
-            bench,
-            seed,
-            steps,
-            Box::new(alloc, Lowest::new(alloc))?,
-        ),
-        "oldest" => simulate(
-            alloc,
-            bench,
-            seed,
-            steps,
-            Box::new(alloc, Oldest::new(alloc))?,
-        ),
-        "newest" => simulate(
-            alloc,
-            bench,
-            seed,
-            steps,
-            Box::new(alloc, Newest::new(alloc))?,
-        ),
-        _ => simulate(
-            alloc,
-            bench,
-            seed,
-            steps,
-            Box::new(alloc, Random::new(alloc))?,
-        ),
-    }
 }
 
 /// A node with an enabled move, and the number of the list in which it began to stand without a break.
@@ -185,6 +153,25 @@ fn go_by_age(
     Ok(true)
 }
 
+/// Prints of the picks by this order how many they are, and whether each took the oldest node and whether each took the
+/// newest one.
+fn tell_ages(
+    alloc: Global,
+    bench: &Bench,
+    order: &str,
+    picks: &[usize],
+    page: &mut String,
+) -> Result<(), AllocError> {
+    let count = picks.len();
+    let oldest = go_by_age(alloc, bench, picks, true)?;
+    let newest = go_by_age(alloc, bench, picks, false)?;
+    writeln!(
+        page,
+        "{order}: {count} picks, oldest {oldest}, newest {newest}"
+    )?;
+    Ok(())
+}
+
 /// Simulates by each order, with a seed and for so many moves at most. It prints of each how many picks it made, and
 /// whether each took the oldest node and whether each took the newest one; then whether all came to the same, and
 /// whether all picks differ.
@@ -208,17 +195,11 @@ pub fn orders(
     }
     let mut earlier: Vec<Simulated> = Vec::new(alloc);
     let (mut agree, mut differ) = (true, true);
-    for order in ["lowest", "oldest", "newest", "random"] {
-        let Some(run) = by_order(alloc, bench, *seed, steps, order)? else {
+    for picker in orders_of_all(alloc)?.iter_mut() {
+        let Some(run) = simulate(alloc, bench, *seed, steps, picker)? else {
             return Ok(false);
         };
-        let oldest = go_by_age(alloc, bench, &run.picks, true)?;
-        let newest = go_by_age(alloc, bench, &run.picks, false)?;
-        let picks = run.picks.len();
-        writeln!(
-            page,
-            "{order}: {picks} picks, oldest {oldest}, newest {newest}"
-        )?;
+        tell_ages(alloc, bench, picker.name(), &run.picks, page)?;
         agree = agree && earlier.iter().all(|other| other.agrees(&run));
         differ = differ && earlier.iter().all(|other| other.picks != run.picks);
         earlier.push(run)?;
