@@ -4,8 +4,8 @@ ghost use Rattle.std.specs.Prelude.{◌≡◌, ℕ, List, map, IfOk, IfSome, IfN
 ghost use Rattle.delay_script.specs.declared.line.DelayLine.{DelayLine};
 ghost use Rattle.delay_script.specs.DelayText.{SaysDelays};
 
-use crate::number::number_of;
 use chp_base::{Name, node_name_of};
+use env_script::number_of;
 use std::alloc::{AllocError, Global};
 
 /// A line of a delay file: the name of a node, and how long its rise and its fall take.

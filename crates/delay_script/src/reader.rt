@@ -7,8 +7,8 @@ ghost use Rattle.delay_script.specs.DelayText.{IsDelayText, IsOnlyDelays, IsNoDe
 use crate::delays::Delays;
 use crate::fault::DelayError;
 use crate::step::{DelayStep, TakenDelay, step_of};
-use crate::words::lines_of;
 use chp_base::{Added, Name, Symbols};
+use env_script::lines_of;
 use prs_core::Net;
 use std::alloc::{AllocError, Global};
 

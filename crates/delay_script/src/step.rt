@@ -7,8 +7,8 @@ ghost use Rattle.delay_script.specs.DelaySteps.{IsDelayStep};
 
 use crate::fault::DelayFault;
 use crate::line::{DelayLine, delay_line_in};
-use crate::words::words_of;
 use chp_base::Symbols;
+use env_script::words_of;
 use std::alloc::{AllocError, Global};
 
 const LONGEST_DELAY: u64 = 1_000_000;
