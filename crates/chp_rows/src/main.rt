@@ -9,15 +9,13 @@ mod pickers;
 mod printer;
 mod reading;
 mod run;
-mod streamed;
 
 use bench::Bench;
 use cases::obey;
 use std::{fs, io};
 
-const TOPICS: [&str; 10] = [
-    "texts", "compile", "stream", "check", "expand", "grow", "migrate", "simulate", "rounds",
-    "edge",
+const TOPICS: [&str; 9] = [
+    "texts", "compile", "check", "expand", "grow", "migrate", "simulate", "rounds", "edge",
 ];
 
 fn main(rt: HostRuntime) -> io::Result<()> {

@@ -241,7 +241,8 @@ mutual
         GuardedCommands ts (sign mark.CloseSquare c ∷ rest) bs →
         Atom (sign mark.Star s ∷ sign mark.OpenSquare o ∷ ts) rest (selects true bs)
     a_selection : {ts rest : List Token} {bs : Arms} {o c : Span} →
-        GuardedCommands ts (sign mark.CloseSquare c ∷ rest) bs → Atom (sign mark.OpenSquare o ∷ ts) rest (selects false bs)
+        GuardedCommands ts (sign mark.CloseSquare c ∷ rest) bs →
+        Atom (sign mark.OpenSquare o ∷ ts) rest (selects false bs)
 
   -- arm
   pub data GuardedCommand : List Token → List Token → Guarded → Type 0 where

@@ -105,7 +105,7 @@ abbrev pub lesser : Option ℕ → ℕ → Option ℕ
 lesser None n = Some n
 lesser (Some k) n = if nat_lt k n then Some k else Some n
 
--- whom a move of the node may concern beside itself: who is_reader it, and who shares a channel with it in which the
+-- whom a move of the node may concern beside itself: who reads it, and who shares a channel with it in which the
 -- environment has a part
 pub record IsNear (x : IndexedValue) (n : ℕ) (nodes : List ℕ) : Type 0 where
   pub readers : (m : ℕ) → m < length x.net.first → is_among nodes m ≡ false → is_reader x.net n m ≡ false

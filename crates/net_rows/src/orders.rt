@@ -135,8 +135,8 @@ fn by_age(list: &[Waiting], longest: bool) -> Option<usize> {
     list.iter().position(|waiting| waiting.since == since)
 }
 
-/// Makes the move of the node at this place of the list of this number. The list, where that was the first node of those
-/// that have waited longest, or shortest, and the move brought no hazard; else None.
+/// Makes the move of the node at this place of the list of this number. The list, where that was the first node of
+/// those that have waited longest, or shortest, and the move brought no hazard; else None.
 #[tactic(auto, using(crate::proofs::ScriptChannels::counted))]
 fn step(
     alloc: Global,
@@ -186,8 +186,8 @@ fn go_by_age(
 }
 
 /// Simulates by each order, with a seed and for so many moves at most. It prints of each how many picks it made, and
-/// whether each took the oldest node and whether each took the newest one; then whether all came to the same, and whether
-/// all picks differ.
+/// whether each took the oldest node and whether each took the newest one; then whether all came to the same, and
+/// whether all picks differ.
 pub fn orders(
     alloc: Global,
     bench: &Bench,
