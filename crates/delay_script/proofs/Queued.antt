@@ -16,7 +16,7 @@ use Rattle.std.proofs.lemmas.List.Sums.{sum_by-cons}
 use Rattle.delay_script.specs.declared.due.Due.{Due}
 use Rattle.delay_script.specs.declared.due.Next.{Next}
 use Rattle.delay_script.specs.TimedRuns.{ComesNoLater}
-use Rattle.delay_script.specs.Dues.{due_at, IsFirstOf, IsFirstDue, next_due}
+use Rattle.delay_script.specs.Dues.{due_at, IsFirstOf, IsFirstDue, next_due, without}
 use Rattle.delay_script.specs.Queues.{sooner, entries_from, IsQueue}
 
 -- sums over the entries
@@ -128,9 +128,9 @@ all_of_zero {X} p (x ∷ xs) none =
     apart : (a : ℕ) → a ≡ 0 → a ≡ 1 → ⊥
     apart a e f = omega arith
 
-    here : (b : Bool) → cond b 0 1 ≡ 0 → b ≡ true
+    here : (b : Bool) → ◌≡◌ {A = ℕ} (cond b 0 1) 0 → b ≡ true
     here true e = refl
-    here false e = absurd (apart (cond false 0 1) e refl)
+    here false e = absurd (apart 1 e refl)
 
 abbrev pub SameSums : List (Option Due) → List (Reverse (ℕ × ℕ)) → Type 0
 SameSums dues heap = (f : ℕ × ℕ → ℕ) → sum_by (λ (e : Reverse (ℕ × ℕ)). f e.0) heap ≡ sum_by f (entries_from 0 dues)
@@ -289,6 +289,10 @@ take_is dues heap rest room same_room x is popped ordered same = record {
     taken : (f : ℕ × ℕ → ℕ) → sum_by f (entries_from 0 dues) ≡ f x.0 + sum_by f (entries_from 0 (set dues x.0.1 None))
     taken f = sum_take f dues x.0.1 own.0 (top_within dues heap rest x is.sums popped) own.1
         ∙ ap (λ (t : ℕ). f (t, x.0.1) + sum_by f (entries_from 0 (set dues x.0.1 None))) own.2
+
+-- and is what is left behind it
+pub rest_is : (dues : List (Option Due)) (n : ℕ) (due : Due) → due_at dues n ≡ Some due → set dues n None ≡ without dues (next_due n (due_at dues n))
+rest_is dues n due here = ap (λ (o : Option Due). without dues (next_due n o)) (sym here)
 
 -- an empty heap
 pub empty_first : (dues : List (Option Due)) (heap : List (Reverse (ℕ × ℕ))) (room : ℕ) → IsQueue dues heap room → heap ≡ [] →

@@ -3,10 +3,11 @@ use Rattle.std.specs.Prelude.{◌==◌, vec_len, Option, List}
 use Rattle.std.proofs.lemmas.Bool.{ne_eqb, eq-eqb}
 use Rattle.std.proofs.lemmas.List.{length_push, length-set}
 use Rattle.prs_core.specs.Nets.{NetValue}
-use Rattle.delay_script.specs.DelayTables.{DelayTable}
+use Rattle.delay_script.specs.DelayTables.{DelayTable, IsDelayTable}
 use Rattle.delay_script.specs.TimedRuns.{TimedValue, time_behind}
 use Rattle.delay_script.specs.declared.due.Due.{Due}
-use Rattle.delay_script.specs.Dues.{IsFirstOf, AreFilled}
+use Rattle.delay_script.specs.declared.due.Next.{Next}
+use Rattle.delay_script.specs.Dues.{IsFirstOf, AreFilled, without}
 use Rattle.delay_script.proofs.OnTheWay.{begun, next_enabled, step, within_end, finish, due_soon}
 use Rattle.delay_script.proofs.noted.Noted.run.Goals as goal
 
@@ -41,11 +42,17 @@ returns-in-Err-clause-ran c =
     (finish c.args.self ms c.loop-made.course.stage c.loop-made.course.queue c.loop-made.hazard c.take.result false c.in-Err.end _ _ i.way
     c.take.ensures.first goes c.in-Err.ensures.end same (c.ran.ensures.time ∙ ap (time_behind ms) same))
 
+pub returns-in-Err-clause-timed : goal.returns-in-Err-clause-timed
+returns-in-Err-clause-timed c = (returns-in-Err-clause-ran c).timed
+
 pub returns-in-Err-clause-run : goal.returns-in-Err-clause-run
 returns-in-Err-clause-run c = (returns-in-Err-clause-ran c).run
 
 pub returns-in-Err-clause-ends : goal.returns-in-Err-clause-ends
 returns-in-Err-clause-ends c = (returns-in-Err-clause-ran c).ends
+
+pub returns-in-Err-clause-time : goal.returns-in-Err-clause-time
+returns-in-Err-clause-time c = (returns-in-Err-clause-ran c).time
 
 pub ran-requires-2-clause-end : goal.ran-requires-2-clause-end
 ran-requires-2-clause-end c =
@@ -64,24 +71,32 @@ returns-clause-ran c =
     (finish c.args.self ms c.loop-made.course.stage c.loop-made.course.queue c.loop-made.hazard c.take-2.result true c.last_end-end.result _ _ i.way
     c.take-2.ensures.first spent c.last_end-end.ensures same (c.ran-2.ensures.time ∙ ap (time_behind ms) same))
 
+pub returns-clause-timed : goal.returns-clause-timed
+returns-clause-timed c = (returns-clause-ran c).timed
+
 pub returns-clause-run : goal.returns-clause-run
 returns-clause-run c = (returns-clause-ran c).run
 
 pub returns-clause-ends : goal.returns-clause-ends
 returns-clause-ends c = (returns-clause-ran c).ends
 
+pub returns-clause-time : goal.returns-clause-time
+returns-clause-time c = (returns-clause-ran c).time
+
 pub make-hazard-requires-clause-node : goal.make-hazard-requires-clause-node
 make-hazard-requires-clause-node c =
     let i = c.loop-made.invariant in
     let m = c.in-Ok.next in
-    let first : IsFirstOf c.loop-made.course.queue (length c.loop-made.course.queue) (Some m) = rw c.in-Ok.ensures.next at c.take.ensures.first in
+    let first : IsFirstOf c.loop-made.course.queue (length c.loop-made.course.queue) (Some m) =
+    subst (λ (o : Option Next). IsFirstOf c.loop-made.course.queue (length c.loop-made.course.queue) o) c.in-Ok.ensures.next c.take.ensures.first in
     subst (λ (w : NetValue). m.node < length w.first) (sym i.way.net) (omega (arith, first.within, i.way.count))
 
 pub make-hazard-requires-clause-enabled : goal.make-hazard-requires-clause-enabled
 make-hazard-requires-clause-enabled c =
     let i = c.loop-made.invariant in
     let m = c.in-Ok.next in
-    let first : IsFirstOf c.loop-made.course.queue (length c.loop-made.course.queue) (Some m) = rw c.in-Ok.ensures.next at c.take.ensures.first in
+    let first : IsFirstOf c.loop-made.course.queue (length c.loop-made.course.queue) (Some m) =
+    subst (λ (o : Option Next). IsFirstOf c.loop-made.course.queue (length c.loop-made.course.queue) o) c.in-Ok.ensures.next c.take.ensures.first in
     next_enabled c.args.self c.loop-made.course.moves.items c.loop-made.course.stage c.loop-made.course.queue c.loop-made.hazard m i.way
     c.in-Ok.ensures.calm first
 
@@ -89,15 +104,23 @@ pub make-hazard-requires-clause-queue : goal.make-hazard-requires-clause-queue
 make-hazard-requires-clause-queue c =
     let i = c.loop-made.invariant in
     let m = c.in-Ok.next in
-    let rest : c.take.new.self ≡ set c.loop-made.course.queue m.node None = rw c.in-Ok.ensures.next at c.take.ensures.rest in
+    let rest : c.take.new.self ≡ set c.loop-made.course.queue m.node None =
+    c.take.ensures.rest ∙ ap (without c.loop-made.course.queue) c.in-Ok.ensures.next in
     ap length rest ∙ length-set c.loop-made.course.queue m.node None ∙ i.way.count ∙ ap (λ (w : NetValue). length w.first) (sym i.way.net)
+
+pub make-hazard-requires-clause-delays : goal.make-hazard-requires-clause-delays
+make-hazard-requires-clause-delays c =
+    let i = c.loop-made.invariant in
+    subst (λ (d : DelayTable). IsDelayTable (length c.loop-made.course.stage.net.first) d) (sym i.delays)
+    (subst (λ (w : NetValue). IsDelayTable (length w.first) c.args.self.delays) (sym i.way.net) i.table)
 
 pub make-hazard-requires-clause-time : goal.make-hazard-requires-clause-time
 make-hazard-requires-clause-time c =
     let i = c.loop-made.invariant in
     let m = c.in-Ok.next in
     let ms = c.loop-made.course.moves.items in
-    let first : IsFirstOf c.loop-made.course.queue (length c.loop-made.course.queue) (Some m) = rw c.in-Ok.ensures.next at c.take.ensures.first in
+    let first : IsFirstOf c.loop-made.course.queue (length c.loop-made.course.queue) (Some m) =
+    subst (λ (o : Option Next). IsFirstOf c.loop-made.course.queue (length c.loop-made.course.queue) o) c.in-Ok.ensures.next c.take.ensures.first in
     let soon : m.due.time ≤ (length ms + 1) * 1000000 =
     due_soon c.args.self ms c.loop-made.course.stage c.loop-made.course.queue c.loop-made.hazard m i.way c.in-Ok.ensures.calm first in
     let small : length ms ≤ 1000000 = omega (arith, i.count, i.steps, i.few, c.loop-made-test.true) in
@@ -108,8 +131,10 @@ loop-made-preserved c =
     let i = c.loop-made.invariant in
     let ms = c.loop-made.course.moves.items in
     let m = c.in-Ok.next in
-    let first : IsFirstOf c.loop-made.course.queue (length c.loop-made.course.queue) (Some m) = rw c.in-Ok.ensures.next at c.take.ensures.first in
-    let rest : c.take.new.self ≡ set c.loop-made.course.queue m.node None = rw c.in-Ok.ensures.next at c.take.ensures.rest in
+    let first : IsFirstOf c.loop-made.course.queue (length c.loop-made.course.queue) (Some m) =
+    subst (λ (o : Option Next). IsFirstOf c.loop-made.course.queue (length c.loop-made.course.queue) o) c.in-Ok.ensures.next c.take.ensures.first in
+    let rest : c.take.new.self ≡ set c.loop-made.course.queue m.node None =
+    c.take.ensures.rest ∙ ap (without c.loop-made.course.queue) c.in-Ok.ensures.next in
     let same : vec_len c.loop-made.course.moves ≡ length ms = omega (arith, c.loop-made.course.moves.ok.0) in
     let later = c.make-hazard.new.self.stage in
     let nodes : List ℕ = c.make-hazard.ensures.queue.0 in
