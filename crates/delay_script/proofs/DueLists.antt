@@ -1,5 +1,5 @@
 -- What is kept of the nodes of a list.
-use Rattle.std.proofs.Common.{◌≡◌, ℕ, ◌+◌, ◌<◌, Bool, true, false, List, [], ◌∷◌, ◌++◌, length, set, refl, sym, ap, subst, ◌∙◌, arith}
+use Rattle.std.proofs.Common.{◌≡◌, ℕ, ◌<◌, Bool, true, false, List, [], ◌∷◌, ◌++◌, length, set, refl, sym, ap, subst, ◌∙◌, arith}
 use Rattle.std.specs.Prelude.{◌&&◌, ◌||◌, ◌==◌, Option, None, Some, is_some}
 use Rattle.std.proofs.lemmas.Bool.{eqb-true, eqb-false, and_parts}
 use Rattle.std.proofs.lemmas.List.{get_or-set_same, get_or-set_other, length-set}

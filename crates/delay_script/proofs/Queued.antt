@@ -1,6 +1,6 @@
 -- A queue of moves: its entries, node by node, and the first of them.
 use Rattle.std.proofs.Common.{◌≡◌, ℕ, zero, suc, ◌+◌, ◌<◌, ◌≤◌, Bool, true, false, cond, List, [], ◌∷◌, length, set, replicate, refl, sym, ap, subst, ◌∙◌, inl, inr, arith}
-use Rattle.std.specs.Prelude.{◌⊎◌, ◌==◌, not, nat_lt, Option, Some, None, All, Result, Ok, Err, OnOk}
+use Rattle.std.specs.Prelude.{◌==◌, not, nat_lt, Option, Some, None, All, Result, Ok, Err, OnOk}
 use Rattle.std.specs.Result.{is_ok}
 use Rattle.std.specs.BinaryHeap.{IsHeap, IsUpperBound}
 use Rattle.std.specs.List.{sum_by}
@@ -14,9 +14,8 @@ use Rattle.std.proofs.lemmas.List.Elements.{All-nil, All-cons, All-head, All-tai
 use Rattle.std.proofs.lemmas.List.Sorted.{All-permutation, sum_by_pushed, sum_by_popped}
 use Rattle.std.proofs.lemmas.List.Sums.{sum_by-cons}
 use Rattle.delay_script.specs.declared.due.Due.{Due}
-use Rattle.delay_script.specs.declared.due.Next.{Next}
 use Rattle.delay_script.specs.TimedRuns.{ComesNoLater}
-use Rattle.delay_script.specs.Dues.{due_at, IsFirstOf, IsFirstDue, next_due, without}
+use Rattle.delay_script.specs.Dues.{due_at, IsFirstOf, next_due, without}
 use Rattle.delay_script.specs.Queues.{sooner, entries_from, IsQueue}
 
 -- sums over the entries

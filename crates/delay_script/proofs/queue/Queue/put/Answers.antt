@@ -1,4 +1,4 @@
-use Rattle.std.proofs.Common.{◌≡◌, ◌<◌, ◌∙◌, ◌∷◌, ℕ, List, length, heap_items, None, true, false, refl, ap, arith}
+use Rattle.std.proofs.Common.{◌≡◌, ◌<◌, ◌∙◌, ◌∷◌, ℕ, List, length, heap_items, None, true, refl, ap, arith}
 use Rattle.std.specs.Prelude.{not, Option}
 use Rattle.std.specs.BinaryHeap.{heap_capacity, KeepsHeap}
 use Rattle.std.specs.Result.{is_ok}
