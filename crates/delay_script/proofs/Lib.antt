@@ -2,9 +2,9 @@ pub mod NameMaps
 pub mod SaidWords
 pub mod DelayReads
 pub mod OneDelays
-pub mod Counted
 pub mod Sinces
 pub mod Coming
 pub mod DueLists
+pub mod Queued
 pub mod OnTheWay
 pub mod OneTimed

@@ -1,5 +1,5 @@
 -- What is kept of the moves that are enabled: since which move, and when they are due.
-use Rattle.std.specs.Prelude.{◌≡◌, ℕ, ◌+◌, ◌*◌, ◌<◌, ◌≤◌, Bool, true, false, not, ◌&&◌, ◌==◌, nat_lt, if◌then◌else◌, List, [], ◌∷◌, length, take, slice_index_or, Option, Some, None, is_some}
+use Rattle.std.specs.Prelude.{◌≡◌, ℕ, ◌+◌, ◌*◌, ◌<◌, ◌≤◌, Bool, true, false, ◌&&◌, List, [], ◌∷◌, length, take, slice_index_or, slice_set, Option, Some, None}
 use Rattle.prs_core.specs.Nets.{NetValue}
 use Rattle.prs_core.specs.Moves.{high}
 use Rattle.env_script.specs.declared.hazard.Hazard.{Hazard}
@@ -8,13 +8,14 @@ use Rattle.env_script.specs.Runs.{RunState, move_enabled, after}
 use Rattle.event_sim.specs.Passing.{passed_in}
 use Rattle.event_sim.specs.Following.{power_of}
 use Rattle.event_sim.specs.Ends.{last_hazard, end_after}
+use Rattle.event_sim.specs.Locality.{is_among}
+use Rattle.event_sim.specs.Stages.{StageValue, now_of}
 use Rattle.delay_script.specs.declared.due.Due.{Due}
 use Rattle.delay_script.specs.declared.due.Next.{Next}
 use Rattle.delay_script.specs.declared.noted.NotedMove.{NotedMove}
 use Rattle.delay_script.specs.DelayTables.{DelayTable, IsDelayTable, next_delay}
 use Rattle.delay_script.specs.Causes.{IsEnabledSince}
 use Rattle.delay_script.specs.TimedRuns.{moved_nodes, due_time, ComesNoLater, IsTimedRun, TimedValue, timed_start}
-use Rattle.delay_script.specs.Circuits.{CircuitValue, circuit_now, node_can_move}
 
 abbrev pub due_at : List (Option Due) → ℕ → Option Due
 due_at dues n = slice_index_or dues n None
@@ -46,11 +47,14 @@ abbrev pub IsFirstOf : List (Option Due) → ℕ → Option Next → Type 0
 IsFirstOf dues count None = (n : ℕ) → n < count → due_at dues n ≡ None
 IsFirstOf dues count (Some m) = IsFirstDue dues count m
 
--- the first one, where one more node is looked at
-abbrev pub earlier_due : Option Next → ℕ → Option Due → Option Next
-earlier_due first n None = first
-earlier_due None n (Some due) = Some (record { node = n; due = due })
-earlier_due (Some m) n (Some due) = if nat_lt due.time m.due.time then Some (record { node = n; due = due }) else Some m
+abbrev pub next_due : ℕ → Option Due → Option Next
+next_due n None = None
+next_due n (Some due) = Some (record { node = n; due = due })
+
+-- what is kept without the move that comes next
+abbrev pub without : List (Option Due) → Option Next → List (Option Due)
+without dues None = dues
+without dues (Some m) = slice_set dues m.node None
 
 -- what is kept of a node behind a move, where it is enabled then or isn't, and the move is its own or isn't
 abbrev pub renewed_due : (now own : Bool) → Option Due → Due → Option Due
@@ -63,46 +67,49 @@ renewed_due true false (Some due) fresh = Some due
 abbrev pub fresh_due : DelayTable → (ℕ → Bool) → Due → ℕ → Due
 fresh_due d v made n = record { cause = made.cause; time = made.time + next_delay d v n }
 
--- behind the move of the node
-pub record AreRenewed (c : CircuitValue) (d : DelayTable) (node : ℕ) (made : Due) (was now : List (Option Due)) : Type 0
-  where
-    pub count : length now ≡ length was
-    pub each : (n : ℕ) → n < length was →
-        due_at now n ≡ renewed_due (node_can_move c n) (n == node) (due_at was n) (fresh_due d (high c.values) made n)
+-- what is kept of a node that is to be kept if it isn't, or is left as it is
+abbrev pub filled_due : Bool → Option Due → Due → Option Due
+filled_due false was fresh = was
+filled_due true None fresh = Some fresh
+filled_due true (Some due) fresh = Some due
 
--- a node other than the moved one whose move was due, and isn't enabled
-abbrev pub loses_due : CircuitValue → List (Option Due) → ℕ → ℕ → Bool
-loses_due c dues node n = not (n == node) && (is_some (due_at dues n) && not (node_can_move c n))
+-- of these nodes each that is enabled is kept: if it wasn't, as enabled since the move of this cause and time
+pub record AreFilled (s : StageValue) (d : DelayTable) (made : Due) (nodes : List ℕ) (was now : List (Option Due)) :
+    Type 0 where
+  pub count : length now ≡ length was
+  pub each : (n : ℕ) → n < length was → due_at now n ≡ filled_due
+      (is_among nodes n && move_enabled s.net s.script (now_of s) n) (due_at was n) (fresh_due d (high s.values) made n)
 
 -- the enabled moves as far as they are looked at: none, or one of them
 abbrev pub list_of_next : Option Next → List ℕ
 list_of_next None = []
 list_of_next (Some m) = m.node ∷ []
 
--- a timed run that has made these moves, none of whose parts has ended
-pub record IsOnItsWay (t : TimedValue) (ms : List NotedMove) (c : CircuitValue) (dues : List (Option Due))
+-- A timed run that has made these moves, none of whose parts has ended. Where no hazard has come, an enabled move has
+-- stayed enabled, so what was kept is still right.
+pub record IsOnItsWay (t : TimedValue) (ms : List NotedMove) (s : StageValue) (dues : List (Option Due))
     (last : Option Hazard) : Type 0 where
-  pub net : c.net ≡ t.net
-  pub script : c.script ≡ t.script
-  pub now : circuit_now c ≡ after t.net (timed_start t) (moved_nodes ms)
-  pub passed : c.passed ≡ passed_in t.net (timed_start t) (moved_nodes ms)
-  pub room : t.steps ≤ c.room + length ms
+  pub net : s.net ≡ t.net
+  pub script : s.script ≡ t.script
+  pub now : now_of s ≡ after t.net (timed_start t) (moved_nodes ms)
+  pub passed : s.passed ≡ passed_in t.net (timed_start t) (moved_nodes ms)
+  pub room : t.steps ≤ s.room + length ms
   pub timed : IsTimedRun t.delays t.net t.script (timed_start t) ms
   pub count : length dues ≡ length t.net.first
-  pub kept : AreKeptDues t.delays t.net t.script (timed_start t) ms dues
+  pub kept : last ≡ None → AreKeptDues t.delays t.net t.script (timed_start t) ms dues
   pub hazard : last ≡ last_hazard t.net t.script (timed_start t) (moved_nodes ms)
   pub no_end : (k : ℕ) → k < length ms →
       end_after t.net t.script t.steps (timed_start t) (moved_nodes (take k ms)) ≡ None
 
 -- of a timed run that hasn't begun
-pub record IsTimedReady (c : CircuitValue) (d : DelayTable) (dues : List (Option Due)) (ms : List NotedMove)
+pub record IsTimedReady (s : StageValue) (d : DelayTable) (dues : List (Option Due)) (ms : List NotedMove)
     (slots steps : ℕ) (start : Bool) : Type 0 where
-  pub values : c.values ≡ power_of c.net start
-  pub passed : c.passed ≡ []
-  pub room : steps ≤ c.room
+  pub values : s.values ≡ power_of s.net start
+  pub passed : s.passed ≡ []
+  pub room : steps ≤ s.room
   pub none_made : ms ≡ []
   pub slots_are : steps ≤ slots
   pub steps_few : steps ≤ 1000000
-  pub delays : IsDelayTable (length c.net.first) d
-  pub count : length dues ≡ length c.net.first
-  pub kept : AreKeptDues d c.net c.script (circuit_now c) [] dues
+  pub delays : IsDelayTable (length s.net.first) d
+  pub count : length dues ≡ length s.net.first
+  pub kept : AreKeptDues d s.net s.script (now_of s) [] dues

@@ -4,5 +4,5 @@ pub mod DelayText
 pub mod DelaySteps
 pub mod Causes
 pub mod TimedRuns
-pub mod Circuits
 pub mod Dues
+pub mod Queues

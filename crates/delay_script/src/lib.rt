@@ -1,13 +1,13 @@
 //! Delays of a net's nodes, and runs that are timed by them.
 #![tactic(auto)]
 
-mod circuit;
 mod delays;
 mod due;
 mod fault;
 pub mod laws;
 mod line;
 mod noted;
+mod queue;
 mod reader;
 mod step;
 mod timed;

@@ -2,26 +2,24 @@
 
 ghost use Rattle.std.specs.Prelude.{◌≡◌, ℕ, ◌+◌, ◌≤◌, ◌<◌, ◌^◌, ◌++◌, List, [], ◌∷◌, length, true, false, vec_len, vec_capacity, option_to_list, IsSome, Some, None, IfOk, IfErr};
 ghost use Rattle.prs_core.specs.Nets.{IsNet};
-ghost use Rattle.prs_core.specs.Moves.{high, both_ways};
+ghost use Rattle.prs_core.specs.Moves.{high};
 ghost use Rattle.env_script.specs.Scripts.{IsScript};
 ghost use Rattle.env_script.specs.Environment.{net_channels};
-ghost use Rattle.env_script.specs.Phases.{phase_fault};
-ghost use Rattle.env_script.specs.Runs.{IsRun, after, moved};
-ghost use Rattle.env_script.specs.Hazards.{least_below, first_hazard};
+ghost use Rattle.env_script.specs.Runs.{IsRun, move_enabled, after, moved};
+ghost use Rattle.env_script.specs.Hazards.{hazard_of};
 ghost use Rattle.event_sim.specs.Passing.{completion, passed_in};
 ghost use Rattle.event_sim.specs.Ends.{end_from, end_with, EndsSo};
 ghost use Rattle.event_sim.specs.Simulating.{IsEndIn};
-ghost use Rattle.event_sim.specs.Stages.{worst_cause};
+ghost use Rattle.event_sim.specs.Stages.{now_of, AreConcerned};
 ghost use Rattle.delay_script.specs.DelayTables.{IsDelayTable};
-ghost use Rattle.delay_script.specs.Circuits.{circuit_now};
-ghost use Rattle.delay_script.specs.Dues.{IsFirstOf, AreRenewed, loses_due, list_of_next};
+ghost use Rattle.delay_script.specs.Dues.{AreFilled, list_of_next};
 ghost use Rattle.delay_script.specs.TimedRuns.{time_behind};
 
-use crate::circuit::Circuit;
 use crate::delays::Delays;
-use crate::due::{Due, Next, first_due, first_lost, no_dues, renew};
+use crate::due::{Due, Next, fill, refill};
+use crate::queue::Queue;
 use env_script::{Hazard, Script};
-use event_sim::{End, Ran, power_state};
+use event_sim::{End, Ran, Stage, end_from, power_state};
 use prs_core::Net;
 use std::alloc::{AllocError, Global};
 use std::marker::Model;
@@ -53,34 +51,10 @@ pub struct NotedRan {
 /// How far a timed run has come.
 #[derive(Debug, Drop)]
 struct Course {
-    circuit: Circuit,
+    stage: Stage,
     delays: Delays,
-    /// For each node its move, where that is due.
-    dues: Vec<Option<Due>>,
+    queue: Queue,
     moves: Vec<NotedMove>,
-}
-
-/// A node that is pulled both ways comes before one whose move was taken away, and that before a channel whose
-/// phases are broken.
-fn worst_cause(pulled: Option<u32>, lost: Option<u32>, broken: Option<u32>) -> Option<Hazard>
-    ensures { result ≡ worst_cause pulled lost broken }
-{
-    match (pulled, lost, broken) {
-        (Some(node), _, _) => Some(Hazard::BothWays { node }),
-        (None, Some(node), _) => Some(Hazard::Unstable { node }),
-        (None, None, Some(chan)) => Some(Hazard::Protocol { chan }),
-        (None, None, None) => None,
-    }
-}
-
-fn end_from(hazard: Hazard) -> End
-    ensures { result ≡ end_from hazard }
-{
-    match hazard {
-        Hazard::BothWays { node } => End::BothWays { node },
-        Hazard::Unstable { node } => End::Unstable { node },
-        Hazard::Protocol { chan } => End::Protocol { chan },
-    }
 }
 
 /// What comes where fewer moves were made than are allowed: the next move, or the end.
@@ -108,56 +82,35 @@ fn last_end(hazard: Option<Hazard>, next: Option<Next>) -> End
 }
 
 impl Course {
-    /// The move that comes next.
-    fn next(&self) -> Option<Next>
-        requires { vec_len self.now.dues ≡ length self.now.circuit.net.first }
-        ensures first { IsFirstOf self.now.dues.items (length self.now.circuit.net.first) result }
-        ensures net { IsNet self.now.circuit.net }
-    {
-        let _nodes = self.circuit.nodes();
-        first_due(&self.dues)
-    }
-
-    /// The hazard in the first state: a node that is pulled both ways.
-    fn first_hazard(&self) -> Option<Hazard>
-        ensures hazard { result ≡ first_hazard self.now.circuit.net (circuit_now self.now.circuit) }
-        ensures net { IsNet self.now.circuit.net }
-    {
-        worst_cause(self.circuit.first_pulled(), None, None)
-    }
-
-    /// Makes the move, and tells the hazard that this brings.
+    /// Makes the move, which is taken out of the queue, and tells the hazard that this brings.
     fn make(&mut self, next: Next) -> Option<Hazard>
-        requires node { next.node < length self.old.circuit.net.first }
-        requires dues { vec_len self.old.dues ≡ length self.old.circuit.net.first }
-        requires delays { IsDelayTable (length self.old.circuit.net.first) self.old.delays }
+        requires node { next.node < length self.old.stage.net.first }
+        requires enabled { move_enabled self.old.stage.net self.old.stage.script (now_of self.old.stage) next.node ≡
+            true }
+        requires queue { length self.old.queue ≡ length self.old.stage.net.first }
+        requires delays { IsDelayTable (length self.old.stage.net.first) self.old.delays }
         requires time { next.due.time < 2 ^ 62 }
         requires few { vec_len self.old.moves < 2 ^ 31 }
         requires slot { vec_len self.old.moves < vec_capacity self.old.moves }
-        requires room { 1 ≤ self.old.circuit.room }
-        ensures net { self.new.circuit.net ≡ self.old.circuit.net }
-        ensures script { self.new.circuit.script ≡ self.old.circuit.script }
+        requires room { 1 ≤ self.old.stage.room }
+        ensures net { self.new.stage.net ≡ self.old.stage.net }
+        ensures script { self.new.stage.script ≡ self.old.stage.script }
         ensures delays { self.new.delays ≡ self.old.delays }
-        ensures moved { circuit_now self.new.circuit ≡
-            moved self.old.circuit.net (circuit_now self.old.circuit) next.node }
-        ensures passed { self.new.circuit.passed ≡ self.old.circuit.passed
-            ++ option_to_list (completion self.old.circuit.net (high self.old.circuit.values) next.node) }
-        ensures room { self.old.circuit.room ≤ self.new.circuit.room + 1 }
+        ensures moved { now_of self.new.stage ≡ moved self.old.stage.net (now_of self.old.stage) next.node }
+        ensures passed { self.new.stage.passed ≡ self.old.stage.passed
+            ++ option_to_list (completion self.old.stage.net (high self.old.stage.values) next.node) }
+        ensures room { self.old.stage.room ≤ self.new.stage.room + 1 }
         ensures moves { self.new.moves.items ≡ self.old.moves.items
             ++ record { time = next.due.time; node = next.node; cause = next.due.cause } ∷ [] }
         ensures slots { vec_capacity self.new.moves ≡ vec_capacity self.old.moves }
-        ensures dues { AreRenewed self.new.circuit self.old.delays next.node
-            (record { cause = vec_len self.old.moves + 1; time = next.due.time }) self.old.dues.items
-            self.new.dues.items }
-        ensures hazard { result ≡ worst_cause
-            (least_below (length self.new.circuit.net.first)
-            (both_ways self.new.circuit.net (high self.new.circuit.values)))
-            (least_below (vec_len self.old.dues) (loses_due self.new.circuit self.old.dues.items next.node))
-            (phase_fault self.old.circuit.net (high self.old.circuit.values) next.node) }
+        ensures queue { (nodes : List ℕ) × AreConcerned self.new.stage next.node nodes × AreFilled self.new.stage
+            self.old.delays (record { cause = vec_len self.old.moves + 1; time = next.due.time }) nodes self.old.queue
+            self.new.queue }
+        ensures hazard { result ≡ hazard_of self.old.stage.net self.old.stage.script (now_of self.old.stage)
+            next.node }
     {
         let Next { node, due } = next;
-        let broken = self.circuit.make(node);
-        let lost = first_lost(&self.circuit, &self.dues, node);
+        let hazard = self.stage.make(node);
         self.moves.push_reserved(NotedMove {
             time: due.time,
             node,
@@ -167,8 +120,8 @@ impl Course {
             cause: self.moves.len() as u32,
             time: due.time,
         };
-        renew(&self.circuit, &self.delays, &mut self.dues, node, made);
-        worst_cause(self.circuit.first_pulled(), lost, broken)
+        refill(&self.stage, &self.delays, &mut self.queue, node, made);
+        hazard
     }
 
     /// The time of the last move, 0 where none was made.
@@ -183,20 +136,20 @@ impl Course {
 
     /// The run, which has ended so.
     fn ran(self, end: End) -> NotedRan
-        requires end { IsEndIn self.circuit.net end }
+        requires end { IsEndIn self.stage.net end }
         requires few { vec_len self.moves < 2 ^ 32 }
         ensures ran { result.timed.ran ≡ record {
-          net = self.circuit.net;
+          net = self.stage.net;
           end = end;
           moves = vec_len self.moves;
-          done_high = high self.circuit.values 1;
-          passed = self.circuit.passed;
+          done_high = high self.stage.values 1;
+          passed = self.stage.passed;
         } }
         ensures time { result.timed.time ≡ time_behind self.moves.items (vec_len self.moves) }
         ensures moves { result.moves.items ≡ self.moves.items }
     {
         let time = self.time();
-        let ran = self.circuit.ran(end, self.moves.len() as u32);
+        let ran = self.stage.ran(end, self.moves.len() as u32);
         let timed = TimedRan { ran, time };
         NotedRan {
             timed,
@@ -220,9 +173,9 @@ impl Model for Noted {
 
     ghost Value = { TimedValue };
 
-    ghost view = { λ n. timed_value n.course.circuit.net n.course.circuit.script n.steps n.course.delays n.high };
+    ghost view = { λ n. timed_value n.course.stage.net n.course.stage.script n.steps n.course.delays n.high };
 
-    ghost invariant = { λ n. IsTimedReady n.course.circuit n.course.delays n.course.dues.items n.course.moves.items
+    ghost invariant = { λ n. IsTimedReady n.course.stage n.course.delays n.course.queue n.course.moves.items
         (vec_capacity n.course.moves) n.steps n.high };
 }
 
@@ -243,14 +196,16 @@ impl Noted {
         ensures { IfOk result (λ n. n ≡ timed_value net script steps delays high) }
     {
         let state = power_state(alloc, &net, high)?;
-        let circuit = Circuit::new(alloc, net, script, state, steps)?;
+        let nodes = net.first().len();
+        let stage = Stage::new(alloc, net, script, state, steps)?;
         let moves = Vec::with_capacity(alloc, steps as usize)?;
-        let mut dues = no_dues(alloc, circuit.nodes())?;
-        renew(&circuit, &delays, &mut dues, 0, Due { cause: 0, time: 0 });
+        let mut queue = Queue::new(alloc, nodes)?;
+        let start = Due { cause: 0, time: 0 };
+        fill(&stage, &delays, &mut queue, stage.moves(), start);
         let course = Course {
-            circuit,
+            stage,
             delays,
-            dues,
+            queue,
             moves,
         };
         Ok(Noted {
@@ -291,14 +246,14 @@ impl Noted {
     {
         let steps = self.steps;
         let mut course = self.course;
-        let mut hazard = course.first_hazard();
+        let mut hazard = course.stage.first_hazard();
         for _made in 0..steps {
-            match onward(hazard, course.next()) {
+            match onward(hazard, course.queue.take()) {
                 Err(end) => return course.ran(end),
                 Ok(next) => hazard = course.make(next),
             }
         }
-        let end = last_end(hazard, course.next());
+        let end = last_end(hazard, course.queue.take());
         course.ran(end)
     }
 }

@@ -14,5 +14,5 @@ invariant-loop-made l = record {
   delays : l.course.delays ≡ l.fn.self.delays;
   slots : l.fn.self.steps ≤ vec_capacity l.course.moves;
   count : length l.course.moves.items ≡ l._made;
-  way : IsOnItsWay l.fn.self l.course.moves.items l.course.circuit l.course.dues.items l.hazard;
+  way : IsOnItsWay l.fn.self l.course.moves.items l.course.stage l.course.queue l.hazard;
 }
