@@ -1,9 +1,8 @@
+pub mod Chains
 mod Cutting
 mod Dumps
 mod Ends
 mod Examples
-pub mod Chains
-pub mod TimedWaves
 mod Followed
 mod IdLemmas
 mod Namings
@@ -12,4 +11,5 @@ mod OneReading
 mod Reached
 mod Readings
 mod Stepping
+pub mod TimedWaves
 mod WaveTexts

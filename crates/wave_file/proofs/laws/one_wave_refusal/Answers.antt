@@ -1,5 +1,5 @@
 use Rattle.wave_file.proofs.OneReading.{refusal_once, never_refused}
-use Rattle.wave_file.proofs.reading_laws.one_wave_refusal.Goals as goal
+use Rattle.wave_file.proofs.laws.one_wave_refusal.Goals as goal
 
 pub returns-clause-once : goal.returns-clause-once
 returns-clause-once c = λ text f g l m one two. refusal_once text f g l m one two
