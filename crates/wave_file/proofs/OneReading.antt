@@ -1,11 +1,16 @@
 -- A text is one wave, or is refused for one cause at one line.
-use Rattle.std.proofs.Common.{◌≡◌, ℕ, inl, inr, ◌+◌, ◌<◌, ◌≤◌, ◌^◌, List, [], ◌∷◌, ◌++◌, length, refl, ap, sym, ◌∙◌, subst, arith}
-use Rattle.std.specs.Prelude.{◌⊎◌}
+use Rattle.std.proofs.Common.{◌≡◌, ℕ, inl, inr, ◌+◌, ◌<◌, ◌≤◌, ◌^◌, Result, Ok, Err, List, [], ◌∷◌, ◌++◌, length, refl, ap, sym, ◌∙◌, subst, arith}
+use Rattle.std.specs.Prelude.{◌⊎◌, IfOk, IfErr}
 use Rattle.std.proofs.lemmas.List.{append_assoc, append-nil}
+use Rattle.wave_file.specs.declared.fault.WaveError.{WaveError}
+use Rattle.wave_file.specs.declared.fault.WaveError.TheVariants.{Refused, NoMemory}
 use Rattle.wave_file.specs.declared.fault.WaveFault.{WaveFault}
-use Rattle.wave_file.specs.Waves.{WaveValue, wave_of, IsWave, IsKeptWave, wave_spelling, naming_lines, first_lines, change_lines, mark_before}
-use Rattle.wave_file.specs.WaveReading.{WavePlace, at_timescale, at_changes, last_time, front_at, front_of_values, timescale_line, scope_line, upscope_line, definitions_line, start_line, IsPlaceBefore, IsFaultAt, no_line, bad_line, IsToldTo, IsWaveRefused}
+use Rattle.wave_file.specs.declared.wave.Wave.{Wave}
+use Rattle.wave_file.specs.Waves.{WaveValue, wave_spelling, naming_lines, first_lines, change_lines, mark_before}
+use Rattle.wave_file.specs.WaveReading.{WavePlace, at_timescale, at_changes, last_time, front_at, front_of_values, timescale_line, scope_line, upscope_line, definitions_line, start_line, IsPlaceBefore, IsFaultAt, no_line, bad_line, IsToldTo, IsWaveRefused, IsWaveText}
+use Rattle.wave_file.specs.WaveFaults.{OfWaveRefusal}
 use Rattle.wave_file.specs.WaveLines.{line_ends}
+use Rattle.wave_file.specs.WaveTold.{kept_wave}
 use Rattle.wave_file.proofs.Stepping.{same_mark}
 use Rattle.wave_file.proofs.Readings.{shorter, spelling_pieces}
 use Rattle.wave_file.proofs.Followed.{Leads, GoesOn, overlap, no_fault, same_fault}
@@ -18,26 +23,24 @@ abbrev wave_at : WavePlace → WaveValue → WaveValue
 wave_at (at_changes w now) other = w
 wave_at p other = other
 
-spelled : (w : WaveValue) → wave_spelling w ≡ front_at (at_changes w (last_time 0 w.changes)) ++ []
-spelled w =
+spelling_at_end : (w : WaveValue) → wave_spelling w ≡ front_at (at_changes w (last_time 0 w.changes)) ++ []
+spelling_at_end w =
     let all = change_lines 0 w.first w.changes in
     sym (append-nil (front_at (at_changes w (last_time 0 w.changes)))
     ∙ ap (λ t. front_of_values w.names w.first ++ (all ++ t)) (same_mark (last_time 0 w.changes)) ∙ spelling_pieces w all)
 
-led_wave : (text : List ℕ) (w : WaveValue) → IsWave w → IsKeptWave w → text ≡ wave_spelling w →
-    Leads at_timescale text (at_changes w (last_time 0 w.changes)) []
-led_wave text w wave kept is =
-    subst (λ t. Leads at_timescale t (at_changes w (last_time 0 w.changes)) []) (sym (is ∙ spelled w))
-    (led_to (at_changes w (last_time 0 w.changes)) [] (wave, kept, inl refl))
+led_wave : (text : List ℕ) (w : WaveValue) → IsWaveText text w → Leads at_timescale text (at_changes w (last_time 0 w.changes)) []
+led_wave text w is =
+    subst (λ t. Leads at_timescale t (at_changes w (last_time 0 w.changes)) []) (sym (is.spelled ∙ spelling_at_end w))
+    (led_to (at_changes w (last_time 0 w.changes)) [] (is.wave, is.kept, inl refl))
 
 nothing_goes_on : (p : WavePlace) → GoesOn p [] → ⊥
 nothing_goes_on p goes = absurd (omega (arith, shorter [] goes.behind p goes.l goes.begins))
 
-pub wave_once : (text : List ℕ) (a b : WaveValue) → IsWave a → IsKeptWave a → IsWave b → IsKeptWave b → text ≡ wave_spelling a →
-    text ≡ wave_spelling b → a ≡ b
-wave_once text a b wave kept also too is are =
-    by_case (overlap at_timescale (at_changes a (last_time 0 a.changes)) (at_changes b (last_time 0 b.changes)) text [] [] (led_wave text a wave kept is)
-    (led_wave text b also too are))
+pub wave_once : (text : List ℕ) (a b : WaveValue) → IsWaveText text a → IsWaveText text b → a ≡ b
+wave_once text a b one two =
+    by_case (overlap at_timescale (at_changes a (last_time 0 a.changes)) (at_changes b (last_time 0 b.changes)) text [] [] (led_wave text a one)
+    (led_wave text b two))
   where
     by_case : ((at_changes a (last_time 0 a.changes) ≡ at_changes b (last_time 0 b.changes)) × (nothing ≡ nothing))
         ⊎ (GoesOn (at_changes a (last_time 0 a.changes)) [] ⊎ GoesOn (at_changes b (last_time 0 b.changes)) []) → a ≡ b
@@ -63,10 +66,9 @@ no_fault_at_end : (w : WaveValue) (now : ℕ) (f : WaveFault) → IsFaultAt (at_
 no_fault_at_end w now f (no_line over none) = over refl
 no_fault_at_end w now f (bad_line {l = k} {behind = b} begins bad) = absurd (omega (arith, shorter [] b (at_changes w now) k begins))
 
-pub never_refused : (text : List ℕ) (w : WaveValue) (f : WaveFault) (l : ℕ) → IsWave w → IsKeptWave w → text ≡ wave_spelling w →
-    IsWaveRefused text f l → ⊥
-never_refused text w f l wave kept is refused =
-    by_case (overlap at_timescale (at_changes w (last_time 0 w.changes)) refused.place text [] refused.rest (led_wave text w wave kept is)
+pub never_refused : (text : List ℕ) (w : WaveValue) (f : WaveFault) (l : ℕ) → IsWaveText text w → IsWaveRefused text f l → ⊥
+never_refused text w f l is refused =
+    by_case (overlap at_timescale (at_changes w (last_time 0 w.changes)) refused.place text [] refused.rest (led_wave text w is)
     (led_told text refused.lines refused.place refused.rest refused.before))
   where
     by_case : ((at_changes w (last_time 0 w.changes) ≡ refused.place) × ([] ≡ refused.rest))
@@ -75,3 +77,16 @@ never_refused text w f l wave kept is refused =
         (subst (λ p. IsFaultAt p refused.rest f) (sym same.0) refused.here))
     by_case (inr (inl goes)) = nothing_goes_on _ goes
     by_case (inr (inr goes)) = no_fault refused.place refused.rest f refused.here goes
+
+-- what follows of a text that was read
+
+pub only_one : (text : List ℕ) (r : Result Wave WaveError) → IfOk r (λ w. IsWaveText text (kept_wave w)) →
+    IfOk r (λ w. (other : WaveValue) → IsWaveText text other → other ≡ kept_wave w)
+only_one text (Ok w) is = λ other too. wave_once text other (kept_wave w) too is
+only_one text (Err e) is = tt
+
+pub no_other : (text : List ℕ) (r : Result Wave WaveError) → IfErr r (OfWaveRefusal (IsWaveRefused text)) →
+    IfErr r (OfWaveRefusal (λ _fault _line. (other : WaveValue) → ¬ IsWaveText text other))
+no_other text (Ok w) refused = tt
+no_other text (Err (Refused fault line)) refused = λ other is. never_refused text other fault line is refused
+no_other text (Err (NoMemory e)) refused = tt

@@ -2,18 +2,24 @@
 use Rattle.std.proofs.Common.{◌≡◌, ◌≢◌, ℕ, Some, None, inl, inr, ◌+◌, ◌*◌, ◌<◌, ◌≤◌, ◌^◌, Bool, true, false, Option, Result, Ok, Err, IfOk, IfErr, List, [], ◌∷◌, ◌++◌, length, refl, ap, sym, ◌∙◌, subst, arith, length-append}
 use Rattle.std.specs.Prelude.{◌==◌, ◌⊎◌, not, nat_lt, nat_le, if◌then◌else◌}
 use Rattle.std.specs.Borrow.{Bor}
-use Rattle.std.proofs.lemmas.Bool.{lt-ltb, le-ltb, ne_eqb}
+use Rattle.std.specs.Result.{IsErrAnd}
+use Rattle.std.proofs.lemmas.Bool.{lt-ltb, le-ltb, ne_eqb, eqb-true}
 use Rattle.std.proofs.lemmas.List.{length_push, append-nil, append_assoc}
+use Rattle.std.proofs.lemmas.Result.{err_from_is_err_and}
 use Rattle.chp_base.specs.Names.{IsNodeName}
+use Rattle.prs_core.specs.Moves.{fired}
 use Rattle.wave_file.specs.declared.fault.WaveFault.{WaveFault}
-use Rattle.wave_file.specs.declared.fault.WaveFault.TheVariants.{BadLine, TooMany}
+use Rattle.wave_file.specs.declared.fault.WaveFault.TheVariants.{BadLine, UnknownId, NoChange, TooMany}
 use Rattle.wave_file.specs.declared.fault.WaveError.{WaveError}
 use Rattle.wave_file.specs.declared.fault.WaveError.TheVariants.{Refused, NoMemory}
+use Rattle.wave_file.specs.declared.wave.Wave.{Wave}
 use Rattle.wave_file.specs.Waves.{WaveValue, wave_of, IsWave, wave_spelling, var_spelling, id_of, value_spelling_of, time_mark, change_lines, naming_lines, first_lines, mark_before}
 use Rattle.wave_file.specs.WaveFaults.{OfWaveRefusal}
-use Rattle.wave_file.specs.WaveLines.{GoesOnWithChange, is_id}
-use Rattle.wave_file.specs.WaveReading.{WavePlace, at_timescale, at_scope, at_names, at_definitions, at_start, at_values, at_changes, timescale_line, scope_line, upscope_line, definitions_line, start_line, front_of_names, front_of_values, last_time, front_at, AreWaveNodes, IsPlaceBefore, WaveLine, stock, named, valued, timed, turned, BeginsWith, begins_timescale, begins_scope, begins_name, begins_upscope, begins_definitions, begins_start, begins_value, begins_time, begins_turn, wave_line_fault, MayEndAt, IsFaultAt, no_line, bad_line, IsToldTo, IsWaveRefused, place_behind}
+use Rattle.wave_file.specs.WaveLines.{GoesOnWithChange, is_id, id_value}
+use Rattle.wave_file.specs.WaveReading.{WavePlace, at_timescale, at_scope, at_names, at_definitions, at_start, at_values, at_changes, timescale_line, scope_line, upscope_line, definitions_line, start_line, front_of_names, front_of_values, last_time, front_at, AreWaveNodes, IsPlaceBefore, WaveLine, stock, named, valued, timed, turned, BeginsWith, begins_timescale, begins_scope, begins_name, begins_upscope, begins_definitions, begins_start, begins_value, begins_time, begins_turn, values_behind, has_value, wave_line_fault, MayEndAt, IsFaultAt, no_line, bad_line, IsToldTo, IsWaveRefused, IsWaveText, place_behind}
+use Rattle.wave_file.specs.WaveTold.{kept_wave, ComesOn, IsRefusedFrom}
 use Rattle.wave_file.proofs.Stepping.{IsOneLine, step, same_mark, begin_front, begin_reached}
+use Rattle.wave_file.proofs.WaveTexts.{values_push}
 
 pub told_step : (whole rest behind : List ℕ) (lines : ℕ) (p : WavePlace) (l : WaveLine) → IsToldTo whole lines p rest → BeginsWith rest behind p l →
     wave_line_fault p l ≡ None → IsToldTo whole (lines + 1) (place_behind p l) behind
@@ -29,13 +35,39 @@ pub refuse : (whole : List ℕ) (lines : ℕ) (p : WavePlace) (rest : List ℕ) 
 refuse whole lines p rest fault line so_far here number =
     record { place = p; rest = rest; lines = lines; before = so_far; here = here; number = number }
 
-pub on_ok : {A E : Type 0} (r : Result A E) (P Q : A → Type 0) → ((x : A) → P x → Q x) → IfOk r P → IfOk r Q
-on_ok (Ok x) P Q more h = more x h
-on_ok (Err e) P Q more h = tt
+-- what is left is no longer than the whole
+pub told_short : (whole : List ℕ) (lines : ℕ) (p : WavePlace) (rest : List ℕ) → IsToldTo whole lines p rest → length rest ≤ length whole
+told_short whole lines p rest so_far = omega (arith, ap length so_far.told, length-append (front_at p) rest)
 
-pub on_err : {A E : Type 0} (r : Result A E) (P Q : E → Type 0) → ((e : E) → P e → Q e) → IfErr r P → IfErr r Q
-on_err (Ok x) P Q more h = tt
-on_err (Err e) P Q more h = more e h
+pub line_short : (line rest behind : List ℕ) → rest ≡ line ++ behind → length behind ≤ length rest
+line_short line rest behind is = omega (arith, ap length is, length-append line behind)
+
+-- a refusal that is handed on
+
+handed_on : {T : Type 0} (r : Result T WaveError) (e : WaveError) (Q : WaveError → Type 0) → IsErrAnd r (λ x. x ≡ e) → Q e → IfErr r Q
+handed_on {T} r e Q h is =
+    let p = err_from_is_err_and r h in
+    subst (λ (s : Result T WaveError). IfErr s Q) (sym p.1) (subst Q (sym p.2) is)
+
+pub refused_on : {T : Type 0} (r : Result T WaveError) (e : WaveError) (whole : List ℕ) → IsErrAnd r (λ x. x ≡ e) →
+    OfWaveRefusal (IsWaveRefused whole) e → IfErr r (OfWaveRefusal (IsWaveRefused whole))
+refused_on r e whole h is = handed_on r e (OfWaveRefusal (IsWaveRefused whole)) h is
+
+pub refused_from : {T : Type 0} (r : Result T WaveError) (e : WaveError) (lines : ℕ) (p : WavePlace) (rest : List ℕ) → IsErrAnd r (λ x. x ≡ e) →
+    IsRefusedFrom lines p rest e → IfErr r (IsRefusedFrom lines p rest)
+refused_from r e lines p rest h is = handed_on r e (IsRefusedFrom lines p rest) h is
+
+-- what is said of each text, said of one
+
+pub refused_whole : {T : Type 0} (r : Result T WaveError) (lines : ℕ) (p : WavePlace) (rest text : List ℕ) → IsToldTo text lines p rest →
+    IfErr r (IsRefusedFrom lines p rest) → IfErr r (OfWaveRefusal (IsWaveRefused text))
+refused_whole (Ok x) lines p rest text so_far h = tt
+refused_whole (Err e) lines p rest text so_far h = h text so_far
+
+pub read_whole : (r : Result Wave WaveError) (lines : ℕ) (p : WavePlace) (rest text : List ℕ) → IsToldTo text lines p rest →
+    IfOk r (λ w. (whole : List ℕ) → IsToldTo whole lines p rest → IsWaveText whole (kept_wave w)) → IfOk r (λ w. IsWaveText text (kept_wave w))
+read_whole (Ok w) lines p rest text so_far h = h text so_far
+read_whole (Err e) lines p rest text so_far h = tt
 
 -- a line that is no other than one
 
@@ -76,6 +108,16 @@ scope_refused text rest e is h = stock_refused at_scope scope_line rest text 1 2
 
 pub head_told : (text rest behind : List ℕ) → text ≡ timescale_line ++ rest → rest ≡ scope_line ++ behind → IsToldTo text 2 (at_names []) behind
 head_told text rest behind is whole = told_step text rest behind 1 at_scope stock (scope_told text rest is) (begins_scope whole) refl
+
+pub head_all : (r : Result (Bor (List ℕ)) WaveError) (text mid : List ℕ) → text ≡ timescale_line ++ mid → IfOk r (λ x. mid ≡ scope_line ++ x.now) →
+    IfOk r (λ x. IsToldTo text 2 (at_names []) x.now)
+head_all (Ok x) text mid is whole = head_told text mid x.now is whole
+head_all (Err e) text mid is whole = tt
+
+pub head_none : (r : Result (Bor (List ℕ)) WaveError) (text mid : List ℕ) → text ≡ timescale_line ++ mid → IfErr r (λ e. IsRefusedLine scope_line mid 2 e) →
+    IfErr r (OfWaveRefusal (IsWaveRefused text))
+head_none (Ok x) text mid is h = tt
+head_none (Err e) text mid is h = scope_refused text mid e is h
 
 -- the names
 
@@ -155,6 +197,23 @@ start_told whole rest behind more names so_far is also =
     let count : (length names + 4) + 1 ≡ length names + 5 = omega arith in
     subst (λ n. IsToldTo whole n (at_values names []) more) count next
 
+pub start_all : (r : Result (Bor (List ℕ)) WaveError) (text mid : List ℕ) (names : List (List ℕ)) → text ≡ definitions_line ++ mid →
+    IfOk r (λ x. mid ≡ start_line ++ x.now) →
+    IfOk r (λ x. ComesOn (length names + 3) (at_definitions names) text (length names + 5) (at_values names []) x.now)
+start_all (Ok x) text mid names is also = λ whole so_far. start_told whole text mid x.now names so_far is also
+start_all (Err e) text mid names is also = tt
+
+pub start_short : (r : Result (Bor (List ℕ)) WaveError) (text mid : List ℕ) → text ≡ definitions_line ++ mid → IfOk r (λ x. mid ≡ start_line ++ x.now) →
+    IfOk r (λ x. length x.now ≤ length text)
+start_short (Ok x) text mid is also = omega (arith, line_short definitions_line text mid is, line_short start_line mid x.now also)
+start_short (Err e) text mid is also = tt
+
+pub start_none : (r : Result (Bor (List ℕ)) WaveError) (text mid : List ℕ) (names : List (List ℕ)) (number : ℕ) → text ≡ definitions_line ++ mid →
+    number ≡ length names + 5 → IfErr r (λ e. IsRefusedLine start_line mid number e) →
+    IfErr r (IsRefusedFrom (length names + 3) (at_definitions names) text)
+start_none (Ok x) text mid names number is count h = tt
+start_none (Err e) text mid names number is count h = λ whole so_far. start_refused whole text mid names number e so_far is count h
+
 -- the first values
 
 abbrev pub place_of_values : List (List ℕ) → List Bool → WavePlace
@@ -230,6 +289,48 @@ shorter rest behind p l (begins_time {time = time} small goes_on whole) = omega 
 shorter rest behind p l (begins_turn {value = true} {id = id} is whole) = omega (arith, ap length whole, length-append (value_spelling_of true id) behind)
 shorter rest behind p l (begins_turn {value = false} {id = id} is whole) = omega (arith, ap length whole, length-append (value_spelling_of false id) behind)
 
+pub begin_changes : (text rest : List ℕ) (names : List (List ℕ)) (first : List Bool) (changes : List (ℕ × ℕ)) (n : ℕ) → changes ≡ [] →
+    n ≡ length names → IsToldTo text (2 * length names + 5) (at_changes (wave_of names first []) 0) rest →
+    IsToldTo text (2 * n + 5) (at_changes (wave_of names first changes) 0) rest
+begin_changes text rest names first changes n none count so_far =
+    subst (λ k. IsToldTo text (2 * k + 5) (at_changes (wave_of names first changes) 0) rest) (sym count)
+    (subst (λ (cs : List (ℕ × ℕ)). IsToldTo text (2 * length names + 5) (at_changes (wave_of names first cs) 0) rest) (sym none) so_far)
+
+-- a change
+
+pub has_same : (vs ws : List Bool) (node n : ℕ) (value : Bool) → vs ≡ ws → node ≡ n → has_value vs node value ≡ has_value ws n value
+has_same vs ws node n value e f = ap (λ (v : List Bool). has_value v node value) e ∙ ap (λ (k : ℕ). has_value ws k value) f
+
+pub turn_unknown : (w : WaveValue) (now : ℕ) (value : Bool) (id : List ℕ) → length w.names ≤ id_value id →
+    Some UnknownId ≡ wave_line_fault (at_changes w now) (turned value id)
+turn_unknown w now value id many =
+    sym (ap (λ b. if b then Some UnknownId else (if has_value (values_behind w.first w.changes) (id_value id) value then Some NoChange else None))
+        (at_most (length w.names) (id_value id) many))
+  where
+    at_most : (m n : ℕ) → m ≤ n → nat_le m n ≡ true
+    at_most m n less = grind arith
+
+pub turn_known : (w : WaveValue) (now : ℕ) (value : Bool) (id : List ℕ) (has : Bool) → id_value id < length w.names →
+    has_value (values_behind w.first w.changes) (id_value id) value ≡ has →
+    (if has then Some NoChange else None) ≡ wave_line_fault (at_changes w now) (turned value id)
+turn_known w now value id has few is =
+    sym (ap (λ b. if b then Some UnknownId else (if has_value (values_behind w.first w.changes) (id_value id) value then Some NoChange else None))
+        (below (length w.names) (id_value id) few)
+    ∙ ap (λ b. if b then Some NoChange else None) is)
+  where
+    below : (m n : ℕ) → n < m → nat_le m n ≡ false
+    below m n less = grind arith
+
+pub turn_place : (names : List (List ℕ)) (first : List Bool) (cs more : List (ℕ × ℕ)) (now node n : ℕ) → more ≡ cs ++ (now, node) ∷ [] → node ≡ n →
+    at_changes (wave_of names first more) now ≡ at_changes (wave_of names first (cs ++ (now, n) ∷ [])) now
+turn_place names first cs more now node n e f =
+    ap (λ (c : List (ℕ × ℕ)). at_changes (wave_of names first c) now) (e ∙ ap (λ (k : ℕ). cs ++ (now, k) ∷ []) f)
+
+pub turn_values : (vs new first : List Bool) (cs more : List (ℕ × ℕ)) (now node : ℕ) → new ≡ fired vs node → vs ≡ values_behind first cs →
+    more ≡ cs ++ (now, node) ∷ [] → new ≡ values_behind first more
+turn_values vs new first cs more now node e h g =
+    e ∙ ap (λ (v : List Bool). fired v node) h ∙ sym (ap (values_behind first) g ∙ values_push first cs (now, node))
+
 pub line_told : (p q : WavePlace) (text rest : List ℕ) (l : WaveLine) (o : Option WaveFault) (r : Result (Bor (List ℕ)) WaveFault) →
     BeginsWith text rest p l → o ≡ wave_line_fault p l → (o ≡ None → q ≡ place_behind p l) → IfOk r (λ x. o ≡ None) → IfOk r (λ x. x.now ≡ rest) →
     IfOk r (λ x. (k : WaveLine) × BeginsWith text x.now p k × (wave_line_fault p k ≡ None) × (q ≡ place_behind p k))
@@ -265,7 +366,7 @@ no_change_behind change = by_value change.0 change.4
     by_value false e = absurd (cc e)
 
 -- where nothing is left, the text is that of the wave
-pub whole_is : (w : WaveValue) (now : ℕ) (whole rest : List ℕ) (lines : ℕ) → IsToldTo whole lines (at_changes w now) rest → rest ≡ [] →
+whole_is : (w : WaveValue) (now : ℕ) (whole rest : List ℕ) (lines : ℕ) → IsToldTo whole lines (at_changes w now) rest → rest ≡ [] →
     whole ≡ wave_spelling w
 whole_is w now whole rest lines so_far over = by_mark so_far.reached.2
   where
@@ -281,3 +382,35 @@ whole_is w now whole rest lines so_far over = by_mark so_far.reached.2
     by_mark : (now ≡ last) ⊎ ((last < now) × (now < 2 ^ 64) × GoesOnWithChange rest) → whole ≡ wave_spelling w
     by_mark (inl is) = spelled (ap (mark_before last) is ∙ same_mark last)
     by_mark (inr marked) = absurd (no_change_behind (subst GoesOnWithChange over marked.2))
+
+-- one change after another
+
+pub some_left : (rest : List ℕ) (empty : Bool) → empty ≡ (length rest == 0) → empty ≡ false → 0 < length rest
+some_left [] empty is more = absurd (cc (is, more))
+some_left (b ∷ rest) empty is more = omega arith
+
+pub none_left : (rest : List ℕ) (empty : Bool) → empty ≡ (length rest == 0) → empty ≡ true → rest ≡ []
+none_left [] empty is over = refl
+none_left (b ∷ rest) empty is over = absurd (omega (arith, eqb-true (length (b ∷ rest)) 0 (sym is ∙ over)))
+
+-- a line without a fault
+abbrev pub IsLineOn : (rest behind : List ℕ) → (p q : WavePlace) → Type 0
+IsLineOn rest behind p q =
+    (l : WaveLine) × BeginsWith rest behind p l × (wave_line_fault p l ≡ None) × (q ≡ place_behind p l)
+
+pub changes_more : (rest behind : List ℕ) (lines : ℕ) (p q : WavePlace) → IsLineOn rest behind p q → ComesOn lines p rest (lines + 1) q behind
+changes_more rest behind lines p q on = λ whole so_far.
+    subst (λ (k : WavePlace). IsToldTo whole (lines + 1) k behind) (sym on.3) (told_step whole rest behind lines p on.0 so_far on.1 on.2)
+
+pub changes_shorter : (rest behind : List ℕ) (p q : WavePlace) → IsLineOn rest behind p q → length behind < length rest
+changes_shorter rest behind p q on = shorter rest behind p on.0 on.1
+
+pub same_values : (vs new first same : List Bool) (cs more : List (ℕ × ℕ)) → new ≡ vs → same ≡ first → more ≡ cs → vs ≡ values_behind first cs →
+    new ≡ values_behind same more
+same_values vs new first same cs more e f g h =
+    e ∙ h ∙ sym (ap (λ (b : List Bool). values_behind b more) f ∙ ap (values_behind first) g)
+
+pub changes_over : (w : WaveValue) (now : ℕ) (whole rest : List ℕ) (lines : ℕ) → IsToldTo whole lines (at_changes w now) rest → rest ≡ [] →
+    IsWaveText whole w
+changes_over w now whole rest lines so_far over =
+    record { wave = so_far.reached.0; kept = so_far.reached.1; spelled = whole_is w now whole rest lines so_far over }

@@ -4,8 +4,14 @@ use Rattle.chp_base.specs.Names.{IsNodeName}
 use Rattle.prs_core.specs.Moves.{high, fired}
 use Rattle.wave_file.specs.declared.fault.WaveFault.{WaveFault}
 use Rattle.wave_file.specs.declared.fault.WaveFault.TheVariants.{BadLine, UnknownId, TimeBack, NoChange, TooMany}
-use Rattle.wave_file.specs.Waves.{WaveValue, wave_of, IsWave, IsKeptWave, var_spelling, naming_lines, id_of, value_spelling_of, first_lines, time_mark, mark_before, change_lines}
+use Rattle.wave_file.specs.Waves.{WaveValue, wave_of, IsWave, IsKeptWave, var_spelling, naming_lines, id_of, value_spelling_of, first_lines, time_mark, mark_before, change_lines, wave_spelling}
 use Rattle.wave_file.specs.WaveLines.{is_id, id_value, GoesOnWithChange, line_ends}
+
+-- the text is that of a wave
+pub record IsWaveText (text : List ℕ) (w : WaveValue) : Type 0 where
+  pub wave : IsWave w
+  pub kept : IsKeptWave w
+  pub spelled : text ≡ wave_spelling w
 
 -- where a line stands, and what was told before it: the nodes' names, first values, and the wave so far with the time
 -- of the last mark

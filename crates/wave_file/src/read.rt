@@ -2,16 +2,17 @@
 
 ghost use Rattle.std.specs.Prelude.{◌≡◌, ◌≢◌, ◌≤◌, ◌<◌, ◌+◌, ◌*◌, ◌^◌, ◌++◌, ℕ, List, [], None, Some, true, length, IfOk, IfErr};
 ghost use Rattle.wave_file.specs.declared.fault.WaveFault.TheVariants.{BadLine};
-ghost use Rattle.wave_file.specs.Waves.{wave_of, IsWave, wave_spelling};
 ghost use Rattle.wave_file.specs.WaveFaults.{OfWaveRefusal};
 ghost use Rattle.wave_file.specs.WaveLines.{is_id};
-ghost use Rattle.wave_file.specs.WaveReading.{BeginsWith, IsFaultAt, IsToldTo, IsWaveRefused, WaveLine, at_changes, at_definitions, at_names, at_values, place_behind, turned, timed, values_behind, wave_line_fault};
-ghost use Rattle.wave_file.specs.WaveTold.{place_told};
+ghost use Rattle.wave_file.specs.WaveReading.{BeginsWith, IsFaultAt, IsToldTo, IsWaveRefused, IsWaveText, WaveLine, at_changes, at_definitions, at_names, at_values, has_value, place_behind, timed, turned, values_behind, wave_line_fault};
+ghost use Rattle.wave_file.specs.WaveTold.{kept_wave, place_told, ComesOn, IsRefusedFrom};
+ghost use Rattle.wave_file.specs.Waves.{WaveValue, wave_of};
 
 use crate::fault::{WaveError, WaveFault};
 use crate::id::node_of;
 use crate::line::{behind, mark_in, named_in, turned_in, valued_in};
 use crate::wave::Wave;
+use crate::write;
 use chp_base::Name;
 use std::alloc::{AllocError, Global};
 
@@ -46,12 +47,11 @@ fn read_head(text: &[u8]) -> Result<&[u8], WaveError>
 
 /// The names of the nodes, and what stands behind the line that ends them.
 fn read_names(alloc: Global, text: &[u8]) -> Result<(Vec<Name>, &[u8]), WaveError>
-    ensures told { IfOk result (λ r. (whole : List ℕ) → IsToldTo whole 2 (at_names []) text.now →
-        IsToldTo whole (length r.0.items + 3) (at_definitions r.0.items) r.1.now) }
+    ensures told { IfOk result (λ r. ComesOn 2 (at_names []) text.now
+        (length r.0.items + 3) (at_definitions r.0.items) r.1.now) }
     ensures few { IfOk result (λ r. length r.0.items ≤ 65537) }
     ensures short { IfOk result (λ r. length r.1.now ≤ length text.now) }
-    ensures refused { IfErr result (λ e. (whole : List ℕ) → IsToldTo whole 2 (at_names []) text.now →
-        OfWaveRefusal (IsWaveRefused whole) e) }
+    ensures refused { IfErr result (IsRefusedFrom 2 (at_names []) text.now) }
 {
     let mut names = Vec::new(alloc);
     let mut rest = text;
@@ -76,13 +76,10 @@ fn read_names(alloc: Global, text: &[u8]) -> Result<(Vec<Name>, &[u8]), WaveErro
 /// What stands behind the definitions of these nodes and the mark of the start.
 fn read_start<'a>(names: &[Name], text: &'a [u8]) -> Result<&'a [u8], WaveError>
     requires { length names.now ≤ 65537 }
-    ensures told { IfOk result (λ rest. (whole : List ℕ) →
-        IsToldTo whole (length names.now + 3) (at_definitions names.now) text.now →
-        IsToldTo whole (length names.now + 5) (at_values names.now []) rest.now) }
+    ensures told { IfOk result (λ rest. ComesOn (length names.now + 3) (at_definitions names.now) text.now
+        (length names.now + 5) (at_values names.now []) rest.now) }
     ensures short { IfOk result (λ rest. length rest.now ≤ length text.now) }
-    ensures refused { IfErr result (λ e. (whole : List ℕ) →
-        IsToldTo whole (length names.now + 3) (at_definitions names.now) text.now →
-        OfWaveRefusal (IsWaveRefused whole) e) }
+    ensures refused { IfErr result (IsRefusedFrom (length names.now + 3) (at_definitions names.now) text.now) }
 {
     let line = names.len() as u32 + 4;
     let rest = behind_line(text, b"$enddefinitions $end\n", line)?;
@@ -96,14 +93,11 @@ fn read_values<'a>(
     text: &'a [u8],
 ) -> Result<(Vec<bool>, &'a [u8]), WaveError>
     requires { length names.now ≤ 65537 }
-    ensures told { IfOk result (λ r. (whole : List ℕ) →
-        IsToldTo whole (length names.now + 5) (at_values names.now []) text.now →
-        IsToldTo whole (2 * length names.now + 5) (at_changes (wave_of names.now r.0.items []) 0) r.1.now) }
+    ensures told { IfOk result (λ r. ComesOn (length names.now + 5) (at_values names.now []) text.now
+        (2 * length names.now + 5) (at_changes (wave_of names.now r.0.items []) 0) r.1.now) }
     ensures count { IfOk result (λ r. length r.0.items ≡ length names.now) }
     ensures short { IfOk result (λ r. length r.1.now ≤ length text.now) }
-    ensures refused { IfErr result (λ e. (whole : List ℕ) →
-        IsToldTo whole (length names.now + 5) (at_values names.now []) text.now →
-        OfWaveRefusal (IsWaveRefused whole) e) }
+    ensures refused { IfErr result (IsRefusedFrom (length names.now + 5) (at_values names.now []) text.now) }
 {
     let mut first = Vec::new(alloc);
     let mut rest = text;
@@ -129,6 +123,14 @@ struct Told {
     now: u64,
 }
 
+/// Whether the node has the value.
+fn has_value(values: &[bool], node: u32, value: bool) -> bool
+    requires { node < length values.now }
+    ensures { result ≡ has_value values.now node value }
+{
+    values[node as usize] == value
+}
+
 /// Takes a change, or tells why it is refused.
 fn turn(told: &mut Told, value: bool, id: &[u8]) -> Result<Option<WaveFault>, AllocError>
     requires id { is_id id.now ≡ true }
@@ -148,23 +150,20 @@ fn turn(told: &mut Told, value: bool, id: &[u8]) -> Result<Option<WaveFault>, Al
     let Some(node) = node_of(id, told.wave.names.len()) else {
         return Ok(Some(WaveFault::UnknownId));
     };
-    let old = told.values[node as usize];
-    if old == value {
+    if has_value(&told.values, node, value) {
         return Ok(Some(WaveFault::NoChange));
     }
     told.wave.changes.push((told.now, node))?;
-    told.values[node as usize] = !old;
+    write::turn(&mut told.values, node);
     Ok(None)
 }
 
 /// Goes on to the time of a mark, or tells why it is refused.
 fn go_on(told: &mut Told, time: u64) -> Option<WaveFault>
-    ensures names { told.new.wave.names.items ≡ told.old.wave.names.items }
-    ensures first { told.new.wave.first.items ≡ told.old.wave.first.items }
-    ensures nodes { length told.new.values.items ≡ length told.old.values.items }
+    ensures wave { told.new.wave ≡ told.old.wave }
+    ensures values { told.new.values ≡ told.old.values }
     ensures fault { result ≡ wave_line_fault (place_told told.old) (timed time) }
     ensures told { result ≡ None → place_told told.new ≡ place_behind (place_told told.old) (timed time) }
-    ensures values { told.new.values ≡ told.old.values }
 {
     if time <= told.now {
         return Some(WaveFault::TimeBack);
@@ -219,15 +218,12 @@ fn change_line<'a>(
 /// The wave whose changes the text tells, behind so many lines.
 fn read_changes(told: Told, text: &[u8], lines: u32) -> Result<Wave, WaveError>
     requires few { length told.wave.names.items ≤ 65537 }
-    requires count { length told.wave.first.items ≡ length told.wave.names.items }
+    requires count { length told.values.items ≡ length told.wave.names.items }
     requires values { told.values.items ≡ values_behind told.wave.first.items told.wave.changes.items }
     requires short { lines + length text.now ≤ 2 ^ 31 }
-    ensures wave { IfOk result (λ w. (whole : List ℕ) → IsToldTo whole lines (place_told told) text.now →
-        IsWave (wave_of w.names.items w.first.items w.changes.items)) }
-    ensures text { IfOk result (λ w. (whole : List ℕ) → IsToldTo whole lines (place_told told) text.now →
-        whole ≡ wave_spelling (wave_of w.names.items w.first.items w.changes.items)) }
-    ensures refused { IfErr result (λ e. (whole : List ℕ) → IsToldTo whole lines (place_told told) text.now →
-        OfWaveRefusal (IsWaveRefused whole) e) }
+    ensures read { IfOk result (λ w. (whole : List ℕ) → IsToldTo whole lines (place_told told) text.now →
+        IsWaveText whole (kept_wave w)) }
+    ensures refused { IfErr result (IsRefusedFrom lines (place_told told) text.now) }
 {
     let mut told = told;
     let mut lines = lines;
@@ -242,15 +238,10 @@ fn read_changes(told: Told, text: &[u8], lines: u32) -> Result<Wave, WaveError>
     Ok(told.wave)
 }
 
-/// The wave that the text is, as of no other one. A text that is none is refused at its first line with a fault: the
-/// line isn't of a form that may stand there, or no change stands behind its mark of a time, or the text ends too early;
-/// a change is of no node; a time isn't above the one before; a node has the value already; or there are more than
-/// 65,537 nodes.
-pub fn read_wave(alloc: Global, text: &[u8]) -> Result<Wave, WaveError>
+/// The wave that the text is, read part by part.
+fn read_in_parts(alloc: Global, text: &[u8]) -> Result<Wave, WaveError>
     requires { length text.now ≤ 268435456 }
-    ensures wave { IfOk result (λ w. IsWave (wave_of w.names.items w.first.items w.changes.items)) }
-    ensures text { IfOk result
-        (λ w. text.now ≡ wave_spelling (wave_of w.names.items w.first.items w.changes.items)) }
+    ensures read { IfOk result (λ w. IsWaveText text.now (kept_wave w)) }
     ensures refused { IfErr result (OfWaveRefusal (IsWaveRefused text.now)) }
 {
     let behind_head = read_head(text)?;
@@ -271,4 +262,19 @@ pub fn read_wave(alloc: Global, text: &[u8]) -> Result<Wave, WaveError>
         now: 0,
     };
     read_changes(told, rest, lines)
+}
+
+/// The wave that the text is, as of no other one. A text that is none is refused at its first line with a fault, counted
+/// from 1, for the first of these causes: the line isn't of a form that may stand there, or no change stands behind its
+/// mark of a time, or the text ends too early; a change is of no node; a time isn't above the one before; a node has the
+/// value already; or there are more than 65,537 nodes.
+pub fn read_wave(alloc: Global, text: &[u8]) -> Result<Wave, WaveError>
+    requires { length text.now ≤ 268435456 }
+    ensures read { IfOk result (λ w. IsWaveText text.now (kept_wave w)) }
+    ensures only { IfOk result (λ w. (other : WaveValue) → IsWaveText text.now other → other ≡ kept_wave w) }
+    ensures refused { IfErr result (OfWaveRefusal (IsWaveRefused text.now)) }
+    ensures never { IfErr result
+        (OfWaveRefusal (λ _fault _line. (other : WaveValue) → ¬ IsWaveText text.now other)) }
+{
+    read_in_parts(alloc, text)
 }

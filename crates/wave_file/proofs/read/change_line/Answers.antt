@@ -1,5 +1,6 @@
+use Rattle.std.proofs.lemmas.Result.{on_ok_weaker}
 use Rattle.wave_file.specs.WaveReading.{turned, timed, begins_turn, begins_time}
-use Rattle.wave_file.specs.WaveTold.{place_told}
+use Rattle.wave_file.specs.WaveTold.{place_told, kept_wave}
 use Rattle.wave_file.proofs.Readings.{line_told, line_wrong, change_wrong}
 use Rattle.wave_file.proofs.read.change_line.Goals as goal
 
@@ -9,6 +10,9 @@ returns-in-Some-clause-told c =
     c.in_ok-fault.fault c.unless.result (begins_turn c.in-Some.ensures.id c.in-Some.ensures.some) c.in_ok-fault.ensures.fault c.in_ok-fault.ensures.told
     c.unless.ensures.none c.unless.ensures.rest
 
+pub returns-in-Some-clause-values : goal.returns-in-Some-clause-values
+returns-in-Some-clause-values c = on_ok_weaker c.unless.result c.in_ok-fault.ensures.values c.unless.ensures.none
+
 pub returns-in-Some-clause-refused : goal.returns-in-Some-clause-refused
 returns-in-Some-clause-refused c =
     line_wrong (place_told c.args.told.now) c.args.text.now c.in-Some.rest.now (turned c.in-Some.value c.in-Some.id.now)
@@ -17,7 +21,7 @@ returns-in-Some-clause-refused c =
 pub returns-in_default-mark_in-clause-refused : goal.returns-in_default-mark_in-clause-refused
 returns-in_default-mark_in-clause-refused c =
     let t = c.args.told.now in
-    change_wrong _ t.now c.args.text.now c.requires.some c.in_default.ensures.none c.in_default-mark_in.ensures.none
+    change_wrong (kept_wave t.wave) t.now c.args.text.now c.requires.some c.in_default.ensures.none c.in_default-mark_in.ensures.none
 
 pub returns-clause-told : goal.returns-clause-told
 returns-clause-told c =

@@ -1,6 +1,6 @@
-use Rattle.std.proofs.Common.{◌≡◌, ℕ, List, ◌≤◌, ◌+◌, ◌^◌, length}
-use Rattle.wave_file.specs.WaveReading.{IsToldTo, values_behind}
-use Rattle.wave_file.specs.WaveTold.{place_told}
+use Rattle.std.proofs.Common.{◌≡◌, ◌≤◌, ◌+◌, ◌^◌, length}
+use Rattle.wave_file.specs.WaveReading.{values_behind}
+use Rattle.wave_file.specs.WaveTold.{place_told, ComesOn}
 use Rattle.wave_file.proofs.read.read_changes.Given as goal
 
 abbrev pub invariant-loop-rest : goal.invariant-loop-rest
@@ -8,7 +8,7 @@ invariant-loop-rest l = record {
   few : length l.told.wave.names.items ≤ 65537;
   count : length l.told.values.items ≡ length l.told.wave.names.items;
   values : l.told.values.items ≡ values_behind l.told.wave.first.items l.told.wave.changes.items;
-  told : (whole : List ℕ) → IsToldTo whole l.fn.lines (place_told l.fn.told) l.text → IsToldTo whole l.lines (place_told l.told) l.rest;
+  told : ComesOn l.fn.lines (place_told l.fn.told) l.text l.lines (place_told l.told) l.rest;
   short : l.lines + length l.rest ≤ 2 ^ 31;
 }
 

@@ -1,15 +1,37 @@
-use Rattle.std.proofs.Common.{◌≡◌, ◌∷◌, ◌++◌, [], rules, sym, ap, ◌∙◌, slice_set}
-use Rattle.std.specs.Prelude.{not}
-use Rattle.prs_core.specs.Moves.{fired, high}
-use Rattle.wave_file.specs.WaveReading.{values_behind}
-use Rattle.wave_file.proofs.WaveTexts.{values_push}
+use Rattle.std.proofs.Common.{◌≡◌, true, false, sym, ap, ◌∙◌, arith}
+use Rattle.prs_core.specs.Moves.{fired}
+use Rattle.wave_file.specs.WaveTold.{kept_wave}
+use Rattle.wave_file.proofs.Readings.{has_same, turn_unknown, turn_known, turn_place, turn_values}
 use Rattle.wave_file.proofs.read.turn.Goals as goal
+
+pub returns-in_default-clause-fault : goal.returns-in_default-clause-fault
+returns-in_default-clause-fault c =
+    let t = c.args.told.now in
+    turn_unknown (kept_wave t.wave) t.now c.args.value c.args.id.now (omega (arith, c.in_default.ensures.none, c.len.ensures, t.wave.names.ok.0))
+
+pub returns-then-has_value-clause-fault : goal.returns-then-has_value-clause-fault
+returns-then-has_value-clause-fault c =
+    let t = c.args.told.now in
+    let has = has_same _ _ _ _ c.args.value (c.deref.ensures.value ∙ c.requires.values) c.in-Some.ensures.some in
+    turn_known (kept_wave t.wave) t.now c.args.value c.args.id.now true
+    (omega (arith, c.in-Some.ensures.some, c.in-Some.ensures.below, c.len.ensures, t.wave.names.ok.0))
+    (sym has ∙ sym c.has_value.ensures ∙ c.if-has_value.true)
+
+pub returns-clause-fault : goal.returns-clause-fault
+returns-clause-fault c =
+    let t = c.args.told.now in
+    let has = has_same _ _ _ _ c.args.value (c.deref.ensures.value ∙ c.requires.values) c.in-Some.ensures.some in
+    turn_known (kept_wave t.wave) t.now c.args.value c.args.id.now false
+    (omega (arith, c.in-Some.ensures.some, c.in-Some.ensures.below, c.len.ensures, t.wave.names.ok.0))
+    (sym has ∙ sym c.has_value.ensures ∙ c.if-has_value.false)
+
+pub returns-clause-told : goal.returns-clause-told
+returns-clause-told c = λ none.
+    let t = c.args.told.now in
+    turn_place t.wave.names.items t.wave.first.items t.wave.changes.items _ t.now c.in-Some.node _ c.in_ok-push.ensures.items c.in-Some.ensures.some
 
 pub returns-clause-values : goal.returns-clause-values
 returns-clause-values c = λ none.
     let t = c.args.told.now in
-    let node = c.in-Some.node in
-    let old : c.index-old.result.now ≡ high t.values.items node = search rules in
-    ap (λ b. slice_set t.values.items node (not b)) old
-    ∙ ap (λ vs. fired vs node) c.requires.values
-    ∙ sym (ap (values_behind t.wave.first.items) c.in_ok-push.ensures.items ∙ values_push t.wave.first.items t.wave.changes.items (t.now, node))
+    turn_values t.values.items _ t.wave.first.items t.wave.changes.items _ t.now c.in-Some.node
+    (c.turn.ensures.values ∙ ap (λ vs. fired vs c.in-Some.node) c.deref_mut.ensures.value) c.requires.values c.in_ok-push.ensures.items
