@@ -1,13 +1,13 @@
 -- How a text is told line by line, and where it is refused.
-use Rattle.std.proofs.Common.{◌≡◌, ◌≢◌, ℕ, Some, None, inl, inr, ◌+◌, ◌*◌, ◌<◌, ◌≤◌, ◌^◌, Bool, true, false, Option, Result, Ok, Err, IfOk, IfErr, List, [], ◌∷◌, ◌++◌, length, refl, ap, sym, ◌∙◌, subst, arith, length-append}
+use Rattle.std.proofs.Common.{◌≡◌, ◌≢◌, ℕ, Some, None, inl, inr, ◌+◌, ◌*◌, ◌<◌, ◌≤◌, ◌^◌, Bool, true, false, Option, Result, Ok, Err, IfOk, IfErr, List, [], ◌∷◌, ◌++◌, length, take, drop, refl, ap, sym, ◌∙◌, subst, arith, length-append}
 use Rattle.std.specs.Prelude.{◌==◌, ◌⊎◌, not, nat_lt, nat_le, if◌then◌else◌}
 use Rattle.std.specs.Borrow.{Bor}
 use Rattle.std.specs.Result.{IsErrAnd}
 use Rattle.std.proofs.lemmas.Bool.{lt-ltb, le-ltb, ne_eqb, eqb-true}
-use Rattle.std.proofs.lemmas.List.{length_push, append-nil, append_assoc}
+use Rattle.std.proofs.lemmas.List.{length_push, append-nil, append_assoc, take_all, drop_all, length-set}
 use Rattle.std.proofs.lemmas.Result.{err_from_is_err_and}
 use Rattle.chp_base.specs.Names.{IsNodeName}
-use Rattle.prs_core.specs.Moves.{fired}
+use Rattle.prs_core.specs.Moves.{fired, high}
 use Rattle.wave_file.specs.declared.fault.WaveFault.{WaveFault}
 use Rattle.wave_file.specs.declared.fault.WaveFault.TheVariants.{BadLine, UnknownId, NoChange, TooMany}
 use Rattle.wave_file.specs.declared.fault.WaveError.{WaveError}
@@ -326,10 +326,17 @@ pub turn_place : (names : List (List ℕ)) (first : List Bool) (cs more : List (
 turn_place names first cs more now node n e f =
     ap (λ (c : List (ℕ × ℕ)). at_changes (wave_of names first c) now) (e ∙ ap (λ (k : ℕ). cs ++ (now, k) ∷ []) f)
 
-pub turn_values : (vs new first : List Bool) (cs more : List (ℕ × ℕ)) (now node : ℕ) → new ≡ fired vs node → vs ≡ values_behind first cs →
-    more ≡ cs ++ (now, node) ∷ [] → new ≡ values_behind first more
-turn_values vs new first cs more now node e h g =
-    e ∙ ap (λ (v : List Bool). fired v node) h ∙ sym (ap (values_behind first) g ∙ values_push first cs (now, node))
+-- what is left of the values, where their slice was written
+written_back : (n : ℕ) (xs new : List Bool) → n ≡ length xs → length new ≡ length xs → take n (new ++ drop (length new) xs) ≡ new
+written_back n xs new all same =
+    ap (λ (t : List Bool). take n (new ++ t)) (drop_all (length new) xs (omega (arith, same))) ∙ ap (take n) (append-nil new)
+    ∙ take_all n new (omega (arith, all, same))
+
+pub turn_values : (n : ℕ) (vs new first : List Bool) (cs more : List (ℕ × ℕ)) (now node : ℕ) → n ≡ length vs → new ≡ fired vs node →
+    vs ≡ values_behind first cs → more ≡ cs ++ (now, node) ∷ [] → take n (new ++ drop (length new) vs) ≡ values_behind first more
+turn_values n vs new first cs more now node all e h g =
+    written_back n vs new all (ap length e ∙ length-set vs node (not (high vs node))) ∙ e ∙ ap (λ (v : List Bool). fired v node) h
+    ∙ sym (ap (values_behind first) g ∙ values_push first cs (now, node))
 
 pub line_told : (p q : WavePlace) (text rest : List ℕ) (l : WaveLine) (o : Option WaveFault) (r : Result (Bor (List ℕ)) WaveFault) →
     BeginsWith text rest p l → o ≡ wave_line_fault p l → (o ≡ None → q ≡ place_behind p l) → IfOk r (λ x. o ≡ None) → IfOk r (λ x. x.now ≡ rest) →

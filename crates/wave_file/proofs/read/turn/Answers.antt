@@ -33,5 +33,5 @@ returns-clause-told c = λ none.
 pub returns-clause-values : goal.returns-clause-values
 returns-clause-values c = λ none.
     let t = c.args.told.now in
-    turn_values t.values.items _ t.wave.first.items t.wave.changes.items _ t.now c.in-Some.node
+    turn_values t.values.len t.values.items _ t.wave.first.items t.wave.changes.items _ t.now c.in-Some.node t.values.ok.0
     (c.turn.ensures.values ∙ ap (λ vs. fired vs c.in-Some.node) c.deref_mut.ensures.value) c.requires.values c.in_ok-push.ensures.items
