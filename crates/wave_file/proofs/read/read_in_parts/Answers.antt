@@ -1,6 +1,6 @@
 use Rattle.std.proofs.Common.{◌≡◌, ◌+◌, ◌*◌, [], ◌∙◌, sym, ap, length, arith}
 use Rattle.wave_file.specs.Waves.{wave_of}
-use Rattle.wave_file.specs.WaveReading.{IsToldTo, at_changes, at_definitions, at_values, values_behind}
+use Rattle.wave_file.specs.WaveReading.{IsToldTo, at_changes, at_definitions, at_values}
 use Rattle.wave_file.proofs.Readings.{refused_on, refused_whole, read_whole, begin_changes, told_short}
 use Rattle.wave_file.proofs.read.read_in_parts.Goals as goal
 
@@ -31,11 +31,7 @@ read_changes-requires-clause-short c =
     let text = c.args.text.now in
     let start = (rw c.deref.ensures.value at c.in_ok-behind_start.ensures.told) text (c.in_ok-names.ensures.told text c.in_ok-behind_head.ensures.told) in
     let all = (rw c.deref-2.ensures.value at c.in_ok-first.ensures.told) text start in
-    omega (arith, told_short text _ _ _ all, c.requires, c.in_ok-names.ensures.few, c.len-lines.ensures, c.in_ok-names.names.ok.0)
-
-pub read_changes-requires-clause-values : goal.read_changes-requires-clause-values
-read_changes-requires-clause-values c =
-    ? ∙ sym (ap (values_behind c.in_ok-first.first.items) c.new-changes.ensures.items)
+    omega (arith, told_short text _ _ _ all, c.requires, c.in_ok-names.ensures.few, c.len.ensures, c.in_ok-names.names.ok.0)
 
 pub returns-clause-read : goal.returns-clause-read
 returns-clause-read c =
@@ -44,11 +40,11 @@ returns-clause-read c =
     let names = c.in_ok-names.names.items in
     let first = c.in_ok-first.first.items in
     let changes = c.new-changes.result.items in
-    let n = c.len-lines.result in
+    let n = c.len.result in
     let start = (rw c.deref.ensures.value at c.in_ok-behind_start.ensures.told) text (c.in_ok-names.ensures.told text c.in_ok-behind_head.ensures.told) in
     let all = (rw c.deref-2.ensures.value at c.in_ok-first.ensures.told) text start in
     read_whole c.read_changes.result (2 * n + 5) (at_changes (wave_of names first changes) 0) rest text
-    (begin_changes text rest names first changes n c.new-changes.ensures.items (c.len-lines.ensures ∙ c.in_ok-names.names.ok.0) all)
+    (begin_changes text rest names first changes n c.new-changes.ensures.items (c.len.ensures ∙ c.in_ok-names.names.ok.0) all)
     c.read_changes.ensures.read
 
 pub returns-clause-refused : goal.returns-clause-refused
@@ -58,9 +54,9 @@ returns-clause-refused c =
     let names = c.in_ok-names.names.items in
     let first = c.in_ok-first.first.items in
     let changes = c.new-changes.result.items in
-    let n = c.len-lines.result in
+    let n = c.len.result in
     let start = (rw c.deref.ensures.value at c.in_ok-behind_start.ensures.told) text (c.in_ok-names.ensures.told text c.in_ok-behind_head.ensures.told) in
     let all = (rw c.deref-2.ensures.value at c.in_ok-first.ensures.told) text start in
     refused_whole c.read_changes.result (2 * n + 5) (at_changes (wave_of names first changes) 0) rest text
-    (begin_changes text rest names first changes n c.new-changes.ensures.items (c.len-lines.ensures ∙ c.in_ok-names.names.ok.0) all)
+    (begin_changes text rest names first changes n c.new-changes.ensures.items (c.len.ensures ∙ c.in_ok-names.names.ok.0) all)
     c.read_changes.ensures.refused
