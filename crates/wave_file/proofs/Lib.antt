@@ -1,4 +1,15 @@
-mod Dumps
-mod Examples
 pub mod Chains
+mod Cutting
+mod Dumps
+mod Ends
+mod Examples
+mod Followed
+mod IdLemmas
+mod Namings
+mod Numbers
+mod OneReading
+mod Reached
+mod Readings
+mod Stepping
 pub mod TimedWaves
+mod WaveTexts

@@ -1,4 +1,8 @@
-pub mod Waves
-pub mod Unwaved
-pub mod RunWaves
 pub mod CauseChains
+pub mod RunWaves
+pub mod Unwaved
+pub mod WaveFaults
+pub mod WaveLines
+pub mod WaveReading
+pub mod WaveTold
+pub mod Waves

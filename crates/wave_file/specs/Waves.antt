@@ -1,6 +1,7 @@
 -- The text of a wave: a value change dump of wires of one bit.
-use Rattle.std.specs.Prelude.{◌≡◌, ℕ, ◌+◌, ◌<◌, ◌≤◌, ◌/◌, ◌%◌, Bool, not, ◌==◌, nat_lt, List, [], ◌∷◌, ◌++◌, length, All, codes, decimal, if◌then◌else◌}
+use Rattle.std.specs.Prelude.{◌≡◌, ℕ, ◌+◌, ◌<◌, ◌≤◌, ◌^◌, ◌/◌, ◌%◌, Bool, not, ◌==◌, nat_lt, List, [], ◌∷◌, ◌++◌, length, All, codes, decimal, if◌then◌else◌}
 use Rattle.std.specs.List.{concat}
+use Rattle.chp_base.specs.Names.{IsNodeName}
 use Rattle.prs_core.specs.Moves.{high, fired}
 
 -- nodes with their names and first values, and changes with their times, each of which turns its node over
@@ -24,6 +25,11 @@ pub record IsWave (w : WaveValue) : Type 0 where
   pub values : length w.first ≡ length w.names
   pub nodes : All (λ (c : ℕ × ℕ). c.1 < length w.names) w.changes
   pub times : NeverFall 0 w.changes
+
+-- what the types of its parts keep
+pub record IsKeptWave (w : WaveValue) : Type 0 where
+  pub named : All IsNodeName w.names
+  pub small : All (λ (c : ℕ × ℕ). c.0 < 2 ^ 64) w.changes
 
 -- a digit in base 94 is one of the characters from the exclamation mark on
 abbrev pub id_digit : ℕ → ℕ

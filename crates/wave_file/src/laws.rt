@@ -7,9 +7,11 @@ ghost use Rattle.event_sim.specs.Simulating.{RanValue};
 ghost use Rattle.delay_script.specs.declared.noted.NotedMove.{NotedMove};
 ghost use Rattle.delay_script.specs.DelayTables.{DelayTable};
 ghost use Rattle.delay_script.specs.TimedRuns.{TimedValue, IsTimedRan};
+ghost use Rattle.wave_file.specs.declared.fault.WaveFault.{WaveFault as FaultValue};
 ghost use Rattle.wave_file.specs.CauseChains.{AreCaused, TellsCauses, values_given};
 ghost use Rattle.wave_file.specs.RunWaves.{wave_of_run};
-ghost use Rattle.wave_file.specs.Waves.{IsWave};
+ghost use Rattle.wave_file.specs.WaveReading.{IsWaveRefused, IsWaveText};
+ghost use Rattle.wave_file.specs.Waves.{WaveValue, IsWave};
 
 /// Law: the moves of a timed run that wasn't given a power are a wave, and each has its cause.
 pub fn timed_runs_are_waves()
@@ -32,4 +34,17 @@ pub fn one_causes_text()
         → TellsCauses names d given ms a
         → TellsCauses names d given ms b
         → a ≡ b }
+{}
+
+/// Law: a text is at most one wave.
+pub fn one_wave()
+    ensures { (text : List ℕ) (a b : WaveValue) → IsWaveText text a → IsWaveText text b → a ≡ b }
+{}
+
+/// Law: a text is refused for at most one cause at one line, and a text that is a wave for none.
+pub fn one_wave_refusal()
+    ensures once { (text : List ℕ) (f g : FaultValue) (l m : ℕ) → IsWaveRefused text f l → IsWaveRefused text g m →
+        (f ≡ g) × (l ≡ m) }
+    ensures never { (text : List ℕ) (wave : WaveValue) (f : FaultValue) (l : ℕ) → IsWaveText text wave →
+        ¬ IsWaveRefused text f l }
 {}
