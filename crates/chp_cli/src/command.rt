@@ -2,8 +2,7 @@
 
 ghost use Rattle.std.specs.Prelude.{◌≡◌, IfOk, IfSome, Some, is_some, option_map, true};
 ghost use Rattle.clap.specs.Words.{app_of, found_of, matches_of, rows_of, takes};
-ghost use Rattle.chp_cli.specs.CompileWords.{compile_of, plain_compile};
-ghost use Rattle.chp_cli.specs.Commands.{IsWithinBounds, asked, command_of, compiles, file_form, file_of, grows, plain_command, plain_file, simulate_asked, verb_of};
+ghost use Rattle.chp_cli.specs.Commands.{IsWithinBounds, asked, command_of, file_form, file_of, grows, plain_command, plain_file, simulate_asked, verb_of};
 ghost use Rattle.chp_cli.specs.SimulateWords.{simulate_of};
 ghost use Rattle.chp_cli.specs.Forms.{is_form, texts_of};
 ghost use Rattle.chp_cli.specs.GrowWords.{growth_of, plain_growth};
@@ -78,7 +77,7 @@ pub fn command_in<'a>(alloc: Global, words: &'a [String]) -> Result<Option<Comma
     };
     let word = first.as_str();
     match verb {
-        Verb::Compile => compile_in(alloc, word, rest),
+        Verb::Compile => Ok(compilation_of(alloc, word, rest)?.map(Command::Compile)),
         Verb::Migrate => Ok(file_in(alloc, word, rest)?.map(|net| Command::Migrate { net })),
         Verb::Check => Ok(file_in(alloc, word, rest)?.map(|file| Command::Check { file })),
         Verb::Expand => Ok(file_in(alloc, word, rest)?.map(|file| Command::Expand { file })),
@@ -101,24 +100,6 @@ fn verb_in(word: &str) -> Option<Verb>
         "run" => Some(Verb::Run),
         "grow" => Some(Verb::Grow),
         _ => None,
-    }
-}
-
-/// What the words behind `compile` ask for, where they are its form.
-fn compile_in<'a>(
-    alloc: Global,
-    name: &'a str,
-    words: &'a [String],
-) -> Result<Option<Command<'a>>, AllocError>
-    ensures form { IfOk result (λ found. option_map asked found
-        ≡ option_map compiles (compile_of name.entry.now (texts_of words.entry.now))) }
-    ensures plain { IfOk result (λ found. option_map asked found
-        ≡ option_map compiles (plain_compile (texts_of words.entry.now))) }
-    ensures bounds { IfOk result (λ found. IfSome found IsWithinBounds) }
-{
-    match compilation_of(alloc, name, words)? {
-        Some(compilation) => Ok(Some(Command::Compile(compilation))),
-        None => Ok(None),
     }
 }
 
