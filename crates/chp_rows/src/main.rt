@@ -15,8 +15,8 @@ use cases::obey;
 use std::{fs, io};
 
 const TOPICS: [&str; 12] = [
-    "texts", "compile", "check", "expand", "grow", "migrate", "simulate", "rounds", "buffers", "edge",
-    "against", "delays",
+    "texts", "compile", "check", "expand", "grow", "migrate", "simulate", "rounds", "buffers",
+    "edge", "against", "delays",
 ];
 
 fn main(rt: HostRuntime) -> io::Result<()> {
