@@ -49,7 +49,8 @@ module _ (p : TypedProgram) (script : List OfferValue) (hold : RoundsHold p scri
       subst (λ j. IsBehind (rounds p script n) (rounds p script j)) e (λ k. ([], sym (append-nil (history_at (rounds p script n).histories k))))
   rounds_behind n (suc more) =
       let e : suc (n + more) ≡ n + suc more = omega arith in
-      subst (λ j. IsBehind (rounds p script n) (rounds p script j)) e (λ k. one_more k n (n + more) (suc (n + more)) (rounds_behind n more k) ((hold (n + more)).2 k))
+      subst (λ j. IsBehind (rounds p script n) (rounds p script j)) e
+      (λ k. one_more k n (n + more) (suc (n + more)) (rounds_behind n more k) ((hold (n + more)).2 k))
 
 since_few : (reset : Option ℕ) (ns : List ℕ) → moves_since_reset reset ns ≤ length ns
 since_few reset [] = omega arith
@@ -80,7 +81,8 @@ module _ (hold : (p : TypedProgram) (script : List OfferValue) → MeetsSharing 
       let few : since ≤ length ns = since_few n.reset ns in
       let all : since + (length ns - since) ≡ length ns = omega (arith, few) in
       let one = (c.runs script fits (power_of n high) (powered n high net (subst (λ (o : Option ℕ). IsSome o) (sym c.reset.1) refl)) ns run).0.prefix k in
-      let more = subst (λ m. IsBehind (rounds p script since) (rounds p script m)) all (rounds_behind p script (hold p script sharing) since (length ns - since)) k in
+      let more = subst (λ m. IsBehind (rounds p script since) (rounds p script m)) all
+      (rounds_behind p script (hold p script sharing) since (length ns - since)) k in
       let first = history_at (after n (begin_at n (power_of n high)) ns).histories k in
       (one.0 ++ more.0, more.1 ∙ (ap (λ xs. xs ++ more.0) one.1 ∙ append_assoc first one.0 more.0))
 
@@ -110,7 +112,8 @@ module _ (hold : (p : TypedProgram) (script : List OfferValue) → MeetsSharing 
 
     -- ---- and its report ends well, if it is compared with that program
 
-    module _ (law : (r : RanValue) (p : TypedProgram) (script : List OfferValue) (a b : Against) → IsAgainst r p script a → IsAgainst r p script b → a ≡ b) where
+    module _ (law : (r : RanValue) (p : TypedProgram) (script : List OfferValue) (a b : Against) → IsAgainst r p script a → IsAgainst r p script b →
+        a ≡ b) where
       pub reported_done : (script : List OfferValue) (time : Option ℕ) (r : RanValue) (o : Option TypedProgram) (end : Ending) (text : List ℕ) →
           IsReported script time r o (writes end text) → ending_for r.end ≡ Done → ((p : TypedProgram) → o ≡ Some p → IsAgainst r p script Agrees) → end ≡ Done
       reported_done script time r o end text alone calm agree = calm

@@ -40,7 +40,9 @@ use Rattle.chp_cli.proofs.Referring.{reference_read}
 pub simulation_written : (s : AskedRun) (given : Given) (played : Played) → given.tells ≡ true → (end : Ending) (text : List ℕ) →
     Simulates s given played (writes end text) → IsFileSimulated s given played (writes end text)
 simulation_written s given played told end text (an_order {place = k} named (a_file {text = x} gives short (a_net {net = n} is (has_power powered
-    (a_file {text = t} reads fits (a_script {script = sc} are next)))))) = let read = reference_read given _ s.against end text next in let plays = read.2 in record {
+    (a_file {text = t} reads fits (a_script {script = sc} are next)))))) =
+    let read = reference_read given _ s.against end text next in
+    let plays = read.2 in record {
       rules = x;
       net = n;
       told = t;

@@ -22,7 +22,8 @@ taken_in : (a b : App) (words : List Text) (rows : List Row) → a ≡ b → tru
     → simulation_with (given_texts rows) ≡ cond (takes b words) (simulation_with (given_texts (matches_of b words))) None
 taken_in a b words rows same taken is = rw (← same, ← taken, is) refl
 
-refused_in : (a b : App) (words : List Text) → a ≡ b → false ≡ takes a words → None ≡ cond (takes b words) (simulation_with (given_texts (matches_of b words))) None
+refused_in : (a b : App) (words : List Text) → a ≡ b → false ≡ takes a words →
+    None ≡ cond (takes b words) (simulation_with (given_texts (matches_of b words))) None
 refused_in a b words same refused = rw (← same, ← refused) refl
 
 pub taken_run : (a : App) (name : Text) (words : List Text) (rows : List Row) (found : Option AskedSimulation) → a ≡ simulate_form name → true ≡ takes a words →

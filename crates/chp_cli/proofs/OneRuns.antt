@@ -96,8 +96,8 @@ module _ (law : (r : RanValue) (p : TypedProgram) (script : List OfferValue) (a 
 module _ (cause : (text : List ℕ) (k j : FaultCode) (s t : Span) → IsRefusedText text k s → IsRefusedText text j t → k ≡ j)
     (place : (text : List ℕ) (k j : FaultCode) (s t : Span) → IsRefusedText text k s → IsRefusedText text j t → s ≡ t)
     (checked : (program : ProgramTree) (Next : Answer → Type 0) → OneAnswer Next → OneAnswer (FromChecks program Next)) where
-  pub reference_once : (given : Given) → given.tells ≡ true → (Next : Option TypedProgram → Answer → Type 0) → ((p : Option TypedProgram) → OneAnswer (Next p)) →
-      (file : Option (List ℕ)) → OneAnswer (FromReference given file Next)
+  pub reference_once : (given : Given) → given.tells ≡ true → (Next : Option TypedProgram → Answer → Type 0) →
+      ((p : Option TypedProgram) → OneAnswer (Next p)) → (file : Option (List ℕ)) → OneAnswer (FromReference given file Next)
   reference_once given told Next next None = next None
   reference_once given told Next next (Some file) = file_once given file _ _ told
       (λ text. program_once text _ (λ program. checked program _ (next (Some (typed_form program)))) (cause text) (place text))

@@ -19,7 +19,7 @@ use Rattle.chp_cli.specs.RunReporting.{IsReported}
 use Rattle.chp_cli.specs.RunSteps.{has_power, a_script, lacks_reset}
 use Rattle.chp_cli.specs.Simulating.{AskedRun, HasPlayed, SimulatesAt, SimulatesNet, simulation_for}
 use Rattle.chp_cli.specs.Steps.{FromFile, FromProgram, FromChecks, has_calls, faulty, accepted, a_file, a_program, Never, most_of_text}
-use Rattle.chp_cli.proofs.RoundsStopping.{program_as}
+use Rattle.chp_cli.proofs.BufferStopping.{program_as}
 use Rattle.chp_cli.proofs.RunStopping.{file_answers, file_as}
 use Rattle.chp_cli.proofs.Stopping.{stops_in}
 use Rattle.event_sim.specs.Simulating.{SimValue, RanValue}

@@ -77,5 +77,6 @@ pub order_stops : (run : AskedRun) (given : Given) (played : Played) (place : �
     → Stops (SimulatesAt run given played place) (run.net ∷ run.script ∷ option_to_list run.against) given before after stop
     → Stops (Simulates run given played) (run.net ∷ run.script ∷ option_to_list run.against) given before after stop
 order_stops run given played place named before after stop stops =
-    stops_in (SimulatesAt run given played place) (Simulates run given played) (λ answer is. an_order named is) (run.net ∷ run.script ∷ option_to_list run.against)
-    (run.net ∷ run.script ∷ option_to_list run.against) given before before after (λ name own. own) (omega arith) stop stops
+    let files = run.net ∷ run.script ∷ option_to_list run.against in
+    stops_in (SimulatesAt run given played place) (Simulates run given played) (λ answer is. an_order named is) files files given before before after
+    (λ name own. own) (omega arith) stop stops

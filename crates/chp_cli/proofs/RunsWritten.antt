@@ -48,6 +48,11 @@ whole_report script time r p a (compared x calm is) = whole_against x
 -- the program that is read
 module _ (no_fault : (program : ProgramTree) (f : Fault) → IsAccepted program → ¬ IsFaulty program f) (given : Given) (told : given.tells ≡ true)
     (Next : Option TypedProgram → Answer → Type 0) (next : (p : Option TypedProgram) (a : Answer) → Next p a → is_whole (status_of a) ≡ true) where
+  checked : (p : ProgramTree) → IsAccepted p → (a : Answer) → FromChecks p (Next (Some (typed_form p))) a → is_whole (status_of a) ≡ true
+  checked p are a (has_calls some) = absurd (some are.call_free)
+  checked p are a (faulty {fault = f} free bad) = absurd (no_fault p f are bad)
+  checked p are a (accepted also is) = next (Some (typed_form p)) a is
+
   reference_writes : (file : Option (List ℕ)) → IsToReferTo given file → (a : Answer) → FromReference given file Next a → is_whole (status_of a) ≡ true
   reference_writes None t a is = next None a is
   reference_writes (Some file) t a (no_file lacks) = not_there lacks.none t.held
@@ -56,12 +61,7 @@ module _ (no_fault : (program : ProgramTree) (f : Fault) → IsAccepted program 
       absurd (none.never t.program (subst (λ x. Reads x t.program) (same_text t.held (gives told)) t.reads))
   reference_writes (Some file) t a (a_file gives short (a_program {program = p} is checks)) =
       let same = is.only t.program (subst (λ x. Reads x t.program) (same_text t.held (gives told)) t.reads) in
-      checked p (subst IsAccepted same t.accepted) checks
-    where
-      checked : (p : ProgramTree) → IsAccepted p → FromChecks p (Next (Some (typed_form p))) a → is_whole (status_of a) ≡ true
-      checked p are (has_calls some) = absurd (some are.call_free)
-      checked p are (faulty {fault = f} free bad) = absurd (no_fault p f are bad)
-      checked p are (accepted also is) = next (Some (typed_form p)) a is
+      checked p (subst IsAccepted same t.accepted) a checks
 
 module _ (no_fault : (program : ProgramTree) (f : Fault) → IsAccepted program → ¬ IsFaulty program f)
     (s : AskedRun) (given : Given) (played : Played) (told : given.tells ≡ true) (t : IsToSimulate s given played) where

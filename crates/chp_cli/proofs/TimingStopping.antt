@@ -53,7 +53,8 @@ module _ (t : AskedTiming) (given : Given) where
       script_stopped first before after early stop stops =
           stops_in (FromFile given t.script most_of_script (λ text. FromScript (net_channels net) text Never)) (SimulatesTimed t given)
           (λ answer is. timed_answers answer (has_power powered (file_as (λ text there. script_goes there) is)))
-          (t.script ∷ []) files given first before after (λ name own. second_file t.net t.script (t.delays ∷ option_to_list t.against) name own) early stop stops
+          (t.script ∷ []) files given first before after
+          (λ name own. second_file t.net t.script (t.delays ∷ option_to_list t.against) name own) early stop stops
 
       module _ (script : List OfferValue) (told : HoldsScript given t.script (net_channels net) script) where
         abbrev Reports : DelayTable → Option TypedProgram → Answer → Type 0

@@ -13,8 +13,8 @@ use Rattle.chp_cli.specs.Simulated.{HoldsCompiled}
 use Rattle.chp_cli.specs.Steps.{IsFileOf}
 use Rattle.chp_cli.specs.Timing.{AskedTiming, AreDelaysOf, TimesNet, timing_for}
 
--- The files hold the rule file of a net, a script of its channels, delays of its nodes, and the program to compare with,
--- if one is wanted; and the timed run of this net under this script by these delays is reported.
+-- The files hold the rule file of a net, a script of its channels, delays of its nodes, and the program to compare
+-- with, if one is wanted; and the timed run of this net under this script by these delays is reported.
 pub record IsFileTimed (t : AskedTiming) (given : Given) (answer : Answer) : Type 0 where
   pub rules : List ℕ
   pub net : NetValue

@@ -19,9 +19,9 @@ use Rattle.chp_cli.specs.RunSteps.{FromPower, FromScript, most_of_script}
 use Rattle.chp_cli.specs.Simulating.{power_or_low}
 use Rattle.chp_cli.specs.Steps.{FromFile, FromNet, most_of_net}
 
--- what a timed simulation is asked for: the names of its rule file, of its script and of its delay file, the most moves,
--- the value of the nodes that have rules at power-up, where one is given, and the name of the program text with whose
--- rounds the run is compared, where it is
+-- what a timed simulation is asked for: the names of its rule file, of its script and of its delay file, the most
+-- moves, the value of the nodes that have rules at power-up, where one is given, and the name of the program text with
+-- whose rounds the run is compared, where it is
 pub record AskedTiming : Type 0 where
   pub net : List ℕ
   pub script : List ℕ

@@ -115,9 +115,9 @@ pub fn compiled_files_carry()
         HoldsCarrying given file p }
 {}
 
-/// Law: what `simulate` writes with delays is the report of the timed run of the net under the script by the delays that
-/// its files hold: each move comes its delay later than the move since which it is enabled, and of the enabled ones the
-/// first by time and by node is made; the run has ended as is reported, and no shorter part of it has.
+/// Law: what `simulate` writes with delays is the report of the timed run of the net under the script by the delays
+/// that its files hold: each move comes its delay later than the move since which it is enabled, and of the enabled
+/// ones the first by time and by node is made; the run has ended as is reported, and no shorter part of it has.
 pub fn timed_right()
     ensures { (t : AskedTiming) (given : Given) → given.tells ≡ true → (end : Ending) (text : List ℕ) →
         SimulatesTimed t given (writes end text) → IsFileTimed t given (writes end text) }

@@ -17,12 +17,23 @@ use std::alloc::{AllocError, Global};
 
 /// Whether a run that ended so has a hazard.
 fn is_hazard(end: End) -> bool
-    ensures hazard { result ≡ true → ending_for end ≡ Ending::Hazard }
-    ensures calm { result ≡ false → ending_for end ≡ Ending::Done }
+    ensures hazard { result ≡ true → ending_for end ≡ Ending.Hazard }
+    ensures calm { result ≡ false → ending_for end ≡ Ending.Done }
 {
     match end {
         End::AtRest | End::Spent => false,
         End::Unstable { .. } | End::BothWays { .. } | End::Protocol { .. } => true,
+    }
+}
+
+/// How a command ends that reports a run which ended so.
+fn ending_for(end: End) -> Ending
+    ensures { result ≡ ending_for end }
+{
+    if is_hazard(end) {
+        Ending::Hazard
+    } else {
+        Ending::Done
     }
 }
 
@@ -95,12 +106,10 @@ fn uncompared(alloc: Global, ran: &Ran, time: Option<u64>) -> Result<Output, All
         IsReported script time ran.now None (told_answer output)) }
 {
     let text = report_text(alloc, ran, time)?;
-    let end = if is_hazard(ran.end()) {
-        Ending::Hazard
-    } else {
-        Ending::Done
-    };
-    Ok(Output { text, end })
+    Ok(Output {
+        text,
+        end: ending_for(ran.end()),
+    })
 }
 
 /// What is reported of a run under this script, with its time if it has one, and of how it stands against the program,
