@@ -1,12 +1,12 @@
 -- `grow` has at most one answer.
-use Rattle.std.proofs.Common.{◌≡◌, ◌∙◌, ℕ, Bool, true, false, List, Option, Some, refl, sym, ap, ap₂, subst}
+use Rattle.std.proofs.Common.{◌≡◌, ◌∙◌, ℕ, Bool, true, false, sym, ap, ap₂, subst}
 use Rattle.event_sim.specs.declared.ran.End.{End}
 use Rattle.event_sim.specs.Simulating.{RanValue, SimValue}
 use Rattle.width_check.specs.Form.{typed_form}
 use Rattle.width_check.specs.Processes.{TypedProgram}
 use Rattle.chp_cli.specs.declared.answer.Ending.TheVariants.{Done}
 use Rattle.chp_cli.specs.declared.grow_words.Growth.{Growth}
-use Rattle.chp_cli.specs.Answers.{Answer, writes, OneAnswer}
+use Rattle.chp_cli.specs.Answers.{writes, OneAnswer}
 use Rattle.chp_cli.specs.Growing.{Grows, GrowsTo}
 use Rattle.chp_cli.specs.Orders.{OrderState, Played}
 use Rattle.chp_cli.specs.Simulating.{HasPlayed, IsPlayed, ran_value}

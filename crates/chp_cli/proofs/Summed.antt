@@ -1,5 +1,5 @@
 -- The program that is made of a number, the script of its net, and the run that is summed up.
-use Rattle.std.proofs.Common.{◌≡◌, ◌∙◌, ◌↔◌, ℕ, zero, suc, ◌+◌, ◌-◌, ◌<◌, ◌≤◌, ◌%◌, Bool, false, List, [], ◌∷◌, ◌++◌, map, Option, None, inl, refl, sym, ap, subst, arith}
+use Rattle.std.proofs.Common.{◌≡◌, ◌∙◌, ◌↔◌, ℕ, zero, suc, ◌+◌, ◌-◌, ◌<◌, ◌≤◌, ◌%◌, Bool, false, List, [], ◌∷◌, ◌++◌, map, None, inl, refl, sym, ap, subst, arith}
 use Rattle.std.specs.Prelude.{All, IsSome, replicate}
 use Rattle.std.specs.List.{range_with_len}
 use Rattle.std.proofs.lemmas.List.Elements.{All-nil, All-cons}
@@ -78,13 +78,14 @@ inner_script : (from count stages : ℕ) →
 inner_script from zero stages = (tt, tt)
 inner_script from (suc count) stages = (tt, inner_script (from + 1) count stages)
 
+small_words : (seed from count : ℕ) → All (λ v. v < 256) (map (λ place. word_at seed place % 256) (range_with_len from count))
+small_words seed from zero = All-nil (λ (v : ℕ). v < 256)
+small_words seed from (suc count) =
+    All-cons (λ (v : ℕ). v < 256) (word_at seed from % 256) (map (λ place. word_at seed place % 256) (range_with_len (from + 1) count))
+    (small_word seed from) (small_words seed (from + 1) count)
+
 pub script_suits : (seed stages : ℕ) → IsScript (pipeline_channels stages) (grown_script seed stages)
-script_suits seed stages = (values, inner_script 1 (stages - 1) stages)
-  where
-    values : All (λ v. v < 256) (map (λ place. word_at seed place % 256) (range_with_len stages 4))
-    values =
-        All-cons _ _ _ (small_word seed _) (All-cons _ _ _ (small_word seed _) (All-cons _ _ _ (small_word seed _) (All-cons _ _ _ (small_word seed _)
-        (All-nil _))))
+script_suits seed stages = (small_words seed stages 4, inner_script 1 (stages - 1) stages)
 
 pub script_of_net : (seed stages : ℕ) (p : TypedProgram) (net : NetValue) → Carries net p → p.channels ≡ pipeline_channels stages →
     IsScript (net_channels net) (grown_script seed stages)
