@@ -1,23 +1,16 @@
 -- The steps from a file to the program that goes on, by themselves and within a command.
-use Rattle.std.proofs.Common.{◌≡◌, ◌∙◌, ℕ, ◌+◌, ◌≤◌, Bool, true, false, List, [], ◌∷◌, length, Option, Some, None, refl, sym, ap, subst, arith}
-use Rattle.std.specs.Prelude.{Contains, option_map}
-use Rattle.std.specs.Str.{bytes_eq}
-use Rattle.std.proofs.lemmas.Slice.Eq.{bytes_eq-Decides}
+use Rattle.std.proofs.Common.{ℕ, List, [], ◌∷◌, Option, subst, arith}
+use Rattle.std.specs.Prelude.{Contains}
 use Rattle.chp_syntax.specs.Trees.{ProgramTree}
-use Rattle.chp_syntax.specs.declared.tree.Decl.{Decl}
-use Rattle.slack_buffer.specs.BufferedTrees.{IsInnerChannel}
-use Rattle.width_check.specs.Form.{typed_form}
-use Rattle.width_check.specs.Places.{declaration}
 use Rattle.width_check.specs.Processes.{TypedProgram}
-use Rattle.chp_cli.specs.declared.answer.Output.{Output}
 use Rattle.chp_cli.specs.declared.answer.Stop.{Stop}
-use Rattle.chp_cli.specs.Answers.{Given, Gives, Answer}
-use Rattle.chp_cli.specs.BufferSteps.{IsBuffered, FromBuffer, no_channel, has_channel, FromProgramFile}
-use Rattle.chp_cli.specs.HeldBuffered.{IsBufferedForm, IsBufferedOf, HoldsBuffered}
-use Rattle.chp_cli.specs.Replies.{Halts, Stops, told_answer}
-use Rattle.chp_cli.specs.Steps.{FromFile, a_file, FromProgram, no_program, a_program, FromChecks, has_calls, faulty, accepted, Never, IsTextOf, most_of_text}
+use Rattle.chp_cli.specs.Answers.{Given, Answer}
+use Rattle.chp_cli.specs.BufferSteps.{FromBuffer, no_channel, has_channel, FromProgramFile}
+use Rattle.chp_cli.specs.HeldBuffered.{HoldsBuffered}
+use Rattle.chp_cli.specs.Replies.{Halts, Stops}
+use Rattle.chp_cli.specs.Steps.{a_file, FromProgram, no_program, a_program, FromChecks, has_calls, faulty, accepted, Never, IsTextOf}
 use Rattle.chp_cli.proofs.RunStopping.{file_as}
-use Rattle.chp_cli.proofs.Stopping.{halts_in, stops_in, stops_where}
+use Rattle.chp_cli.proofs.Stopping.{halts_in, stops_in}
 
 -- ---- a step goes on as what comes behind it does
 

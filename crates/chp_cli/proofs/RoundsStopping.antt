@@ -1,7 +1,6 @@
 -- Steps of `run` by themselves and within it.
-use Rattle.std.proofs.Common.{◌≡◌, ℕ, zero, suc, ◌≤◌, List, [], ◌∷◌, sym, subst, arith}
+use Rattle.std.proofs.Common.{ℕ, zero, suc, ◌≤◌, List, [], ◌∷◌, arith}
 use Rattle.std.specs.Prelude.{Contains}
-use Rattle.chp_base.specs.declared.channel.Channel.{Channel}
 use Rattle.chp_syntax.specs.Trees.{ProgramTree}
 use Rattle.env_script.specs.Scripts.{OfferValue}
 use Rattle.width_check.specs.Processes.{TypedProgram}

@@ -1,8 +1,6 @@
-use Rattle.std.proofs.Common.{◌≤◌, length, refl, arith}
-use Rattle.std.specs.Prelude.{option_map}
+use Rattle.std.proofs.Common.{refl}
 use Rattle.chp_syntax.specs.View.{program_tree}
-use Rattle.chp_cli.specs.Replies.{Halts}
-use Rattle.chp_cli.specs.Steps.{FromProgram, Never, a_program, accepted}
+use Rattle.chp_cli.specs.Steps.{FromProgram, a_program, accepted}
 use Rattle.chp_cli.proofs.BufferStopping.{OnlyBuffer, checks_halt, program_halts}
 use Rattle.chp_cli.proofs.Faulty.{no_procedures}
 use Rattle.chp_cli.proofs.Stopping.{err_in, halts_in, ok_in}
@@ -11,8 +9,8 @@ use Rattle.chp_cli.proofs.buffered.buffered_of_text.Goals as goal
 pub returns-in-Err-clause-stopped : goal.returns-in-Err-clause-stopped
 returns-in-Err-clause-stopped c = program_halts c.args.text.now _ c.in-Err.stop c.in-Err.ensures.stopped
 
-pub returns-in-Err-checked_program-clause-stopped : goal.returns-in-Err-checked_program-clause-stopped
-returns-in-Err-checked_program-clause-stopped c =
+pub returns-clause-stopped : goal.returns-clause-stopped
+returns-clause-stopped c =
     checks_halt c.args.text.now _ (program_tree c.in-Ok.program) c.in-Ok.ensures.read c.in-Err-checked_program.stop c.in-Err-checked_program.ensures.stopped
 
 pub buffered-requires-clause-few : goal.buffered-requires-clause-few
