@@ -32,6 +32,7 @@ pub fn one_answer()
     history_report::laws::one_comparison();
     delay_script::laws::one_timed_run();
     wave_file::laws::one_causes_text();
+    wave_file::laws::one_wave_refusal();
 }
 
 /// Law: what `compile` writes for a file is the one text of the net of the one program that its text reads as, which is
