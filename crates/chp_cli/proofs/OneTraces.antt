@@ -22,7 +22,7 @@ module _ (moves : (t : TimedValue) (ms ns : List NotedMove) (r q : RanValue) (u 
     TellsCauses names d given ms b → a ≡ b) where
   text_once : (net : NetValue) (d : DelayTable) (ms : List NotedMove) (causes : Bool) (a b : List ℕ) → IsTraceText net d ms causes a →
       IsTraceText net d ms causes b → a ≡ b
-  text_once net d ms false a b one two = one ∙ sym two
+  text_once net d ms false a b one two = one.spelled ∙ sym two.spelled
   text_once net d ms true a b one two = told _ _ _ _ a b one two
 
   traces_net_once : (t : TimedValue) (causes : Bool) (a b : Answer) → TracesNet t causes a → TracesNet t causes b → a ≡ b

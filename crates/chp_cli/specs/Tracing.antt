@@ -10,7 +10,7 @@ use Rattle.event_sim.specs.Simulating.{RanValue}
 use Rattle.prs_core.specs.Nets.{NetValue}
 use Rattle.wave_file.specs.CauseChains.{TellsCauses, values_given}
 use Rattle.wave_file.specs.RunWaves.{wave_of_run}
-use Rattle.wave_file.specs.Waves.{wave_spelling}
+use Rattle.wave_file.specs.WaveReading.{IsWaveText}
 use Rattle.chp_cli.specs.Answers.{Given, Answer, writes}
 use Rattle.chp_cli.specs.RunReporting.{ending_for}
 use Rattle.chp_cli.specs.RunSteps.{FromScript, most_of_script}
@@ -37,9 +37,10 @@ abbrev pub HoldsDelayFile : Given → (file : Option (List ℕ)) → (names : Li
 HoldsDelayFile given None names delays = AreDelaysOf names [] delays
 HoldsDelayFile given (Some file) names delays = HoldsDelays given file names delays
 
--- the text tells these moves of a net that wasn't given a power: all of them as a wave, or the causes of the last one
+-- the text tells these moves of a net that wasn't given a power: all of them as a wave, which is read back from it, or the
+-- causes of the last one
 abbrev pub IsTraceText : NetValue → DelayTable → List NotedMove → (causes : Bool) → (text : List ℕ) → Type 0
-IsTraceText net delays moves false text = text ≡ wave_spelling (wave_of_run net moves)
+IsTraceText net delays moves false text = IsWaveText text (wave_of_run net moves)
 IsTraceText net delays moves true text =
     TellsCauses net.names delays (values_given (power_of net false) moves) moves text
 

@@ -10,7 +10,8 @@ ghost use Rattle.event_sim.specs.Following.{power_of};
 ghost use Rattle.prs_core.specs.Nets.{IsNet};
 ghost use Rattle.wave_file.specs.CauseChains.{AreCaused, values_given};
 ghost use Rattle.wave_file.specs.RunWaves.{wave_of_run};
-ghost use Rattle.wave_file.specs.Waves.{IsWave, wave_spelling};
+ghost use Rattle.wave_file.specs.WaveReading.{IsWaveText};
+ghost use Rattle.wave_file.specs.Waves.{IsKeptWave, IsWave};
 ghost use Rattle.chp_cli.specs.Answers.{given_by};
 ghost use Rattle.chp_cli.specs.Commands.{waves_asked};
 ghost use Rattle.chp_cli.specs.Replies.{Stops, told_answer};
@@ -32,9 +33,10 @@ use wave_file::{causes_text, run_wave, write_wave};
 
 /// The wave of the run.
 fn wave_text(alloc: Global, ran: &NotedRan) -> Result<Vec<u8>, AllocError>
-    requires { IsWave (wave_of_run ran.now.timed.ran.net ran.now.moves.items) }
-    ensures { IfOk result (λ text. text.items
-        ≡ wave_spelling (wave_of_run ran.now.timed.ran.net ran.now.moves.items)) }
+    requires wave { IsWave (wave_of_run ran.now.timed.ran.net ran.now.moves.items) }
+    requires kept { IsKeptWave (wave_of_run ran.now.timed.ran.net ran.now.moves.items) }
+    ensures { IfOk result (λ text.
+        IsWaveText text.items (wave_of_run ran.now.timed.ran.net ran.now.moves.items)) }
 {
     let wave = run_wave(alloc, ran)?;
     write_wave(alloc, &wave)
@@ -48,6 +50,7 @@ fn trace_text(
     causes: bool,
 ) -> Result<Vec<u8>, AllocError>
     requires wave { IsWave (wave_of_run ran.now.timed.ran.net ran.now.moves.items) }
+    requires kept { IsKeptWave (wave_of_run ran.now.timed.ran.net ran.now.moves.items) }
     requires delays { IsDelayTable (length ran.now.timed.ran.net.first) delays.now }
     requires nodes { All (λ (m : NotedMove). m.node < length ran.now.timed.ran.net.first) ran.now.moves.items }
     requires caused { AreCaused delays.now

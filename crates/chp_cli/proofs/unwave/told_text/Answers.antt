@@ -7,8 +7,8 @@ use Rattle.chp_cli.proofs.Stopping.{halts_in}
 use Rattle.chp_cli.proofs.WaveSteps.{wave_goes}
 use Rattle.chp_cli.proofs.unwave.told_text.Goals as goal
 
-pub returns-in-Ok-clause-answered : goal.returns-in-Ok-clause-answered
-returns-in-Ok-clause-answered c = a_wave c.in-Ok.ensures.read (ap (λ text. writes Done text) c.in-Ok-unwave_text.ensures)
+pub returns-in-Ok-unwave_text-clause-answered : goal.returns-in-Ok-unwave_text-clause-answered
+returns-in-Ok-unwave_text-clause-answered c = a_wave c.in-Ok.ensures.read (ap (λ text. writes Done text) c.in-Ok-unwave_text.ensures)
 
 pub returns-in-Err-clause-stopped : goal.returns-in-Err-clause-stopped
 returns-in-Err-clause-stopped c =
