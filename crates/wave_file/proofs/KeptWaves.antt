@@ -1,5 +1,5 @@
 -- The wave of a timed run is one that a text can hold: its names are those of nodes, and its times are below 2 ^ 64.
-use Rattle.std.proofs.Common.{◌≡◌, ◌∙◌, ℕ, zero, suc, ◌+◌, ◌*◌, ◌^◌, ◌<◌, ◌≤◌, Bool, true, false, List, [], ◌∷◌, length, get_or, take, refl, sym, ap, subst, ◌⊎◌, inl, inr, cc, arith}
+use Rattle.std.proofs.Common.{◌≡◌, ◌∙◌, ℕ, zero, suc, ◌+◌, ◌*◌, ◌^◌, ◌<◌, ◌≤◌, Bool, true, false, List, [], ◌∷◌, length, get_or, take, refl, sym, ap, subst, ◌⊎◌, inl, inr, arith}
 use Rattle.std.specs.Prelude.{All, Option, None, Some, ◌==◌, slice_index_or}
 use Rattle.std.proofs.lemmas.Bool.{cases_lt, eq-eqb}
 use Rattle.std.proofs.lemmas.List.{length-map, length-take-le}
@@ -81,9 +81,12 @@ pub is_kept : (t : TimedValue) (ms : List NotedMove) (r : RanValue) (u : ℕ) �
     IsTimedRan t ms r u → IsKeptWave (wave_of_run t.net ms)
 is_kept t ms r u net table steps ran = record {
   named = net.names;
-  small = λ i d below. soon i d (omega (arith, length-map ms (λ (m : NotedMove). (m.time, m.node))));
+  small = λ i d below. soon i d (omega (arith, many));
 }
   where
+    many : length (timed_changes ms) ≡ length ms
+    many = length-map {B = ℕ × ℕ} ms (λ (m : NotedMove). (m.time, m.node))
+
     given : List Bool
     given = values_given (power_of t.net t.high) ms
 
