@@ -1,5 +1,5 @@
 -- Where a text is cut at a byte.
-use Rattle.std.proofs.Common.{◌≡◌, ℕ, zero, suc, Some, None, cond, inl, inr, ◌+◌, ◌<◌, ◌≤◌, ◌^◌, ◌%◌, ◌/◌, Bool, true, false, List, [], ◌∷◌, ◌++◌, length, get_or, take, drop, refl, ap, sym, ◌∙◌, arith, length-append}
+use Rattle.std.proofs.Common.{◌≡◌, ℕ, zero, suc, Some, None, cond, inl, inr, ◌+◌, ◌<◌, ◌≤◌, ◌^◌, ◌%◌, Bool, true, false, List, [], ◌∷◌, ◌++◌, length, get_or, take, drop, refl, ap, ◌∙◌, arith, length-append}
 use Rattle.std.specs.Prelude.{◌==◌, ◌&&◌, ◌⊎◌, not, position, decimal}
 use Rattle.std.specs.List.{list_all, position_or_len}
 use Rattle.std.proofs.lemmas.Bool.{and_parts, cases_lt, lt-ltb, eqb-true, ne_eqb}
@@ -8,7 +8,7 @@ use Rattle.std.proofs.lemmas.List.{get_or_at}
 use Rattle.std.proofs.lemmas.List.Folds.{list_all-append}
 use Rattle.std.proofs.lemmas.List.Quantifiers.{position-Some}
 use Rattle.std.proofs.lemmas.List.Sums.{fails_before_first}
-use Rattle.chp_base.specs.Names.{IsNodeName, node_part, digit}
+use Rattle.chp_base.specs.Names.{IsNodeName, node_part}
 use Rattle.wave_file.specs.WaveLines.{is_free_of, is_id, id_part}
 use Rattle.wave_file.proofs.IdLemmas.{parts_of}
 
@@ -70,7 +70,7 @@ cut_once end (x ∷ xs) [] a b one two e =
 cut_once end (x ∷ xs) (y ∷ ys) a b one two e =
     let head : x ≡ y = ap (λ t. get_or t 0 0) e in
     let rest = cut_once end xs ys a b (and_parts (not (x == end)) (is_free_of end xs) one).1 (and_parts (not (y == end)) (is_free_of end ys) two).1
-        (ap (drop 1) e) in
+    (ap (drop 1) e) in
     (ap (λ z. z ∷ xs) head ∙ ap (λ zs. y ∷ zs) rest.0, rest.1)
 
 cut_at : (end : ℕ) (text : List ℕ) (at : ℕ) → at < length text → (get_or text at 0 == end) ≡ true → ((k : ℕ) → k < at → (get_or text k 0 == end) ≡ false) →

@@ -11,7 +11,7 @@ handshake = wave_of (codes "go" ∷ codes "done" ∷ codes "n2" ∷ codes "n3" �
 
 dumped : wave_spelling handshake
     ≡ codes "$timescale 1 ns $end\n$scope module top $end\n$var wire 1 ! go $end\n$var wire 1 \" done $end\n$var wire 1 # n2 $end\n$var wire 1 $ n3 $end\n$var wire 1 % n4 $end\n"
-        ++ codes "$upscope $end\n$enddefinitions $end\n#0\n0!\n0\"\n0#\n0$\n0%\n#1\n1!\n#2\n1#\n#3\n1%\n#4\n1$\n#5\n0#\n#6\n0%\n#7\n1\"\n"
+    ++ codes "$upscope $end\n$enddefinitions $end\n#0\n0!\n0\"\n0#\n0$\n0%\n#1\n1!\n#2\n1#\n#3\n1%\n#4\n1$\n#5\n0#\n#6\n0%\n#7\n1\"\n"
 unfolding handshake
 dumped = rw (
   decimal_digit 1 (omega arith),

@@ -1,16 +1,12 @@
 -- A text is read in one way.
-use Rattle.std.proofs.Common.{◌≡◌, ℕ, zero, suc, Some, None, inl, inr, ◌+◌, ◌<◌, ◌≤◌, ◌^◌, Bool, true, false, List, [], ◌∷◌, ◌++◌, length, get_or, drop, refl, ap, sym, ◌∙◌, subst, arith}
-use Rattle.std.specs.Prelude.{◌==◌, ◌⊎◌, not, nat_lt, nat_le, All, decimal, if◌then◌else◌}
-use Rattle.std.proofs.lemmas.Bool.{lt-ltb, ne_eqb}
+use Rattle.std.proofs.Common.{◌≡◌, ℕ, Some, None, inl, inr, ◌<◌, ◌^◌, Bool, true, false, List, [], ◌∷◌, ◌++◌, length, get_or, drop, refl, ap, sym, ◌∙◌, subst, arith}
+use Rattle.std.specs.Prelude.{◌⊎◌, decimal}
 use Rattle.std.proofs.lemmas.Fmt.{decimal_injective}
-use Rattle.std.proofs.lemmas.List.{append_assoc, append-nil, append_cancel_left}
-use Rattle.std.proofs.lemmas.List.Elements.{All-head, All-tail}
-use Rattle.chp_base.specs.Names.{IsNodeName}
-use Rattle.prs_core.specs.Moves.{high, fired}
+use Rattle.std.proofs.lemmas.List.{append_assoc, append_cancel_left}
 use Rattle.wave_file.specs.declared.fault.WaveFault.{WaveFault}
-use Rattle.wave_file.specs.Waves.{WaveValue, wave_of, IsWave, IsKeptWave, NeverFall, var_spelling, naming_lines, id_of, value_spelling_of, first_lines, time_mark, mark_before, change_lines}
-use Rattle.wave_file.specs.WaveLines.{is_id, id_value, GoesOnWithChange, is_free_of}
-use Rattle.wave_file.specs.WaveReading.{WavePlace, at_timescale, at_scope, at_names, at_definitions, at_start, at_values, at_changes, timescale_line, scope_line, upscope_line, definitions_line, start_line, front_at, IsPlaceBefore, WaveLine, stock, named, valued, timed, turned, BeginsWith, begins_timescale, begins_scope, begins_name, begins_upscope, begins_definitions, begins_start, begins_value, begins_time, begins_turn, wave_line_fault, place_behind, MayEndAt, IsFaultAt, no_line, bad_line}
+use Rattle.wave_file.specs.Waves.{var_spelling, id_of, value_spelling_of, time_mark}
+use Rattle.wave_file.specs.WaveLines.{is_id}
+use Rattle.wave_file.specs.WaveReading.{WavePlace, timescale_line, scope_line, upscope_line, definitions_line, start_line, WaveLine, named, valued, timed, turned, BeginsWith, begins_timescale, begins_scope, begins_name, begins_upscope, begins_definitions, begins_start, begins_value, begins_time, begins_turn, wave_line_fault, place_behind, IsFaultAt, no_line, bad_line}
 use Rattle.wave_file.proofs.Cutting.{cut_once, free_name, no_end_in_id, no_end_in_decimal}
 use Rattle.wave_file.proofs.Namings.{naming_once}
 use Rattle.wave_file.proofs.Stepping.{no_mark_and_turn}
@@ -43,7 +39,7 @@ turn_once false true i j a b one two e = let f : 48 ≡ 49 = ap (λ t. get_or t 
 pub time_once : (s t : ℕ) (a b : List ℕ) → s < 2 ^ 64 → t < 2 ^ 64 → time_mark s ++ a ≡ time_mark t ++ b → (s ≡ t) × (a ≡ b)
 time_once s t a b one two e =
     let cut = cut_once 10 (decimal s) (decimal t) a b (no_end_in_decimal s one) (no_end_in_decimal t two)
-        (sym (append_assoc (decimal s) (10 ∷ []) a) ∙ ap (drop 1) e ∙ append_assoc (decimal t) (10 ∷ []) b) in
+    (sym (append_assoc (decimal s) (10 ∷ []) a) ∙ ap (drop 1) e ∙ append_assoc (decimal t) (10 ∷ []) b) in
     (decimal_injective s t one two cut.0, cut.1)
 
 pub line_once : (text : List ℕ) (p : WavePlace) (l m : WaveLine) (a b : List ℕ) → BeginsWith text a p l → BeginsWith text b p m → (l ≡ m) × (a ≡ b)
@@ -95,7 +91,7 @@ overlap p q r text a b (on l begins none first) here = inr (inr (record { l = l;
 overlap p q r text a b (on {behind = x} l begins none first) (on {behind = y} m also free second) =
     let same = line_once text p l m x y begins also in
     overlap (place_behind p l) q r x a b first (subst (λ t. Leads (place_behind p l) t r b) (sym same.1)
-        (subst (λ k. Leads (place_behind p k) y r b) (sym same.0) second))
+    (subst (λ k. Leads (place_behind p k) y r b) (sym same.0) second))
 
 -- a place with a fault is the last one
 

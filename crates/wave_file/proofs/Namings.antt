@@ -1,5 +1,5 @@
 -- The line that names a node, piece by piece.
-use Rattle.std.proofs.Common.{◌≡◌, ℕ, true, List, [], ◌∷◌, ◌++◌, drop, refl, ap, sym, ◌∙◌}
+use Rattle.std.proofs.Common.{◌≡◌, ℕ, true, List, ◌∷◌, ◌++◌, drop, refl, ap, sym, ◌∙◌}
 use Rattle.std.specs.Prelude.{codes}
 use Rattle.std.proofs.lemmas.List.{append_assoc, append_cancel_left}
 use Rattle.wave_file.specs.Waves.{naming}
@@ -41,5 +41,5 @@ pub naming_once : (id a b rest more : List ℕ) → is_free_of 32 a ≡ true →
     (a ≡ b) × (rest ≡ more)
 naming_once id a b rest more one two e =
     let cut = cut_once 32 a b (codes "$end\n" ++ rest) (codes "$end\n" ++ more) one two (ap (drop 1) (append_cancel_left id (behind_id a rest) (behind_id b more)
-        (ap (drop 12) (sym (named_front (naming id a ++ rest) id a rest refl) ∙ e ∙ named_front (naming id b ++ more) id b more refl)))) in
+    (ap (drop 12) (sym (named_front (naming id a ++ rest) id a rest refl) ∙ e ∙ named_front (naming id b ++ more) id b more refl)))) in
     (cut.0, ap (drop 5) cut.1)

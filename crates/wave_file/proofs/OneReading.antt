@@ -1,13 +1,13 @@
 -- A text is one wave, or is refused for one cause at one line.
-use Rattle.std.proofs.Common.{◌≡◌, ℕ, inl, inr, ◌+◌, ◌<◌, ◌≤◌, ◌^◌, Result, Ok, Err, List, [], ◌∷◌, ◌++◌, length, refl, ap, sym, ◌∙◌, subst, arith}
+use Rattle.std.proofs.Common.{◌≡◌, ℕ, inl, inr, ◌+◌, Result, Ok, Err, List, [], ◌++◌, refl, ap, sym, ◌∙◌, subst, arith}
 use Rattle.std.specs.Prelude.{◌⊎◌, IfOk, IfErr}
-use Rattle.std.proofs.lemmas.List.{append_assoc, append-nil}
+use Rattle.std.proofs.lemmas.List.{append-nil}
 use Rattle.wave_file.specs.declared.fault.WaveError.{WaveError}
 use Rattle.wave_file.specs.declared.fault.WaveError.TheVariants.{Refused, NoMemory}
 use Rattle.wave_file.specs.declared.fault.WaveFault.{WaveFault}
 use Rattle.wave_file.specs.declared.wave.Wave.{Wave}
-use Rattle.wave_file.specs.Waves.{WaveValue, wave_spelling, naming_lines, first_lines, change_lines, mark_before}
-use Rattle.wave_file.specs.WaveReading.{WavePlace, at_timescale, at_changes, last_time, front_at, front_of_values, timescale_line, scope_line, upscope_line, definitions_line, start_line, IsPlaceBefore, IsFaultAt, no_line, bad_line, IsToldTo, IsWaveRefused, IsWaveText}
+use Rattle.wave_file.specs.Waves.{WaveValue, wave_spelling, change_lines}
+use Rattle.wave_file.specs.WaveReading.{WavePlace, at_timescale, at_changes, last_time, front_at, front_of_values, IsFaultAt, no_line, bad_line, IsWaveRefused, IsWaveText}
 use Rattle.wave_file.specs.WaveFaults.{OfWaveRefusal}
 use Rattle.wave_file.specs.WaveLines.{line_ends}
 use Rattle.wave_file.specs.WaveTold.{kept_wave}

@@ -1,7 +1,7 @@
 -- A text comes to each place that its front tells.
 use Rattle.std.proofs.Common.{◌≡◌, ℕ, Some, None, inl, inr, ◌+◌, ◌<◌, ◌≤◌, ◌^◌, Bool, true, false, List, [], ◌∷◌, ◌++◌, length, refl, ap, sym, ◌∙◌, subst, arith}
-use Rattle.std.specs.Prelude.{◌==◌, ◌⊎◌, not, nat_lt, nat_le, All, if◌then◌else◌}
-use Rattle.std.proofs.lemmas.Bool.{cases_lt, lt-ltb, ne_eqb, eqb-true}
+use Rattle.std.specs.Prelude.{◌==◌, ◌⊎◌, not, nat_le, All, if◌then◌else◌}
+use Rattle.std.proofs.lemmas.Bool.{cases_lt, lt-ltb, ne_eqb}
 use Rattle.std.proofs.lemmas.List.{append_assoc, append-nil, length_push}
 use Rattle.std.proofs.lemmas.List.Elements.{All-head, All-tail}
 use Rattle.chp_base.specs.Names.{IsNodeName}
@@ -9,7 +9,7 @@ use Rattle.prs_core.specs.Moves.{high, fired}
 use Rattle.wave_file.specs.declared.fault.WaveFault.TheVariants.{UnknownId, TimeBack, NoChange, TooMany}
 use Rattle.wave_file.specs.Waves.{WaveValue, wave_of, NeverFall, var_spelling, naming_lines, id_of, value_spelling_of, first_lines, time_mark, mark_before, change_lines}
 use Rattle.wave_file.specs.WaveLines.{id_value, GoesOnWithChange}
-use Rattle.wave_file.specs.WaveReading.{WavePlace, at_timescale, at_scope, at_names, at_definitions, at_start, at_values, at_changes, timescale_line, scope_line, upscope_line, definitions_line, start_line, last_time, front_of_names, front_of_values, front_at, AreWaveNodes, IsPlaceBefore, IsToldTo, WaveLine, stock, named, valued, timed, turned, BeginsWith, begins_timescale, begins_scope, begins_name, begins_upscope, begins_definitions, begins_start, begins_value, begins_time, begins_turn, values_behind, has_value, wave_line_fault, place_behind}
+use Rattle.wave_file.specs.WaveReading.{WavePlace, at_timescale, at_scope, at_names, at_definitions, at_start, at_values, at_changes, upscope_line, definitions_line, start_line, last_time, front_of_names, front_of_values, front_at, AreWaveNodes, IsPlaceBefore, IsToldTo, stock, named, valued, timed, turned, begins_timescale, begins_scope, begins_name, begins_upscope, begins_definitions, begins_start, begins_value, begins_time, begins_turn, values_behind, has_value, place_behind}
 use Rattle.wave_file.proofs.IdLemmas.{id_of_is}
 use Rattle.wave_file.proofs.Stepping.{same_mark}
 use Rattle.wave_file.proofs.WaveTexts.{values_push}
@@ -21,9 +21,9 @@ names_lead told [] rest all few = subst (λ names. Leads (at_names told) rest (a
 names_lead told (n ∷ more) rest all few =
     let next = names_lead (told ++ n ∷ []) more rest (All-tail IsNodeName n more all) (omega (arith, few, length_push told n)) in
     let moved = subst (λ names. Leads (at_names (told ++ n ∷ [])) (naming_lines (length (told ++ n ∷ [])) more ++ rest) (at_names names) rest)
-        (append_assoc told (n ∷ []) more) next in
+    (append_assoc told (n ∷ []) more) next in
     let counted = subst (λ k. Leads (at_names (told ++ n ∷ [])) (naming_lines k more ++ rest) (at_names (told ++ n ∷ more)) rest) (length_push told n)
-        moved in
+    moved in
     on (named n) (begins_name (All-head IsNodeName n more all) (append_assoc (var_spelling (length told) n) (naming_lines (length told + 1) more) rest))
     (ap (λ b. if b then None else Some TooMany) (lt-ltb (length told) 65537 (omega (arith, few)))) counted
 
@@ -33,7 +33,7 @@ values_lead : (names : List (List ℕ)) (told : List Bool) (v : Bool) (more : Li
 values_lead names told v [] rest count =
     let over : (length told + 1 == length names) ≡ true = same_count (length told + 1) (length names) (omega (arith, count)) in
     let place : at_changes (wave_of names (told ++ v ∷ []) []) 0 ≡ place_behind (at_values names told) (valued v) =
-        ap (λ b. if b then at_changes (wave_of names (told ++ v ∷ []) []) 0 else at_values names (told ++ v ∷ [])) (sym over) in
+    ap (λ b. if b then at_changes (wave_of names (told ++ v ∷ []) []) 0 else at_values names (told ++ v ∷ [])) (sym over) in
     on (valued v) (begins_value (ap (λ t. t ++ rest) (append-nil (value_spelling_of v (id_of (length told)))))) refl
     (subst (λ p. Leads p rest (at_changes (wave_of names (told ++ v ∷ []) []) 0) rest) place here)
   where
@@ -42,12 +42,12 @@ values_lead names told v [] rest count =
 values_lead names told v (w ∷ more) rest count =
     let next = values_lead names (told ++ v ∷ []) w more rest (omega (arith, count, length_push told v)) in
     let moved = subst (λ first. Leads (at_values names (told ++ v ∷ [])) (first_lines (length (told ++ v ∷ [])) (w ∷ more) ++ rest)
-        (at_changes (wave_of names first []) 0) rest) (append_assoc told (v ∷ []) (w ∷ more)) next in
+    (at_changes (wave_of names first []) 0) rest) (append_assoc told (v ∷ []) (w ∷ more)) next in
     let counted = subst (λ k. Leads (at_values names (told ++ v ∷ [])) (first_lines k (w ∷ more) ++ rest)
-        (at_changes (wave_of names (told ++ v ∷ (w ∷ more)) []) 0) rest) (length_push told v) moved in
+    (at_changes (wave_of names (told ++ v ∷ (w ∷ more)) []) 0) rest) (length_push told v) moved in
     let more_left : (length told + 1 == length names) ≡ false = ne_eqb (length told + 1) (length names) (λ e. absurd (omega (arith, e, count))) in
     let place : at_values names (told ++ v ∷ []) ≡ place_behind (at_values names told) (valued v) =
-        ap (λ b. if b then at_changes (wave_of names (told ++ v ∷ []) []) 0 else at_values names (told ++ v ∷ [])) (sym more_left) in
+    ap (λ b. if b then at_changes (wave_of names (told ++ v ∷ []) []) 0 else at_values names (told ++ v ∷ [])) (sym more_left) in
     on (valued v) (begins_value (append_assoc (value_spelling_of v (id_of (length told))) (first_lines (length told + 1) (w ∷ more)) rest)) refl
     (subst (λ p. Leads p (first_lines (length told + 1) (w ∷ more) ++ rest) (at_changes (wave_of names (told ++ v ∷ (w ∷ more)) []) 0) rest) place counted)
 
@@ -68,7 +68,7 @@ turn_leads w now node q text behind rest few most is next =
     let value = not (high (values_behind w.first w.changes) node) in
     let none : nat_le (length w.names) (id_value (id_of node)) ≡ false = ap (nat_le (length w.names)) id.1 ∙ below (length w.names) node few in
     let other : has_value (values_behind w.first w.changes) (id_value (id_of node)) value ≡ false =
-        ap (λ n. has_value (values_behind w.first w.changes) n value) id.1 ∙ has_not (values_behind w.first w.changes) node in
+    ap (λ n. has_value (values_behind w.first w.changes) n value) id.1 ∙ has_not (values_behind w.first w.changes) node in
     on (turned value (id_of node)) (begins_turn id.0 is)
     (ap (λ b. if b then Some UnknownId else (if has_value (values_behind w.first w.changes) (id_value (id_of node)) value then Some NoChange else None)) none
     ∙ ap (λ b. if b then Some NoChange else None) other)
@@ -102,13 +102,13 @@ IsEnd last end rest = (end ≡ last) ⊎ ((last < end) × (end < 2 ^ 64) × Goes
 changes_lead : (names : List (List ℕ)) (first : List Bool) (told more : List (ℕ × ℕ)) (now end : ℕ) (rest : List ℕ) → length names ≤ 65537 →
     All (λ (c : ℕ × ℕ). c.1 < length names) more → All (λ (c : ℕ × ℕ). c.0 < 2 ^ 64) more → NeverFall now more → IsEnd (last_time now more) end rest →
     Leads (at_changes (wave_of names first told) now) (change_lines now (values_behind first told) more ++ (mark_before (last_time now more) end ++ rest))
-        (at_changes (wave_of names first (told ++ more)) end) rest
+    (at_changes (wave_of names first (told ++ more)) end) rest
 changes_lead names first told [] now end rest most nodes small falls (inl is) =
     let w = wave_of names first told in
     let same : Leads (at_changes w now) rest (at_changes w now) rest = here in
     let marked : Leads (at_changes w now) (mark_before now end ++ rest) (at_changes w end) rest =
-        subst (λ e. Leads (at_changes w now) (mark_before now e ++ rest) (at_changes w e) rest) (sym is)
-        (subst (λ t. Leads (at_changes w now) (t ++ rest) (at_changes w now) rest) (sym (same_mark now)) same) in
+    subst (λ e. Leads (at_changes w now) (mark_before now e ++ rest) (at_changes w e) rest) (sym is)
+    (subst (λ t. Leads (at_changes w now) (t ++ rest) (at_changes w now) rest) (sym (same_mark now)) same) in
     subst (λ cs. Leads (at_changes w now) (mark_before now end ++ rest) (at_changes (wave_of names first cs) end) rest) (sym (append-nil told)) marked
 changes_lead names first told [] now end rest most nodes small falls (inr mark) =
     let w = wave_of names first told in
@@ -123,20 +123,20 @@ changes_lead names first told (c ∷ more) now end rest most nodes small falls e
     let few = All-head (λ (c : ℕ × ℕ). c.1 < length names) c more nodes in
     let id = id_of_is c.1 (omega (arith, few, most)) in
     let later = changes_lead names first (told ++ c ∷ []) more c.0 end rest most (All-tail (λ (c : ℕ × ℕ). c.1 < length names) c more nodes)
-        (All-tail (λ (c : ℕ × ℕ). c.0 < 2 ^ 64) c more small) falls.1 ends in
+    (All-tail (λ (c : ℕ × ℕ). c.0 < 2 ^ 64) c more small) falls.1 ends in
     let valued = subst (λ vs. Leads (at_changes (wave_of names first (told ++ c ∷ [])) c.0)
-        (change_lines c.0 vs more ++ (mark_before (last_time c.0 more) end ++ rest)) (at_changes (wave_of names first ((told ++ c ∷ []) ++ more)) end) rest)
-        (values_push first told c) later in
+    (change_lines c.0 vs more ++ (mark_before (last_time c.0 more) end ++ rest)) (at_changes (wave_of names first ((told ++ c ∷ []) ++ more)) end) rest)
+    (values_push first told c) later in
     let moved = subst (λ cs. Leads (at_changes (wave_of names first (told ++ c ∷ [])) c.0) tail (at_changes (wave_of names first cs) end) rest)
-        (append_assoc told (c ∷ []) more) valued in
+    (append_assoc told (c ∷ []) more) valued in
     let turned = turn_leads w c.0 c.1 q (value_spelling_of value (id_of c.1) ++ tail) tail rest few most refl moved in
     let marked = reach_time w now c.0 q (value_spelling_of value (id_of c.1) ++ tail) rest falls.0
-        (All-head (λ (c : ℕ × ℕ). c.0 < 2 ^ 64) c more small) (value, id_of c.1, tail, id.0, refl) turned in
+    (All-head (λ (c : ℕ × ℕ). c.0 < 2 ^ 64) c more small) (value, id_of c.1, tail, id.0, refl) turned in
     let line = mark_before now c.0 in
     let one = value_spelling_of value (id_of c.1) in
     let front = change_lines c.0 (fired (values_behind first told) c.1) more in
     let whole : line ++ (one ++ tail) ≡ ((line ++ one) ++ front) ++ (mark_before (last_time c.0 more) end ++ rest) =
-        sym (append_assoc (line ++ one) front (mark_before (last_time c.0 more) end ++ rest) ∙ append_assoc line one tail) in
+    sym (append_assoc (line ++ one) front (mark_before (last_time c.0 more) end ++ rest) ∙ append_assoc line one tail) in
     subst (λ t. Leads (at_changes w now) t q rest) whole marked
 
 -- a part of the first values
@@ -146,12 +146,12 @@ values_part names told [] rest few = subst (λ first. Leads (at_values names tol
 values_part names told (v ∷ more) rest few =
     let next = values_part names (told ++ v ∷ []) more rest (omega (arith, few, length_push told v)) in
     let moved = subst (λ first. Leads (at_values names (told ++ v ∷ [])) (first_lines (length (told ++ v ∷ [])) more ++ rest) (at_values names first) rest)
-        (append_assoc told (v ∷ []) more) next in
+    (append_assoc told (v ∷ []) more) next in
     let counted = subst (λ k. Leads (at_values names (told ++ v ∷ [])) (first_lines k more ++ rest) (at_values names (told ++ v ∷ more)) rest)
-        (length_push told v) moved in
+    (length_push told v) moved in
     let more_left : (length told + 1 == length names) ≡ false = ne_eqb (length told + 1) (length names) (λ e. absurd (omega (arith, e, few))) in
     let place : at_values names (told ++ v ∷ []) ≡ place_behind (at_values names told) (valued v) =
-        ap (λ b. if b then at_changes (wave_of names (told ++ v ∷ []) []) 0 else at_values names (told ++ v ∷ [])) (sym more_left) in
+    ap (λ b. if b then at_changes (wave_of names (told ++ v ∷ []) []) 0 else at_values names (told ++ v ∷ [])) (sym more_left) in
     on (valued v) (begins_value (append_assoc (value_spelling_of v (id_of (length told))) (first_lines (length told + 1) more) rest)) refl
     (subst (λ p. Leads p (first_lines (length told + 1) more ++ rest) (at_values names (told ++ v ∷ more)) rest) place counted)
 
@@ -207,8 +207,8 @@ to_changes w now rest is =
     let changes = change_lines 0 w.first w.changes in
     let mark = mark_before (last_time 0 w.changes) now in
     let whole : front_at (at_changes w now) ++ rest ≡ front_of_values w.names w.first ++ (changes ++ (mark ++ rest)) =
-        append_assoc (front_of_values w.names w.first) (changes ++ mark) rest
-        ∙ ap (λ t. front_of_values w.names w.first ++ t) (append_assoc changes mark rest) in
+    append_assoc (front_of_values w.names w.first) (changes ++ mark) rest
+    ∙ ap (λ t. front_of_values w.names w.first ++ t) (append_assoc changes mark rest) in
     subst (λ t. Leads at_timescale t (at_changes w now) rest) (sym whole)
     (chained at_timescale (at_changes (wave_of w.names w.first []) 0) (at_changes w now) _ (changes ++ (mark ++ rest)) rest
     (to_first w.names w.first (changes ++ (mark ++ rest)) nodes is.0.values)

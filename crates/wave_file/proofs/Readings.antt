@@ -1,6 +1,6 @@
 -- How a text is told line by line, and where it is refused.
 use Rattle.std.proofs.Common.{◌≡◌, ◌≢◌, ℕ, Some, None, inl, inr, ◌+◌, ◌*◌, ◌<◌, ◌≤◌, ◌^◌, Bool, true, false, Option, Result, Ok, Err, IfOk, IfErr, List, [], ◌∷◌, ◌++◌, length, take, drop, refl, ap, sym, ◌∙◌, subst, arith, length-append}
-use Rattle.std.specs.Prelude.{◌==◌, ◌⊎◌, not, nat_lt, nat_le, if◌then◌else◌}
+use Rattle.std.specs.Prelude.{◌==◌, ◌⊎◌, not, nat_le, if◌then◌else◌}
 use Rattle.std.specs.Borrow.{Bor}
 use Rattle.std.specs.Result.{IsErrAnd}
 use Rattle.std.proofs.lemmas.Bool.{lt-ltb, le-ltb, ne_eqb, eqb-true}
@@ -13,12 +13,12 @@ use Rattle.wave_file.specs.declared.fault.WaveFault.TheVariants.{BadLine, Unknow
 use Rattle.wave_file.specs.declared.fault.WaveError.{WaveError}
 use Rattle.wave_file.specs.declared.fault.WaveError.TheVariants.{Refused, NoMemory}
 use Rattle.wave_file.specs.declared.wave.Wave.{Wave}
-use Rattle.wave_file.specs.Waves.{WaveValue, wave_of, IsWave, wave_spelling, var_spelling, id_of, value_spelling_of, time_mark, change_lines, naming_lines, first_lines, mark_before}
+use Rattle.wave_file.specs.Waves.{WaveValue, wave_of, wave_spelling, var_spelling, id_of, value_spelling_of, time_mark, change_lines, naming_lines, first_lines, mark_before}
 use Rattle.wave_file.specs.WaveFaults.{OfWaveRefusal}
 use Rattle.wave_file.specs.WaveLines.{GoesOnWithChange, is_id, id_value}
-use Rattle.wave_file.specs.WaveReading.{WavePlace, at_timescale, at_scope, at_names, at_definitions, at_start, at_values, at_changes, timescale_line, scope_line, upscope_line, definitions_line, start_line, front_of_names, front_of_values, last_time, front_at, AreWaveNodes, IsPlaceBefore, WaveLine, stock, named, valued, timed, turned, BeginsWith, begins_timescale, begins_scope, begins_name, begins_upscope, begins_definitions, begins_start, begins_value, begins_time, begins_turn, values_behind, has_value, wave_line_fault, MayEndAt, IsFaultAt, no_line, bad_line, IsToldTo, IsWaveRefused, IsWaveText, place_behind}
+use Rattle.wave_file.specs.WaveReading.{WavePlace, at_timescale, at_scope, at_names, at_definitions, at_start, at_values, at_changes, timescale_line, scope_line, upscope_line, definitions_line, start_line, front_of_values, last_time, front_at, WaveLine, stock, named, valued, turned, BeginsWith, begins_timescale, begins_scope, begins_name, begins_upscope, begins_definitions, begins_start, begins_value, begins_time, begins_turn, values_behind, has_value, wave_line_fault, MayEndAt, IsFaultAt, no_line, bad_line, IsToldTo, IsWaveRefused, IsWaveText, place_behind}
 use Rattle.wave_file.specs.WaveTold.{kept_wave, ComesOn, IsRefusedFrom}
-use Rattle.wave_file.proofs.Stepping.{IsOneLine, step, same_mark, begin_front, begin_reached}
+use Rattle.wave_file.proofs.Stepping.{step, same_mark}
 use Rattle.wave_file.proofs.WaveTexts.{values_push}
 
 pub told_step : (whole rest behind : List ℕ) (lines : ℕ) (p : WavePlace) (l : WaveLine) → IsToldTo whole lines p rest → BeginsWith rest behind p l →
@@ -126,7 +126,7 @@ pub names_more : (whole rest behind : List ℕ) (names : List (List ℕ)) (name 
     IsToldTo whole (length (names ++ name ∷ []) + 2) (at_names (names ++ name ∷ [])) behind
 names_more whole rest behind names name so_far few is begins =
     let next = told_step whole rest behind (length names + 2) (at_names names) (named name) so_far (begins_name is begins)
-        (ap (λ b. if b then None else Some TooMany) (lt-ltb (length names) 65537 few)) in
+    (ap (λ b. if b then None else Some TooMany) (lt-ltb (length names) 65537 few)) in
     let count : (length names + 2) + 1 ≡ length (names ++ name ∷ []) + 2 = omega (arith, length_push names name) in
     subst (λ n. IsToldTo whole n (at_names (names ++ name ∷ [])) behind) count next
 
@@ -193,7 +193,7 @@ pub start_told : (whole rest behind more : List ℕ) (names : List (List ℕ)) �
     rest ≡ definitions_line ++ behind → behind ≡ start_line ++ more → IsToldTo whole (length names + 5) (at_values names []) more
 start_told whole rest behind more names so_far is also =
     let next = told_step whole behind more (length names + 4) (at_start names) stock (definitions_told whole rest behind names so_far is)
-        (begins_start also) refl in
+    (begins_start also) refl in
     let count : (length names + 4) + 1 ≡ length names + 5 = omega arith in
     subst (λ n. IsToldTo whole n (at_values names []) more) count next
 
@@ -228,7 +228,7 @@ pub values_begin : (whole rest : List ℕ) (names : List (List ℕ)) → IsToldT
 values_begin whole rest names so_far =
     let count : length names + 5 ≡ length names + 0 + 5 = omega arith in
     subst (λ n. IsToldTo whole n (place_of_values names []) rest) count (subst (λ p. IsToldTo whole (length names + 5) p rest)
-        (sym (values_open names [] (omega (arith, so_far.reached.1)))) so_far)
+    (sym (values_open names [] (omega (arith, so_far.reached.1)))) so_far)
 
 pub values_more : (whole rest behind : List ℕ) (names : List (List ℕ)) (first : List Bool) (value : Bool) (node : ℕ) → node ≡ length first →
     node < length names → IsToldTo whole (length names + node + 5) (place_of_values names first) rest →
@@ -236,13 +236,13 @@ pub values_more : (whole rest behind : List ℕ) (names : List (List ℕ)) (firs
     IsToldTo whole (length names + (node + 1) + 5) (place_of_values names (first ++ value ∷ [])) behind
 values_more whole rest behind names first value node is some so_far begins =
     let here : IsToldTo whole (length names + node + 5) (at_values names first) rest =
-        subst (λ p. IsToldTo whole (length names + node + 5) p rest) (values_open names first (omega (arith, is, some))) so_far in
+    subst (λ p. IsToldTo whole (length names + node + 5) p rest) (values_open names first (omega (arith, is, some))) so_far in
     let next = told_step whole rest behind (length names + node + 5) (at_values names first) (valued value) here
-        (begins_value (begins ∙ ap (λ k. value_spelling_of value (id_of k) ++ behind) is)) refl in
+    (begins_value (begins ∙ ap (λ k. value_spelling_of value (id_of k) ++ behind) is)) refl in
     let count : (length names + node + 5) + 1 ≡ length names + (node + 1) + 5 = omega arith in
     let place : place_behind (at_values names first) (valued value) ≡ place_of_values names (first ++ value ∷ []) =
-        ap (λ n. if n == length names then at_changes (wave_of names (first ++ value ∷ []) []) 0 else at_values names (first ++ value ∷ []))
-            (sym (length_push first value)) in
+    ap (λ n. if n == length names then at_changes (wave_of names (first ++ value ∷ []) []) 0 else at_values names (first ++ value ∷ []))
+    (sym (length_push first value)) in
     subst (λ n. IsToldTo whole n (place_of_values names (first ++ value ∷ [])) behind) count
     (subst (λ p. IsToldTo whole ((length names + node + 5) + 1) p behind) place next)
 
@@ -252,7 +252,7 @@ pub values_refused : (whole rest : List ℕ) (names : List (List ℕ)) (first : 
     IsWaveRefused whole BadLine line
 values_refused whole rest names first node line is some so_far none count =
     let here : IsToldTo whole (length names + node + 5) (at_values names first) rest =
-        subst (λ p. IsToldTo whole (length names + node + 5) p rest) (values_open names first (omega (arith, is, some))) so_far in
+    subst (λ p. IsToldTo whole (length names + node + 5) p rest) (values_open names first (omega (arith, is, some))) so_far in
     refuse whole (length names + node + 5) (at_values names first) rest BadLine line here (no_line (λ end. end) never) (omega (arith, count))
   where
     never : (l : WaveLine) (behind : List ℕ) → BeginsWith rest behind (at_values names first) l → ⊥
@@ -263,7 +263,7 @@ pub values_over : (whole rest : List ℕ) (names : List (List ℕ)) (first : Lis
     IsToldTo whole (2 * length names + 5) (at_changes (wave_of names first []) 0) rest
 values_over whole rest names first node is all so_far =
     let over : place_of_values names first ≡ at_changes (wave_of names first []) 0 =
-        ap (λ b. if b then at_changes (wave_of names first []) 0 else at_values names first) (same_count (length first) (length names) (sym is ∙ all)) in
+    ap (λ b. if b then at_changes (wave_of names first []) 0 else at_values names first) (same_count (length first) (length names) (sym is ∙ all)) in
     let count : length names + node + 5 ≡ 2 * length names + 5 = omega (arith, all) in
     subst (λ n. IsToldTo whole n (at_changes (wave_of names first []) 0) rest) count
     (subst (λ p. IsToldTo whole (length names + node + 5) p rest) over so_far)
@@ -305,7 +305,7 @@ pub turn_unknown : (w : WaveValue) (now : ℕ) (value : Bool) (id : List ℕ) �
     Some UnknownId ≡ wave_line_fault (at_changes w now) (turned value id)
 turn_unknown w now value id many =
     sym (ap (λ b. if b then Some UnknownId else (if has_value (values_behind w.first w.changes) (id_value id) value then Some NoChange else None))
-        (at_most (length w.names) (id_value id) many))
+    (at_most (length w.names) (id_value id) many))
   where
     at_most : (m n : ℕ) → m ≤ n → nat_le m n ≡ true
     at_most m n less = grind arith
@@ -315,7 +315,7 @@ pub turn_known : (w : WaveValue) (now : ℕ) (value : Bool) (id : List ℕ) (has
     (if has then Some NoChange else None) ≡ wave_line_fault (at_changes w now) (turned value id)
 turn_known w now value id has few is =
     sym (ap (λ b. if b then Some UnknownId else (if has_value (values_behind w.first w.changes) (id_value id) value then Some NoChange else None))
-        (below (length w.names) (id_value id) few)
+    (below (length w.names) (id_value id) few)
     ∙ ap (λ b. if b then Some NoChange else None) is)
   where
     below : (m n : ℕ) → n < m → nat_le m n ≡ false
@@ -360,10 +360,10 @@ change_wrong w now text some no_turn no_mark = no_line (λ end. absurd (omega (a
 
 pub spelling_pieces : (w : WaveValue) (all : List ℕ) → front_of_values w.names w.first ++ (all ++ [])
     ≡ timescale_line ++ (scope_line ++ (naming_lines 0 w.names ++ (upscope_line ++ (definitions_line ++ (start_line ++ (first_lines 0 w.first
-        ++ (all ++ [])))))))
+    ++ (all ++ [])))))))
 spelling_pieces w all =
     ap (λ t. timescale_line ++ (scope_line ++ t)) (append_assoc (naming_lines 0 w.names) (upscope_line ++ (definitions_line ++ (start_line
-        ++ first_lines 0 w.first))) (all ++ []))
+    ++ first_lines 0 w.first))) (all ++ []))
 
 no_change_behind : GoesOnWithChange [] → ⊥
 no_change_behind change = by_value change.0 change.4

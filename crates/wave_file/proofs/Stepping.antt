@@ -1,7 +1,7 @@
 -- One line more of a wave.
-use Rattle.std.proofs.Common.{◌≡◌, ℕ, Some, None, cond, inl, inr, ◌+◌, ◌<◌, ◌≤◌, ◌^◌, Bool, true, false, List, [], ◌∷◌, ◌++◌, length, get_or, refl, ap, sym, ◌∙◌, subst, arith, length-append}
-use Rattle.std.specs.Prelude.{◌==◌, ◌⊎◌, not, nat_lt, nat_le, All, if◌then◌else◌}
-use Rattle.std.proofs.lemmas.Bool.{cases_lt, lt-ltb, le-ltb, ne_eqb, eqb-true}
+use Rattle.std.proofs.Common.{◌≡◌, ℕ, Some, None, inl, inr, ◌+◌, ◌<◌, ◌≤◌, ◌^◌, Bool, true, false, List, [], ◌∷◌, ◌++◌, length, get_or, refl, ap, sym, ◌∙◌, subst, arith}
+use Rattle.std.specs.Prelude.{◌==◌, ◌⊎◌, not, nat_le, All, if◌then◌else◌}
+use Rattle.std.proofs.lemmas.Bool.{cases_lt, le-ltb, ne_eqb, eqb-true}
 use Rattle.std.proofs.lemmas.List.{append_assoc, append-nil, length_push}
 use Rattle.std.proofs.lemmas.List.Elements.{All-nil, All-head, All-tail, All-push}
 use Rattle.chp_base.specs.Names.{IsNodeName}
@@ -9,7 +9,7 @@ use Rattle.prs_core.specs.Moves.{high}
 use Rattle.wave_file.specs.declared.fault.WaveFault.TheVariants.{TimeBack, TooMany, UnknownId, NoChange}
 use Rattle.wave_file.specs.Waves.{WaveValue, wave_of, IsWave, IsKeptWave, NeverFall, var_spelling, naming_lines, id_of, value_spelling_of, first_lines, time_mark, mark_before, change_lines}
 use Rattle.wave_file.specs.WaveLines.{is_id, id_value, GoesOnWithChange, line_ends}
-use Rattle.wave_file.specs.WaveReading.{WavePlace, at_timescale, at_scope, at_names, at_definitions, at_start, at_values, at_changes, timescale_line, scope_line, upscope_line, definitions_line, start_line, front_of_names, front_of_values, last_time, front_at, AreWaveNodes, IsPlaceBefore, WaveLine, stock, named, valued, timed, turned, BeginsWith, begins_timescale, begins_scope, begins_name, begins_upscope, begins_definitions, begins_start, begins_value, begins_time, begins_turn, values_behind, has_value, wave_line_fault, place_behind}
+use Rattle.wave_file.specs.WaveReading.{WavePlace, at_timescale, at_scope, at_names, at_definitions, at_start, at_values, at_changes, timescale_line, scope_line, upscope_line, definitions_line, start_line, front_of_names, front_of_values, last_time, front_at, AreWaveNodes, IsPlaceBefore, WaveLine, valued, BeginsWith, begins_timescale, begins_scope, begins_name, begins_upscope, begins_definitions, begins_start, begins_value, begins_time, begins_turn, values_behind, has_value, wave_line_fault, place_behind}
 use Rattle.wave_file.proofs.Cutting.{same_byte}
 use Rattle.wave_file.proofs.Ends.{ends_append, var_ends, value_ends, time_ends}
 use Rattle.wave_file.proofs.IdLemmas.{id_back, id_of_is}
@@ -67,9 +67,9 @@ value_front : (names : List (List ℕ)) (first : List Bool) (value : Bool) →
 value_front names first value =
     let count : 0 + length first ≡ length first = omega arith in
     ap (λ t. front_of_names names ++ (upscope_line ++ (definitions_line ++ (start_line ++ t))))
-        (first_push 0 first value ∙ ap (λ k. first_lines 0 first ++ value_spelling_of value (id_of k)) count)
+    (first_push 0 first value ∙ ap (λ k. first_lines 0 first ++ value_spelling_of value (id_of k)) count)
     ∙ sym (append_assoc (front_of_names names) (upscope_line ++ (definitions_line ++ (start_line ++ first_lines 0 first)))
-        (value_spelling_of value (id_of (length first))))
+    (value_spelling_of value (id_of (length first))))
 
 -- before the changes
 pub begin_front : (names : List (List ℕ)) (first : List Bool) → front_at (at_changes (wave_of names first []) 0) ≡ front_of_values names first
@@ -181,7 +181,7 @@ turn_more w now value id rest behind reached form few other whole =
     ap (λ v. value_spelling_of v (id_of node)) (has_other (values_behind w.first w.changes) node value other) ∙ ap (value_spelling_of value) (sym spelled) in
     let over : mark_before (last_time 0 (w.changes ++ (now, node) ∷ [])) now ≡ [] = ap (λ t. mark_before t now) (last_push 0 w.changes now node) ∙ same_mark now in
     let inner : change_lines 0 w.first (w.changes ++ (now, node) ∷ []) ++ mark_before (last_time 0 (w.changes ++ (now, node) ∷ [])) now
-        ≡ (all ++ mark_before last now) ++ line =
+    ≡ (all ++ mark_before last now) ++ line =
     ap (λ t. change_lines 0 w.first (w.changes ++ (now, node) ∷ []) ++ t) over ∙ append-nil (change_lines 0 w.first (w.changes ++ (now, node) ∷ []))
     ∙ change_push 0 w.first w.changes (now, node) ∙ ap (λ t. all ++ (mark_before last now ++ t)) turn ∙ sym (append_assoc all (mark_before last now) line) in
     one_line (at_changes w now) (at_changes (wave_of w.names w.first (w.changes ++ (now, node) ∷ [])) now) line rest behind

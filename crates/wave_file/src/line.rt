@@ -54,11 +54,7 @@ fn naming_in<'a>(id: &[u8], text: &'a [u8]) -> Option<(&'a [u8], &'a [u8])>
 }
 
 /// The name that the first line gives to the node, and what stands behind the line, or None where it gives it none.
-pub fn named_in(
-    alloc: Global,
-    node: u32,
-    text: &[u8],
-) -> Result<Option<(Name, &[u8])>, AllocError>
+pub fn named_in(alloc: Global, node: u32, text: &[u8]) -> Result<Option<(Name, &[u8])>, AllocError>
     requires { node < 830584 }
     ensures some { IfOk result (λ o. IfSome o (λ r. text.now ≡ var_spelling node r.0 ++ r.1.now)) }
     ensures name { IfOk result (λ o. IfSome o (λ r. IsNodeName r.0)) }
@@ -95,11 +91,7 @@ fn behind_value(
 }
 
 /// The value that the node takes in the first line, and what stands behind the line, or None where it takes none.
-pub fn valued_in(
-    alloc: Global,
-    node: u32,
-    text: &[u8],
-) -> Result<Option<(bool, &[u8])>, AllocError>
+pub fn valued_in(alloc: Global, node: u32, text: &[u8]) -> Result<Option<(bool, &[u8])>, AllocError>
     requires { node < 830584 }
     ensures some { IfOk result
         (λ o. IfSome o (λ r. text.now ≡ value_spelling_of r.0 (id_of node) ++ r.1.now)) }

@@ -1,4 +1,4 @@
-use Rattle.std.proofs.Common.{◌≡◌, ◌∙◌, List, Bool, ap, length, false}
+use Rattle.std.proofs.Common.{◌≡◌, ◌∙◌, ap, length, false}
 use Rattle.event_sim.specs.Following.{power_of}
 use Rattle.wave_file.specs.CauseChains.{values_given}
 use Rattle.wave_file.proofs.Chains.{causes_told, chain_within}

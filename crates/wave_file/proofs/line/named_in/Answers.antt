@@ -1,6 +1,5 @@
-use Rattle.std.proofs.Common.{◌≡◌, ◌≢◌, ◌++◌, ℕ, List, true, sym, ◌∙◌, ap, subst}
+use Rattle.std.proofs.Common.{◌++◌, sym, ◌∙◌, ap, subst}
 use Rattle.wave_file.specs.Waves.{id_of, naming}
-use Rattle.wave_file.specs.WaveLines.{is_free_of}
 use Rattle.chp_base.specs.Names.{IsNodeName}
 use Rattle.wave_file.proofs.Cutting.{free_name}
 use Rattle.wave_file.proofs.Namings.{naming_once}
@@ -16,5 +15,5 @@ returns-clause-none c =
     let id = c.deref.ensures.value ∙ c.in_ok-id_text.ensures ∙ ap (λ t. t ++ id_of c.args.node) c.new-id.ensures.items in
     λ name rest is whole.
     let same = naming_once (id_of c.args.node) name c.in-Some.name.now rest c.in-Some.rest.now (free_name name is) c.in-Some.ensures.free
-        (sym whole ∙ c.in-Some.ensures.some ∙ ap (λ i. naming i c.in-Some.name.now ++ c.in-Some.rest.now) id) in
+    (sym whole ∙ c.in-Some.ensures.some ∙ ap (λ i. naming i c.in-Some.name.now ++ c.in-Some.rest.now) id) in
     (rw c.in-None.is at c.in_ok-name.ensures.none) (subst IsNodeName same.0 is)

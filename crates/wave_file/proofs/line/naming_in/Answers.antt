@@ -1,5 +1,3 @@
-use Rattle.std.proofs.Common.{◌∷◌, ◌++◌, [], sym, ◌∙◌, ap}
-use Rattle.std.specs.Prelude.{codes}
 use Rattle.wave_file.proofs.Namings.{named_front, named_id, named_space, named_cut, named_end, named_whole}
 use Rattle.wave_file.proofs.line.naming_in.Goals as goal
 

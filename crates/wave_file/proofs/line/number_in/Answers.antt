@@ -1,4 +1,4 @@
-use Rattle.std.proofs.Common.{◌≡◌, get_or, true, refl, sym, ◌∙◌, arith}
+use Rattle.std.proofs.Common.{get_or, refl, sym, ◌∙◌, arith}
 use Rattle.wave_file.proofs.Numbers.{not_a_digit, too_large, value_more}
 use Rattle.wave_file.proofs.line.number_in.Goals as goal
 

@@ -8,5 +8,5 @@ pub returns-in_err-time-clause-none : goal.returns-in_err-time-clause-none
 returns-in_err-time-clause-none c = rw c.from_residual-in_err-time.ensures (λ time rest small whole.
     let inner = ap (drop 1) (sym c.in_ok-text.ensures.some ∙ whole) ∙ append_assoc (decimal time) (10 ∷ []) rest in
     let same = cut_once 10 c.in_ok-digits.digits.now (decimal time) c.in_ok-digits.rest.now rest c.in_ok-digits.ensures.free
-        (no_end_in_decimal time small) (sym c.in_ok-digits.ensures.some ∙ inner) in
+    (no_end_in_decimal time small) (sym c.in_ok-digits.ensures.some ∙ inner) in
     c.in_err-time.ensures.none time small same.0)

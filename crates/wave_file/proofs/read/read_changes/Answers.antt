@@ -1,4 +1,4 @@
-use Rattle.std.proofs.Common.{◌≡◌, ◌∙◌, sym, ap, refl, length, arith}
+use Rattle.std.proofs.Common.{◌∙◌, sym, ap, refl, length, arith}
 use Rattle.wave_file.specs.WaveTold.{place_told, kept_wave}
 use Rattle.wave_file.proofs.Readings.{refuse, some_left, none_left, changes_more, changes_shorter, changes_over}
 use Rattle.wave_file.proofs.read.read_changes.Goals as goal

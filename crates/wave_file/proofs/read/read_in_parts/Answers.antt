@@ -1,6 +1,6 @@
-use Rattle.std.proofs.Common.{◌≡◌, ◌+◌, ◌*◌, [], ◌∙◌, sym, ap, length, arith}
+use Rattle.std.proofs.Common.{◌+◌, ◌*◌, ◌∙◌, arith}
 use Rattle.wave_file.specs.Waves.{wave_of}
-use Rattle.wave_file.specs.WaveReading.{IsToldTo, at_changes, at_definitions, at_values}
+use Rattle.wave_file.specs.WaveReading.{at_changes}
 use Rattle.wave_file.proofs.Readings.{refused_on, refused_whole, read_whole, begin_changes, told_short}
 use Rattle.wave_file.proofs.read.read_in_parts.Goals as goal
 

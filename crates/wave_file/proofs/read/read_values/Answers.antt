@@ -1,4 +1,4 @@
-use Rattle.std.proofs.Common.{◌≡◌, ◌++◌, ◌+◌, length, sym, ap, subst, arith, length-append}
+use Rattle.std.proofs.Common.{◌+◌, length, sym, ap, subst, arith, length-append}
 use Rattle.wave_file.specs.Waves.{value_spelling_of, id_of}
 use Rattle.wave_file.specs.WaveReading.{IsToldTo}
 use Rattle.wave_file.proofs.Readings.{place_of_values, values_begin, values_more, values_refused, values_over}

@@ -1,4 +1,4 @@
-use Rattle.std.proofs.Common.{◌≡◌, true, false, sym, ap, ◌∙◌, arith}
+use Rattle.std.proofs.Common.{true, false, sym, ap, ◌∙◌, arith}
 use Rattle.prs_core.specs.Moves.{fired}
 use Rattle.wave_file.specs.WaveTold.{kept_wave}
 use Rattle.wave_file.proofs.Readings.{has_same, turn_unknown, turn_known, turn_place, turn_values}

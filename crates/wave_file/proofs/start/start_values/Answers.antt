@@ -1,4 +1,4 @@
-use Rattle.std.proofs.Common.{◌∙◌, ◌<◌, ◌+◌, ◌++◌, length, take, map, ap, sym, [], ◌∷◌, List, Bool, false, arith}
+use Rattle.std.proofs.Common.{◌∙◌, ◌<◌, ◌++◌, length, map, ap, sym, [], ◌∷◌, List, Bool, false, arith}
 use Rattle.std.proofs.lemmas.List.{take_more_set, length-set}
 use Rattle.std.proofs.lemmas.List.FromFn.{map-range_with_len_more}
 use Rattle.std.specs.List.{range_with_len}
