@@ -54,11 +54,11 @@ module _ (p : TypedProgram) (script : List OfferValue) (hold : RoundsHold p scri
 
 since_few : (reset : Option ℕ) (ns : List ℕ) → moves_since_reset reset ns ≤ length ns
 since_few reset [] = omega arith
-since_few reset (n ∷ ns) = go (is_reset reset n) refl
+since_few reset (n ∷ ns) = go (is_reset reset n) refl (since_few reset ns)
   where
-    go : (b : Bool) → is_reset reset n ≡ b → moves_since_reset reset (n ∷ ns) ≤ length (n ∷ ns)
-    go true e = rw e (omega arith)
-    go false e = rw e (let few = since_few reset ns in omega (arith, few))
+    go : (b : Bool) → is_reset reset n ≡ b → moves_since_reset reset ns ≤ length ns → moves_since_reset reset (n ∷ ns) ≤ length (n ∷ ns)
+    go true e few = rw e (omega arith)
+    go false e few = rw e (omega arith)
 
 -- ---- what has passed in the run is a front of what passes in as many rounds
 

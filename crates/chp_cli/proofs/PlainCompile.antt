@@ -893,6 +893,7 @@ module _ (buffer : Option Text) where
       turn a rest (some_plain f t r) = file_met a rest f t r ∙ behind_file a rest f t r
 
 compile_outcome : (name : Text) (words : List Text) → compile_of name words ≡ outcome name (at nothing_held None idle false) words
+unfolding compile_of
 compile_outcome name words = rw (takes_is name words) refl
 
 -- what the form takes is the plain reading

@@ -1,10 +1,11 @@
 -- Where nothing speaks against it, a command writes.
-use Rattle.std.proofs.Common.{◌≡◌, ◌∙◌, ℕ, ◌≤◌, List, true, refl, ap, subst, arith}
+use Rattle.std.proofs.Common.{◌≡◌, ◌∙◌, ℕ, ◌≤◌, Bool, List, true, refl, ap, subst, arith}
 use Rattle.chp_syntax.specs.Reading.{Reads}
 use Rattle.chp_base.specs.declared.fault.Fault.{Fault}
 use Rattle.chp_syntax.specs.Trees.{ProgramTree}
 use Rattle.width_check.specs.Accepted.{IsAccepted}
 use Rattle.width_check.specs.Form.{typed_form}
+use Rattle.width_check.specs.Processes.{TypedProgram}
 use Rattle.handshake_expand.specs.Layout.{node_count}
 use Rattle.prs_core.specs.Nets.{NetValue}
 use Rattle.prs_file.specs.Spelling.{NetText}
@@ -18,18 +19,25 @@ use Rattle.chp_cli.specs.Migrating.{Migrates, IsToMigrate, named_reset, taken, m
 use Rattle.chp_cli.specs.Steps.{FromChecks, FromNodes, IsFaulty, has_calls, faulty, accepted, no_file, long_file, a_file, no_program, a_program, too_many, few_enough, no_net, a_net, most_of_nodes}
 use Rattle.chp_cli.proofs.OneAnswers.{same_text, too_long, not_there, needs_channel, one_buffered}
 
+-- a circuit that isn't too large
+nodes_write : (reset : Bool) (p : TypedProgram) (a : Answer) → node_count p ≤ most_of_nodes → FromNodes p (CompilesNet reset) a → status_of a ≡ Done
+nodes_write reset p a within (too_many many) = absurd (omega (arith, within, many))
+nodes_write reset p a within (few_enough few (compiled d)) = refl
+
 -- to an accepted program that can have its buffer, whose circuit isn't too large then
 module _ (c : AskedCompilation) (no_fault : (program : ProgramTree) (f : Fault) → IsAccepted program → ¬ IsFaulty program f) where
+  buffer_writes : (program made : ProgramTree) (a : Answer) → node_count (typed_form made) ≤ most_of_nodes → IsBuffered program c.buffer made →
+      FromBuffer program c.buffer (λ p. FromNodes p (CompilesNet c.reset)) a → status_of a ≡ Done
+  buffer_writes p q a few buffered (no_channel {name = x} named not) = needs_channel p c.buffer x q named not buffered
+  buffer_writes p q a few buffered (has_channel r also next) =
+      nodes_write c.reset (typed_form r) a
+      (subst (λ (t : ProgramTree). node_count (typed_form t) ≤ most_of_nodes) (one_buffered p c.buffer q r buffered also) few) next
+
   accepted_writes : (program made : ProgramTree) (a : Answer) → node_count (typed_form made) ≤ most_of_nodes → IsBuffered program c.buffer made →
       IsAccepted program → FromChecks program (FromBuffer program c.buffer (λ p. FromNodes p (CompilesNet c.reset))) a → status_of a ≡ Done
   accepted_writes p q a few buffered is (has_calls some) = absurd (some is.call_free)
   accepted_writes p q a few buffered is (faulty {fault = f} free bad) = absurd (no_fault p f is bad)
-  accepted_writes p q a few buffered is (accepted are (no_channel {name = x} named not)) = needs_channel p c.buffer x q named not buffered
-  accepted_writes p q a few buffered is (accepted are (has_channel r also (too_many many))) =
-      let within : node_count (typed_form r) ≤ most_of_nodes =
-      subst (λ (t : ProgramTree). node_count (typed_form t) ≤ most_of_nodes) (one_buffered p c.buffer q r buffered also) few in
-      absurd (omega (arith, within, many))
-  accepted_writes p q a few buffered is (accepted are (has_channel r also (few_enough within (compiled d)))) = refl
+  accepted_writes p q a few buffered is (accepted are next) = buffer_writes p q a few buffered next
 
   pub compile_writes : (given : Given) → given.tells ≡ true → IsToCompile c given → (a : Answer) → Compiles c given a → status_of a ≡ Done
   compile_writes given told t a (no_file lacks) = not_there lacks.none t.held

@@ -37,7 +37,7 @@ compile_with file reset buffer =
     option_map (λ name. record { file = name; reset = is_set reset; buffer = buffer }) file
 
 -- what the words behind `compile` ask for, where its form takes them
-abbrev pub compile_of : Text → List Text → Option AskedCompilation
+unfoldable pub compile_of : Text → List Text → Option AskedCompilation
 compile_of name words = if takes (compile_form name) words
     then compile_with (first_of (codes "FILE") (matches_of (compile_form name) words))
     (first_of (codes "reset") (matches_of (compile_form name) words))

@@ -26,8 +26,10 @@ returns-then-not-is_inner_channel-clause-stopped c =
     let same =
     that_name c.args.program.now.decls.items c.in-Some.text.now c.declared_name.result told c.in-Some-declared_name.chan c.in-Some-declared_name.is in
     no_channel (named _ _ c.in-Some.is)
-    (λ inner. cc (c.is_inner_channel.ensures.1 (subst (λ (name : List ℕ). IsInnerChannel c.args.program.now.decls.items name) (sym same) inner),
-    c.if-not-is_inner_channel.true))
+    (λ inner. cc (
+      c.is_inner_channel.ensures.1 (subst (λ (name : List ℕ). IsInnerChannel c.args.program.now.decls.items name) (sym same) inner),
+      c.if-not-is_inner_channel.true,
+    ))
 
 pub resolved_with_buffer-requires-clause-inner : goal.resolved_with_buffer-requires-clause-inner
 resolved_with_buffer-requires-clause-inner c = c.if-not-is_inner_channel.ensures.0 refl

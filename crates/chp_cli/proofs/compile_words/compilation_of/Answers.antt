@@ -20,6 +20,7 @@ refused_compile : (a b : App) (words : List Text) → a ≡ b → false ≡ take
 refused_compile a b words same refused = rw (← same, ← refused) refl
 
 pub returns-in-Ok-Some : goal.returns-in-Ok-Some
+unfolding compile_of
 returns-in-Ok-Some c =
     let name = c.args.name.now in
     let words = c.args.words.now in
@@ -33,6 +34,7 @@ returns-in-Ok-Some c =
     record { form = given; plain = given ∙ compile_is name words }
 
 pub returns-in-Ok-None : goal.returns-in-Ok-None
+unfolding compile_of
 returns-in-Ok-None c =
     let name = c.args.name.now in
     let words = c.args.words.now in
