@@ -15,8 +15,8 @@ use cases::obey;
 use std::{fs, io};
 
 const TOPICS: [&str; 14] = [
-    "texts", "compile", "check", "expand", "grow", "migrate", "simulate", "rounds", "buffers", "edge",
-    "against", "delays", "waves", "unwave",
+    "texts", "compile", "check", "expand", "grow", "migrate", "simulate", "rounds", "buffers",
+    "edge", "against", "delays", "waves", "unwave",
 ];
 
 fn main(rt: HostRuntime) -> io::Result<()> {
