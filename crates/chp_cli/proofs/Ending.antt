@@ -29,6 +29,7 @@ refusing_status refusal.TooManyValues = refl
 refusing_status (refusal.BadNet fault line) = refl
 refusing_status (refusal.BadScript fault line) = refl
 refusing_status (refusal.BadDelays fault line) = refl
+refusing_status (refusal.BadWave fault line) = refl
 refusing_status refusal.NoReset = refl
 refusing_status (refusal.NoOrder name) = refl
 refusing_status (refusal.NoChannel name) = refl

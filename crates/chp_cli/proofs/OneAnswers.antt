@@ -22,7 +22,7 @@ use Rattle.chp_cli.specs.declared.status.Status.TheVariants.{RefusedText, BadFil
 use Rattle.chp_cli.specs.declared.grow_words.Growth.{Growth}
 use Rattle.chp_cli.specs.Answers.{Given, Answer, writes, refuses, OneAnswer}
 use Rattle.chp_cli.specs.Checking.{AcceptedReport, ChecksProgram}
-use Rattle.chp_cli.specs.Commands.{Asked, compiles, migrates, checks, expands, simulates, times, runs, grows, IsAnswer}
+use Rattle.chp_cli.specs.Commands.{Asked, compiles, migrates, checks, expands, simulates, times, traces, unwaves, runs, grows, IsAnswer}
 use Rattle.chp_cli.specs.Compiling.{CompilesNet, compiled}
 use Rattle.chp_cli.specs.BufferSteps.{FromBuffer, no_channel, has_channel, FromProgramFile, IsBuffered, PutsBuffer}
 use Rattle.chp_cli.specs.Expanding.{ExpandsProgram, TreeReport}
@@ -34,6 +34,8 @@ use Rattle.chp_cli.specs.RoundsReporting.{Runs}
 use Rattle.chp_cli.specs.RoundsWords.{AskedRounds}
 use Rattle.chp_cli.specs.Simulating.{AskedRun, Simulates}
 use Rattle.chp_cli.specs.Timing.{AskedTiming, SimulatesTimed}
+use Rattle.chp_cli.specs.Tracing.{AskedWaves, Traces}
+use Rattle.chp_cli.specs.Unwaving.{Unwaves}
 use Rattle.chp_cli.specs.Steps.{FromFile, no_file, long_file, a_file, FromProgram, no_program, a_program, IsFaulty, of_names, of_sharing, FromChecks, has_calls, faulty, accepted, FromNodes, too_many, few_enough, FromNet, no_net, a_net}
 
 pub same_text : {held : Option (List ℕ)} {a b : List ℕ} → held ≡ Some a → held ≡ Some b → a ≡ b
@@ -187,6 +189,8 @@ module _ (cause : (text : List ℕ) (k j : FaultCode) (s t : Span) → IsRefused
     (once : (text : List ℕ) (f g : NetFault) (l m : ℕ) → IsRefused text f l → IsRefused text g m → (f ≡ g) × (l ≡ m))
     (simulate_once : (run : AskedRun) (given : Given) (played : Played) → given.tells ≡ true → OneAnswer (Simulates run given played))
     (times_once : (t : AskedTiming) (given : Given) → given.tells ≡ true → OneAnswer (SimulatesTimed t given))
+    (traces_once : (w : AskedWaves) (given : Given) → given.tells ≡ true → OneAnswer (Traces w given))
+    (unwaves_once : (given : Given) (file : List ℕ) → given.tells ≡ true → OneAnswer (Unwaves given file))
     (rounds_once : (r : AskedRounds) (given : Given) → given.tells ≡ true → OneAnswer (Runs r given))
     (growth_once : (growth : Growth) (played : Played) → OneAnswer (Grows growth played))
     (checked : (program : ProgramTree) (Next : Answer → Type 0) → OneAnswer Next → OneAnswer (FromChecks program Next)) where
@@ -203,5 +207,7 @@ module _ (cause : (text : List ℕ) (k j : FaultCode) (s t : Span) → IsRefused
       (cause text) (place text))
   command_once (simulates run) given played told = simulate_once run given played told
   command_once (times t) given played told = times_once t given told
+  command_once (traces w) given played told = traces_once w given told
+  command_once (unwaves file) given played told = unwaves_once given file told
   command_once (runs r) given played told = rounds_once r given told
   command_once (grows growth) given played told = growth_once growth played

@@ -19,14 +19,18 @@ use Rattle.chp_cli.specs.Orders.{OrderState, Played, place_named}
 use Rattle.chp_cli.specs.Simulating.{AskedRun, Simulates}
 use Rattle.chp_cli.specs.SimulateWords.{AskedSimulation, by_order, by_delays, most_of_steps, simulate_of}
 use Rattle.chp_cli.specs.Timing.{AskedTiming, SimulatesTimed}
+use Rattle.chp_cli.specs.Tracing.{AskedWaves, Traces}
+use Rattle.chp_cli.specs.Unwaving.{Unwaves}
+use Rattle.chp_cli.specs.WavesWords.{waves_of}
 use Rattle.chp_cli.specs.Forms.{texts_of}
 pub use Rattle.chp_cli.specs.Words.{is_flag, is_set, plain_file}
 use Rattle.clap.specs.Words.{App, Rule, Text, first_of, matches_of, new_app, new_rule, takes, with_rule}
 use Rattle.clap.specs.Simple.{on_top}
 use Rattle.clap.specs.declared.builder.ArgAction.TheVariants.{Set}
 use Rattle.chp_cli.specs.declared.command.Command.{Command}
-use Rattle.chp_cli.specs.declared.command.Command.TheVariants.{Compile, Migrate, Check, Expand, Simulate, Time, Run, Grow}
+use Rattle.chp_cli.specs.declared.command.Command.TheVariants.{Compile, Migrate, Check, Expand, Simulate, Time, Waves, Unwave, Run, Grow}
 use Rattle.chp_cli.specs.declared.rounds_words.Rounds.{Rounds}
+use Rattle.chp_cli.specs.declared.waves_words.Waves.{Waves as WavesWanted}
 use Rattle.chp_cli.specs.declared.simulation.Simulation.{Simulation}
 use Rattle.chp_cli.specs.declared.simulation.Timing.{Timing}
 use Rattle.chp_cli.specs.declared.simulation.Choosing.{Choosing}
@@ -61,6 +65,8 @@ verb_of word = if bytes_eq word (codes "compile") then Some verb.Compile
     else if bytes_eq word (codes "check") then Some verb.Check
     else if bytes_eq word (codes "expand") then Some verb.Expand
     else if bytes_eq word (codes "simulate") then Some verb.Simulate
+    else if bytes_eq word (codes "waves") then Some verb.Waves
+    else if bytes_eq word (codes "unwave") then Some verb.Unwave
     else if bytes_eq word (codes "run") then Some verb.Run
     else if bytes_eq word (codes "grow") then Some verb.Grow
     else None
@@ -73,6 +79,8 @@ pub data Asked : Type 0 where
   expands : Text → Asked
   simulates : AskedRun → Asked
   times : AskedTiming → Asked
+  traces : AskedWaves → Asked
+  unwaves : Text → Asked
   runs : AskedRounds → Asked
   grows : Growth → Asked
 
@@ -102,6 +110,15 @@ abbrev pub simulation_asked : Choosing → AskedSimulation
 simulation_asked (ByOrder run) = by_order (run_asked run)
 simulation_asked (ByDelays timing) = by_delays (timing_asked timing)
 
+abbrev pub waves_asked : WavesWanted → AskedWaves
+waves_asked w = record {
+  net = w.net.now;
+  script = w.script.now;
+  steps = w.steps;
+  delays = option_map (λ file. file.now) w.delays;
+  causes = w.causes;
+}
+
 -- rounds that are asked for, with the names as their bytes
 abbrev pub rounds_asked : Rounds → AskedRounds
 rounds_asked r = record {
@@ -118,6 +135,8 @@ asked (Check file) = checks file.now
 asked (Expand file) = expands file.now
 asked (Simulate run) = simulates (run_asked run)
 asked (Time timing) = times (timing_asked timing)
+asked (Waves w) = traces (waves_asked w)
+asked (Unwave file) = unwaves file.now
 asked (Run r) = runs (rounds_asked r)
 asked (Grow growth) = grows growth
 
@@ -125,6 +144,7 @@ asked (Grow growth) = grows growth
 abbrev pub IsWithinBounds : Command → Type 0
 IsWithinBounds (Simulate run) = run.steps ≤ most_of_steps
 IsWithinBounds (Time timing) = timing.steps ≤ most_of_steps
+IsWithinBounds (Waves w) = w.steps ≤ most_of_steps
 IsWithinBounds (Grow growth) = IsGrowable growth
 IsWithinBounds _ = Unit {0}
 
@@ -144,6 +164,8 @@ command_with verb.Migrate word rest = option_map migrates (file_of word rest)
 command_with verb.Check word rest = option_map checks (file_of word rest)
 command_with verb.Expand word rest = option_map expands (file_of word rest)
 command_with verb.Simulate word rest = option_map simulate_asked (simulate_of word rest)
+command_with verb.Waves word rest = option_map traces (waves_of word rest)
+command_with verb.Unwave word rest = option_map unwaves (file_of word rest)
 command_with verb.Run word rest = option_map runs (rounds_of word rest)
 command_with verb.Grow word rest = option_map grows (growth_of word rest)
 
@@ -154,13 +176,15 @@ command_of (word ∷ rest) = option_and_then (λ v. command_with v word rest) (v
 
 -- ---- the same in plain words
 
--- the words of `simulate` and of `run` are told by their forms alone
+-- the words of `simulate`, of `waves` and of `run` are told by their forms alone
 abbrev pub plain_with : Verb → Text → List Text → Option Asked
 plain_with verb.Compile word rest = option_map compiles (plain_compile rest)
 plain_with verb.Migrate word rest = option_map migrates (plain_file rest)
 plain_with verb.Check word rest = option_map checks (plain_file rest)
 plain_with verb.Expand word rest = option_map expands (plain_file rest)
 plain_with verb.Simulate word rest = option_map simulate_asked (simulate_of word rest)
+plain_with verb.Waves word rest = option_map traces (waves_of word rest)
+plain_with verb.Unwave word rest = option_map unwaves (plain_file rest)
 plain_with verb.Run word rest = option_map runs (rounds_of word rest)
 plain_with verb.Grow word rest = option_map grows (plain_growth rest)
 
@@ -182,6 +206,8 @@ IsAnswer (checks file) given played = Checks given file
 IsAnswer (expands file) given played = Expands given file
 IsAnswer (simulates run) given played = Simulates run given played
 IsAnswer (times timing) given played = SimulatesTimed timing given
+IsAnswer (traces w) given played = Traces w given
+IsAnswer (unwaves file) given played = Unwaves given file
 IsAnswer (runs r) given played = Runs r given
 IsAnswer (grows growth) given played = Grows growth played
 
@@ -193,6 +219,8 @@ files_of (checks file) = file ∷ []
 files_of (expands file) = file ∷ []
 files_of (simulates run) = run.net ∷ run.script ∷ option_to_list run.against
 files_of (times t) = t.net ∷ t.script ∷ t.delays ∷ option_to_list t.against
+files_of (traces w) = w.net ∷ w.script ∷ option_to_list w.delays
+files_of (unwaves file) = file ∷ []
 files_of (runs r) = r.file ∷ r.script ∷ []
 files_of (grows growth) = []
 

@@ -11,7 +11,9 @@ pub mod HeldPrograms
 pub mod References
 pub mod Simulating
 pub mod Timing
+pub mod Tracing
 pub mod SimulateWords
+pub mod WavesWords
 pub mod HeldBuffered
 pub mod RoundsWords
 pub mod RoundsReporting
@@ -21,6 +23,7 @@ pub mod Compiling
 pub mod Migrating
 pub mod Checking
 pub mod Expanding
+pub mod Unwaving
 pub mod Forms
 pub mod Words
 pub mod GrowWords

@@ -15,6 +15,9 @@ use Rattle.env_script.specs.Faults.{script_fault_number}
 use Rattle.prs_file.specs.declared.fault.NetFault.{NetFault}
 use Rattle.prs_file.specs.declared.fault.NetFault.TheVariants as net
 use Rattle.prs_file.specs.Faults.{net_fault_number as net_number}
+use Rattle.wave_file.specs.declared.fault.WaveFault.{WaveFault}
+use Rattle.wave_file.specs.declared.fault.WaveFault.TheVariants as wave
+use Rattle.wave_file.specs.WaveFaults.{wave_fault_number}
 
 -- ---- of the call
 
@@ -152,4 +155,18 @@ delay_fault_name delay.DoubleNode = codes "DoubleNode"
 abbrev pub bad_delays_line : DelayFault → (line : ℕ) → List ℕ
 bad_delays_line fault line = concat (
     codes "chp: 8 " ∷ decimal (delay_fault_number fault) ∷ codes " " ∷ delay_fault_name fault ∷ codes " at line "
+    ∷ decimal line ∷ codes "\n" ∷ [])
+
+-- ---- of a refused wave file
+
+abbrev pub wave_fault_name : WaveFault → List ℕ
+wave_fault_name wave.BadLine = codes "BadLine"
+wave_fault_name wave.UnknownId = codes "UnknownId"
+wave_fault_name wave.TimeBack = codes "TimeBack"
+wave_fault_name wave.NoChange = codes "NoChange"
+wave_fault_name wave.TooMany = codes "TooMany"
+
+abbrev pub bad_wave_line : WaveFault → (line : ℕ) → List ℕ
+bad_wave_line fault line = concat (
+    codes "chp: 8 " ∷ decimal (wave_fault_number fault) ∷ codes " " ∷ wave_fault_name fault ∷ codes " at line "
     ∷ decimal line ∷ codes "\n" ∷ [])

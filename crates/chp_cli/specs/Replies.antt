@@ -3,7 +3,7 @@ use Rattle.std.specs.Prelude.{ℕ, List, Contains, ◌⊎◌}
 use Rattle.chp_edge.specs.Faults.{Rose, IsReadFault}
 use Rattle.chp_cli.specs.declared.answer.Output.{Output}
 use Rattle.chp_cli.specs.declared.answer.Refusal.{Refusal}
-use Rattle.chp_cli.specs.declared.answer.Refusal.TheVariants.{Text, TooLong, TooManyNodes, TooManyValues, BadNet, BadScript, BadDelays, NoReset, NoOrder, NoChannel, NotBuilt}
+use Rattle.chp_cli.specs.declared.answer.Refusal.TheVariants.{Text, TooLong, TooManyNodes, TooManyValues, BadNet, BadScript, BadDelays, BadWave, NoReset, NoOrder, NoChannel, NotBuilt}
 use Rattle.chp_cli.specs.declared.answer.Stop.{Stop}
 use Rattle.chp_cli.specs.declared.answer.Stop.TheVariants.{Refused, Unread, NoMemory}
 use Rattle.chp_cli.specs.declared.answer.End.{End}
@@ -11,7 +11,7 @@ use Rattle.chp_cli.specs.declared.answer.End.TheVariants.{Whole, CutOff, Usage, 
 use Rattle.chp_cli.specs.declared.status.Status.{Status}
 use Rattle.chp_cli.specs.declared.status.Status.TheVariants as status
 use Rattle.chp_cli.specs.Answers.{Given, Answer, writes, refuses, misses, status_with, line_with}
-use Rattle.chp_cli.specs.Lines.{usage_line, read_line, write_line, no_memory_line, refused_line, too_long_line, nodes_line, values_line, bad_net_line, bad_script_line, bad_delays_line, no_reset_line, no_order_line, no_channel_line, not_built_line}
+use Rattle.chp_cli.specs.Lines.{usage_line, read_line, write_line, no_memory_line, refused_line, too_long_line, nodes_line, values_line, bad_net_line, bad_script_line, bad_delays_line, bad_wave_line, no_reset_line, no_order_line, no_channel_line, not_built_line}
 
 abbrev pub told_answer : Output → Answer
 told_answer output = writes output.end output.text.items
@@ -24,6 +24,7 @@ refusal_status TooManyValues = status.TooLarge
 refusal_status (BadNet fault line) = status.BadFile
 refusal_status (BadScript fault line) = status.BadFile
 refusal_status (BadDelays fault line) = status.BadFile
+refusal_status (BadWave fault line) = status.BadFile
 refusal_status NoReset = status.BadFile
 refusal_status (NoOrder name) = status.NoOrder
 refusal_status (NoChannel name) = status.NoChannel
@@ -37,6 +38,7 @@ refusal_line TooManyValues = values_line
 refusal_line (BadNet fault line) = bad_net_line fault line
 refusal_line (BadScript fault line) = bad_script_line fault line
 refusal_line (BadDelays fault line) = bad_delays_line fault line
+refusal_line (BadWave fault line) = bad_wave_line fault line
 refusal_line NoReset = no_reset_line
 refusal_line (NoOrder name) = no_order_line name.now
 refusal_line (NoChannel name) = no_channel_line name.now

@@ -9,6 +9,7 @@ use chp_base::Fault;
 use delay_script::DelayFault;
 use env_script::ScriptFault;
 use prs_file::NetFault;
+use wave_file::WaveFault;
 
 /// How a command ends whose whole output was written.
 #[derive(Clone, Copy, Debug)]
@@ -56,6 +57,8 @@ pub enum Refusal<'a> {
     BadScript { fault: ScriptFault, line: u32 },
     /// A delay file is refused at this line.
     BadDelays { fault: DelayFault, line: u32 },
+    /// A wave file is refused at this line.
+    BadWave { fault: WaveFault, line: u32 },
     /// The net has no reset node, and its power-up was asked for.
     NoReset,
     /// There is no order of this name.
@@ -78,6 +81,7 @@ impl Refusal<'_> {
             Refusal::BadNet { .. }
             | Refusal::BadScript { .. }
             | Refusal::BadDelays { .. }
+            | Refusal::BadWave { .. }
             | Refusal::NoReset => Status::BadFile,
             Refusal::NoOrder(_) => Status::NoOrder,
             Refusal::NoChannel(_) => Status::NoChannel,

@@ -2,10 +2,11 @@
 
 ghost use Rattle.std.specs.Prelude.{◌≡◌, IfOk, IfSome, Some, is_some, option_map, true};
 ghost use Rattle.clap.specs.Words.{app_of, found_of, matches_of, rows_of, takes};
-ghost use Rattle.chp_cli.specs.Commands.{IsWithinBounds, asked, command_of, file_form, file_of, grows, plain_command, plain_file, simulate_asked, verb_of};
+ghost use Rattle.chp_cli.specs.Commands.{IsWithinBounds, asked, command_of, file_form, file_of, grows, plain_command, plain_file, simulate_asked, traces, verb_of};
 ghost use Rattle.chp_cli.specs.SimulateWords.{simulate_of};
 ghost use Rattle.chp_cli.specs.Forms.{is_form, texts_of};
 ghost use Rattle.chp_cli.specs.GrowWords.{growth_of, plain_growth};
+ghost use Rattle.chp_cli.specs.WavesWords.{waves_of};
 ghost use Rattle.chp_cli.specs.Words.{is_set};
 
 use crate::compile_words::{Compilation, compilation_of};
@@ -13,6 +14,7 @@ use crate::grow_words::{Growth, growth_of};
 use crate::rounds_words::{Rounds, rounds_in};
 use crate::run_words::simulation_in;
 use crate::simulation::{Choosing, Simulation, Timing};
+use crate::waves_words::{Waves, waves_in};
 use clap::error::ErrorKind;
 use clap::{Arg, ArgAction, ArgMatches};
 use std::alloc::{AllocError, Global};
@@ -33,6 +35,11 @@ pub enum Command<'a> {
     Simulate(Simulation<'a>),
     /// `simulate PRS SCRIPT --delays FILE`: make one timed run of a net under a script, and write its report.
     Time(Timing<'a>),
+    /// `waves PRS SCRIPT`: make one timed run of a net under a script, and write its moves as a wave, or the causes of
+    /// the last one.
+    Waves(Waves<'a>),
+    /// `unwave FILE`: write the changes of the wave in this file.
+    Unwave { file: &'a str },
     /// `run FILE SCRIPT`: report rounds of the program text in this file under this script.
     Run(Rounds<'a>),
     /// `grow SEED STAGES [--sum]`: write the text of the program that is made of these numbers, or its summary.
@@ -47,6 +54,8 @@ enum Verb {
     Check,
     Expand,
     Simulate,
+    Waves,
+    Unwave,
     Run,
     Grow,
 }
@@ -56,8 +65,8 @@ enum Verb {
 ///
 /// The first word names the command. The words behind it are read by `clap`, by the form of that command: one file and,
 /// for `compile`, the flag `--reset` and the option `--buffer` with a value, each of which may stand once, before the
-/// file or behind it; for `simulate` and `run` two files and such options. A file is one word, which may be empty or
-/// `-`.
+/// file or behind it; for `simulate` and `run` two files and such options, and for `waves` the flag `--causes` besides. A
+/// file is one word, which may be empty or `-`.
 /// Any other word that begins with a hyphen and has more is taken for a flag and refused, a call for help too, but
 /// behind `--` any word may stand; `--` may also end the words.
 ///
@@ -82,6 +91,8 @@ pub fn command_in<'a>(alloc: Global, words: &'a [String]) -> Result<Option<Comma
         Verb::Check => Ok(file_in(alloc, word, rest)?.map(|file| Command::Check { file })),
         Verb::Expand => Ok(file_in(alloc, word, rest)?.map(|file| Command::Expand { file })),
         Verb::Simulate => simulate_in(alloc, word, rest),
+        Verb::Waves => trace_in(alloc, word, rest),
+        Verb::Unwave => Ok(file_in(alloc, word, rest)?.map(|file| Command::Unwave { file })),
         Verb::Run => Ok(rounds_in(alloc, word, rest)?.map(Command::Run)),
         Verb::Grow => grow_in(alloc, word, rest),
     }
@@ -97,6 +108,8 @@ fn verb_in(word: &str) -> Option<Verb>
         "check" => Some(Verb::Check),
         "expand" => Some(Verb::Expand),
         "simulate" => Some(Verb::Simulate),
+        "waves" => Some(Verb::Waves),
+        "unwave" => Some(Verb::Unwave),
         "run" => Some(Verb::Run),
         "grow" => Some(Verb::Grow),
         _ => None,
@@ -134,6 +147,22 @@ fn simulate_in<'a>(
     match simulation_in(alloc, name, words)? {
         Some(Choosing::ByOrder(run)) => Ok(Some(Command::Simulate(run))),
         Some(Choosing::ByDelays(timing)) => Ok(Some(Command::Time(timing))),
+        None => Ok(None),
+    }
+}
+
+/// What the words behind `waves` ask for, where they are its form.
+fn trace_in<'a>(
+    alloc: Global,
+    name: &'a str,
+    words: &'a [String],
+) -> Result<Option<Command<'a>>, AllocError>
+    ensures form { IfOk result (λ found. option_map asked found
+        ≡ option_map traces (waves_of name.entry.now (texts_of words.entry.now))) }
+    ensures bounds { IfOk result (λ found. IfSome found IsWithinBounds) }
+{
+    match waves_in(alloc, name, words)? {
+        Some(asked) => Ok(Some(Command::Waves(asked))),
         None => Ok(None),
     }
 }

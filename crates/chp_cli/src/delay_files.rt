@@ -1,11 +1,13 @@
 //! The step from the name of a file to the delays of a net's nodes.
 
-ghost use Rattle.std.specs.Prelude.{◌≡◌, ◌≤◌, ◌∷◌, [], length, IfOk, IfErr};
+ghost use Rattle.std.specs.Prelude.{◌≡◌, ◌≤◌, ◌∷◌, [], length, IfOk, IfErr, option_to_list};
 ghost use Rattle.delay_script.specs.DelayTables.{IsDelayTable};
 ghost use Rattle.chp_cli.specs.Answers.{given_by};
 ghost use Rattle.chp_cli.specs.Replies.{Halts, Stops};
+ghost use Rattle.chp_cli.specs.SimulateWords.{text_given};
 ghost use Rattle.chp_cli.specs.Steps.{FromFile, Never};
 ghost use Rattle.chp_cli.specs.Timing.{AreDelaysOf, FromDelays, HoldsDelays, most_of_delays};
+ghost use Rattle.chp_cli.specs.Tracing.{FromDelayFile, HoldsDelayFile};
 
 use crate::answer::{Refusal, Stop};
 use crate::files::text_of_file;
@@ -55,5 +57,29 @@ pub fn delays_in<'a, S: Shelf>(
     match text_of_file(alloc, shelf, file, MOST_OF_DELAYS) {
         Ok(text) => delays_of_text(alloc, &text, net),
         Err(stop) => Err(stop),
+    }
+}
+
+/// The delays of the net's nodes whose file has this name; where no file is named each is 1, as an empty text says.
+pub fn delays_if<'a, S: Shelf>(
+    alloc: Global,
+    shelf: &mut S,
+    file: Option<&'a str>,
+    net: &Net,
+) -> Result<Delays, Stop<'a>>
+    ensures read { IfOk result (HoldsDelayFile (given_by (S.tells shelf.old) (S.holds shelf.old))
+        (text_given file.entry) net.now.names) }
+    ensures table { IfOk result (IsDelayTable (length net.now.first)) }
+    ensures stopped { IfErr result (Stops
+        (FromDelayFile (given_by (S.tells shelf.old) (S.holds shelf.old)) (text_given file.entry) net.now.names Never)
+        (option_to_list (text_given file.entry)) (given_by (S.tells shelf.old) (S.holds shelf.old))
+        (S.faults shelf.old) (S.faults shelf.new)) }
+    ensures same { S.tells shelf.new ≡ S.tells shelf.old }
+    ensures kept { S.holds shelf.new ≡ S.holds shelf.old }
+    ensures faults { S.faults shelf.old ≤ S.faults shelf.new }
+{
+    match file {
+        None => delays_of_text(alloc, b"", net),
+        Some(file) => delays_in(alloc, shelf, file, net),
     }
 }

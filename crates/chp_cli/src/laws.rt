@@ -31,6 +31,8 @@ pub fn one_answer()
     sharing_check::laws::one_shared_fault();
     history_report::laws::one_comparison();
     delay_script::laws::one_timed_run();
+    wave_file::laws::one_causes_text();
+    wave_file::laws::one_wave_refusal();
 }
 
 /// Law: what `compile` writes for a file is the one text of the net of the one program that its text reads as, which is

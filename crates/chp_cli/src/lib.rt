@@ -29,6 +29,9 @@ mod simulate;
 mod simulation;
 mod status;
 mod timing;
+mod unwave;
+mod waves;
+mod waves_words;
 
 pub use main_call::chp_main;
 pub use players::Players;

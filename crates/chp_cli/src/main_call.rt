@@ -32,6 +32,8 @@ use crate::say::tell;
 use crate::simulate::simulate;
 use crate::status::Status;
 use crate::timing::time;
+use crate::unwave::unwave;
+use crate::waves::waves;
 use chp_edge::{Failed, Shelf, Sink, write_all};
 use std::alloc::{AllocError, Global};
 
@@ -69,6 +71,8 @@ fn answer<'a, S: Shelf>(
         Command::Expand { file } => expand(alloc, shelf, file),
         Command::Simulate(run) => simulate(alloc, shelf, players, run),
         Command::Time(timing) => time(alloc, shelf, timing),
+        Command::Waves(asked) => waves(alloc, shelf, asked),
+        Command::Unwave { file } => unwave(alloc, shelf, file),
         Command::Run(asked) => rounds(alloc, shelf, asked),
         Command::Grow(growth) => grow(alloc, players, growth),
     }

@@ -27,7 +27,7 @@ fn is_hazard(end: End) -> bool
 }
 
 /// How a command ends that reports a run which ended so.
-fn ending_for(end: End) -> Ending
+pub fn ending_for(end: End) -> Ending
     ensures { result ≡ ending_for end }
 {
     if is_hazard(end) {

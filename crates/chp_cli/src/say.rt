@@ -5,7 +5,7 @@ ghost use Rattle.std.specs.Prelude.{◌≡◌, ◌≤◌, ◌++◌, true, OnOk, 
 ghost use Rattle.std.specs.List.{flat_map};
 ghost use Rattle.chp_base.specs.Faults.{number_of};
 ghost use Rattle.chp_edge.specs.Faults.{Rose};
-ghost use Rattle.chp_cli.specs.Lines.{refused_line, bad_delays_line, bad_net_line, bad_script_line, too_long_line, nodes_line, delay_fault_name, fault_name, net_fault_name, script_fault_name, has_two_places};
+ghost use Rattle.chp_cli.specs.Lines.{refused_line, bad_delays_line, bad_net_line, bad_script_line, bad_wave_line, too_long_line, nodes_line, delay_fault_name, fault_name, net_fault_name, script_fault_name, wave_fault_name, has_two_places};
 ghost use Rattle.chp_cli.specs.Replies.{refusal_line, stop_line, end_line};
 
 use crate::answer::{End, Ending, Refusal, Stop};
@@ -15,6 +15,7 @@ use delay_script::DelayFault;
 use env_script::ScriptFault;
 use itoa::Buffer;
 use prs_file::NetFault;
+use wave_file::WaveFault;
 
 /// Puts the pieces one behind the other, up to the first fault.
 fn put_pieces<W: Sink>(say: &mut W, pieces: &[&str]) -> Result<(), Failed>
@@ -225,6 +226,37 @@ fn say_bad_delays<W: Sink>(say: &mut W, fault: DelayFault, line: u32)
     );
 }
 
+/// The name of the cause for which a wave file is refused.
+fn name_of_wave_fault(fault: WaveFault) -> &'static str
+    ensures { result.now ≡ wave_fault_name fault }
+{
+    match fault {
+        WaveFault::BadLine => "BadLine",
+        WaveFault::UnknownId => "UnknownId",
+        WaveFault::TimeBack => "TimeBack",
+        WaveFault::NoChange => "NoChange",
+        WaveFault::TooMany => "TooMany",
+    }
+}
+
+/// Says the line of a wave file that is refused.
+fn say_bad_wave<W: Sink>(say: &mut W, fault: WaveFault, line: u32)
+    ensures faults { W.faults say.old ≤ W.faults say.new }
+    ensures same { W.tells say.new ≡ W.tells say.old }
+    ensures said { W.tells say.old ≡ true → ¬ Rose (W.faults say.old) (W.faults say.new) →
+        W.written say.new ≡ W.written say.old ++ bad_wave_line fault line }
+{
+    let mut number = Buffer::new();
+    let mut place = Buffer::new();
+    let number = number.format(fault.number());
+    let name = name_of_wave_fault(fault);
+    let place = place.format(line);
+    say_pieces(
+        say,
+        &["chp: 8 ", number, " ", name, " at line ", place, "\n"],
+    );
+}
+
 /// Says the line of a file with more bytes than it may have.
 fn say_too_long<W: Sink>(say: &mut W, name: &str, limit: usize)
     ensures faults { W.faults say.old ≤ W.faults say.new }
@@ -264,6 +296,7 @@ fn say_refusal<W: Sink>(say: &mut W, refusal: &Refusal)
         Refusal::BadNet { fault, line } => say_bad_net(say, *fault, *line),
         Refusal::BadScript { fault, line } => say_bad_script(say, *fault, *line),
         Refusal::BadDelays { fault, line } => say_bad_delays(say, *fault, *line),
+        Refusal::BadWave { fault, line } => say_bad_wave(say, *fault, *line),
         Refusal::NoReset => say_pieces(say, &["chp: 8 49 NoReset at line 1\n"]),
         Refusal::NoOrder(name) => say_pieces(say, &["chp: 9 order ", name, "\n"]),
         Refusal::NoChannel(name) => say_pieces(say, &["chp: 16 channel ", name, "\n"]),

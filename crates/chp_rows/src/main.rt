@@ -14,9 +14,9 @@ use bench::Bench;
 use cases::obey;
 use std::{fs, io};
 
-const TOPICS: [&str; 12] = [
+const TOPICS: [&str; 14] = [
     "texts", "compile", "check", "expand", "grow", "migrate", "simulate", "rounds", "buffers",
-    "edge", "against", "delays",
+    "edge", "against", "delays", "waves", "unwave",
 ];
 
 fn main(rt: HostRuntime) -> io::Result<()> {

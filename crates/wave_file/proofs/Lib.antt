@@ -5,6 +5,7 @@ mod Ends
 mod Examples
 mod Followed
 mod IdLemmas
+mod KeptWaves
 mod Namings
 mod Numbers
 mod OneReading

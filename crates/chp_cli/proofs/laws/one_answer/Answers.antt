@@ -3,6 +3,8 @@ use Rattle.chp_cli.proofs.OneRounds.{rounds_once}
 use Rattle.chp_cli.proofs.OneRuns.{simulate_once}
 use Rattle.chp_cli.proofs.OneSums.{growth_once}
 use Rattle.chp_cli.proofs.OneTimings.{times_once}
+use Rattle.chp_cli.proofs.OneTraces.{traces_once}
+use Rattle.chp_cli.proofs.WaveSteps.{unwaves_once}
 use Rattle.chp_cli.proofs.laws.one_answer.Goals as goal
 
 pub returns : goal.returns
@@ -14,4 +16,6 @@ returns c =
     command_once text.cause text.place c.one_refusal.ensures.once
     (simulate_once text.cause text.place checked c.one_refusal.ensures.once c.one_comparison.ensures)
     (times_once c.one_timed_run.ensures.ran c.one_timed_run.ensures.time c.one_comparison.ensures text.cause text.place checked c.one_refusal.ensures.once)
+    (traces_once c.one_timed_run.ensures.moves c.one_timed_run.ensures.ran c.one_causes_text.ensures c.one_refusal.ensures.once)
+    (unwaves_once c.one_wave_refusal.ensures.once)
     (rounds_once text.cause text.place checked) growth_once checked

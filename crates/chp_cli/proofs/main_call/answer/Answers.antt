@@ -60,6 +60,21 @@ returns-in-Time-clause-stopped g c = rw c.in-Time.is c.time.ensures.stopped
 pub time-requires : goal.time-requires
 time-requires g c = rw c.in-Time.is at c.requires
 
+pub returns-in-Waves-clause-answered : goal.returns-in-Waves-clause-answered
+returns-in-Waves-clause-answered g c = rw c.in-Waves.is c.waves.ensures.answered
+
+pub returns-in-Waves-clause-stopped : goal.returns-in-Waves-clause-stopped
+returns-in-Waves-clause-stopped g c = rw c.in-Waves.is c.waves.ensures.stopped
+
+pub waves-requires : goal.waves-requires
+waves-requires g c = rw c.in-Waves.is at c.requires
+
+pub returns-in-Unwave-clause-answered : goal.returns-in-Unwave-clause-answered
+returns-in-Unwave-clause-answered g c = rw c.in-Unwave.is c.unwave.ensures.answered
+
+pub returns-in-Unwave-clause-stopped : goal.returns-in-Unwave-clause-stopped
+returns-in-Unwave-clause-stopped g c = rw c.in-Unwave.is c.unwave.ensures.stopped
+
 pub returns-in-Run-clause-answered : goal.returns-in-Run-clause-answered
 returns-in-Run-clause-answered g c = rw c.in-Run.is c.rounds.ensures.answered
 

@@ -1,3 +1,4 @@
+use Rattle.wave_file.proofs.KeptWaves.{is_kept}
 use Rattle.wave_file.proofs.TimedWaves.{is_wave, are_nodes, are_caused}
 use Rattle.wave_file.proofs.laws.timed_runs_are_waves.Goals as goal
 
@@ -9,3 +10,6 @@ returns-clause-nodes c = are_nodes
 
 pub returns-clause-caused : goal.returns-clause-caused
 returns-clause-caused c = are_caused
+
+pub returns-clause-kept : goal.returns-clause-kept
+returns-clause-kept c = is_kept
