@@ -30,16 +30,6 @@ impl Simulated {
     }
 }
 
-/// The four orders.
-fn orders_of_all(alloc: Global) -> Result<Vec<Box<dyn Picker>>, AllocError> {
-    let mut pickers: Vec<Box<dyn Picker>> = Vec::new(alloc);
-    pickers.push(Box::new(alloc, Lowest::new(alloc))?)?;
-    pickers.push(Box::new(alloc, Oldest::new(alloc))?)?;
-    pickers.push(Box::new(alloc, Newest::new(alloc))?)?;
-    pickers.push(Box::new(alloc, Random::new(alloc))?)?;
-    Ok(pickers)
-}
-
 /// The simulation by the picker, or None where a text is refused.
 fn simulate(
     alloc: Global,
@@ -172,9 +162,35 @@ fn tell_ages(
     Ok(())
 }
 
-/// Simulates by each order, with a seed and for so many moves at most. It prints of each how many picks it made, and
-/// whether each took the oldest node and whether each took the newest one; then whether all came to the same, and
-/// whether all picks differ.
+/// Simulates by each of these orders, with a seed and for so many moves at most. It prints of each how many picks it
+/// made, and whether each took the oldest node and whether each took the newest one; then whether all came to the same,
+/// and whether all picks differ.
+fn compare(
+    alloc: Global,
+    bench: &Bench,
+    seed: u64,
+    steps: u32,
+    pickers: &mut Vec<Box<dyn Picker>>,
+    page: &mut String,
+) -> Result<bool, AllocError>
+    requires { steps ≤ 1000000 }
+{
+    let mut earlier: Vec<Simulated> = Vec::new(alloc);
+    let (mut agree, mut differ) = (true, true);
+    for picker in pickers.iter_mut() {
+        let Some(run) = simulate(alloc, bench, seed, steps, picker)? else {
+            return Ok(false);
+        };
+        tell_ages(alloc, bench, picker.name(), &run.picks, page)?;
+        agree = agree && earlier.iter().all(|other| other.agrees(&run));
+        differ = differ && earlier.iter().all(|other| other.picks != run.picks);
+        earlier.push(run)?;
+    }
+    writeln!(page, "all agree {agree}, all picks differ {differ}")?;
+    Ok(true)
+}
+
+/// Compares the four orders, where the line tells a seed and the most moves.
 pub fn orders(
     alloc: Global,
     bench: &Bench,
@@ -193,17 +209,10 @@ pub fn orders(
     if steps > 1_000_000 {
         return Ok(false);
     }
-    let mut earlier: Vec<Simulated> = Vec::new(alloc);
-    let (mut agree, mut differ) = (true, true);
-    for picker in orders_of_all(alloc)?.iter_mut() {
-        let Some(run) = simulate(alloc, bench, *seed, steps, picker)? else {
-            return Ok(false);
-        };
-        tell_ages(alloc, bench, picker.name(), &run.picks, page)?;
-        agree = agree && earlier.iter().all(|other| other.agrees(&run));
-        differ = differ && earlier.iter().all(|other| other.picks != run.picks);
-        earlier.push(run)?;
-    }
-    writeln!(page, "all agree {agree}, all picks differ {differ}")?;
-    Ok(true)
+    let mut pickers: Vec<Box<dyn Picker>> = Vec::new(alloc);
+    pickers.push(Box::new(alloc, Lowest::new(alloc))?)?;
+    pickers.push(Box::new(alloc, Oldest::new(alloc))?)?;
+    pickers.push(Box::new(alloc, Newest::new(alloc))?)?;
+    pickers.push(Box::new(alloc, Random::new(alloc))?)?;
+    compare(alloc, bench, *seed, steps, &mut pickers, page)
 }
