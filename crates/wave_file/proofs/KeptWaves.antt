@@ -93,7 +93,8 @@ is_kept t ms r u net table steps ran = record {
     soon : (i : ℕ) (d : ℕ × ℕ) → i < length ms → (get_or (timed_changes ms) i d).0 < 2 ^ 64
     soon i d below =
         let few : time_behind ms (suc i) ≤ length ms * 1000000 =
-        time_few (length t.net.first) t.delays given ms table (are_nodes t ms r u net ran) (are_caused t ms r u ran) (length ms) (suc i) (omega arith) (omega arith)
+        time_few (length t.net.first) t.delays given ms table (are_nodes t ms r u net ran) (are_caused t ms r u ran) (length ms) (suc i)
+        (omega arith) (omega arith)
         in
         let is = change_time ms i d below in
         let bound : length ms ≤ 1000000 = omega (arith, moves_few t ms r u ran) in
