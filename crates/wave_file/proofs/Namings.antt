@@ -40,6 +40,7 @@ named_whole text a b d id front e rest one two three four five =
 pub naming_once : (id a b rest more : List ℕ) → is_free_of 32 a ≡ true → is_free_of 32 b ≡ true → naming id a ++ rest ≡ naming id b ++ more →
     (a ≡ b) × (rest ≡ more)
 naming_once id a b rest more one two e =
-    let cut = cut_once 32 a b (codes "$end\n" ++ rest) (codes "$end\n" ++ more) one two (ap (drop 1) (append_cancel_left id (behind_id a rest) (behind_id b more)
+    let cut = cut_once 32 a b (codes "$end\n" ++ rest) (codes "$end\n" ++ more) one two
+    (ap (drop 1) (append_cancel_left id (behind_id a rest) (behind_id b more)
     (ap (drop 12) (sym (named_front (naming id a ++ rest) id a rest refl) ∙ e ∙ named_front (naming id b ++ more) id b more refl)))) in
     (cut.0, ap (drop 5) cut.1)

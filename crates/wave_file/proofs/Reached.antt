@@ -89,7 +89,8 @@ reach_time w now time q behind rest later small goes next = by_time (cases_lt no
   where
     by_time : (now < time) ⊎ (time ≤ now) → Leads (at_changes w now) (mark_before now time ++ behind) q rest
     by_time (inl less) =
-        let mark : mark_before now time ≡ time_mark time = ap (λ b. if b then [] else time_mark time) (ne_eqb now time (λ e. absurd (omega (arith, e, less)))) in
+        let mark : mark_before now time ≡ time_mark time =
+        ap (λ b. if b then [] else time_mark time) (ne_eqb now time (λ e. absurd (omega (arith, e, less)))) in
         mark_leads w now time q (mark_before now time ++ behind) behind rest less small goes (ap (λ t. t ++ behind) mark) next
     by_time (inr over) =
         let same : now ≡ time = omega (arith, later, over) in
@@ -189,8 +190,8 @@ to_part : (names : List (List ℕ)) (first : List Bool) (rest : List ℕ) → Ar
     Leads at_timescale (front_of_values names first ++ rest) (at_values names first) rest
 to_part names first rest nodes few =
     subst (λ t. Leads at_timescale t (at_values names first) rest) (sym (front_moved names first rest))
-    (chained at_timescale (at_values names []) (at_values names first) _ (first_lines 0 first ++ rest) rest (to_values names (first_lines 0 first ++ rest) nodes)
-    (values_part names [] first rest (omega (arith, few))))
+    (chained at_timescale (at_values names []) (at_values names first) _ (first_lines 0 first ++ rest) rest
+    (to_values names (first_lines 0 first ++ rest) nodes) (values_part names [] first rest (omega (arith, few))))
 
 to_first : (names : List (List ℕ)) (first : List Bool) (rest : List ℕ) → AreWaveNodes names → length first ≡ length names →
     Leads at_timescale (front_of_values names first ++ rest) (at_changes (wave_of names first []) 0) rest

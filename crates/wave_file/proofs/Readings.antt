@@ -221,7 +221,8 @@ place_of_values names first = if length first == length names then at_changes (w
 
 values_open : (names : List (List ℕ)) (first : List Bool) → length first < length names → place_of_values names first ≡ at_values names first
 values_open names first some =
-    ap (λ b. if b then at_changes (wave_of names first []) 0 else at_values names first) (ne_eqb (length first) (length names) (λ e. absurd (omega (arith, e, some))))
+    ap (λ b. if b then at_changes (wave_of names first []) 0 else at_values names first)
+    (ne_eqb (length first) (length names) (λ e. absurd (omega (arith, e, some))))
 
 pub values_begin : (whole rest : List ℕ) (names : List (List ℕ)) → IsToldTo whole (length names + 5) (at_values names []) rest →
     IsToldTo whole (length names + 0 + 5) (place_of_values names []) rest

@@ -97,7 +97,8 @@ value_more names first value rest behind nodes some whole = by_count (length fir
         let count : length first + 1 ≡ length names = eqb-true (length first + 1) (length names) is in
         one_line (at_values names first) (at_changes (wave_of names (first ++ value ∷ []) []) 0) (value_spelling_of value (id_of (length first))) rest behind
         (begin_reached names (first ++ value ∷ []) behind nodes (length_push first value ∙ count))
-        (begin_front names (first ++ value ∷ []) ∙ value_front names first value) whole (value_ends value (id_of (length first)) (id_of_is (length first) few).0)
+        (begin_front names (first ++ value ∷ []) ∙ value_front names first value) whole
+        (value_ends value (id_of (length first)) (id_of_is (length first) few).0)
     by_count false is =
         let other : length first + 1 ≡ length names → ⊥ = λ e. absurd (cc (is, same_count (length first + 1) (length names) e)) in
         let below : length first + 1 < length names = by_less (cases_lt (length first + 1) (length names)) other in
@@ -108,7 +109,8 @@ value_more names first value rest behind nodes some whole = by_count (length fir
         same_count : (m n : ℕ) → m ≡ n → (m == n) ≡ true
         same_count m n e = grind arith
 
-        by_less : (length first + 1 < length names) ⊎ (length names ≤ length first + 1) → (length first + 1 ≡ length names → ⊥) → length first + 1 < length names
+        by_less : (length first + 1 < length names) ⊎ (length names ≤ length first + 1) → (length first + 1 ≡ length names → ⊥) →
+            length first + 1 < length names
         by_less (inl below) other = below
         by_less (inr over) other = absurd (other (omega (arith, some, over)))
 
@@ -135,7 +137,8 @@ mark_more w now time rest behind reached later small goes_on whole = by_mark rea
     by_mark : (now ≡ last) ⊎ ((last < now) × (now < 2 ^ 64) × GoesOnWithChange rest) → IsOneLine (at_changes w now) (at_changes w time) rest behind
     by_mark (inl is) =
         let here : mark_before last now ≡ [] = ap (mark_before last) is ∙ same_mark last in
-        let there : mark_before last time ≡ time_mark time = ap (λ b. if b then [] else time_mark time) (ne_eqb last time (λ e. absurd (omega (arith, e, is)))) in
+        let there : mark_before last time ≡ time_mark time =
+        ap (λ b. if b then [] else time_mark time) (ne_eqb last time (λ e. absurd (omega (arith, e, is)))) in
         let all = change_lines 0 w.first w.changes in
         let inner : all ++ mark_before last time ≡ (all ++ mark_before last now) ++ time_mark time =
         ap (λ t. all ++ t) there ∙ ap (λ t. t ++ time_mark time) (sym (append-nil all) ∙ ap (λ t. all ++ t) (sym here)) in
@@ -179,7 +182,8 @@ turn_more w now value id rest behind reached form few other whole =
     let spelled : id ≡ id_of node = id_back id form (omega (arith, few, wave.most)) in
     let turn : value_spelling_of (not (high (values_behind w.first w.changes) node)) (id_of node) ≡ line =
     ap (λ v. value_spelling_of v (id_of node)) (has_other (values_behind w.first w.changes) node value other) ∙ ap (value_spelling_of value) (sym spelled) in
-    let over : mark_before (last_time 0 (w.changes ++ (now, node) ∷ [])) now ≡ [] = ap (λ t. mark_before t now) (last_push 0 w.changes now node) ∙ same_mark now in
+    let over : mark_before (last_time 0 (w.changes ++ (now, node) ∷ [])) now ≡ [] =
+    ap (λ t. mark_before t now) (last_push 0 w.changes now node) ∙ same_mark now in
     let inner : change_lines 0 w.first (w.changes ++ (now, node) ∷ []) ++ mark_before (last_time 0 (w.changes ++ (now, node) ∷ [])) now
     ≡ (all ++ mark_before last now) ++ line =
     ap (λ t. change_lines 0 w.first (w.changes ++ (now, node) ∷ []) ++ t) over ∙ append-nil (change_lines 0 w.first (w.changes ++ (now, node) ∷ []))

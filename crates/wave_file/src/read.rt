@@ -264,10 +264,10 @@ fn read_in_parts(alloc: Global, text: &[u8]) -> Result<Wave, WaveError>
     read_changes(told, rest, lines)
 }
 
-/// The wave that the text is, as of no other one. A text that is none is refused at its first line with a fault, counted
-/// from 1, for the first of these causes: the line isn't of a form that may stand there, or no change stands behind its
-/// mark of a time, or the text ends too early; a change is of no node; a time isn't above the one before; a node has the
-/// value already; or there are more than 65,537 nodes.
+/// The wave that the text is, as of no other one. A text that is none is refused at its first line with a fault,
+/// counted from 1, for the first of these causes: the line isn't of a form that may stand there, or no change stands
+/// behind its mark of a time, or the text ends too early; a change is of no node; a time isn't above the one before; a
+/// node has the value already; or there are more than 65,537 nodes.
 pub fn read_wave(alloc: Global, text: &[u8]) -> Result<Wave, WaveError>
     requires { length text.now ≤ 268435456 }
     ensures read { IfOk result (λ w. IsWaveText text.now (kept_wave w)) }

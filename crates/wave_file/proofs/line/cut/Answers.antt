@@ -4,7 +4,8 @@ use Rattle.wave_file.proofs.Cutting.{cut_first, never_cut}
 use Rattle.wave_file.proofs.line.cut.Goals as goal
 
 pub returns-in_err-at-clause-none : goal.returns-in_err-at-clause-none
-returns-in_err-at-clause-none c = rw c.from_residual.ensures (λ front rest. never_cut c.args.end c.args.text.now front rest (sym c.place_of.ensures ∙ c.in_err-at.was))
+returns-in_err-at-clause-none c =
+    rw c.from_residual.ensures (λ front rest. never_cut c.args.end c.args.text.now front rest (sym c.place_of.ensures ∙ c.in_err-at.was))
 
 pub returns-clause-some : goal.returns-clause-some
 returns-clause-some c =

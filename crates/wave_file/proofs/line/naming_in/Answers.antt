@@ -2,7 +2,8 @@ use Rattle.wave_file.proofs.Namings.{named_front, named_id, named_space, named_c
 use Rattle.wave_file.proofs.line.naming_in.Goals as goal
 
 pub returns-in_err-text-clause-none : goal.returns-in_err-text-clause-none
-returns-in_err-text-clause-none c = rw c.from_residual.ensures (λ name rest free whole. c.in_err-text.ensures.none _ (named_front c.args.text.now c.args.id.now name rest whole))
+returns-in_err-text-clause-none c = rw c.from_residual.ensures (λ name rest free whole.
+    c.in_err-text.ensures.none _ (named_front c.args.text.now c.args.id.now name rest whole))
 
 pub returns-in_err-text-2-clause-none : goal.returns-in_err-text-2-clause-none
 returns-in_err-text-2-clause-none c = rw c.from_residual-in_err-text-2.ensures (λ name rest free whole.
