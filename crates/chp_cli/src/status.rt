@@ -22,8 +22,8 @@ pub enum Status {
     NoMemory,
     /// A file has more bytes than it may have, a circuit more nodes, or some rounds pass more values.
     TooLarge,
-    /// A rule file, a script or a delay file isn't in its grammar or limits, a rule file can't be migrated, or it has no
-    /// reset node and is to be run from power-up.
+    /// A rule file, a script or a delay file isn't in its grammar or limits, a rule file can't be migrated, or it has
+    /// no reset node and is to be run from power-up.
     BadFile,
     /// No handed-in order has the wanted name.
     NoOrder,

@@ -5,7 +5,8 @@ use Rattle.chp_cli.proofs.Reported.{reported_against, reported_hazard}
 use Rattle.chp_cli.proofs.run_reports.compared.Goals as goal
 
 pub returns-then-is_hazard : goal.returns-then-is_hazard
-returns-then-is_hazard c = reported_hazard _ _ _ _ _ (ap ending_for (sym c.end.ensures.end) ∙ c.is_hazard.ensures.hazard c.if-is_hazard.true) c.in_ok-text.ensures
+returns-then-is_hazard c =
+    reported_hazard _ _ _ _ _ (ap ending_for (sym c.end.ensures.end) ∙ c.is_hazard.ensures.hazard c.if-is_hazard.true) c.in_ok-text.ensures
 
 pub returns : goal.returns
 returns c =
