@@ -1,5 +1,5 @@
 -- The run of a net that carries a program, compared with that program.
-use Rattle.std.proofs.Common.{◌≡◌, ◌≢◌, ◌∙◌, ◌↔◌, ℕ, zero, suc, ◌+◌, ◌<◌, ◌≤◌, ◌++◌, Bool, true, false, ◌-◌, List, [], ◌∷◌, length, Option, Some, None, inl, inr, ◌⊎◌, refl, sym, ap, subst, arith, append_assoc, append-nil}
+use Rattle.std.proofs.Common.{◌≡◌, ◌∙◌, ℕ, zero, suc, ◌+◌, ◌<◌, ◌≤◌, ◌++◌, Bool, true, false, ◌-◌, List, [], ◌∷◌, length, Option, Some, None, inl, inr, ◌⊎◌, refl, sym, ap, subst, arith, append_assoc, append-nil}
 use Rattle.std.proofs.lemmas.List.{length-map}
 use Rattle.std.specs.Prelude.{IsSome}
 use Rattle.chp_base.specs.declared.channel.Channel.{Channel}
@@ -8,7 +8,7 @@ use Rattle.prs_core.specs.declared.wires.Wires.{Wires}
 use Rattle.prs_core.specs.Nets.{NetValue, IsNet}
 use Rattle.env_script.specs.Environment.{net_channels, is_reset}
 use Rattle.env_script.specs.Scripts.{OfferValue, IsScript}
-use Rattle.env_script.specs.Runs.{RunState, IsRun, IsPowered, after, begin_at, history_at, moves_since_reset}
+use Rattle.env_script.specs.Runs.{IsRun, IsPowered, after, begin_at, history_at, moves_since_reset}
 use Rattle.event_sim.specs.Following.{power_of}
 use Rattle.event_sim.specs.Passing.{passed_in, values_through}
 use Rattle.event_sim.specs.Simulating.{RanValue, picked_moves, start_at}
@@ -18,14 +18,14 @@ use Rattle.chp_meaning.specs.Laws.{IsBehind, RoundsHold}
 use Rattle.chp_meaning.specs.Rounds.{rounds}
 use Rattle.history_report.specs.declared.comparison.Against.{Against}
 use Rattle.history_report.specs.declared.comparison.Against.TheVariants.{Agrees}
-use Rattle.history_report.specs.Comparing.{IsAgainst, IsBehindRounds}
+use Rattle.history_report.specs.Comparing.{IsAgainst}
 use Rattle.prs_file.specs.Spelling.{NetText}
 use Rattle.width_check.specs.Form.{typed_form}
 use Rattle.width_check.specs.Processes.{TypedProgram}
 use Rattle.width_check.specs.Sharing.{MeetsSharing}
 use Rattle.chp_cli.specs.declared.answer.Ending.{Ending}
 use Rattle.chp_cli.specs.declared.answer.Ending.TheVariants.{Done}
-use Rattle.chp_cli.specs.Answers.{Given, Answer, writes}
+use Rattle.chp_cli.specs.Answers.{Given, writes}
 use Rattle.chp_cli.specs.HeldPrograms.{HoldsProgram}
 use Rattle.chp_cli.specs.Orders.{Played}
 use Rattle.chp_cli.specs.References.{HoldsReference, IsReferredTo}

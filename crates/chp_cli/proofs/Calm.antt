@@ -1,12 +1,11 @@
 -- How a call ends that simulates a rule file which `compile` wrote.
-use Rattle.std.proofs.Common.{◌≡◌, ◌≢◌, ◌∙◌, ℕ, List, Option, Some, refl, sym, ap, subst}
+use Rattle.std.proofs.Common.{◌≡◌, ◌≢◌, ℕ, List, Option, Some, refl, subst}
 use Rattle.chp_cli.specs.declared.answer.Ending.{Ending}
 use Rattle.chp_cli.specs.declared.answer.Ending.TheVariants as ending
 use Rattle.chp_cli.specs.declared.status.Status.{Status}
 use Rattle.chp_cli.specs.declared.status.Status.TheVariants.{Done, Hazard, Differs}
 use Rattle.chp_cli.specs.Answers.{Given, Answer, writes, status_with}
 use Rattle.chp_cli.specs.Commands.{Asked, IsAnswer, simulates}
-use Rattle.chp_cli.specs.Compiling.{IsCompiled, net_for, NetCarries}
 use Rattle.chp_cli.specs.Ends.{AnswersTo, Ends, formless, whole, cut_off, refused, unread, no_memory}
 use Rattle.chp_cli.specs.Orders.{Played}
 use Rattle.chp_cli.specs.Simulated.{EndsAllAtRest, IsCalm, IsFileSimulated}

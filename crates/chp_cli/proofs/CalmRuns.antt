@@ -1,5 +1,5 @@
 -- What the simulation of a net that carries a program comes to.
-use Rattle.std.proofs.Common.{◌≡◌, ◌≢◌, ◌∙◌, ◌↔◌, ℕ, zero, suc, ◌<◌, ◌==◌, Bool, true, false, List, [], ◌∷◌, length, Option, Some, None, is_some, inl, inr, ◌⊎◌, refl, sym, ap, subst, cond}
+use Rattle.std.proofs.Common.{◌≡◌, ◌≢◌, ◌∙◌, ◌↔◌, ℕ, zero, suc, ◌==◌, Bool, true, false, List, [], ◌∷◌, length, Option, Some, None, inl, inr, ◌⊎◌, refl, sym, ap, subst}
 use Rattle.std.specs.Prelude.{IsSome, option_map}
 use Rattle.prs_core.specs.Nets.{NetValue, IsNet}
 use Rattle.prs_core.specs.Moves.{high, both_ways}
@@ -9,18 +9,18 @@ use Rattle.env_script.specs.Runs.{RunState, IsRun, IsAtRest, IsApart, IsSafeMove
 use Rattle.env_script.specs.declared.hazard.Hazard.{Hazard}
 use Rattle.env_script.specs.declared.hazard.Hazard.TheVariants.{BothWays as Torn, Unstable as Lost, Protocol as Broken}
 use Rattle.env_script.specs.Hazards.{least_below, first_hazard, hazard_of}
-use Rattle.env_script.specs.OneLength.{AllSafe, EndsAll}
+use Rattle.env_script.specs.OneLength.{AllSafe}
 use Rattle.env_script.proofs.Fronts.{ends_all}
 use Rattle.event_sim.specs.declared.ran.End.{End}
 use Rattle.event_sim.specs.declared.ran.End.TheVariants.{AtRest, Spent}
-use Rattle.event_sim.specs.Ends.{calm_end, end_after, end_from, end_with, last_hazard, EndsSo}
-use Rattle.event_sim.specs.Following.{enabled_moves, follow, power_of}
-use Rattle.event_sim.specs.Simulating.{SimValue, RanValue, growth, picked_moves, start_at}
+use Rattle.event_sim.specs.Ends.{calm_end, end_from, end_with, last_hazard, EndsSo}
+use Rattle.event_sim.specs.Following.{enabled_moves, power_of}
+use Rattle.event_sim.specs.Simulating.{RanValue, picked_moves, start_at}
 use Rattle.history_report.specs.declared.comparison.Against.{Against}
 use Rattle.history_report.specs.declared.comparison.Against.TheVariants.{Agrees, Channels, Differs}
 use Rattle.event_sim.proofs.Following.{picked_run}
 use Rattle.event_sim.proofs.Ranges.{rests}
-use Rattle.net_compose.specs.Carries.{Carries, CarriesReset, HasChannels}
+use Rattle.net_compose.specs.Carries.{Carries, CarriesReset}
 use Rattle.width_check.specs.Processes.{TypedProgram}
 use Rattle.prs_file.specs.Spelling.{NetText}
 use Rattle.chp_cli.specs.declared.answer.Ending.{Ending}
@@ -30,7 +30,7 @@ use Rattle.chp_cli.specs.Orders.{Played}
 use Rattle.chp_cli.specs.RunReporting.{IsReported, alone, hazardous, compared, ending_against, ending_for}
 use Rattle.chp_cli.specs.RunSteps.{an_order, has_power, a_script}
 use Rattle.chp_cli.specs.Simulated.{IsFileSimulated, HoldsCarrying, EndsAllAtRest}
-use Rattle.chp_cli.specs.Simulating.{AskedRun, Simulates, ran_value, simulation_for}
+use Rattle.chp_cli.specs.Simulating.{AskedRun, Simulates, simulation_for}
 use Rattle.chp_cli.specs.Steps.{a_file, a_net}
 use Rattle.chp_cli.proofs.OneAnswers.{same_text}
 use Rattle.chp_cli.proofs.Referring.{reference_read}

@@ -1,12 +1,10 @@
 -- Each step of a command that makes runs, and so `simulate`, has at most one answer.
-use Rattle.std.proofs.Common.{◌≡◌, ◌∙◌, ℕ, Bool, true, false, List, ◌++◌, Option, Some, None, refl, sym, ap, subst}
+use Rattle.std.proofs.Common.{◌≡◌, ◌∙◌, ℕ, Bool, true, List, ◌++◌, Option, Some, None, refl, ap, subst}
 use Rattle.chp_base.specs.declared.channel.Channel.{Channel}
-use Rattle.env_script.specs.declared.fault.ScriptFault.{ScriptFault}
 use Rattle.env_script.specs.Environment.{net_channels}
 use Rattle.env_script.specs.Scripts.{OfferValue}
-use Rattle.env_script.specs.ScriptText.{IsScriptRefused}
 use Rattle.event_sim.specs.declared.ran.End.{End}
-use Rattle.event_sim.specs.Ends.{EndsSo, end_after}
+use Rattle.event_sim.specs.Ends.{EndsSo}
 use Rattle.event_sim.specs.Simulating.{SimValue, RanValue, picked_moves, start_at}
 use Rattle.prs_core.specs.Nets.{NetValue}
 use Rattle.prs_file.specs.declared.fault.NetFault.{NetFault}

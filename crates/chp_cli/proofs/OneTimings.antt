@@ -1,10 +1,9 @@
 -- `simulate` with delays has at most one answer.
-use Rattle.std.proofs.Common.{◌≡◌, ◌∙◌, ℕ, true, List, Option, Some, refl, sym, ap, subst}
+use Rattle.std.proofs.Common.{◌≡◌, ◌∙◌, ℕ, true, List, Option, Some, ap, subst}
 use Rattle.chp_base.specs.declared.fault.FaultCode.{FaultCode}
 use Rattle.chp_base.specs.declared.span.Span.{Span}
 use Rattle.chp_syntax.specs.Trees.{ProgramTree}
 use Rattle.chp_syntax.specs.Refusals.{RefusedText as IsRefusedText}
-use Rattle.delay_script.specs.declared.fault.DelayFault.{DelayFault}
 use Rattle.delay_script.specs.declared.noted.NotedMove.{NotedMove}
 use Rattle.delay_script.specs.DelayTables.{DelayTable}
 use Rattle.delay_script.specs.TimedRuns.{TimedValue, IsTimedRan}

@@ -1,5 +1,5 @@
 -- The program with which a run is compared: the step by itself, and within `simulate`.
-use Rattle.std.proofs.Common.{◌≡◌, ℕ, suc, ◌≤◌, Bool, false, true, List, [], ◌∷◌, Option, Some, None, refl, sym, subst, arith}
+use Rattle.std.proofs.Common.{◌≡◌, ℕ, suc, ◌≤◌, false, List, [], ◌∷◌, Option, Some, None, refl, sym, subst, arith}
 use Rattle.std.specs.Prelude.{Contains, option_to_list}
 use Rattle.chp_syntax.specs.Trees.{ProgramTree}
 use Rattle.env_script.specs.Environment.{net_channels}

@@ -8,7 +8,7 @@ use Rattle.history_report.specs.Reports.{report_of}
 use Rattle.width_check.specs.Processes.{TypedProgram}
 use Rattle.chp_cli.specs.declared.answer.Ending.{Ending}
 use Rattle.chp_cli.specs.declared.answer.Ending.TheVariants.{Done, Hazard}
-use Rattle.chp_cli.specs.Answers.{Answer, writes}
+use Rattle.chp_cli.specs.Answers.{writes}
 use Rattle.chp_cli.specs.RunReporting.{IsReported, alone, hazardous, compared, ending_against, ending_for}
 
 module _ (script : List OfferValue) (time : Option ℕ) (r : RanValue) where

@@ -1,18 +1,18 @@
 -- Steps of commands that make runs, by themselves and within these.
-use Rattle.std.proofs.Common.{◌≡◌, ◌∙◌, ℕ, ◌<◌, ◌≤◌, ◌==◌, List, [], ◌∷◌, length, zero, suc, Bool, true, false, not, ◌&&◌, is_some, Option, Some, None, refl, sym, ap, subst, arith}
+use Rattle.std.proofs.Common.{◌≡◌, ℕ, ◌≤◌, List, [], ◌∷◌, zero, suc, Bool, false, Option, Some, subst, arith}
 use Rattle.std.specs.Prelude.{Contains, option_to_list}
 use Rattle.chp_base.specs.declared.channel.Channel.{Channel}
 use Rattle.env_script.specs.Environment.{net_channels}
 use Rattle.env_script.specs.Scripts.{OfferValue}
 use Rattle.prs_core.specs.Nets.{NetValue}
 use Rattle.chp_cli.specs.declared.answer.Stop.{Stop}
-use Rattle.chp_cli.specs.Answers.{Given, Answer, given_by, refuses}
+use Rattle.chp_cli.specs.Answers.{Given, Answer, given_by}
 use Rattle.chp_cli.specs.Held.{HoldsNet}
 use Rattle.chp_cli.specs.Orders.{Played, place_named}
 use Rattle.chp_cli.specs.Replies.{Stops}
-use Rattle.chp_cli.specs.RunSteps.{FromOrder, no_order, an_order, FromPower, no_reset, has_power, FromScript, no_script, a_script, lacks_reset, most_of_script}
+use Rattle.chp_cli.specs.RunSteps.{an_order, has_power, FromScript, no_script, a_script, lacks_reset, most_of_script}
 use Rattle.chp_cli.specs.Simulating.{AskedRun, Simulates, SimulatesAt, SimulatesFile}
-use Rattle.chp_cli.specs.Steps.{FromFile, no_file, long_file, a_file, FromNet, no_net, a_net, Never, most_of_net}
+use Rattle.chp_cli.specs.Steps.{FromFile, no_file, long_file, a_file, FromNet, a_net, Never, most_of_net}
 use Rattle.chp_cli.proofs.Stopping.{net_goes, stops_in}
 
 -- ---- a file goes on as what is made of its text does

@@ -1,5 +1,5 @@
 -- The words of `simulate`.
-use Rattle.std.specs.Prelude.{◌==◌, ◌&&◌, ◌||◌, ◌+◌, ◌-◌, ℕ, nat_le, nat_lt, Bool, true, false, if◌then◌else◌, List, length, Option, Some, None, codes, is_some, option_and_then, option_map}
+use Rattle.std.specs.Prelude.{◌&&◌, ◌||◌, ℕ, nat_le, nat_lt, Bool, true, false, if◌then◌else◌, List, length, Option, Some, None, codes, is_some, option_and_then, option_map}
 use Rattle.std.specs.List.{list_all}
 use Rattle.std.specs.Str.{bytes_eq}
 use Rattle.chp_base.specs.Names.{digit}

@@ -49,8 +49,10 @@ rule_count net = sum_by guard_rules net.up + sum_by guard_rules net.down
 -- the numbers of the net's nodes and rules, and the report of the run
 abbrev pub summary_of : RanValue → List ℕ
 summary_of ran =
-    concat (codes "nodes " ∷ decimal (length ran.net.first) ∷ codes "\nrules " ∷ decimal (rule_count ran.net) ∷ codes "\n"
-    ∷ report_of ran None ∷ [])
+    concat (codes "nodes " ∷ decimal (length ran.net.first)
+    ∷ codes "\nrules " ∷ decimal (rule_count ran.net)
+    ∷ codes "\n" ∷ report_of ran None
+    ∷ [])
 
 -- ---- the answer
 

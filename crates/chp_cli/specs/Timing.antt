@@ -1,5 +1,5 @@
 -- What `simulate` answers where delays say when each move comes.
-use Rattle.std.specs.Prelude.{◌≡◌, ℕ, ◌≤◌, Bool, List, length, Option, Some}
+use Rattle.std.specs.Prelude.{ℕ, ◌≤◌, Bool, List, length, Option, Some}
 use Rattle.delay_script.specs.declared.fault.DelayFault.{DelayFault}
 use Rattle.delay_script.specs.declared.noted.NotedMove.{NotedMove}
 use Rattle.delay_script.specs.DelayTables.{DelayTable}

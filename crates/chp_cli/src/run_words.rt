@@ -27,8 +27,8 @@ const MOST_OF_STEPS: u64 = 1_000_000;
 const STEPS: u64 = 100_000;
 
 /// What the words behind `simulate` ask for, where they are its form: the names of a rule file and of a script, and the
-/// options `--order`, `--seed`, `--steps`, `--power`, `--against` and `--delays`, each at most once. With `--delays` there
-/// is neither `--order` nor `--seed`.
+/// options `--order`, `--seed`, `--steps`, `--power`, `--against` and `--delays`, each at most once. With `--delays`
+/// there is neither `--order` nor `--seed`.
 pub(crate) fn simulation_in<'a>(
     alloc: Global,
     name: &'a str,

@@ -20,8 +20,8 @@ abbrev pub pipeline_channels : (stages : ℕ) → List Channel
 pipeline_channels stages =
     byte_channel In 0 ∷ map (byte_channel Chan) (range_with_len 1 (stages - 1)) ++ byte_channel Out stages ∷ []
 
--- the text is within the limit of program texts, and reads as an accepted program with these channels and with a circuit
--- of at most so many nodes
+-- the text is within the limit of program texts, and reads as an accepted program with these channels and with a
+-- circuit of at most so many nodes
 pub record IsServed (text : List ℕ) (channels : List Channel) (most : ℕ) : Type 0 where
   pub program : ProgramTree
   pub short : length text ≤ 262144

@@ -23,5 +23,5 @@ returns-in-Err-clause-stopped g c =
     let given = given_by (S.tells c.args.shelf.now) (S.holds c.args.shelf.now) in
     let before = S.faults c.args.shelf.now in
     let whole = FromFile given c.args.file.now most_of_delays (λ t. FromDelays c.args.net.now.names t Never) in
-    stops_in (FromFile given c.args.file.now most_of_delays Never) whole (λ answer is. file_goes is) (c.args.file.now ∷ []) (c.args.file.now ∷ []) given before before (S.faults c.text_of_file.new.shelf) (λ name own. own)
-    (omega arith) c.in-Err.stop c.in-Err.ensures.stopped
+    stops_in (FromFile given c.args.file.now most_of_delays Never) whole (λ answer is. file_goes is) (c.args.file.now ∷ [])
+    (c.args.file.now ∷ []) given before before (S.faults c.text_of_file.new.shelf) (λ name own. own) (omega arith) c.in-Err.stop c.in-Err.ensures.stopped

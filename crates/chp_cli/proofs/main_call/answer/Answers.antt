@@ -1,7 +1,19 @@
-use Rattle.std.proofs.Common.{[]}
-use Rattle.chp_cli.specs.Answers.{given_by}
+use Rattle.std.proofs.Common.{ℕ, [], Result}
+use Rattle.std.specs.Prelude.{IfErr}
+use Rattle.chp_cli.specs.declared.answer.Output.{Output}
+use Rattle.chp_cli.specs.declared.answer.Stop.{Stop}
+use Rattle.chp_cli.specs.declared.grow_words.Growth.{Growth}
+use Rattle.chp_cli.specs.Answers.{Given, given_by}
+use Rattle.chp_cli.specs.Growing.{Grows}
+use Rattle.chp_cli.specs.Orders.{Played}
+use Rattle.chp_cli.specs.Replies.{Halts, Stops}
 use Rattle.chp_cli.proofs.Stopping.{halts_stops}
 use Rattle.chp_cli.proofs.main_call.answer.Goals as goal
+
+-- `grow` has no file
+grow_stops : (growth : Growth) (played : Played) (r : Result Output Stop) (given : Given) (before after : ℕ) → IfErr r (Halts (Grows growth played)) →
+    IfErr r (Stops (Grows growth played) [] given before after)
+grow_stops growth played r given before after = halts_stops (Grows growth played) r [] given before after
 
 pub returns-in-Compile-clause-answered : goal.returns-in-Compile-clause-answered
 returns-in-Compile-clause-answered g c = rw c.in-Compile.is c.compile.ensures.answered
@@ -79,7 +91,8 @@ pub returns-in-Grow-clause-stopped : goal.returns-in-Grow-clause-stopped
 returns-in-Grow-clause-stopped g c =
     let S = g.S.Shelf in
     let given = given_by (S.tells c.args.shelf.now) (S.holds c.args.shelf.now) in
-    rw c.in-Grow.is (halts_stops _ c.grow.result [] given _ _ c.grow.ensures.stopped)
+    let faults = S.faults c.args.shelf.now in
+    rw c.in-Grow.is (grow_stops c.in-Grow.growth _ c.grow.result given faults faults c.grow.ensures.stopped)
 
 pub returns-in-Grow-clause-orders : goal.returns-in-Grow-clause-orders
 returns-in-Grow-clause-orders g c = rw c.in-Grow.is c.grow.ensures.orders

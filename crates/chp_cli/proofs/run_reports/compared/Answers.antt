@@ -1,11 +1,12 @@
-use Rattle.std.proofs.Common.{◌≡◌, ◌∙◌, ap, sym}
+use Rattle.std.proofs.Common.{◌∙◌, ap, sym}
 use Rattle.width_check.specs.Typed.{program_of as typed_of}
 use Rattle.chp_cli.specs.RunReporting.{ending_for}
 use Rattle.chp_cli.proofs.Reported.{reported_against, reported_hazard}
 use Rattle.chp_cli.proofs.run_reports.compared.Goals as goal
 
 pub returns-then-is_hazard : goal.returns-then-is_hazard
-returns-then-is_hazard c = reported_hazard _ _ _ _ _ (ap ending_for (sym c.end.ensures.end) ∙ c.is_hazard.ensures.hazard c.if-is_hazard.true) c.in_ok-text.ensures
+returns-then-is_hazard c =
+    reported_hazard _ _ _ _ _ (ap ending_for (sym c.end.ensures.end) ∙ c.is_hazard.ensures.hazard c.if-is_hazard.true) c.in_ok-text.ensures
 
 pub returns : goal.returns
 returns c =

@@ -1,4 +1,4 @@
-use Rattle.std.proofs.Common.{◌≡◌, ◌∙◌, ap}
+use Rattle.std.proofs.Common.{◌∙◌, ap}
 use Rattle.chp_cli.specs.RunReporting.{ending_for}
 use Rattle.chp_cli.proofs.Reported.{reported_alone}
 use Rattle.chp_cli.proofs.run_reports.uncompared.Goals as goal

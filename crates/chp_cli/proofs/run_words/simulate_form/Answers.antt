@@ -1,5 +1,5 @@
-use Rattle.std.proofs.Common.{◌≡◌, ◌∙◌, ap, ap₂}
-use Rattle.clap.specs.Words.{App, app_of, rule_of, with_rule}
+use Rattle.std.proofs.Common.{◌≡◌, ◌∙◌, ap₂}
+use Rattle.clap.specs.Words.{app_of, with_rule}
 use Rattle.chp_cli.specs.SimulateWords.{simulate_form}
 use Rattle.chp_cli.proofs.Stopping.{ok_in}
 use Rattle.chp_cli.proofs.run_words.simulate_form.Goals as goal

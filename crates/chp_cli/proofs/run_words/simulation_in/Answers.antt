@@ -1,4 +1,4 @@
-use Rattle.std.proofs.Common.{◌≡◌, ◌∙◌, ap}
+use Rattle.std.proofs.Common.{◌∙◌, ap}
 use Rattle.clap.specs.Words.{found_of, rows_of}
 use Rattle.chp_cli.specs.Forms.{texts_of}
 use Rattle.chp_cli.specs.SimulateWords.{simulation_with}

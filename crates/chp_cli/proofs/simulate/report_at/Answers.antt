@@ -1,4 +1,4 @@
-use Rattle.std.proofs.Common.{◌≡◌, ◌∙◌, List, Some, None, sym, ap, subst}
+use Rattle.std.proofs.Common.{◌≡◌, ◌∙◌, List, None, sym, ap, subst}
 use Rattle.std.specs.Prelude.{option_map}
 use Rattle.env_script.specs.Environment.{net_channels}
 use Rattle.env_script.specs.Scripts.{IsScript, OfferValue}
@@ -7,7 +7,6 @@ use Rattle.prs_core.specs.Nets.{NetValue}
 use Rattle.width_check.specs.Typed.{program_of as typed_of}
 use Rattle.chp_cli.specs.Replies.{told_answer}
 use Rattle.chp_cli.specs.RunReporting.{IsReported}
-use Rattle.chp_cli.specs.Simulating.{simulation_for}
 use Rattle.chp_cli.proofs.Keeping.{still_at}
 use Rattle.chp_cli.proofs.Referring.{played_answers}
 use Rattle.chp_cli.proofs.Stopping.{ok_in}

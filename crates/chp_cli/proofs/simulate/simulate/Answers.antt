@@ -1,5 +1,4 @@
-use Rattle.std.proofs.Common.{◌≡◌, ◌∙◌, ◌∷◌, [], ℕ, List, Option, Some, None, refl, ap, sym, subst}
-use Rattle.chp_cli.specs.Orders.{KeepsOrders}
+use Rattle.std.proofs.Common.{◌∙◌, sym}
 use Rattle.chp_cli.specs.RunSteps.{an_order, no_order}
 use Rattle.chp_cli.proofs.Keeping.{only_named, unplayed}
 use Rattle.chp_cli.proofs.Stopping.{err_in, ok_in}

@@ -1,12 +1,10 @@
-use Rattle.std.proofs.Common.{◌≡◌, ◌∙◌, ◌∷◌, [], ℕ, List, Option, Some, None, true, false, refl, ap, sym, subst, arith}
+use Rattle.std.proofs.Common.{◌≡◌, ◌∙◌, sym, arith}
 use Rattle.env_script.specs.Environment.{net_channels}
-use Rattle.chp_cli.specs.Answers.{given_by}
 use Rattle.chp_cli.specs.Commands.{run_asked}
 use Rattle.chp_cli.specs.RunSteps.{no_reset}
 use Rattle.chp_cli.proofs.Keeping.{still_at}
 use Rattle.chp_cli.proofs.Referring.{reference_stops, report_answers}
 use Rattle.chp_cli.proofs.RunStopping.{file_answers, net_stops, script_stops}
-use Rattle.chp_cli.proofs.Stopping.{err_in, ok_in}
 use Rattle.chp_cli.proofs.simulate.simulate_at.Goals as goal
 
 pub returns-in-Err-clause-stopped : goal.returns-in-Err-clause-stopped

@@ -1,4 +1,4 @@
-use Rattle.std.proofs.Common.{◌≡◌, ◌∙◌, ◌∷◌, [], ℕ, List, Option, Some, None, true, false, refl, ap, sym, subst, arith}
+use Rattle.std.proofs.Common.{◌≡◌, ◌∙◌, sym, arith}
 use Rattle.env_script.specs.Environment.{net_channels}
 use Rattle.chp_cli.specs.Commands.{timing_asked}
 use Rattle.chp_cli.specs.RunSteps.{no_reset}
