@@ -37,8 +37,8 @@ abbrev pub HoldsDelayFile : Given → (file : Option (List ℕ)) → (names : Li
 HoldsDelayFile given None names delays = AreDelaysOf names [] delays
 HoldsDelayFile given (Some file) names delays = HoldsDelays given file names delays
 
--- the text tells these moves of a net that wasn't given a power: all of them as a wave, which is read back from it, or the
--- causes of the last one
+-- the text tells these moves of a net that wasn't given a power: all of them as a wave, which is read back from it, or
+-- the causes of the last one
 abbrev pub IsTraceText : NetValue → DelayTable → List NotedMove → (causes : Bool) → (text : List ℕ) → Type 0
 IsTraceText net delays moves false text = IsWaveText text (wave_of_run net moves)
 IsTraceText net delays moves true text =

@@ -65,8 +65,8 @@ enum Verb {
 ///
 /// The first word names the command. The words behind it are read by `clap`, by the form of that command: one file and,
 /// for `compile`, the flag `--reset` and the option `--buffer` with a value, each of which may stand once, before the
-/// file or behind it; for `simulate` and `run` two files and such options, and for `waves` the flag `--causes` besides. A
-/// file is one word, which may be empty or `-`.
+/// file or behind it; for `simulate` and `run` two files and such options, and for `waves` the flag `--causes` besides.
+/// A file is one word, which may be empty or `-`.
 /// Any other word that begins with a hyphen and has more is taken for a flag and refused, a call for help too, but
 /// behind `--` any word may stand; `--` may also end the words.
 ///

@@ -51,11 +51,7 @@ fn told_text<'a>(alloc: Global, text: &[u8]) -> Result<Output, Stop<'a>>
 }
 
 /// What `unwave` answers for the file of this name.
-pub fn unwave<'a, S: Shelf>(
-    alloc: Global,
-    shelf: &mut S,
-    file: &'a str,
-) -> Result<Output, Stop<'a>>
+pub fn unwave<'a, S: Shelf>(alloc: Global, shelf: &mut S, file: &'a str) -> Result<Output, Stop<'a>>
     ensures answered { IfOk result (λ output. Unwaves (given_by (S.tells shelf.old) (S.holds shelf.old)) file.entry.now
         (told_answer output)) }
     ensures stopped { IfErr result (Stops (Unwaves (given_by (S.tells shelf.old) (S.holds shelf.old)) file.entry.now)

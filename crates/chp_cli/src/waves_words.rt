@@ -32,8 +32,8 @@ pub struct Waves<'a> {
     pub causes: bool,
 }
 
-/// What the words behind `waves` ask for, where they are its form: the names of a rule file and of a script, the options
-/// `--steps` and `--delays`, and the flag `--causes`, each at most once.
+/// What the words behind `waves` ask for, where they are its form: the names of a rule file and of a script, the
+/// options `--steps` and `--delays`, and the flag `--causes`, each at most once.
 pub fn waves_in<'a>(
     alloc: Global,
     name: &'a str,
