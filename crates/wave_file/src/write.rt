@@ -1,8 +1,11 @@
 //! Writing a wave.
 
-ghost use Rattle.std.specs.Prelude.{◌≡◌, ◌<◌, ◌≤◌, ◌++◌, ℕ, not, length, All, IfOk, OnOk};
+ghost use Rattle.std.specs.Prelude.{◌≡◌, ◌<◌, ◌≤◌, ◌++◌, ◌^◌, ℕ, not, length, All, IfOk, OnOk};
+ghost use Rattle.chp_base.specs.Names.{IsNodeName};
 ghost use Rattle.prs_core.specs.Moves.{high, fired};
-ghost use Rattle.wave_file.specs.Waves.{wave_of, IsWave, mark_before, value_spelling_of, id_of, var_spelling, naming_lines, first_lines, change_lines, wave_spelling};
+ghost use Rattle.wave_file.specs.WaveReading.{IsWaveText};
+ghost use Rattle.wave_file.specs.WaveTold.{kept_wave};
+ghost use Rattle.wave_file.specs.Waves.{wave_of, IsWave, mark_before, value_spelling_of, id_of, var_spelling, naming_lines, first_lines, change_lines};
 
 use crate::forms::{append, time_line, value_line, var_line};
 use crate::wave::Wave;
@@ -23,7 +26,8 @@ pub(crate) fn turn(values: &mut [bool], node: u32) -> bool
 /// Appends the line of the node of this name.
 fn name_line(name: &Name, node: u32, to: &mut Vec<u8>) -> Result<(), AllocError>
     requires { node < 65537 }
-    ensures { OnOk result (to.new.items ≡ to.old.items ++ var_spelling node name.now) }
+    ensures line { OnOk result (to.new.items ≡ to.old.items ++ var_spelling node name.now) }
+    ensures named { IsNodeName name.now }
 {
     var_line(node, name.bytes(), to)
 }
@@ -31,7 +35,8 @@ fn name_line(name: &Name, node: u32, to: &mut Vec<u8>) -> Result<(), AllocError>
 /// Appends a line for each node.
 fn var_lines(names: &[Name], to: &mut Vec<u8>) -> Result<(), AllocError>
     requires { length names.now ≤ 65537 }
-    ensures { OnOk result (to.new.items ≡ to.old.items ++ naming_lines 0 names.now) }
+    ensures lines { OnOk result (to.new.items ≡ to.old.items ++ naming_lines 0 names.now) }
+    ensures named { OnOk result (All IsNodeName names.now) }
 {
     for node in 0..names.len() as u32 {
         name_line(&names[node as usize], node, to)?;
@@ -69,8 +74,9 @@ fn change_line(
     to: &mut Vec<u8>,
 ) -> Result<(), AllocError>
     requires { node < 65537 }
-    ensures { OnOk result (to.new.items
+    ensures line { OnOk result (to.new.items
         ≡ to.old.items ++ (mark_before now time ++ value_spelling_of value (id_of node))) }
+    ensures small { time < 2 ^ 64 }
 {
     mark_before(now, time, to)?;
     value_line(value, node, to)
@@ -84,7 +90,8 @@ fn change_lines(
 ) -> Result<(), AllocError>
     requires few { length values.old ≤ 65537 }
     requires nodes { All (λ (c : ℕ × ℕ). c.1 < length values.old) changes.now }
-    ensures { OnOk result (to.new.items ≡ to.old.items ++ change_lines 0 values.old changes.now) }
+    ensures lines { OnOk result (to.new.items ≡ to.old.items ++ change_lines 0 values.old changes.now) }
+    ensures small { OnOk result (All (λ (c : ℕ × ℕ). c.0 < 2 ^ 64) changes.now) }
 {
     let mut now = 0u64;
     for (time, node) in changes {
@@ -98,8 +105,9 @@ fn change_lines(
 /// Appends the changes of the wave.
 fn changes_of(wave: &Wave, to: &mut Vec<u8>) -> Result<(), AllocError>
     requires { IsWave (wave_of wave.now.names.items wave.now.first.items wave.now.changes.items) }
-    ensures { OnOk result (to.new.items
+    ensures lines { OnOk result (to.new.items
         ≡ to.old.items ++ change_lines 0 wave.now.first.items wave.now.changes.items) }
+    ensures small { OnOk result (All (λ (c : ℕ × ℕ). c.0 < 2 ^ 64) wave.now.changes.items) }
 {
     let mut values = wave.first.clone()?;
     change_lines(&mut values, &wave.changes, to)
@@ -107,11 +115,10 @@ fn changes_of(wave: &Wave, to: &mut Vec<u8>) -> Result<(), AllocError>
 
 /// The wave as a value change dump: the nodes with their names in order, the first values, and the changes behind the
 /// marks of their times. One unit of time is written as a nanosecond. (The format is a profile of that of IEEE 1364,
-/// with wires of one bit alone.)
+/// with wires of one bit alone.) What is written is read as this wave.
 pub fn write_wave(alloc: Global, wave: &Wave) -> Result<Vec<u8>, AllocError>
     requires { IsWave (wave_of wave.now.names.items wave.now.first.items wave.now.changes.items) }
-    ensures { IfOk result (λ text. text.items
-        ≡ wave_spelling (wave_of wave.now.names.items wave.now.first.items wave.now.changes.items)) }
+    ensures { IfOk result (λ text. IsWaveText text.items (kept_wave wave.now)) }
 {
     let mut text = Vec::new(alloc);
     append(
