@@ -117,9 +117,9 @@ pub fn compiled_files_carry()
         HoldsCarrying given file p }
 {}
 
-/// Law: each rule file that `compile` wrote is within the limit of rule files, so with a script of the program's channels
-/// within its own, and with a reset node if a power is asked for, it can be simulated: the only answers of `simulate` are
-/// to write.
+/// Law: each rule file that `compile` wrote is within the limit of rule files. So under each script of the program's
+/// channels within its own limit, with any power if it has a reset node, it can be simulated: the only answers of
+/// `simulate` are to write.
 pub fn compiled_files_are_simulated()
     ensures { (s : AskedRun) (given : Given) (played : Played) (p : TypedProgram) →
         IsCompiledToSimulate s given played p → IsToSimulate s given played }

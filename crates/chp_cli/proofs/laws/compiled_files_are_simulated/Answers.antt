@@ -1,4 +1,4 @@
-use Rattle.std.proofs.Common.{◌≡◌, Bool, true, false, List, ℕ, sym, subst}
+use Rattle.std.proofs.Common.{◌≡◌, Bool, true, false, sym, subst}
 use Rattle.env_script.specs.Environment.{net_channels}
 use Rattle.env_script.specs.ScriptText.{IsScriptText}
 use Rattle.width_check.specs.Processes.{TypedProgram}
