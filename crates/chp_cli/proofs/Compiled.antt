@@ -14,8 +14,14 @@ module _ (p : TypedProgram) (net : NetValue) (is : net ≡ translation p) (kept 
     (law : ResetCarries (translation p) p) where
   pub net_compiled : (reset : Bool) (text : List ℕ) → NetText text (if reset then reset_of net else net) →
       IsNet (if reset then reset_of net else net) → IsCompiled reset p text
-  net_compiled false text spelled whole = record { kept = subst IsNet is whole; spells = spelled ∙ ap spelling is; carries = carried }
+  net_compiled false text spelled whole = record {
+    plain = subst IsNet is kept;
+    kept = subst IsNet is whole;
+    spells = spelled ∙ ap spelling is;
+    carries = carried;
+  }
   net_compiled true text spelled whole = record {
+    plain = subst IsNet is kept;
     kept = subst (λ n. IsNet (reset_of n)) is whole;
     spells = spelled ∙ ap (λ n. spelling (reset_of n)) is;
     carries = let held = subst IsNet is kept in law carried held refl held.most (names_free p);

@@ -27,8 +27,10 @@ abbrev pub NetCarries : (reset : Bool) → TypedProgram → Type 0
 NetCarries false p = Carries (net_for false p) p
 NetCarries true p = CarriesReset (net_for true p) p
 
--- this is the one text of the net of the program, which is a net that a rule file can hold, and that net carries it
+-- this is the one text of the net of the program, which is a net that a rule file can hold, as it also is without a
+-- reset node; and that net carries it
 pub record IsCompiled (reset : Bool) (p : TypedProgram) (file : List ℕ) : Type 0 where
+  pub plain : IsNet (translation p)
   pub kept : IsNet (net_for reset p)
   pub spells : NetText file (net_for reset p)
   pub carries : NetCarries reset p

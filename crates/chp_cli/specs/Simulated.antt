@@ -13,7 +13,7 @@ use Rattle.width_check.specs.Processes.{TypedProgram}
 use Rattle.chp_cli.specs.declared.answer.Ending.TheVariants.{Done}
 use Rattle.chp_cli.specs.Answers.{Given, Answer, writes}
 use Rattle.chp_cli.specs.Commands.{Asked, simulates}
-use Rattle.chp_cli.specs.Compiling.{IsCompiled}
+use Rattle.chp_cli.specs.Compiling.{IsCompiled, net_for}
 use Rattle.chp_cli.specs.Orders.{OrderState, Played, place_named}
 use Rattle.chp_cli.specs.References.{HoldsReference, IsToReferTo}
 use Rattle.chp_cli.specs.RunReporting.{IsReported}
@@ -78,6 +78,21 @@ pub record IsToSimulate (s : AskedRun) (given : Given) (played : Played) : Type 
   pub held_script : given.files s.script ≡ Some told
   pub short_script : length told ≤ most_of_script
   pub says : IsScriptText (net_channels net) told script
+  pub referable : IsToReferTo given s.against
+  pub named : place_named played.before s.order ≡ Some place
+
+-- The files hold what `compile` writes for the program, with a reset node if a power is asked for, a script of the
+-- program's channels within its limit, and an accepted program, if one is wanted; and there is an order of the wanted
+-- name.
+pub record IsCompiledToSimulate (s : AskedRun) (given : Given) (played : Played) (p : TypedProgram) : Type 0 where
+  pub told : List ℕ
+  pub script : List OfferValue
+  pub place : ℕ
+  pub holds : HoldsCompiled given s.net p
+  pub powered : lacks_reset s.power (net_for holds.reset p).reset ≡ false
+  pub held_script : given.files s.script ≡ Some told
+  pub short_script : length told ≤ most_of_script
+  pub says : IsScriptText p.channels told script
   pub referable : IsToReferTo given s.against
   pub named : place_named played.before s.order ≡ Some place
 

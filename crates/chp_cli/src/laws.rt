@@ -11,7 +11,8 @@ ghost use Rattle.chp_cli.specs.Migrating.{Migrates, IsToMigrate};
 ghost use Rattle.chp_cli.specs.Commands.{Asked, IsAnswer};
 ghost use Rattle.chp_cli.specs.Orders.{Played};
 ghost use Rattle.chp_cli.specs.References.{IsReferredTo};
-ghost use Rattle.chp_cli.specs.Simulated.{EndsAllAtRest, HoldsCarrying, HoldsCompiled, IsFileSimulated, IsToSimulate};
+ghost use Rattle.chp_cli.specs.Simulated.{EndsAllAtRest, HoldsCarrying, HoldsCompiled, IsCompiledToSimulate};
+ghost use Rattle.chp_cli.specs.Simulated.{IsFileSimulated, IsToSimulate};
 ghost use Rattle.chp_cli.specs.Simulating.{AskedRun, Simulates};
 ghost use Rattle.chp_cli.specs.Statuses.{is_whole};
 ghost use Rattle.chp_cli.specs.TimedFiles.{IsFileTimed};
@@ -114,6 +115,14 @@ pub fn carried_runs_have_one_length()
 pub fn compiled_files_carry()
     ensures { (given : Given) (file : List ℕ) (p : TypedProgram) → HoldsCompiled given file p →
         HoldsCarrying given file p }
+{}
+
+/// Law: each rule file that `compile` wrote is within the limit of rule files. So under each script of the program's
+/// channels within its own limit, with any power if it has a reset node, it can be simulated: the only answers of
+/// `simulate` are to write.
+pub fn compiled_files_are_simulated()
+    ensures { (s : AskedRun) (given : Given) (played : Played) (p : TypedProgram) →
+        IsCompiledToSimulate s given played p → IsToSimulate s given played }
 {}
 
 /// Law: what `simulate` writes with delays is the report of the timed run of the net under the script by the delays
