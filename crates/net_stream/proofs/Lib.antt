@@ -1,2 +1,11 @@
 pub mod PlaceSteps
 pub mod Pieces
+pub mod BitsRead
+pub mod BodyDriven
+pub mod Latched
+pub mod Stored
+pub mod ContactsPicked
+pub mod DeclaredDriven
+pub mod NamesCut
+pub mod NodesWithin
+pub mod CircuitNets
