@@ -1,16 +1,22 @@
 -- The net that a circuit stands for, rule by rule.
-use Rattle.std.proofs.Common.{◌≡◌, ◌∙◌, ℕ, zero, suc, ◌+◌, ◌<◌, Bool, true, false, List, [], ◌∷◌, ◌++◌, length, map, refl, sym, ap, arith}
-use Rattle.std.specs.Prelude.{not, slice_index_or, Option, Some, None, codes, if◌then◌else◌}
+use Rattle.std.proofs.Common.{◌≡◌, ◌∙◌, ℕ, zero, suc, ◌+◌, ◌<◌, ◌≢◌, Bool, true, false, List, [], ◌∷◌, ◌++◌, length, map, refl, sym, ap, subst, arith}
+use Rattle.std.specs.Prelude.{not, slice_index_or, Option, Some, None, codes, if◌then◌else◌, All}
 use Rattle.std.specs.List.{range_with_len}
-use Rattle.std.proofs.lemmas.List.{append-nil, map-id}
+use Rattle.std.proofs.lemmas.List.{append-nil, length-append}
+use Rattle.std.proofs.lemmas.List.Elements.{All-nil, All-cons, All-head, All-tail}
 use Rattle.prs_core.specs.declared.rule.Literal.{Literal}
 use Rattle.prs_core.specs.declared.wires.Wires.{Wires}
-use Rattle.prs_core.specs.Nets.{GuardValue, NodeRules, NetValue, net_of, up_of, down_of, first_at}
+use Rattle.prs_core.specs.Nets.{GuardValue, NodeRules, NetValue, net_of, up_of, down_of, first_at, IsBelow, IsNet, IsReset}
 use Rattle.prs_core.specs.Pairs.{no_rules}
 use Rattle.reset_net.specs.Resets.{has_rules, held, forced, reset_guard, reset_literal, reset_up, reset_down, reset_of}
+use Rattle.reset_net.proofs.Whole.{reset_is_net}
+use Rattle.width_check.specs.Processes.{TypedProgram}
+use Rattle.handshake_expand.specs.Named.{node_names}
+use Rattle.net_compose.specs.Translation.{all_rules, first_values, translation, wires_from}
 use Rattle.net_stream.specs.declared.ending.Ending.{Ending}
 use Rattle.net_stream.specs.declared.ending.Ending.TheVariants.{Plain, Held, Forced}
-use Rattle.net_stream.specs.Circuits.{reset_rules, each_reset, circuit_rules, circuit_net, side, ended}
+use Rattle.net_stream.proofs.Puts.{front_all}
+use Rattle.net_stream.specs.Circuits.{reset_rules, each_reset, circuit_rules, circuit_net, side, ended, ending_of, term_end, guard_end, with_ends, IsEnding}
 
 -- the ends of guards
 as_is : (g : GuardValue) → map (λ (t : List Literal). t ++ []) g ≡ g
@@ -27,7 +33,7 @@ pub forced_is : (reset : ℕ) (g : GuardValue) → ended (Forced reset) g ≡ fo
 forced_is reset g = ap (λ u. u ++ (reset_literal reset true ∷ []) ∷ []) (as_is g)
 
 -- one node's rule
-guard_at : (up : Bool) (rs : List NodeRules) (node : ℕ) → slice_index_or (map (side up) rs) node [] ≡ side up (slice_index_or rs node no_rules)
+pub guard_at : (up : Bool) (rs : List NodeRules) (node : ℕ) → slice_index_or (map (side up) rs) node [] ≡ side up (slice_index_or rs node no_rules)
 guard_at true [] node = refl
 guard_at false [] node = refl
 guard_at up (r ∷ rs) zero = refl
@@ -101,3 +107,120 @@ module _ (names : List (List ℕ)) (first : List Bool) (rs : List NodeRules) (ch
       ∙ ap (λ downs. net_of (names ++ codes "reset" ∷ []) (first ++ true ∷ [])
       (record { up = map (reset_up plain) (range_with_len 0 n) ++ [] ∷ []; down = downs }) channels (Some n))
       (behind_all n false (reset_down plain) first rs 0 same (λ i l. down_here i))
+
+-- what a driver's rule says, with what the reset adds to it
+abbrev pub leads_back : (up high : Bool) → Bool
+leads_back up high = if up then high else not high
+
+none_ended : (up : Bool) (g h : GuardValue) → has_rules g h ≡ false → side up (record { up = g; down = h }) ≡ []
+none_ended true [] [] e = refl
+none_ended false [] [] e = refl
+none_ended up [] (t ∷ h) e = absurd (cc)
+none_ended up (t ∷ g) h e = absurd (cc)
+
+reset_rule : (reset : ℕ) (up high b : Bool) (r : NodeRules) → has_rules r.up r.down ≡ b
+    → side up (if b then record { up = reset_guard reset high r.up; down = reset_guard reset (not high) r.down } else no_rules)
+    ≡ ended (ending_of (Some reset) b (leads_back up high)) (side up r)
+reset_rule reset true true true r has = sym (forced_is reset r.up)
+reset_rule reset true false true r has = sym (held_is reset r.up)
+reset_rule reset false false true r has = sym (forced_is reset r.down)
+reset_rule reset false true true r has = sym (held_is reset r.down)
+reset_rule reset true high false r has = sym (plain_is r.up ∙ none_ended true r.up r.down has)
+reset_rule reset false high false r has = sym (plain_is r.down ∙ none_ended false r.up r.down has)
+
+pub rule_is : (reset : Option ℕ) (up : Bool) (first : List Bool) (rs : List NodeRules) (node : ℕ) → length rs ≡ length first → node < length first
+    → side up (slice_index_or (circuit_rules reset first rs) node no_rules)
+    ≡ ended (ending_of reset (has_rules (slice_index_or rs node no_rules).up (slice_index_or rs node no_rules).down)
+    (leads_back up (slice_index_or first node false))) (side up (slice_index_or rs node no_rules))
+rule_is None up first rs node same l = sym (plain_is (side up (slice_index_or rs node no_rules)))
+rule_is (Some reset) up first rs node same l =
+    let r = slice_index_or rs node no_rules in
+    ap (side up) (reset_at reset first rs node same l) ∙ reset_rule reset up (slice_index_or first node false) (has_rules r.up r.down) r refl
+
+pub rule_here : (names : List (List ℕ)) (reset : Option ℕ) (up : Bool) (first : List Bool) (rs : List NodeRules) (channels : List Wires) (node : ℕ)
+    → length rs ≡ length first → node < length first
+    → (if up then up_of (circuit_net names first rs channels reset) node else down_of (circuit_net names first rs channels reset) node)
+    ≡ ended (ending_of reset (has_rules (slice_index_or rs node no_rules).up (slice_index_or rs node no_rules).down)
+    (leads_back up (slice_index_or first node false))) (side up (slice_index_or rs node no_rules))
+rule_here names reset true first rs channels node same l = guard_at true (circuit_rules reset first rs) node ∙ rule_is reset true first rs node same l
+rule_here names reset false first rs channels node same l = guard_at false (circuit_rules reset first rs) node ∙ rule_is reset false first rs node same l
+
+-- a guard without its end is over the same nodes
+module _ (count : ℕ) where
+  abbrev Near : Literal → Type 0
+  Near l = l.node < count
+
+  abbrev Term : List Literal → Type 0
+  Term t = All Near t
+
+  fronts_near : (ending : Ending) (g : GuardValue) → IsBelow count (with_ends ending g) → IsBelow count g
+  fronts_near ending [] h = All-nil Term
+  fronts_near ending (t ∷ g) h =
+      All-cons Term t g (front_all Near t (term_end ending) (All-head Term (t ++ term_end ending) (with_ends ending g) h))
+      (fronts_near ending g (All-tail Term (t ++ term_end ending) (with_ends ending g) h))
+
+  pub ended_near : (ending : Ending) (g : GuardValue) → IsBelow count (ended ending g) → IsBelow count g
+  ended_near ending g h = fronts_near ending g (front_all Term (with_ends ending g) (guard_end ending) h)
+
+  pub is_ending : (n : NetValue) (reset : Option ℕ) (has back : Bool) → count ≡ length n.first → IsReset n reset → IsEnding count (ending_of reset has back)
+  is_ending n None has back same h = tt
+  is_ending n (Some reset) false back same h = tt
+  is_ending n (Some reset) true true same h = let last = h.last in omega (arith, last, same)
+  is_ending n (Some reset) true false same h = let last = h.last in omega (arith, last, same)
+
+-- the circuit of a program's drivers is that of its net, with a reset node where one is asked for
+pub reset_if : (reset : Bool) (names : List (List ℕ)) (first : List Bool) (rs : List NodeRules) (channels : List Wires) → length rs ≡ length first
+    → circuit_net (names ++ (if reset then codes "reset" ∷ [] else [])) (first ++ (if reset then true ∷ [] else []))
+    (rs ++ (if reset then no_rules ∷ [] else [])) channels (if reset then Some (length first) else None)
+    ≡ (if reset then reset_of (circuit_net names first rs channels None) else circuit_net names first rs channels None)
+reset_if true names first rs channels same = with_reset_is names first rs channels same
+reset_if false names first rs channels same =
+    ap (λ x. circuit_net x (first ++ []) (rs ++ []) channels None) (append-nil names)
+    ∙ (ap (λ x. circuit_net names x (rs ++ []) channels None) (append-nil first)
+    ∙ ap (λ x. circuit_net names first x channels None) (append-nil rs))
+
+pub reset_holds : (reset : Bool) (n : NetValue) → IsNet n → n.reset ≡ None → All (λ (name : List ℕ). name ≢ codes "reset") n.names
+    → IsNet (if reset then reset_of n else n)
+reset_holds true n whole plain free = reset_is_net n whole plain free
+reset_holds false n whole plain free = whole
+
+-- as many drivers as nodes, then too
+pub same_more : (reset : Bool) (first : List Bool) (rs : List NodeRules) → length rs ≡ length first
+    → length (rs ++ (if reset then no_rules ∷ [] else [])) ≡ length (first ++ (if reset then true ∷ [] else []))
+same_more true first rs same =
+    let a = length-append rs (no_rules ∷ []) in
+    let b = length-append first (true ∷ []) in
+    omega (arith, a, b, same)
+same_more false first rs same =
+    let a = length-append rs [] in
+    let b = length-append first [] in
+    omega (arith, a, b, same)
+
+module _ (p : TypedProgram) (reset : Bool) (names : List (List ℕ)) (channels : List Wires) (at : Option ℕ)
+    (first now : List Bool) (drivers : List NodeRules)
+    (named : names ≡ node_names p ++ (if reset then codes "reset" ∷ [] else [])) (valued : first ≡ first_values p)
+    (first_is : now ≡ first ++ (if reset then true ∷ [] else [])) (driven_by : drivers ≡ all_rules p ++ (if reset then no_rules ∷ [] else []))
+    (wired : channels ≡ wires_from p 0 p.channels) (placed : at ≡ (if reset then Some (length first) else None))
+    (same : length (all_rules p) ≡ length (first_values p)) where
+  pub circuit_is : circuit_net names now drivers channels at ≡ (if reset then reset_of (translation p) else translation p)
+  circuit_is =
+      ap (λ x. circuit_net x now drivers channels at) named
+      ∙ (ap (λ x. circuit_net (node_names p ++ (if reset then codes "reset" ∷ [] else [])) x drivers channels at)
+      (first_is ∙ ap (λ x. x ++ (if reset then true ∷ [] else [])) valued)
+      ∙ (ap (λ x. circuit_net (node_names p ++ (if reset then codes "reset" ∷ [] else [])) (first_values p ++ (if reset then true ∷ [] else [])) x channels at)
+      driven_by
+      ∙ (ap (λ x. circuit_net (node_names p ++ (if reset then codes "reset" ∷ [] else [])) (first_values p ++ (if reset then true ∷ [] else []))
+      (all_rules p ++ (if reset then no_rules ∷ [] else [])) x at) wired
+      ∙ (ap (λ x. circuit_net (node_names p ++ (if reset then codes "reset" ∷ [] else [])) (first_values p ++ (if reset then true ∷ [] else []))
+      (all_rules p ++ (if reset then no_rules ∷ [] else [])) (wires_from p 0 p.channels) x)
+      (placed ∙ ap (λ (x : List Bool). if reset then Some (length x) else None) valued)
+      ∙ reset_if reset (node_names p) (first_values p) (all_rules p) (wires_from p 0 p.channels) same))))
+
+  pub circuit_holds : IsNet (translation p) → All (λ (name : List ℕ). name ≢ codes "reset") (translation p).names
+      → (length drivers ≡ length now) × IsNet (circuit_net names now drivers channels at)
+  circuit_holds whole free = (
+    ap (λ (x : List NodeRules). length x) driven_by
+        ∙ (same_more reset (first_values p) (all_rules p) same
+        ∙ sym (ap (λ (x : List Bool). length x) (first_is ∙ ap (λ x. x ++ (if reset then true ∷ [] else [])) valued))),
+    subst IsNet (sym circuit_is) (reset_holds reset (translation p) whole refl free),
+  )

@@ -9,3 +9,8 @@ pub mod DeclaredDriven
 pub mod NamesCut
 pub mod NodesWithin
 pub mod CircuitNets
+pub mod Puts
+pub mod RowsPut
+pub mod ShapesDriven
+pub mod FewLiterals
+pub mod RuleTexts

@@ -3,7 +3,7 @@ use Rattle.std.proofs.Common.{◌≡◌, ◌∙◌, ℕ, zero, suc, ◌+◌, ◌
 use Rattle.std.specs.Prelude.{take}
 use Rattle.std.proofs.lemmas.List.{take-append-le, drop-append-le, length-append}
 use Rattle.std.proofs.Math.Seq.{drop-append_seam, take-length}
-use Rattle.net_stream.specs.Cuts.{cut, AreEnds}
+use Rattle.net_stream.specs.Cuts.{cut, AreEnds, start_of}
 
 -- each end is one of all bytes
 end_within : (count from : ℕ) (ends : List ℕ) → AreEnds count from ends → from ≤ count
@@ -42,11 +42,6 @@ pub cut_length : (bytes : List ℕ) (from : ℕ) (ends : List ℕ) → length (c
 cut_length bytes from [] = refl
 cut_length bytes from (end ∷ ends) = ap suc (cut_length bytes end ends)
 
--- where the text at a place begins
-abbrev pub start_of : (from : ℕ) → List ℕ → ℕ → ℕ
-start_of from ends zero = from
-start_of from ends (suc place) = get_or ends place from
-
 -- a number that is there is the same whatever stands for those that aren't
 pub get_same : (xs : List ℕ) (i a b : ℕ) → i < length xs → get_or xs i a ≡ get_or xs i b
 get_same [] i a b l = absurd (omega (arith, l))
@@ -73,3 +68,6 @@ start_within count from (end ∷ ends) (suc (suc place)) d h l =
       subst (λ s. s ≤ get_or ends (suc place) d) (get_same ends place end from (omega (arith, l))) rest.0,
       rest.1,
     )
+
+pub start_after : (ends : List ℕ) (place at v : ℕ) → suc at ≡ place → at < length ends → v ≡ get_or ends at v → v ≡ start_of 0 ends place
+start_after ends place at v e l h = subst (λ n. v ≡ start_of 0 ends n) e (h ∙ get_same ends at v 0 l)

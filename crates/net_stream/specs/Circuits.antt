@@ -2,7 +2,7 @@
 use Rattle.std.specs.Prelude.{ℕ, ◌<◌, Bool, true, false, not, List, [], ◌∷◌, ◌++◌, map, Option, Some, None, if◌then◌else◌}
 use Rattle.prs_core.specs.declared.rule.Literal.{Literal}
 use Rattle.prs_core.specs.declared.wires.Wires.{Wires}
-use Rattle.prs_core.specs.Nets.{GuardValue, NodeRules, NetValue, net_of, guard_literals, is_high, is_low}
+use Rattle.prs_core.specs.Nets.{GuardValue, NodeRules, NetValue, net_of, is_high, is_low}
 use Rattle.prs_core.specs.Pairs.{no_rules}
 use Rattle.reset_net.specs.Resets.{has_rules, reset_guard}
 use Rattle.net_stream.specs.declared.ending.Ending.{Ending}
@@ -42,15 +42,21 @@ guard_end Plain = []
 guard_end (Held reset) = []
 guard_end (Forced reset) = (is_high reset ∷ []) ∷ []
 
-abbrev pub ended : Ending → GuardValue → GuardValue
-ended ending g = map (λ t. t ++ term_end ending) g ++ guard_end ending
+abbrev pub with_ends : Ending → GuardValue → GuardValue
+with_ends ending g = map (λ t. t ++ term_end ending) g
 
--- how many literals the guard has then
-abbrev pub ended_literals : Ending → GuardValue → ℕ
-ended_literals ending g = guard_literals (ended ending g)
+abbrev pub ended : Ending → GuardValue → GuardValue
+ended ending g = with_ends ending g ++ guard_end ending
 
 -- a reset's node is one of so many
 abbrev pub IsEnding : ℕ → Ending → Type 0
 IsEnding count Plain = Unit {0}
 IsEnding count (Held reset) = reset < count
 IsEnding count (Forced reset) = reset < count
+
+-- what the reset adds to a node's rule
+abbrev pub ending_of : Option ℕ → (has back : Bool) → Ending
+ending_of None has back = Plain
+ending_of (Some reset) false back = Plain
+ending_of (Some reset) true true = Forced reset
+ending_of (Some reset) true false = Held reset

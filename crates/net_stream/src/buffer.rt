@@ -1,42 +1,52 @@
 //! The buffer for one line.
 
-ghost use Rattle.std.specs.Prelude.{◌≡◌, [], IfOk, vec_len, vec_capacity};
-ghost use Rattle.net_stream.specs.Rooms.{HasRoom};
+ghost use Rattle.std.specs.Prelude.{◌≡◌, ◌+◌, ◌*◌, [], All, IfOk, IfSome, vec_len, vec_capacity};
+ghost use Rattle.net_stream.specs.Rooms.{HasRoom, IsFew};
 
 use crate::circuit::Circuit;
-use crate::driver::{Driver, Pattern};
+use crate::driver::Driver;
 use std::alloc::{AllocError, Global};
-
-/// How many bytes a literal has at most with what leads to it, and so does the end of a rule.
-const MOST_OF_LITERAL: usize = 64;
 
 /// As many literals as the terms of a gate of three inputs have together.
 const MOST_OF_GATE: usize = 24;
 
 /// So many literals, and so many terms, no guard of the driver has more than.
-fn most_literals(driver: &Driver) -> usize {
-    match &driver.pattern {
-        Pattern::Any { inputs } => inputs.len(),
-        Pattern::Joined { answers, .. } => answers.len().saturating_add(1),
-        Pattern::Wanted { wanted, .. } => wanted.len().saturating_add(1),
-        Pattern::Started { rails, .. } => rails.len().saturating_add(1),
-        _ => MOST_OF_GATE,
+fn most_literals(driver: &Driver) -> usize
+    ensures { IsFew result driver.now }
+{
+    driver.pattern.listed().len() + MOST_OF_GATE
+}
+
+/// The same of all drivers.
+fn most_of(drivers: &[Driver]) -> usize
+    ensures { All (IsFew result) drivers.now }
+{
+    let mut most = 0;
+    for driver in drivers {
+        most = most.max(most_literals(driver));
+    }
+    most
+}
+
+/// 64 bytes for each literal and for the end of the rule, where a reset adds a literal to each term, or a term. None
+/// where that is more than memory has.
+fn bytes_for(most: usize) -> Option<usize>
+    ensures { IfSome result (λ bytes. bytes ≡ 128 * (most + 1)) }
+{
+    match most.checked_add(1) {
+        Some(literals) => literals.checked_mul(128),
+        None => None,
     }
 }
 
-/// An empty buffer with room for each line of the circuit's file: a reset adds a literal to each term, or a term.
+/// An empty buffer with room for each line of the circuit's file.
 pub(crate) fn line_buffer(alloc: Global, net: &Circuit) -> Result<Vec<u8>, AllocError>
     ensures room { IfOk result (λ line. HasRoom net.now (vec_capacity line)) }
     ensures empty { IfOk result (λ line. line.items ≡ []) }
     ensures none { IfOk result (λ line. vec_len line ≡ 0) }
 {
-    let mut most = MOST_OF_GATE;
-    for driver in &net.drivers {
-        most = most.max(most_literals(driver));
-    }
-    // no list is so long that this is too much
-    match most.checked_mul(2 * MOST_OF_LITERAL) {
-        Some(bytes) => Vec::with_capacity(alloc, bytes.saturating_add(2 * MOST_OF_LITERAL)),
+    match bytes_for(most_of(&net.drivers)) {
+        Some(bytes) => Vec::with_capacity(alloc, bytes),
         None => Err(AllocError),
     }
 }

@@ -1,24 +1,26 @@
 //! A program's circuit, told by the drivers of its nodes.
 
-ghost use Rattle.std.specs.Prelude.{◌≡◌, ◌<◌, ◌≤◌, true, false, length, fold, replicate, slice_set, if◌then◌else◌, IfOk};
+ghost use Rattle.std.specs.Prelude.{◌≡◌, ◌<◌, ◌≤◌, true, false, length, fold, replicate, slice_set, if◌then◌else◌, IfOk, OnOk, [], ◌∷◌, ◌++◌, Some, None};
 ghost use Rattle.chp_base.specs.Names.{IsNodeName};
-ghost use Rattle.prs_core.specs.Nets.{IsNet, name_at, up_of, down_of};
+ghost use Rattle.prs_core.specs.Nets.{IsBelow, IsNet, name_at, up_of, down_of};
+ghost use Rattle.prs_core.specs.Pairs.{no_rules};
 ghost use Rattle.reset_net.specs.Resets.{reset_of};
 ghost use Rattle.width_check.specs.Typed.{program_of};
 ghost use Rattle.handshake_expand.specs.Layout.{nodes_of};
 ghost use Rattle.net_compose.specs.Begins.{var_firsts};
 ghost use Rattle.net_compose.specs.Translation.{translation, vars_high};
-ghost use Rattle.net_stream.specs.Circuits.{ended, side};
+ghost use Rattle.net_stream.specs.Circuits.{IsEnding, ended, side};
 
 use crate::declared::drivers_of;
 use crate::driver::Driver;
-use crate::ending::Ending;
+use crate::ending::{Ending, ending_of, leads_back};
 use crate::first::raise;
 use crate::firsts::firsts_of;
 use crate::laws::whole_nets;
 use crate::names::{Names, names_of};
 use crate::wires::wires_of;
 use handshake_expand::count_nodes;
+use net_compose::laws::all_counted;
 use prs_core::Wires;
 use std::alloc::{AllocError, Global};
 use std::marker::Model;
@@ -85,19 +87,15 @@ impl Circuit {
     /// What drives a node, and what a reset adds to its rule in this direction.
     pub(crate) fn rule(&self, node: u32, up: bool) -> (&Driver, Ending)
         requires { node < length self.now.first }
-        ensures { (if up then up_of self.now node else down_of self.now node) ≡ ended result.1 (side up result.0.now) }
+        ensures rule { (if up then up_of self.now node else down_of self.now node)
+            ≡ ended result.1 (side up result.0.now) }
+        ensures up { IsBelow (length self.now.first) result.0.now.up }
+        ensures down { IsBelow (length self.now.first) result.0.now.down }
+        ensures ending { IsEnding (length self.now.first) result.1 }
     {
         let driver = &self.drivers[node as usize];
-        let ending = match self.reset {
-            Some(reset) if driver.has_rules() => {
-                if self.first[node as usize] == up {
-                    Ending::Forced(reset)
-                } else {
-                    Ending::Held(reset)
-                }
-            }
-            _ => Ending::Plain,
-        };
+        let back = leads_back(self.first[node as usize], up);
+        let ending = ending_of(self.reset, driver.has_rules(), back);
         (driver, ending)
     }
 }
@@ -127,6 +125,26 @@ fn declared_values(alloc: Global, program: &Typed, firsts: &[u32]) -> Result<Vec
     Ok(first)
 }
 
+/// Adds a reset node, where one is asked for, and answers its number.
+fn add_reset(
+    reset: bool,
+    first: &mut Vec<bool>,
+    drivers: &mut Vec<Driver>,
+) -> Result<Option<u32>, AllocError>
+    requires { length first.old.items ≤ 65536 }
+    ensures at { IfOk result (λ at. at ≡ if reset then Some (length first.old.items) else None) }
+    ensures first { OnOk result (first.new.items ≡ first.old.items ++ (if reset then true ∷ [] else [])) }
+    ensures drivers { OnOk result (drivers.new.items ≡ drivers.old.items ++ (if reset then no_rules ∷ [] else [])) }
+{
+    if !reset {
+        return Ok(None);
+    }
+    let node = first.len() as u32;
+    first.push(true)?;
+    drivers.push(Driver::undriven())?;
+    Ok(Some(node))
+}
+
 /// The circuit of a program that has at most 65,536 nodes, with a reset node where one is asked for.
 pub(crate) fn circuit_of(alloc: Global, program: &Typed, reset: bool) -> Result<Circuit, AllocError>
     requires { nodes_of (program_of program.now) ≤ 65536 }
@@ -134,6 +152,7 @@ pub(crate) fn circuit_of(alloc: Global, program: &Typed, reset: bool) -> Result<
         ≡ if reset then reset_of (translation (program_of program.now)) else translation (program_of program.now)) }
 {
     whole_nets();
+    all_counted();
     // what the program's type keeps is told of its body
     let _kept = program.body();
     let firsts = firsts_of(alloc, program)?;
@@ -141,17 +160,12 @@ pub(crate) fn circuit_of(alloc: Global, program: &Typed, reset: bool) -> Result<
     let mut drivers = drivers_of(alloc, program, &firsts, &mut first)?;
     let names = names_of(alloc, program, reset)?;
     let channels = wires_of(alloc, program)?;
-    let mut last = None;
-    if reset {
-        last = Some(first.len() as u32);
-        first.push(true)?;
-        drivers.push(Driver::undriven())?;
-    }
+    let at = add_reset(reset, &mut first, &mut drivers)?;
     Ok(Circuit {
         names,
         first,
         drivers,
         channels,
-        reset: last,
+        reset: at,
     })
 }

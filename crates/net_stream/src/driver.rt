@@ -127,7 +127,20 @@ impl Driver {
         match &self.pattern {
             Pattern::Undriven => false,
             Pattern::Any { inputs } => !inputs.is_empty(),
-            _ => true,
+            Pattern::Follow { .. } => true,
+            Pattern::Until { .. } => true,
+            Pattern::Latch { .. } => true,
+            Pattern::Behind { .. } => true,
+            Pattern::Site { .. } => true,
+            Pattern::Read { .. } => true,
+            Pattern::Both { .. } => true,
+            Pattern::Kept { .. } => true,
+            Pattern::Written { .. } => true,
+            Pattern::Gate { .. } => true,
+            Pattern::Joined { .. } => true,
+            Pattern::Wanted { .. } => true,
+            Pattern::Started { .. } => true,
+            Pattern::Turn { .. } => true,
         }
     }
 

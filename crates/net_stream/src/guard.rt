@@ -1,39 +1,40 @@
 //! The lines of rules.
 
-ghost use Rattle.std.specs.Prelude.{◌≡◌, ◌+◌, ◌*◌, ◌<◌, ◌≤◌, [], ◌∷◌, ◌++◌, length, map, slice_index_or, All, if◌then◌else◌, OnOk, OnErr, IfOk, vec_len, vec_capacity};
+ghost use Rattle.std.specs.Prelude.{◌≡◌, ◌+◌, ◌*◌, ◌<◌, ◌≤◌, [], ◌∷◌, ◌++◌, length, map, All, if◌then◌else◌, OnOk, OnErr, IfOk, vec_len, vec_capacity, false};
 ghost use Rattle.prs_core.specs.declared.rule.Literal.{Literal as LiteralValue};
-ghost use Rattle.prs_core.specs.Nets.{IsBelow, IsFilled, is_high, is_low, up_of, down_of, guard_literals};
+ghost use Rattle.prs_core.specs.Nets.{IsBelow, is_high, up_of, down_of, guard_literals};
+ghost use Rattle.prs_core.specs.Pairs.{rails_of};
 ghost use Rattle.prs_file.specs.Spelling.{rule_spelling};
-ghost use Rattle.function_blocks.specs.Gates.{table, gate_rail};
+ghost use Rattle.function_blocks.specs.Functions.{carried_on};
+ghost use Rattle.function_blocks.specs.Gates.{gate_rail, minterm};
 ghost use Rattle.function_blocks.specs.Waves.{rows_of};
-ghost use Rattle.net_stream.specs.Circuits.{IsEnding, ended, side, term_end};
-ghost use Rattle.net_stream.specs.Drivers.{driven, truth_named};
-ghost use Rattle.net_stream.specs.Led.{all_wanted, and_behind, lead_behind, literals_behind, term_of, terms_behind};
+ghost use Rattle.net_stream.specs.Circuits.{IsEnding, ended, guard_end, side, term_end, with_ends};
+ghost use Rattle.net_stream.specs.Drivers.{truth_named};
+ghost use Rattle.net_stream.specs.Led.{IsPut, IsTermPut, all_wanted, and_behind, has_begun, on_row, row_at};
+ghost use Rattle.net_stream.specs.Shapes.{IsNear, shaped};
 
 use crate::bit::Bit;
 use crate::circuit::Circuit;
-use crate::driver::{Driver, Pattern};
+use crate::driver::Driver;
 use crate::ending::Ending;
 use crate::function::Function;
+use crate::shape::Shape;
 use prs_core::Literal;
 use prs_file::{Lead, literal_text, rule_end};
 use std::alloc::AllocError;
 
-/// The node, wanted high.
-fn high(node: u32) -> Literal
-    ensures { result ≡ is_high node }
+/// Appends a literal behind what leads to it.
+fn put(net: &Circuit, lead: Lead, literal: Literal, to: &mut Vec<u8>) -> Result<(), AllocError>
+    requires { literal.node < length net.now.first }
+    ensures put { OnOk result (IsTermPut net.now lead Lead.And (literal ∷ []) to.old.items to.new.items
+        (vec_len to.old) (vec_len to.new)) }
+    ensures room { OnErr result (vec_capacity to.old < vec_len to.old + 64) }
+    ensures capacity { vec_capacity to.old ≤ vec_capacity to.new }
 {
-    Literal { node, high: true }
+    literal_text(lead, literal.high, net.name(literal.node), to)
 }
 
-/// The node, wanted low.
-fn low(node: u32) -> Literal
-    ensures { result ≡ is_low node }
-{
-    Literal { node, high: false }
-}
-
-/// Appends literals behind what leads to them, and answers what leads to a further one.
+/// Appends literals, and answers what leads to a further one.
 fn literals_text(
     net: &Circuit,
     lead: Lead,
@@ -41,15 +42,14 @@ fn literals_text(
     to: &mut Vec<u8>,
 ) -> Result<Lead, AllocError>
     requires { All (λ (l : LiteralValue). l.node < length net.now.first) literals.now }
-    ensures ok { OnOk result (to.new.items ≡ to.old.items ++ literals_behind net.now lead literals.now) }
-    ensures next { IfOk result (λ next. next ≡ and_behind lead literals.now) }
-    ensures long { OnOk result (vec_len to.new ≤ vec_len to.old + 64 * length literals.now) }
+    ensures put { IfOk result (λ next. IsTermPut net.now lead next literals.now to.old.items to.new.items
+        (vec_len to.old) (vec_len to.new)) }
     ensures room { OnErr result (vec_capacity to.old < vec_len to.old + 64 * length literals.now) }
     ensures capacity { vec_capacity to.old ≤ vec_capacity to.new }
 {
     let mut next = lead;
     for literal in literals {
-        literal_text(next, literal.high, net.name(literal.node), to)?;
+        put(net, next, *literal, to)?;
         next = Lead::And;
     }
     Ok(next)
@@ -63,62 +63,93 @@ fn nodes_text(
     high: bool,
     to: &mut Vec<u8>,
 ) -> Result<Lead, AllocError>
-    requires { All (λ node. node < length net.now.first) nodes.now }
-    ensures ok { OnOk result (to.new.items ≡ to.old.items ++ literals_behind net.now lead (all_wanted high nodes.now)) }
-    ensures next { IfOk result (λ next. next ≡ and_behind lead (all_wanted high nodes.now)) }
-    ensures long { OnOk result (vec_len to.new ≤ vec_len to.old + 64 * length nodes.now) }
-    ensures room { OnErr result (vec_capacity to.old < vec_len to.old + 64 * length nodes.now) }
+    requires { All (λ (l : LiteralValue). l.node < length net.now.first) (all_wanted high nodes.now) }
+    ensures put { IfOk result (λ next. IsTermPut net.now lead next (all_wanted high nodes.now) to.old.items to.new.items
+        (vec_len to.old) (vec_len to.new)) }
+    ensures room { OnErr result (vec_capacity to.old < vec_len to.old + 64 * length (all_wanted high nodes.now)) }
     ensures capacity { vec_capacity to.old ≤ vec_capacity to.new }
 {
     let mut next = lead;
     for node in nodes {
-        literal_text(next, high, net.name(*node), to)?;
+        put(net, next, Literal { node: *node, high }, to)?;
         next = Lead::And;
     }
     Ok(next)
 }
 
-/// The literals of a term: some, and behind them nodes that are all wanted high, or low.
-#[derive(Clone, Copy, Debug)]
-struct Term<'a> {
-    first: &'a [Literal],
-    nodes: &'a [u32],
-    high: bool,
-}
-
-/// A term of these literals alone.
-fn of<'a>(first: &'a [Literal]) -> Term<'a> {
-    Term {
-        first,
-        nodes: &[],
-        high: true,
+/// Appends what a reset puts at the end of each term.
+fn term_end_text(
+    net: &Circuit,
+    lead: Lead,
+    ending: Ending,
+    to: &mut Vec<u8>,
+) -> Result<(), AllocError>
+    requires { IsEnding (length net.now.first) ending }
+    ensures put { OnOk result (IsTermPut net.now lead (and_behind lead (term_end ending)) (term_end ending) to.old.items
+        to.new.items (vec_len to.old) (vec_len to.new)) }
+    ensures room { OnErr result (vec_capacity to.old < vec_len to.old + 64 * length (term_end ending)) }
+    ensures capacity { vec_capacity to.old ≤ vec_capacity to.new }
+{
+    match ending {
+        Ending::Held(reset) => put(
+            net,
+            lead,
+            Literal {
+                node: reset,
+                high: false,
+            },
+            to,
+        ),
+        Ending::Plain => Ok(()),
+        Ending::Forced(_) => Ok(()),
     }
 }
 
-/// Appends a term, and answers what leads to a further one.
+/// Appends a term: some literals, and behind them nodes that are all wanted high, or low. It answers what leads to a
+/// further term.
 fn term_text(
     net: &Circuit,
     lead: Lead,
-    term: Term<'_>,
+    first: &[Literal],
+    nodes: &[u32],
+    high: bool,
     ending: Ending,
     to: &mut Vec<u8>,
 ) -> Result<Lead, AllocError>
-    requires some { 0 < length (term_of term) }
-    requires within { All (λ (l : LiteralValue). l.node < length net.now.first) (term_of term) }
+    requires within { IsBelow (length net.now.first) ((first.now ++ all_wanted high nodes.now) ∷ []) }
     requires ending { IsEnding (length net.now.first) ending }
-    ensures ok { OnOk result (to.new.items ≡ to.old.items
-        ++ literals_behind net.now lead (term_of term ++ term_end ending)) }
-    ensures next { IfOk result (λ next. next ≡ Lead.Or) }
-    ensures long { OnOk result (vec_len to.new ≤ vec_len to.old + 64 * length (term_of term ++ term_end ending)) }
-    ensures room { OnErr result (vec_capacity to.old < vec_len to.old + 64 * length (term_of term ++ term_end ending)) }
+    ensures put { IfOk result (λ next. IsPut net.now lead next
+        (with_ends ending ((first.now ++ all_wanted high nodes.now) ∷ [])) to.old.items to.new.items
+        (vec_len to.old) (vec_len to.new)) }
+    ensures room { OnErr result (vec_capacity to.old < vec_len to.old
+        + 64 * guard_literals (with_ends ending ((first.now ++ all_wanted high nodes.now) ∷ []))) }
     ensures capacity { vec_capacity to.old ≤ vec_capacity to.new }
 {
-    let next = literals_text(net, lead, term.first, to)?;
-    let next = nodes_text(net, next, term.nodes, term.high, to)?;
-    if let Ending::Held(reset) = ending {
-        literal_text(next, false, net.name(reset), to)?;
-    }
+    let behind = literals_text(net, lead, first, to)?;
+    let next = nodes_text(net, behind, nodes, high, to)?;
+    term_end_text(net, next, ending, to)?;
     Ok(Lead::Or)
+}
+
+/// Appends two terms.
+fn two_terms(
+    net: &Circuit,
+    first: &[Literal],
+    second: &[Literal],
+    ending: Ending,
+    to: &mut Vec<u8>,
+) -> Result<Lead, AllocError>
+    requires within { IsBelow (length net.now.first) ((first.now ++ []) ∷ (second.now ++ []) ∷ []) }
+    requires ending { IsEnding (length net.now.first) ending }
+    ensures put { IfOk result (λ next. IsPut net.now Lead.Rule next
+        (with_ends ending ((first.now ++ []) ∷ (second.now ++ []) ∷ []))
+        to.old.items to.new.items (vec_len to.old) (vec_len to.new)) }
+    ensures room { OnErr result (vec_capacity to.old < vec_len to.old
+        + 64 * guard_literals (with_ends ending ((first.now ++ []) ∷ (second.now ++ []) ∷ []))) }
+    ensures capacity { vec_capacity to.old ≤ vec_capacity to.new }
+{
+    let next = term_text(net, Lead::Rule, first, &[], true, ending, to)?;
+    term_text(net, next, second, &[], true, ending, to)
 }
 
 /// Appends a term for each node, which is wanted high.
@@ -130,260 +161,324 @@ fn each_text(
 ) -> Result<Lead, AllocError>
     requires within { All (λ node. node < length net.now.first) nodes.now }
     requires ending { IsEnding (length net.now.first) ending }
-    ensures ok { OnOk result (to.new.items ≡ to.old.items
-        ++ terms_behind net.now Lead.Rule (map (λ n. is_high n ∷ term_end ending) nodes.now)) }
-    ensures next { IfOk result (λ next. next ≡ lead_behind Lead.Rule (map (λ n. is_high n ∷ []) nodes.now)) }
-    ensures long { OnOk result (vec_len to.new ≤ vec_len to.old
-        + 64 * guard_literals (map (λ n. is_high n ∷ term_end ending) nodes.now)) }
+    ensures put { IfOk result (λ next. IsPut net.now Lead.Rule next
+        (with_ends ending (map (λ k. is_high k ∷ []) nodes.now)) to.old.items to.new.items
+        (vec_len to.old) (vec_len to.new)) }
     ensures room { OnErr result (vec_capacity to.old < vec_len to.old
-        + 64 * guard_literals (map (λ n. is_high n ∷ term_end ending) nodes.now)) }
+        + 64 * guard_literals (with_ends ending (map (λ k. is_high k ∷ []) nodes.now))) }
     ensures capacity { vec_capacity to.old ≤ vec_capacity to.new }
 {
     let mut lead = Lead::Rule;
     for node in nodes {
-        lead = term_text(net, lead, of(&[high(*node)]), ending, to)?;
+        let literal = Literal {
+            node: *node,
+            high: true,
+        };
+        lead = term_text(net, lead, &[literal], &[], true, ending, to)?;
     }
     Ok(lead)
 }
 
-/// The row of this number in a truth table: an input's value is the number's bit at the input's place.
-fn row(number: u8) -> [bool; 3]
-    requires { number < 8 }
-    ensures { result ≡ slice_index_or (table 3) number [] }
+/// Appends the term of a row of the truth table of two inputs, where the function has this value on it.
+fn pair_text(
+    net: &Circuit,
+    lead: Lead,
+    function: Function,
+    one: bool,
+    left: Bit,
+    right: Bit,
+    number: u8,
+    ending: Ending,
+    to: &mut Vec<u8>,
+) -> Result<Lead, AllocError>
+    requires within { All (λ n. n < length net.now.first) (rails_of (left ∷ right ∷ [])) }
+    requires ending { IsEnding (length net.now.first) ending }
+    ensures put { IfOk result (λ next. IsPut net.now lead next (with_ends ending
+        (on_row (left ∷ right ∷ []) (rows_of one (truth_named function)) (row_at 2 number))) to.old.items to.new.items
+        (vec_len to.old) (vec_len to.new)) }
+    ensures room { OnErr result (vec_capacity to.old < vec_len to.old + 64 * guard_literals (with_ends ending
+        (on_row (left ∷ right ∷ []) (rows_of one (truth_named function)) (row_at 2 number)))) }
+    ensures capacity { vec_capacity to.old ≤ vec_capacity to.new }
 {
-    [number % 2 == 1, number / 2 % 2 == 1, number / 4 % 2 == 1]
+    let a = number % 2 == 1;
+    let b = number / 2 % 2 == 1;
+    if function.value(&[a, b]) == one {
+        let term = [
+            Literal {
+                node: left.rail(a),
+                high: true,
+            },
+            Literal {
+                node: right.rail(b),
+                high: true,
+            },
+        ];
+        term_text(net, lead, &term, &[], true, ending, to)
+    } else {
+        Ok(lead)
+    }
 }
 
-/// Appends a term for each row of the truth table on which the function has this value.
+/// The same of three inputs.
+fn triple_text(
+    net: &Circuit,
+    lead: Lead,
+    function: Function,
+    one: bool,
+    left: Bit,
+    right: Bit,
+    carried: Bit,
+    number: u8,
+    ending: Ending,
+    to: &mut Vec<u8>,
+) -> Result<Lead, AllocError>
+    requires within { All (λ n. n < length net.now.first) (rails_of (left ∷ right ∷ carried ∷ [])) }
+    requires ending { IsEnding (length net.now.first) ending }
+    ensures put { IfOk result (λ next. IsPut net.now lead next (with_ends ending
+        (on_row (left ∷ right ∷ carried ∷ []) (rows_of one (truth_named function)) (row_at 3 number)))
+        to.old.items to.new.items (vec_len to.old) (vec_len to.new)) }
+    ensures room { OnErr result (vec_capacity to.old < vec_len to.old + 64 * guard_literals (with_ends ending
+        (on_row (left ∷ right ∷ carried ∷ []) (rows_of one (truth_named function)) (row_at 3 number)))) }
+    ensures capacity { vec_capacity to.old ≤ vec_capacity to.new }
+{
+    let a = number % 2 == 1;
+    let b = number / 2 % 2 == 1;
+    let c = number / 2 / 2 % 2 == 1;
+    if function.value(&[a, b, c]) == one {
+        let term = [
+            Literal {
+                node: left.rail(a),
+                high: true,
+            },
+            Literal {
+                node: right.rail(b),
+                high: true,
+            },
+            Literal {
+                node: carried.rail(c),
+                high: true,
+            },
+        ];
+        term_text(net, lead, &term, &[], true, ending, to)
+    } else {
+        Ok(lead)
+    }
+}
+
+/// Appends a term for each row of the truth table of two inputs on which the function has this value.
+fn pairs_text(
+    net: &Circuit,
+    function: Function,
+    one: bool,
+    left: Bit,
+    right: Bit,
+    ending: Ending,
+    to: &mut Vec<u8>,
+) -> Result<Lead, AllocError>
+    requires within { All (λ n. n < length net.now.first) (rails_of (left ∷ right ∷ [])) }
+    requires ending { IsEnding (length net.now.first) ending }
+    ensures put { IfOk result (λ next. IsPut net.now Lead.Rule next (with_ends ending
+        (gate_rail (left ∷ right ∷ []) (rows_of one (truth_named function))).up) to.old.items to.new.items
+        (vec_len to.old) (vec_len to.new)) }
+    ensures room { OnErr result (vec_capacity to.old < vec_len to.old + 64 * guard_literals (with_ends ending
+        (gate_rail (left ∷ right ∷ []) (rows_of one (truth_named function))).up)) }
+    ensures capacity { vec_capacity to.old ≤ vec_capacity to.new }
+{
+    let mut lead = Lead::Rule;
+    for number in 0..4 {
+        lead = pair_text(net, lead, function, one, left, right, number, ending, to)?;
+    }
+    Ok(lead)
+}
+
+/// The same of three inputs.
+fn triples_text(
+    net: &Circuit,
+    function: Function,
+    one: bool,
+    left: Bit,
+    right: Bit,
+    carried: Bit,
+    ending: Ending,
+    to: &mut Vec<u8>,
+) -> Result<Lead, AllocError>
+    requires within { All (λ n. n < length net.now.first) (rails_of (left ∷ right ∷ carried ∷ [])) }
+    requires ending { IsEnding (length net.now.first) ending }
+    ensures put { IfOk result (λ next. IsPut net.now Lead.Rule next (with_ends ending
+        (gate_rail (left ∷ right ∷ carried ∷ []) (rows_of one (truth_named function))).up) to.old.items to.new.items
+        (vec_len to.old) (vec_len to.new)) }
+    ensures room { OnErr result (vec_capacity to.old < vec_len to.old + 64 * guard_literals (with_ends ending
+        (gate_rail (left ∷ right ∷ carried ∷ []) (rows_of one (truth_named function))).up)) }
+    ensures capacity { vec_capacity to.old ≤ vec_capacity to.new }
+{
+    let mut lead = Lead::Rule;
+    for number in 0..8 {
+        lead = triple_text(
+            net, lead, function, one, left, right, carried, number, ending, to,
+        )?;
+    }
+    Ok(lead)
+}
+
+/// The same of two inputs, or of three where something is carried on from below.
 fn rows_text(
     net: &Circuit,
     function: Function,
     one: bool,
-    inputs: &[Bit],
+    left: Bit,
+    right: Bit,
+    below: Option<Bit>,
     ending: Ending,
     to: &mut Vec<u8>,
 ) -> Result<Lead, AllocError>
-    requires some { 2 ≤ length inputs.now }
-    requires most { length inputs.now ≤ 3 }
-    requires within { IsBelow (length net.now.first) (gate_rail inputs.now (rows_of one (truth_named function))).up }
+    requires within { All (λ n. n < length net.now.first) (rails_of (left ∷ right ∷ carried_on below)) }
     requires ending { IsEnding (length net.now.first) ending }
-    ensures ok { OnOk result (to.new.items ≡ to.old.items ++ terms_behind net.now Lead.Rule
-        (map (λ t. t ++ term_end ending) (gate_rail inputs.now (rows_of one (truth_named function))).up)) }
-    ensures next { IfOk result (λ next. next
-        ≡ lead_behind Lead.Rule (gate_rail inputs.now (rows_of one (truth_named function))).up) }
-    ensures long { OnOk result (vec_len to.new ≤ vec_len to.old + 64 * guard_literals
-        (map (λ t. t ++ term_end ending) (gate_rail inputs.now (rows_of one (truth_named function))).up)) }
-    ensures room { OnErr result (vec_capacity to.old < vec_len to.old + 64 * guard_literals
-        (map (λ t. t ++ term_end ending) (gate_rail inputs.now (rows_of one (truth_named function))).up)) }
+    ensures put { IfOk result (λ next. IsPut net.now Lead.Rule next (with_ends ending
+        (gate_rail (left ∷ right ∷ carried_on below) (rows_of one (truth_named function))).up) to.old.items to.new.items
+        (vec_len to.old) (vec_len to.new)) }
+    ensures room { OnErr result (vec_capacity to.old < vec_len to.old + 64 * guard_literals (with_ends ending
+        (gate_rail (left ∷ right ∷ carried_on below) (rows_of one (truth_named function))).up)) }
     ensures capacity { vec_capacity to.old ≤ vec_capacity to.new }
 {
-    let mut lead = Lead::Rule;
-    let rows = if inputs.len() == 3 { 8 } else { 4 };
-    for number in 0..rows {
-        let values = row(number);
-        if function.value(&values[..inputs.len()]) == one {
-            let mut term = [low(0), low(0), low(0)];
-            for place in 0..inputs.len() {
-                term[place] = high(inputs[place].rail(values[place]));
-            }
-            lead = term_text(net, lead, of(&term[..inputs.len()]), ending, to)?;
-        }
+    match below {
+        Some(carried) => triples_text(net, function, one, left, right, carried, ending, to),
+        None => pairs_text(net, function, one, left, right, ending, to),
     }
-    Ok(lead)
 }
 
-/// Appends the terms of a node's up guard.
-fn up_text(
+/// Appends the term that holds where all inputs of a gate are neutral.
+fn neutral_text(
     net: &Circuit,
-    pattern: &Pattern,
+    left: Bit,
+    right: Bit,
+    below: Option<Bit>,
     ending: Ending,
     to: &mut Vec<u8>,
 ) -> Result<Lead, AllocError>
-    requires within { IsBelow (length net.now.first) (driven pattern.now).up }
-    requires filled { IsFilled (driven pattern.now).up }
+    requires within { All (λ n. n < length net.now.first) (rails_of (left ∷ right ∷ carried_on below)) }
     requires ending { IsEnding (length net.now.first) ending }
-    ensures ok { OnOk result (to.new.items ≡ to.old.items
-        ++ terms_behind net.now Lead.Rule (map (λ t. t ++ term_end ending) (driven pattern.now).up)) }
-    ensures next { IfOk result (λ next. next ≡ lead_behind Lead.Rule (driven pattern.now).up) }
-    ensures long { OnOk result (vec_len to.new ≤ vec_len to.old
-        + 64 * guard_literals (map (λ t. t ++ term_end ending) (driven pattern.now).up)) }
-    ensures room { OnErr result (vec_capacity to.old < vec_len to.old
-        + 64 * guard_literals (map (λ t. t ++ term_end ending) (driven pattern.now).up)) }
+    ensures put { IfOk result (λ next. IsPut net.now Lead.Rule next
+        (with_ends ending (all_wanted false (rails_of (left ∷ right ∷ carried_on below)) ∷ []))
+        to.old.items to.new.items (vec_len to.old) (vec_len to.new)) }
+    ensures room { OnErr result (vec_capacity to.old < vec_len to.old + 64 * guard_literals
+        (with_ends ending (all_wanted false (rails_of (left ∷ right ∷ carried_on below)) ∷ []))) }
     ensures capacity { vec_capacity to.old ≤ vec_capacity to.new }
 {
-    let first = Lead::Rule;
-    match pattern {
-        Pattern::Undriven => Ok(first),
-        Pattern::Follow { request } => term_text(net, first, of(&[high(*request)]), ending, to),
-        Pattern::Latch { set, .. } => term_text(net, first, of(&[high(*set)]), ending, to),
-        Pattern::Until {
-            request: held,
-            over: free,
+    match below {
+        Some(carried) => {
+            let rails = [left.t, left.f, right.t, right.f, carried.t, carried.f];
+            term_text(net, Lead::Rule, &[], &rails, false, ending, to)
         }
-        | Pattern::Behind {
-            latch: held,
-            answer: free,
+        None => {
+            let rails = [left.t, left.f, right.t, right.f];
+            term_text(net, Lead::Rule, &[], &rails, false, ending, to)
         }
-        | Pattern::Kept {
-            set: held,
-            other: free,
-            ..
-        }
-        | Pattern::Turn {
-            request: held,
-            joined: free,
-        } => term_text(net, first, of(&[high(*held), low(*free)]), ending, to),
-        Pattern::Site {
-            request: left,
-            ack: right,
-        }
-        | Pattern::Read {
-            request: left,
-            rail: right,
-        }
-        | Pattern::Both { left, right } => term_text(
-            net,
-            first,
-            of(&[high(*left), high(*right)]),
-            ending,
-            to,
-        ),
-        Pattern::Written { x, w } => {
-            let lead = term_text(net, first, of(&[high(w.t), high(x.t)]), ending, to)?;
-            term_text(net, lead, of(&[high(w.f), high(x.f)]), ending, to)
-        }
-        Pattern::Any { inputs } => each_text(net, inputs, ending, to),
-        Pattern::Joined { answers, .. } => each_text(net, answers, ending, to),
-        Pattern::Gate {
+    }
+}
+
+/// Appends the terms that say that two bits have the same value.
+fn alike_text(
+    net: &Circuit,
+    left: Bit,
+    right: Bit,
+    ending: Ending,
+    to: &mut Vec<u8>,
+) -> Result<Lead, AllocError>
+    requires within { IsBelow (length net.now.first)
+        ((is_high left.t ∷ is_high right.t ∷ []) ∷ (is_high left.f ∷ is_high right.f ∷ []) ∷ []) }
+    requires ending { IsEnding (length net.now.first) ending }
+    ensures put { IfOk result (λ next. IsPut net.now Lead.Rule next (with_ends ending
+        ((is_high left.t ∷ is_high right.t ∷ []) ∷ (is_high left.f ∷ is_high right.f ∷ []) ∷ []))
+        to.old.items to.new.items (vec_len to.old) (vec_len to.new)) }
+    ensures room { OnErr result (vec_capacity to.old < vec_len to.old + 64 * guard_literals (with_ends ending
+        ((is_high left.t ∷ is_high right.t ∷ []) ∷ (is_high left.f ∷ is_high right.f ∷ []) ∷ []))) }
+    ensures capacity { vec_capacity to.old ≤ vec_capacity to.new }
+{
+    let both_true = [
+        Literal {
+            node: left.t,
+            high: true,
+        },
+        Literal {
+            node: right.t,
+            high: true,
+        },
+    ];
+    let both_false = [
+        Literal {
+            node: left.f,
+            high: true,
+        },
+        Literal {
+            node: right.f,
+            high: true,
+        },
+    ];
+    two_terms(net, &both_true, &both_false, ending, to)
+}
+
+/// Appends the terms of a guard of this form over these nodes.
+fn shape_text(
+    net: &Circuit,
+    shape: Shape,
+    nodes: &[u32],
+    ending: Ending,
+    to: &mut Vec<u8>,
+) -> Result<Lead, AllocError>
+    requires within { IsNear (length net.now.first) shape nodes.now }
+    requires ending { IsEnding (length net.now.first) ending }
+    ensures put { IfOk result (λ next. IsPut net.now Lead.Rule next (with_ends ending (shaped shape nodes.now))
+        to.old.items to.new.items (vec_len to.old) (vec_len to.new)) }
+    ensures room { OnErr result (vec_capacity to.old < vec_len to.old
+        + 64 * guard_literals (with_ends ending (shaped shape nodes.now))) }
+    ensures capacity { vec_capacity to.old ≤ vec_capacity to.new }
+{
+    let lead = Lead::Rule;
+    match shape {
+        Shape::Never => Ok(lead),
+        Shape::One { literal } => term_text(net, lead, &[literal], &[], true, ending, to),
+        Shape::Two { left, right } => term_text(net, lead, &[left, right], &[], true, ending, to),
+        Shape::Either { left, right } => two_terms(net, &[left], &[right], ending, to),
+        Shape::Alike { left, right } => alike_text(net, left, right, ending, to),
+        Shape::Each => each_text(net, nodes, ending, to),
+        Shape::Highs => term_text(net, lead, &[], nodes, true, ending, to),
+        Shape::Lows => term_text(net, lead, &[], nodes, false, ending, to),
+        Shape::With { literal } => term_text(net, lead, &[literal], nodes, false, ending, to),
+        Shape::Rows {
             function,
             one,
             left,
             right,
             below,
-        } => match below {
-            Some(carried) => rows_text(
-                net,
-                *function,
-                *one,
-                &[*left, *right, *carried],
-                ending,
-                to,
-            ),
-            None => rows_text(net, *function, *one, &[*left, *right], ending, to),
-        },
-        Pattern::Wanted { wanted, .. } => {
-            let term = Term {
-                first: &[],
-                nodes: wanted,
-                high: true,
-            };
-            term_text(net, first, term, ending, to)
-        }
-        Pattern::Started { latch, rails, .. } => {
-            let term = Term {
-                first: &[high(*latch)],
-                nodes: rails,
-                high: false,
-            };
-            term_text(net, first, term, ending, to)
-        }
+        } => rows_text(net, function, one, left, right, below, ending, to),
+        Shape::Neutral { left, right, below } => neutral_text(net, left, right, below, ending, to),
     }
 }
 
-/// Appends the terms of a node's down guard.
-fn down_text(
+/// Appends the term that a reset puts behind the last one, and answers what leads to a further one.
+fn guard_end_text(
     net: &Circuit,
-    pattern: &Pattern,
+    lead: Lead,
     ending: Ending,
     to: &mut Vec<u8>,
 ) -> Result<Lead, AllocError>
-    requires within { IsBelow (length net.now.first) (driven pattern.now).down }
-    requires filled { IsFilled (driven pattern.now).down }
-    requires ending { IsEnding (length net.now.first) ending }
-    ensures ok { OnOk result (to.new.items ≡ to.old.items
-        ++ terms_behind net.now Lead.Rule (map (λ t. t ++ term_end ending) (driven pattern.now).down)) }
-    ensures next { IfOk result (λ next. next ≡ lead_behind Lead.Rule (driven pattern.now).down) }
-    ensures long { OnOk result (vec_len to.new ≤ vec_len to.old
-        + 64 * guard_literals (map (λ t. t ++ term_end ending) (driven pattern.now).down)) }
-    ensures room { OnErr result (vec_capacity to.old < vec_len to.old
-        + 64 * guard_literals (map (λ t. t ++ term_end ending) (driven pattern.now).down)) }
+    requires { IsEnding (length net.now.first) ending }
+    ensures put { IfOk result (λ next. IsPut net.now lead next (guard_end ending) to.old.items to.new.items
+        (vec_len to.old) (vec_len to.new)) }
+    ensures room { OnErr result (vec_capacity to.old < vec_len to.old + 64 * guard_literals (guard_end ending)) }
     ensures capacity { vec_capacity to.old ≤ vec_capacity to.new }
 {
-    let first = Lead::Rule;
-    match pattern {
-        Pattern::Undriven => Ok(first),
-        Pattern::Follow { request: free }
-        | Pattern::Latch { held: free, .. }
-        | Pattern::Behind { latch: free, .. }
-        | Pattern::Site { ack: free, .. }
-        | Pattern::Read { request: free, .. }
-        | Pattern::Wanted { request: free, .. }
-        | Pattern::Started { until: free, .. } => term_text(
-            net,
-            first,
-            of(&[low(*free)]),
-            ending,
-            to,
-        ),
-        Pattern::Until { over: held, .. } | Pattern::Kept { reset: held, .. } => {
-            term_text(net, first, of(&[high(*held)]), ending, to)
-        }
-        Pattern::Both { left, right } => term_text(
-            net,
-            first,
-            of(&[low(*left), low(*right)]),
-            ending,
-            to,
-        ),
-        Pattern::Written { w, .. } => term_text(net, first, of(&[low(w.t), low(w.f)]), ending, to),
-        Pattern::Any { inputs } => {
-            if inputs.is_empty() {
-                return Ok(first);
-            }
-            let term = Term {
-                first: &[],
-                nodes: inputs,
-                high: false,
+    match ending {
+        Ending::Forced(reset) => {
+            let literal = Literal {
+                node: reset,
+                high: true,
             };
-            term_text(net, first, term, ending, to)
+            put(net, lead, literal, to)?;
+            Ok(Lead::Or)
         }
-        Pattern::Gate {
-            left,
-            right,
-            below,
-            ..
-        } => match below {
-            Some(carried) => {
-                let rails = [left.t, left.f, right.t, right.f, carried.t, carried.f];
-                let term = Term {
-                    first: &[],
-                    nodes: &rails,
-                    high: false,
-                };
-                term_text(net, first, term, ending, to)
-            }
-            None => {
-                let rails = [left.t, left.f, right.t, right.f];
-                let term = Term {
-                    first: &[],
-                    nodes: &rails,
-                    high: false,
-                };
-                term_text(net, first, term, ending, to)
-            }
-        },
-        Pattern::Joined { any, answers } => {
-            let term = Term {
-                first: &[low(*any)],
-                nodes: answers,
-                high: false,
-            };
-            term_text(net, first, term, ending, to)
-        }
-        Pattern::Turn { request, joined } => {
-            let lead = term_text(net, first, of(&[high(*joined)]), ending, to)?;
-            term_text(net, lead, of(&[low(*request)]), ending, to)
-        }
+        Ending::Plain => Ok(lead),
+        Ending::Held(_) => Ok(lead),
     }
 }
 
@@ -395,28 +490,30 @@ fn guard_text(
     ending: Ending,
     to: &mut Vec<u8>,
 ) -> Result<Lead, AllocError>
-    requires within { IsBelow (length net.now.first) (side up driver.now) }
-    requires filled { IsFilled (side up driver.now) }
+    requires up { IsBelow (length net.now.first) driver.now.up }
+    requires down { IsBelow (length net.now.first) driver.now.down }
     requires ending { IsEnding (length net.now.first) ending }
-    ensures ok { OnOk result (to.new.items ≡ to.old.items
-        ++ terms_behind net.now Lead.Rule (ended ending (side up driver.now))) }
-    ensures next { IfOk result (λ next. next ≡ lead_behind Lead.Rule (ended ending (side up driver.now))) }
-    ensures long { OnOk result (vec_len to.new ≤ vec_len to.old
-        + 64 * guard_literals (ended ending (side up driver.now))) }
+    ensures put { IfOk result (λ next. IsPut net.now Lead.Rule next (ended ending (side up driver.now))
+        to.old.items to.new.items (vec_len to.old) (vec_len to.new)) }
     ensures room { OnErr result (vec_capacity to.old < vec_len to.old
         + 64 * guard_literals (ended ending (side up driver.now))) }
     ensures capacity { vec_capacity to.old ≤ vec_capacity to.new }
 {
-    let lead = if up {
-        up_text(net, &driver.pattern, ending, to)?
-    } else {
-        down_text(net, &driver.pattern, ending, to)?
-    };
-    if let Ending::Forced(reset) = ending {
-        literal_text(lead, true, net.name(reset), to)?;
-        return Ok(Lead::Or);
+    let pattern = &driver.pattern;
+    let shape = pattern.shape(up);
+    let lead = shape_text(net, shape, pattern.listed(), ending, to)?;
+    guard_end_text(net, lead, ending, to)
+}
+
+/// Whether some term stands before what is led to.
+fn has_begun(lead: Lead) -> bool
+    ensures { result ≡ has_begun lead }
+{
+    match lead {
+        Lead::Rule => false,
+        Lead::And => true,
+        Lead::Or => true,
     }
-    Ok(lead)
 }
 
 /// Appends the line of a rule, or nothing where its guard has no terms.
@@ -433,9 +530,11 @@ pub(crate) fn rule_line(
         + 64 * (guard_literals (if up then up_of net.now node else down_of net.now node) + 1)) }
     ensures capacity { vec_capacity to.old ≤ vec_capacity to.new }
 {
+    let _net = net.first();
     let (driver, ending) = net.rule(node, up);
-    match guard_text(net, driver, up, ending, to)? {
-        Lead::Rule => Ok(()),
-        _ => rule_end(net.name(node), up, to),
+    let lead = guard_text(net, driver, up, ending, to)?;
+    if has_begun(lead) {
+        return rule_end(net.name(node), up, to);
     }
+    Ok(())
 }

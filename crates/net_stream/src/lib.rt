@@ -27,6 +27,7 @@ mod line;
 mod names;
 mod operator;
 mod place;
+mod shape;
 mod streamer;
 mod through;
 mod tree;

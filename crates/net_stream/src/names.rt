@@ -5,7 +5,7 @@ ghost use Rattle.chp_base.specs.Names.{IsNodeName};
 ghost use Rattle.width_check.specs.Typed.{program_of};
 ghost use Rattle.handshake_expand.specs.Layout.{nodes_of};
 ghost use Rattle.handshake_expand.specs.Named.{name_of_node, node_names};
-ghost use Rattle.net_stream.specs.Cuts.{cut, AreEnds};
+ghost use Rattle.net_stream.specs.Cuts.{cut, AreEnds, start_of};
 
 use handshake_expand::{count_nodes, node_name};
 use net_compose::laws::all_counted;
@@ -44,6 +44,20 @@ fn add_name(name: &[u8], bytes: &mut Vec<u8>, ends: &mut Vec<usize>) -> Result<(
     Ok(())
 }
 
+/// Appends the name of a reset node, where one is asked for.
+fn add_reset(reset: bool, bytes: &mut Vec<u8>, ends: &mut Vec<usize>) -> Result<(), AllocError>
+    requires { AreEnds (length bytes.old.items) 0 ends.old.items }
+    ensures names { OnOk result (cut bytes.new.items 0 ends.new.items
+        ≡ cut bytes.old.items 0 ends.old.items ++ (if reset then codes "reset" ∷ [] else [])) }
+    ensures ends { OnOk result (AreEnds (length bytes.new.items) 0 ends.new.items) }
+{
+    if reset {
+        add_name(b"reset", bytes, ends)
+    } else {
+        Ok(())
+    }
+}
+
 /// Writes the name of a node to the front of the buffer, and answers its length.
 fn written_name(program: &Typed, node: u32, buffer: &mut [u8; 32]) -> usize
     requires small { nodes_of (program_of program.now) ≤ 65536 }
@@ -76,10 +90,16 @@ pub(crate) fn names_of(alloc: Global, program: &Typed, reset: bool) -> Result<Na
         let end = written_name(program, node, &mut buffer);
         add_name(&buffer[..end], &mut bytes, &mut ends)?;
     }
-    if reset {
-        add_name(b"reset", &mut bytes, &mut ends)?;
-    }
+    add_reset(reset, &mut bytes, &mut ends)?;
     Ok(Names { bytes, ends })
+}
+
+/// Where the name at a place begins.
+fn start_of(ends: &[usize], place: usize) -> usize
+    requires { place < length ends.now }
+    ensures { result ≡ start_of 0 ends.now place }
+{
+    if place == 0 { 0 } else { ends[place - 1] }
 }
 
 impl Names {
@@ -88,7 +108,8 @@ impl Names {
         requires { place < length self.now }
         ensures { result.now ≡ slice_index_or self.now place [] }
     {
-        let from = if place == 0 { 0 } else { self.ends[place - 1] };
-        &self.bytes[from..self.ends[place]]
+        let from = start_of(&self.ends, place);
+        let end = self.ends[place];
+        &self.bytes[from..end]
     }
 }

@@ -1,6 +1,7 @@
 //! Streaming a program's rule file.
 
 ghost use Rattle.std.specs.Prelude.{◌≡◌, ◌↔◌, ◌<◌, ◌≤◌, [], ◌++◌, length, take, min, if◌then◌else◌, IfOk, OnOk, IfErr};
+ghost use Rattle.prs_core.specs.Nets.{IsNet};
 ghost use Rattle.prs_file.specs.Spelling.{NetText};
 ghost use Rattle.reset_net.specs.Resets.{reset_of};
 ghost use Rattle.width_check.specs.Typed.{program_of};
@@ -12,6 +13,7 @@ ghost use Rattle.net_compose.specs.Translation.{translation};
 use crate::buffer::line_buffer;
 use crate::circuit::{Circuit, circuit_of};
 use crate::cursor::{Cursor, give};
+use crate::laws::whole_nets;
 use crate::place::Place;
 use handshake_expand::count_nodes;
 use net_compose::NetError;
@@ -60,11 +62,17 @@ fn stream(alloc: Global, net: Circuit) -> Result<Streamer, AllocError>
 fn stream_program(alloc: Global, program: &Disjoint, reset: bool) -> Result<Streamer, NetError>
     ensures text { IfOk result (λ s. NetText s (if reset then reset_of (translation (program_of program.now))
         else translation (program_of program.now))) }
+    ensures carries { OnOk result (Carries (translation (program_of program.now)) (program_of program.now)) }
+    ensures net { OnOk result (IsNet (translation (program_of program.now))) }
     ensures fits { OnOk result (nodes_of (program_of program.now) ≤ 65536) }
     ensures count { IfErr result (IfTooMany (λ count. count ≡ node_count (program_of program.now))) }
     ensures too_many { IfErr result (IfTooMany (λ _. 65536 < nodes_of (program_of program.now))) }
 {
+    carries();
+    whole_nets();
     let typed = program.typed();
+    // what the program's type keeps is told of its body
+    let _kept = typed.body();
     let count = count_nodes(typed);
     if count > MOST_NODES {
         return Err(NetError::TooManyNodes(count));
@@ -89,7 +97,6 @@ impl Streamer {
         ensures count { IfErr result (IfTooMany (λ count. count ≡ node_count (program_of program.now))) }
         ensures too_many { IfErr result (IfTooMany (λ _. 65536 < nodes_of (program_of program.now))) }
     {
-        carries();
         stream_program(alloc, program, false)
     }
 
@@ -102,7 +109,6 @@ impl Streamer {
         ensures count { IfErr result (IfTooMany (λ count. count ≡ node_count (program_of program.now))) }
         ensures too_many { IfErr result (IfTooMany (λ _. 65536 < nodes_of (program_of program.now))) }
     {
-        carries();
         carries_reset();
         stream_program(alloc, program, true)
     }

@@ -1,0 +1,39 @@
+use Rattle.std.proofs.Common.{[], ◌∷◌, ◌++◌, All, arith}
+use Rattle.std.proofs.lemmas.List.Elements.{All-head}
+use Rattle.prs_core.specs.declared.rule.Literal.{Literal}
+use Rattle.net_stream.specs.Circuits.{term_end}
+use Rattle.net_stream.specs.Led.{all_wanted}
+use Rattle.net_stream.proofs.Puts.{term_more, one_put, front_all, behind_all, term_count}
+use Rattle.net_stream.proofs.guard.term_text.Goals as goal
+
+pub literals_text-behind-requires : goal.literals_text-behind-requires
+literals_text-behind-requires c = front_all _ c.args.first.now (all_wanted c.args.high c.args.nodes.now) (All-head _ _ [] c.requires.within)
+
+pub nodes_text-next-requires : goal.nodes_text-next-requires
+nodes_text-next-requires c = behind_all _ c.args.first.now (all_wanted c.args.high c.args.nodes.now) (All-head _ _ [] c.requires.within)
+
+pub returns-in_err-behind-clause-room : goal.returns-in_err-behind-clause-room
+returns-in_err-behind-clause-room c =
+    let count = term_count c.args.first.now (all_wanted c.args.high c.args.nodes.now) (term_end c.args.ending) in
+    omega (arith, count, c.in_err-behind.ensures.room)
+
+pub returns-in_err-next-clause-room : goal.returns-in_err-next-clause-room
+returns-in_err-next-clause-room c =
+    let count = term_count c.args.first.now (all_wanted c.args.high c.args.nodes.now) (term_end c.args.ending) in
+    let first = c.in_ok-behind.ensures.put in
+    omega (arith, count, first.long, c.in_err-next.ensures.room, c.literals_text-behind.ensures.capacity)
+
+pub returns-in_err-term_end_text-clause-room : goal.returns-in_err-term_end_text-clause-room
+returns-in_err-term_end_text-clause-room c =
+    let count = term_count c.args.first.now (all_wanted c.args.high c.args.nodes.now) (term_end c.args.ending) in
+    let first = c.in_ok-behind.ensures.put in
+    let second = c.in_ok-next.ensures.put in
+    omega (arith, count, first.long, second.long, c.in_err-term_end_text.ensures.room, c.literals_text-behind.ensures.capacity, c.nodes_text-next.ensures.capacity)
+
+pub returns-clause-put : goal.returns-clause-put
+returns-clause-put c =
+    let wanted = all_wanted c.args.high c.args.nodes.now in
+    one_put c.args.net.now c.args.lead _ ((c.args.first.now ++ wanted) ++ term_end c.args.ending) _ _ _ _
+    (term_more c.args.net.now c.args.lead _ _ (c.args.first.now ++ wanted) (term_end c.args.ending) _ _ _ _ _ _
+    (term_more c.args.net.now c.args.lead _ _ c.args.first.now wanted _ _ _ _ _ _ c.in_ok-behind.ensures.put c.in_ok-next.ensures.put)
+    c.in_ok-term_end_text.ensures.put)
