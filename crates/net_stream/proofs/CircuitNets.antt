@@ -224,3 +224,20 @@ module _ (p : TypedProgram) (reset : Bool) (names : List (List ℕ)) (channels :
         ∙ sym (ap (λ (x : List Bool). length x) (first_is ∙ ap (λ x. x ++ (if reset then true ∷ [] else [])) valued))),
     subst IsNet (sym circuit_is) (reset_holds reset (translation p) whole refl free),
   )
+
+-- a driver of a circuit is over the circuit's own nodes
+pub rule_near : (names : List (List ℕ)) (reset : Option ℕ) (first : List Bool) (rs : List NodeRules) (channels : List Wires) (node : ℕ)
+    → IsNet (circuit_net names first rs channels reset) → length rs ≡ length first → node < length first
+    → IsBelow (length first) (slice_index_or rs node no_rules).up × IsBelow (length first) (slice_index_or rs node no_rules).down
+rule_near names reset first rs channels node whole same l =
+    let n = length first in
+    let r = slice_index_or rs node no_rules in
+    let has = has_rules r.up r.down in
+    let high = slice_index_or first node false in
+    let ups = whole.ups in
+    let downs = whole.downs in (
+      ended_near n (ending_of reset has (leads_back true high)) r.up
+          (subst (IsBelow n) (rule_here names reset true first rs channels node same l) (whole.up_within node [] (omega (arith, ups, l)))),
+      ended_near n (ending_of reset has (leads_back false high)) r.down
+          (subst (IsBelow n) (rule_here names reset false first rs channels node same l) (whole.down_within node [] (omega (arith, downs, l)))),
+    )

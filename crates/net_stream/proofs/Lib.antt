@@ -14,3 +14,5 @@ pub mod RowsPut
 pub mod ShapesDriven
 pub mod FewLiterals
 pub mod RuleTexts
+pub mod ChoiceDriven
+pub mod AllDriven

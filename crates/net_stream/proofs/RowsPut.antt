@@ -1,8 +1,10 @@
 -- The rows of truth tables of two and of three inputs, and the terms that stand for them.
-use Rattle.std.proofs.Common.{◌≡◌, ◌∙◌, ℕ, zero, suc, ◌+◌, ◌<◌, ◌≤◌, Bool, true, false, List, [], ◌∷◌, ◌++◌, length, drop, map, refl, sym, ap, arith}
+use Rattle.std.proofs.Common.{◌≡◌, ◌≢◌, ◌∙◌, ℕ, zero, suc, ◌+◌, ◌<◌, Bool, true, false, List, [], ◌∷◌, ◌++◌, drop, map, All, refl, sym, ap, arith}
 use Rattle.std.specs.Prelude.{filter, not, if◌then◌else◌}
-use Rattle.prs_core.specs.Nets.{GuardValue}
-use Rattle.prs_core.specs.Pairs.{Pair}
+use Rattle.std.proofs.lemmas.List.Elements.{All-nil, All-cons, All-head, All-tail}
+use Rattle.prs_core.specs.declared.rule.Literal.{Literal}
+use Rattle.prs_core.specs.Nets.{GuardValue, IsBelow, is_high}
+use Rattle.prs_core.specs.Pairs.{Pair, rails_of}
 use Rattle.function_blocks.specs.Gates.{minterm, table}
 use Rattle.function_blocks.specs.Waves.{rows_of}
 use Rattle.net_stream.specs.declared.ending.Ending.{Ending}
@@ -54,3 +56,31 @@ has_value false v f row is same = ap not (sym is ∙ same)
 pub has_another : (one v : Bool) (f : List Bool → Bool) (row : List Bool) → v ≡ f row → v ≡ not one → rows_of one f row ≡ false
 has_another true v f row is other = sym is ∙ other
 has_another false v f row is other = ap not (sym is ∙ other)
+
+pub other_value : (one v : Bool) → v ≢ one → v ≡ not one
+other_value true true h = absurd (h refl)
+other_value true false h = refl
+other_value false true h = refl
+other_value false false h = absurd (h refl)
+
+-- the rails that are high in a row
+pub rail_near : (count : ℕ) (b : Bool) (p : Pair) → p.t < count → p.f < count → (if b then p.t else p.f) < count
+rail_near count true p h k = h
+rail_near count false p h k = k
+
+module _ (count : ℕ) where
+  abbrev Near : Literal → Type 0
+  Near l = l.node < count
+
+  pub minterm_near : (ps : List Pair) (bs : List Bool) → All (λ n. n < count) (rails_of ps) → All Near (minterm ps bs)
+  minterm_near [] bs h = All-nil Near
+  minterm_near (p ∷ ps) [] h = All-nil Near
+  minterm_near (p ∷ ps) (b ∷ bs) h =
+      let tail = All-tail (λ n. n < count) p.t (p.f ∷ rails_of ps) h in
+      All-cons Near (is_high (if b then p.t else p.f)) (minterm ps bs)
+      (rail_near count b p (All-head (λ n. n < count) p.t (p.f ∷ rails_of ps) h) (All-head (λ n. n < count) p.f (rails_of ps) tail))
+      (minterm_near ps bs (All-tail (λ n. n < count) p.f (rails_of ps) tail))
+
+  pub minterm_below : (ps : List Pair) (bs : List Bool) → All (λ n. n < count) (rails_of ps) → IsBelow count (minterm ps bs ∷ [])
+  minterm_below ps bs h =
+      All-cons (λ (t : List Literal). All Near t) (minterm ps bs) [] (minterm_near ps bs h) (All-nil (λ (t : List Literal). All Near t))

@@ -1,9 +1,9 @@
 -- The text of a rule's terms, behind their leads, is that of its guard.
 use Rattle.std.proofs.Common.{◌≡◌, ◌∙◌, ℕ, ◌<◌, Bool, true, false, List, [], ◌∷◌, ◌++◌, length, All, refl, sym, ap, arith}
-use Rattle.std.proofs.lemmas.List.{append-nil}
+use Rattle.std.specs.Prelude.{if◌then◌else◌}
 use Rattle.std.proofs.lemmas.List.Elements.{All-head, All-tail}
 use Rattle.prs_core.specs.declared.rule.Literal.{Literal}
-use Rattle.prs_core.specs.Nets.{GuardValue, NetValue, IsFilled, name_at}
+use Rattle.prs_core.specs.Nets.{GuardValue, NetValue, IsFilled, IsNet, name_at, up_of, down_of}
 use Rattle.prs_file.specs.declared.forms.Lead.{Lead}
 use Rattle.prs_file.specs.declared.forms.Lead.TheVariants.{Rule, And, Or}
 use Rattle.prs_file.specs.Spelling.{lead_spelling, term_spelling, literal_behind, end_spelling, rule_spelling}
@@ -35,3 +35,9 @@ pub no_line : (net : NetValue) (lead : Lead) (g : GuardValue) (node : ℕ) (up :
     → IsPut net Rule lead g before mid k m → has_begun lead ≡ false → mid ≡ before ++ rule_spelling net g node up
 no_line net lead [] node up before mid k m put none = put.text
 no_line net lead (t ∷ g) node up before mid k m put none = absurd (let e = ap has_begun put.leads in cc)
+
+-- no term of a net's guards is empty
+pub filled_at : (net : NetValue) (node : ℕ) (up : Bool) → IsNet net → node < length net.first
+    → IsFilled (if up then up_of net node else down_of net node)
+filled_at net node true whole l = let ups = whole.ups in whole.up_filled node [] (omega (arith, ups, l))
+filled_at net node false whole l = let downs = whole.downs in whole.down_filled node [] (omega (arith, downs, l))

@@ -123,6 +123,7 @@ fn guards(
 
 /// Adds the drivers of a selection's own nodes, numbered from `from` on, and of its guards behind them. `answers` are
 /// the nodes that answer the branches.
+#[tactic(auto, using(handshake_expand::proofs::Branches::choosing_size, handshake_expand::proofs::Rows::arms_counted))]
 fn selection(
     alloc: Global,
     program: &Typed,
@@ -167,6 +168,7 @@ fn selection(
 }
 
 /// The same of a guarded repetition.
+#[tactic(auto, using(handshake_expand::proofs::Branches::choosing_size, handshake_expand::proofs::Rows::arms_counted))]
 fn repetition(
     alloc: Global,
     program: &Typed,

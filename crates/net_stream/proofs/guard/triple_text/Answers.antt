@@ -1,0 +1,42 @@
+use Rattle.std.proofs.Common.{◌≡◌, ◌∙◌, ◌+◌, ◌*◌, ◌<◌, [], ◌∷◌, ◌++◌, length, ap, sym, subst, arith, vec_len, vec_capacity}
+use Rattle.std.specs.Prelude.{IfOk, OnErr, if◌then◌else◌}
+use Rattle.prs_core.specs.declared.rule.Literal.{Literal}
+use Rattle.prs_core.specs.Nets.{GuardValue, IsBelow, guard_literals, is_high}
+use Rattle.function_blocks.specs.Gates.{minterm}
+use Rattle.function_blocks.specs.Waves.{rows_of}
+use Rattle.net_stream.specs.Circuits.{with_ends}
+use Rattle.net_stream.specs.Drivers.{truth_named}
+use Rattle.net_stream.specs.Led.{IsPut, on_row, row_at}
+use Rattle.net_stream.proofs.Puts.{no_terms}
+use Rattle.net_stream.proofs.RowsPut.{row_holds, row_fails, has_value, has_another, other_value, minterm_below}
+use Rattle.net_stream.proofs.guard.triple_text.Goals as goal
+
+-- the term is that of the row
+pub term_text-requires-clause-within : goal.term_text-requires-clause-within
+term_text-requires-clause-within c =
+    rw (c.rail.ensures, c.rail-2.ensures, c.rail-3.ensures) (minterm_below (length c.args.net.now.first) (c.args.left ∷ c.args.right ∷ c.args.carried ∷ []) (row_at 3 c.args.number) c.requires.within)
+
+pub returns-then-eq-clause-put : goal.returns-then-eq-clause-put
+returns-then-eq-clause-put c =
+    let inputs = c.args.left ∷ c.args.right ∷ c.args.carried ∷ [] in
+    let f = rows_of c.args.one (truth_named c.args.function) in
+    let row = row_at 3 c.args.number in
+    let e = row_holds inputs f row (has_value c.args.one c.value.result (truth_named c.args.function) row c.value.ensures c.if-eq.true) in
+    rw e (rw (c.rail.ensures, c.rail-2.ensures, c.rail-3.ensures) at c.term_text.ensures.put)
+
+pub returns-then-eq-clause-room : goal.returns-then-eq-clause-room
+returns-then-eq-clause-room c =
+    let inputs = c.args.left ∷ c.args.right ∷ c.args.carried ∷ [] in
+    let f = rows_of c.args.one (truth_named c.args.function) in
+    let row = row_at 3 c.args.number in
+    let e = row_holds inputs f row (has_value c.args.one c.value.result (truth_named c.args.function) row c.value.ensures c.if-eq.true) in
+    rw e (rw (c.rail.ensures, c.rail-2.ensures, c.rail-3.ensures) at c.term_text.ensures.room)
+
+pub returns-else-eq-clause-put : goal.returns-else-eq-clause-put
+returns-else-eq-clause-put c =
+    let inputs = c.args.left ∷ c.args.right ∷ c.args.carried ∷ [] in
+    let f = rows_of c.args.one (truth_named c.args.function) in
+    let row = row_at 3 c.args.number in
+    let e = row_fails inputs f row (has_another c.args.one c.value.result (truth_named c.args.function) row c.value.ensures
+    (other_value c.args.one c.value.result c.if-eq.false)) in
+    subst (λ g. IsPut c.args.net.now c.args.lead c.args.lead (with_ends c.args.ending g) _ _ _ _) (sym e) (no_terms c.args.net.now c.args.lead _ _)
