@@ -70,13 +70,13 @@ rows_count ps (row ∷ rows) l =
     let rest = rows_count ps rows l in
     omega (arith, e, here, rest, l)
 
+chosen_count : (b : Bool) (row : List Bool) (kept : List (List Bool)) (n : ℕ) → length kept ≤ n → length (if b then row ∷ kept else kept) ≤ suc n
+chosen_count true row kept n l = omega (arith, l)
+chosen_count false row kept n l = omega (arith, l)
+
 kept_count : (f : List Bool → Bool) (rows : List (List Bool)) → length (filter f rows) ≤ length rows
 kept_count f [] = omega arith
-kept_count f (row ∷ rows) = chosen (f row)
-  where
-    chosen : (b : Bool) → length (if b then row ∷ filter f rows else filter f rows) ≤ suc (length rows)
-    chosen true = let e = kept_count f rows in omega (arith, e)
-    chosen false = let e = kept_count f rows in omega (arith, e)
+kept_count f (row ∷ rows) = chosen_count (f row) row (filter f rows) (length rows) (kept_count f rows)
 
 gate_small : (left right : Pair) (below : Option Pair) (f : List Bool → Bool) (most : ℕ) → 24 ≤ most
     → IsSmall most (gate_rail (left ∷ right ∷ carried_on below) f).up × IsSmall most (gate_rail (left ∷ right ∷ carried_on below) f).down

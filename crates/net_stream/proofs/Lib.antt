@@ -16,3 +16,5 @@ pub mod FewLiterals
 pub mod RuleTexts
 pub mod ChoiceDriven
 pub mod AllDriven
+pub mod ResetGuards
+pub mod ResetWhole

@@ -1,6 +1,6 @@
 -- The guards of drivers, by their forms.
 use Rattle.std.proofs.Common.{◌≡◌, ℕ, ◌<◌, Bool, true, false, List, [], ◌∷◌, map, All, refl}
-use Rattle.std.proofs.lemmas.List.Elements.{All-nil, All-cons, All-head, All-tail, All-weaker}
+use Rattle.std.proofs.lemmas.List.Elements.{All-nil, All-cons, All-head, All-tail, All-weaker, All-map}
 use Rattle.prs_core.specs.declared.rule.Literal.{Literal}
 use Rattle.prs_core.specs.Nets.{IsBelow, is_high, is_low}
 use Rattle.prs_core.specs.Pairs.{lows, rails_of, or_of}
@@ -129,3 +129,6 @@ module _ (count : ℕ) where
 
   pub one_near : (node : ℕ) → node < count → IsBelow count ((is_high node ∷ []) ∷ [])
   one_near node l = All-cons Term (is_high node ∷ []) [] (All-cons Near (is_high node) [] l (All-nil Near)) (All-nil Term)
+
+  pub lows_below : (ns : List ℕ) → All (λ n. n < count) ns → IsBelow count (lows ns ∷ [])
+  lows_below ns h = All-cons Term (lows ns) [] (All-map Near is_low ns h) (All-nil Term)

@@ -4,8 +4,8 @@ use Rattle.net_stream.specs.Rooms.{HasRoom, IsFew}
 use Rattle.net_stream.proofs.FewLiterals.{has_room}
 use Rattle.net_stream.proofs.buffer.line_buffer.Goals as goal
 
-pub returns-in_Some-clause-room : goal.returns-in_Some-clause-room
-returns-in_Some-clause-room c =
+pub returns-in-Some-clause-room : goal.returns-in-Some-clause-room
+returns-in-Some-clause-room c =
     let n = c.net.inside in
     let most = c.most_of.result in
     let few = subst (All (IsFew most)) c.deref.ensures.value c.most_of.ensures in

@@ -7,5 +7,5 @@ use Rattle.net_stream.proofs.buffer.most_literals.Goals as goal
 pub returns : goal.returns
 returns c =
     let d = c.driver.inside.pattern in
-    subst (IsFew (c.len.result + 24)) c.driver.view_is
-    (subst (λ n. IsFew (n + 24) (driven d)) (sym (c.len.ensures ∙ ap (λ (l : List ℕ). length l) c.listed.ensures)) (few_is d))
+    subst (IsFew (length c.listed.result.now + 24)) c.driver.view_is
+    (subst (λ n. IsFew (n + 24) (driven d)) (sym (ap (λ (l : List ℕ). length l) c.listed.ensures)) (few_is d))

@@ -1,4 +1,5 @@
 use Rattle.std.proofs.Common.{◌+◌, drop, refl, arith}
+use Rattle.std.proofs.lemmas.Result.{err_from_is_err_and}
 use Rattle.std.proofs.lemmas.List.{drop_all}
 use Rattle.net_stream.proofs.Puts.{term_begins, term_step, term_step_room, term_over}
 use Rattle.net_stream.proofs.guard.literals_text.Goals as goal
@@ -18,8 +19,10 @@ loop-literal-preserved c = record {
 
 pub returns-in_err-put-clause-room : goal.returns-in_err-put-clause-room
 returns-in_err-put-clause-room c =
-    term_step_room c.args.net.now c.args.lead c.loop-literal.next c.args.literals.now c.loop-literal.literal-index _ _ _ _ _ _ c.loop-literal.invariant.left
-    c.loop-literal-test.true c.in_err-put.ensures.room c.loop-literal.invariant.capacity
+    let p = err_from_is_err_and c.from_residual.result c.from_residual.ensures.1 in
+    rw p.1
+    (term_step_room c.args.net.now c.args.lead c.loop-literal.next c.args.literals.now c.loop-literal.literal-index _ _ _ _ _ _ c.loop-literal.invariant.left
+    c.loop-literal-test.true c.in_err-put.ensures.room c.loop-literal.invariant.capacity)
 
 pub returns-clause-put : goal.returns-clause-put
 returns-clause-put c =

@@ -14,29 +14,29 @@ use Rattle.net_stream.proofs.guard.pair_text.Goals as goal
 -- the term is that of the row
 pub term_text-requires-clause-within : goal.term_text-requires-clause-within
 term_text-requires-clause-within c =
-    rw (c.rail.ensures, c.rail-2.ensures) (minterm_below (length c.args.net.now.first) (c.args.left ∷ c.args.right ∷ []) (row_at 2 c.args.number) c.requires.within)
+    rw (c.rail.ensures, c.rail-then-value-one.ensures) (minterm_below (length c.args.net.now.first) (c.args.left ∷ c.args.right ∷ []) (row_at 2 c.args.number) c.requires.within)
 
-pub returns-then-eq-clause-put : goal.returns-then-eq-clause-put
-returns-then-eq-clause-put c =
+pub returns-then-value-one-clause-put : goal.returns-then-value-one-clause-put
+returns-then-value-one-clause-put c =
     let inputs = c.args.left ∷ c.args.right ∷ [] in
     let f = rows_of c.args.one (truth_named c.args.function) in
     let row = row_at 2 c.args.number in
-    let e = row_holds inputs f row (has_value c.args.one c.value.result (truth_named c.args.function) row c.value.ensures c.if-eq.true) in
-    rw e (rw (c.rail.ensures, c.rail-2.ensures) at c.term_text.ensures.put)
+    let e = row_holds inputs f row (has_value c.args.one c.value.result (truth_named c.args.function) row c.value.ensures c.if-value-one.true) in
+    rw e (rw (c.rail.ensures, c.rail-then-value-one.ensures) at c.term_text.ensures.put)
 
-pub returns-then-eq-clause-room : goal.returns-then-eq-clause-room
-returns-then-eq-clause-room c =
+pub returns-then-value-one-clause-room : goal.returns-then-value-one-clause-room
+returns-then-value-one-clause-room c =
     let inputs = c.args.left ∷ c.args.right ∷ [] in
     let f = rows_of c.args.one (truth_named c.args.function) in
     let row = row_at 2 c.args.number in
-    let e = row_holds inputs f row (has_value c.args.one c.value.result (truth_named c.args.function) row c.value.ensures c.if-eq.true) in
-    rw e (rw (c.rail.ensures, c.rail-2.ensures) at c.term_text.ensures.room)
+    let e = row_holds inputs f row (has_value c.args.one c.value.result (truth_named c.args.function) row c.value.ensures c.if-value-one.true) in
+    rw e (rw (c.rail.ensures, c.rail-then-value-one.ensures) at c.term_text.ensures.room)
 
-pub returns-else-eq-clause-put : goal.returns-else-eq-clause-put
-returns-else-eq-clause-put c =
+pub returns-else-value-one-clause-put : goal.returns-else-value-one-clause-put
+returns-else-value-one-clause-put c =
     let inputs = c.args.left ∷ c.args.right ∷ [] in
     let f = rows_of c.args.one (truth_named c.args.function) in
     let row = row_at 2 c.args.number in
     let e = row_fails inputs f row (has_another c.args.one c.value.result (truth_named c.args.function) row c.value.ensures
-    (other_value c.args.one c.value.result c.if-eq.false)) in
+    (other_value c.args.one c.value.result c.if-value-one.false)) in
     subst (λ g. IsPut c.args.net.now c.args.lead c.args.lead (with_ends c.args.ending g) _ _ _ _) (sym e) (no_terms c.args.net.now c.args.lead _ _)

@@ -19,8 +19,8 @@ returns-clause-rule c =
     let driver = c.index-driver.result.now in
     let back = c.leads_back-back.result in
     let here : driver ≡ get_or x.drivers.items node no_rules = get_or_read x.drivers.items node _ many c.index-driver.ensures no_rules in
-    let high : c.index.result ≡ get_or x.first.items node false = get_or_read x.first.items node _ within c.index.ensures false in
-    let ending : c.ending_of-ending.result ≡ ending_of x.reset (has_rules driver.up driver.down) (leads_back up c.index.result) =
+    let high : c.index.result.now ≡ get_or x.first.items node false = get_or_read x.first.items node _ within c.index.ensures false in
+    let ending : c.ending_of-ending.result ≡ ending_of x.reset (has_rules driver.up driver.down) (leads_back up c.index.result.now) =
     c.ending_of-ending.ensures ∙ (ap (λ b. ending_of x.reset b back) c.has_rules.ensures
     ∙ ap (λ b. ending_of x.reset (has_rules driver.up driver.down) b) c.leads_back-back.ensures) in
     ap (λ (n : NetValue). if up then up_of n node else down_of n node) (sym c.self.view_is)

@@ -8,8 +8,8 @@ falls : (g h : GuardValue) (t : List Literal) → true ≡ has_rules g (t ∷ h)
 falls [] h t = refl
 falls (u ∷ g) h t = refl
 
-pub returns-in_Gate : goal.returns-in_Gate
-returns-in_Gate c = rw (← c.self.view_is, c.in-Gate.is) (falls _ [] _)
+pub returns-in-Gate : goal.returns-in-Gate
+returns-in-Gate c = rw (← c.self.view_is, c.in-Gate.is) (falls _ [] _)
 
-pub returns-in_Joined : goal.returns-in_Joined
-returns-in_Joined c = rw (← c.self.view_is, c.in-Joined.is) (falls _ [] _)
+pub returns-in-Joined : goal.returns-in-Joined
+returns-in-Joined c = rw (← c.self.view_is, c.in-Joined.is) (falls _ [] _)
