@@ -103,10 +103,10 @@ module _ (names : List (List ℕ)) (first : List Bool) (rs : List NodeRules) (ch
       let n = length first in
       ap (λ ups. net_of (names ++ codes "reset" ∷ []) (first ++ true ∷ [])
       (record { up = ups; down = map (side false) (each_reset n (first ++ true ∷ []) (rs ++ no_rules ∷ [])) }) channels (Some n))
-      (behind_all n true (reset_up plain) first rs 0 same (λ i l. up_here i))
+      (behind_all n true (reset_up plain) first rs 0 same (λ i l. let e : 0 + i ≡ i = omega arith in ap (reset_up plain) e ∙ up_here i))
       ∙ ap (λ downs. net_of (names ++ codes "reset" ∷ []) (first ++ true ∷ [])
       (record { up = map (reset_up plain) (range_with_len 0 n) ++ [] ∷ []; down = downs }) channels (Some n))
-      (behind_all n false (reset_down plain) first rs 0 same (λ i l. down_here i))
+      (behind_all n false (reset_down plain) first rs 0 same (λ i l. let e : 0 + i ≡ i = omega arith in ap (reset_down plain) e ∙ down_here i))
 
 -- what a driver's rule says, with what the reset adds to it
 abbrev pub leads_back : (up high : Bool) → Bool

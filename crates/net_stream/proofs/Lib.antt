@@ -18,3 +18,4 @@ pub mod ChoiceDriven
 pub mod AllDriven
 pub mod ResetGuards
 pub mod ResetWhole
+pub mod TreeDriven

@@ -1,5 +1,6 @@
 -- The rows of truth tables of two and of three inputs, and the terms that stand for them.
-use Rattle.std.proofs.Common.{◌≡◌, ◌≢◌, ◌∙◌, ℕ, zero, suc, ◌+◌, ◌<◌, Bool, true, false, List, [], ◌∷◌, ◌++◌, drop, map, All, refl, sym, ap, arith}
+use Rattle.std.proofs.Common.{◌≡◌, ◌∙◌, ℕ, zero, suc, ◌+◌, ◌<◌, Bool, true, false, List, [], ◌∷◌, ◌++◌, drop, map, All, refl, sym, ap, arith}
+use mathlib.Core.Bool.{beq}
 use Rattle.std.specs.Prelude.{filter, not, if◌then◌else◌}
 use Rattle.std.proofs.lemmas.List.Elements.{All-nil, All-cons, All-head, All-tail}
 use Rattle.prs_core.specs.declared.rule.Literal.{Literal}
@@ -49,19 +50,17 @@ module _ (inputs : List Pair) (f : List Bool → Bool) where
   row_fails row e = ap (λ b. map (minterm inputs) (if b then row ∷ [] else [])) e
 
 -- whether the function has the value that is asked for
-pub has_value : (one v : Bool) (f : List Bool → Bool) (row : List Bool) → v ≡ f row → v ≡ one → rows_of one f row ≡ true
-has_value true v f row is same = sym is ∙ same
-has_value false v f row is same = ap not (sym is ∙ same)
+pub has_value : (one v : Bool) (f : List Bool → Bool) (row : List Bool) → v ≡ f row → beq v one ≡ true → rows_of one f row ≡ true
+has_value true true f row is same = sym is
+has_value true false f row is same = absurd (cc)
+has_value false true f row is same = absurd (cc)
+has_value false false f row is same = ap not (sym is)
 
-pub has_another : (one v : Bool) (f : List Bool → Bool) (row : List Bool) → v ≡ f row → v ≡ not one → rows_of one f row ≡ false
-has_another true v f row is other = sym is ∙ other
-has_another false v f row is other = ap not (sym is ∙ other)
-
-pub other_value : (one v : Bool) → v ≢ one → v ≡ not one
-other_value true true h = absurd (h refl)
-other_value true false h = refl
-other_value false true h = refl
-other_value false false h = absurd (h refl)
+pub has_another : (one v : Bool) (f : List Bool → Bool) (row : List Bool) → v ≡ f row → beq v one ≡ false → rows_of one f row ≡ false
+has_another true true f row is other = absurd (cc)
+has_another true false f row is other = sym is
+has_another false true f row is other = ap not (sym is)
+has_another false false f row is other = absurd (cc)
 
 -- the rails that are high in a row
 pub rail_near : (count : ℕ) (b : Bool) (p : Pair) → p.t < count → p.f < count → (if b then p.t else p.f) < count

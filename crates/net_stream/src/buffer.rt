@@ -1,6 +1,6 @@
 //! The buffer for one line.
 
-ghost use Rattle.std.specs.Prelude.{◌≡◌, ◌+◌, ◌*◌, [], All, IfOk, IfSome, vec_len, vec_capacity};
+ghost use Rattle.std.specs.Prelude.{◌≡◌, ◌+◌, ◌*◌, ◌≤◌, [], All, IfOk, IfSome, vec_len, vec_capacity};
 ghost use Rattle.net_stream.specs.Rooms.{HasRoom, IsFew};
 
 use crate::circuit::Circuit;
@@ -17,13 +17,21 @@ fn most_literals(driver: &Driver) -> usize
     driver.pattern.listed().len() + MOST_OF_GATE
 }
 
+/// The larger of two numbers.
+fn larger(a: usize, b: usize) -> usize
+    ensures first { a ≤ result }
+    ensures second { b ≤ result }
+{
+    if a < b { b } else { a }
+}
+
 /// The same of all drivers.
 fn most_of(drivers: &[Driver]) -> usize
     ensures { All (IsFew result) drivers.now }
 {
     let mut most = 0;
     for driver in drivers {
-        most = most.max(most_literals(driver));
+        most = larger(most, most_literals(driver));
     }
     most
 }

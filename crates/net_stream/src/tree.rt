@@ -18,15 +18,15 @@ fn join_level(
     ensures made { OnOk result (drivers.new.items ≡ drivers.old.items ++ level_rules nodes.now) }
 {
     let mut above = Vec::new(alloc);
-    let mut left = nodes;
+    let mut place = 0;
     let mut node = from;
-    while let [first, second, rest @ ..] = left {
-        drivers.push(Driver::both(*first, *second))?;
+    while place + 1 < nodes.len() {
+        drivers.push(Driver::both(nodes[place], nodes[place + 1]))?;
         above.push(node)?;
         node += 1;
-        left = rest;
+        place += 2;
     }
-    above.extend_from_slice(left)?;
+    above.extend_from_slice(&nodes[place..])?;
     Ok(above)
 }
 

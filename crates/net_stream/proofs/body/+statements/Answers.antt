@@ -667,10 +667,10 @@ statement-returns-in-Skip-clause-first t c =
 pub statement-sequence-requires : goal.statement-sequence-requires
 statement-sequence-requires t c =
     let p = program_of c.args.program.now in
-    let is : process_of c.args.s.now ≡ in_turn (members_in c.deref.result.now) =
-    then_is _ c.in-Then.parts c.in-Then.is ∙ ap (λ xs. in_turn (members_in xs)) (sym c.deref.ensures.value) in
+    let is : process_of c.args.s.now ≡ in_turn (members_in c.deref-in-Then.result.now) =
+    then_is _ c.in-Then.parts c.in-Then.is ∙ ap (λ xs. in_turn (members_in xs)) (sym c.deref-in-Then.ensures.value) in
     let typed = subst (IsProcess p.channels p.vars) is c.requires.process in
-    let room : c.args.from + size_of p (in_turn (members_in c.deref.result.now)) ≤ length c.args.first.now = omega
+    let room : c.args.from + size_of p (in_turn (members_in c.deref-in-Then.result.now)) ≤ length c.args.first.now = omega
     (arith, ap (size_of p) is, c.requires.own) in (
       search (rules, the_lemmas, get_or_read),
       (c.requires.channels, (c.requires.vars, (typed, (c.requires.root, (room, c.requires.few))))),
@@ -679,24 +679,24 @@ statement-sequence-requires t c =
 pub statement-returns-in-Then-clause-made : goal.statement-returns-in-Then-clause-made
 statement-returns-in-Then-clause-made t c =
     let p = program_of c.args.program.now in
-    let is : process_of c.args.s.now ≡ in_turn (members_in c.deref.result.now) = then_is _ c.in-Then.parts c.in-Then.is
-    ∙ ap (λ xs. in_turn (members_in xs)) (sym c.deref.ensures.value) in
+    let is : process_of c.args.s.now ≡ in_turn (members_in c.deref-in-Then.result.now) = then_is _ c.in-Then.parts c.in-Then.is
+    ∙ ap (λ xs. in_turn (members_in xs)) (sym c.deref-in-Then.ensures.value) in
     on_ok c.sequence.result (λ f. f ∙ ap (λ q. c.args.drivers.now.items ++ rules_of p q c.args.request c.args.from) (sym is))
     c.sequence.ensures.made
 
 pub statement-returns-in-Then-clause-contacts : goal.statement-returns-in-Then-clause-contacts
 statement-returns-in-Then-clause-contacts t c =
     let p = program_of c.args.program.now in
-    let is : process_of c.args.s.now ≡ in_turn (members_in c.deref.result.now) = then_is _ c.in-Then.parts c.in-Then.is
-    ∙ ap (λ xs. in_turn (members_in xs)) (sym c.deref.ensures.value) in
+    let is : process_of c.args.s.now ≡ in_turn (members_in c.deref-in-Then.result.now) = then_is _ c.in-Then.parts c.in-Then.is
+    ∙ ap (λ xs. in_turn (members_in xs)) (sym c.deref-in-Then.ensures.value) in
     on_ok c.sequence.result (λ f. f ∙ ap (λ q. c.args.contacts.now.items ++ sites_in p (every_contact p) q c.args.from) (sym is))
     c.sequence.ensures.contacts
 
 pub statement-returns-in-Then-clause-first : goal.statement-returns-in-Then-clause-first
 statement-returns-in-Then-clause-first t c =
     let p = program_of c.args.program.now in
-    let is : process_of c.args.s.now ≡ in_turn (members_in c.deref.result.now) = then_is _ c.in-Then.parts c.in-Then.is
-    ∙ ap (λ xs. in_turn (members_in xs)) (sym c.deref.ensures.value) in
+    let is : process_of c.args.s.now ≡ in_turn (members_in c.deref-in-Then.result.now) = then_is _ c.in-Then.parts c.in-Then.is
+    ∙ ap (λ xs. in_turn (members_in xs)) (sym c.deref-in-Then.ensures.value) in
     on_ok c.sequence.result (λ f. f ∙ ap (λ q. with_raised c.args.first.now (sites_in p (hidden_high p) q c.args.from)) (sym is)) c.sequence.ensures.first
 
 pub statement-parallel-requires : goal.statement-parallel-requires

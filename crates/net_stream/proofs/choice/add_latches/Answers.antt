@@ -1,4 +1,4 @@
-use Rattle.std.proofs.Common.{◌≡◌, ◌<◌, ◌∙◌, ◌∷◌, [], ◌++◌, length, take, sym, ap, append_assoc, arith}
+use Rattle.std.proofs.Common.{◌≡◌, ◌+◌, ◌<◌, ◌∙◌, ◌∷◌, [], ◌++◌, length, take, sym, ap, append_assoc, arith}
 use Rattle.std.proofs.lemmas.List.{take_more, take_all}
 use Rattle.cell_select.specs.Selections.{latches}
 use Rattle.net_stream.specs.Drivers.{wanted_latch}

@@ -1,4 +1,4 @@
-use Rattle.std.proofs.Common.{◌≡◌, ◌∙◌, ◌+◌, ◌*◌, ℕ, suc, [], ◌∷◌, ◌++◌, refl, ap, sym, arith}
+use Rattle.std.proofs.Common.{◌≡◌, ◌∙◌, ◌+◌, ◌*◌, ℕ, suc, true, [], ◌∷◌, ◌++◌, refl, ap, sym, arith}
 use Rattle.std.specs.List.{range_with_len}
 use Rattle.prs_core.specs.Pairs.{Pair, or_of, rails_of}
 use Rattle.width_check.specs.Processes.{choice_count}

@@ -13,5 +13,5 @@ pub loop-bit-preserved : goal.loop-bit-preserved
 loop-bit-preserved c =
     let rail : c.args.first + 5 * c.from.result ≡ c.args.first + 5 * c.loop-bit.bit = ap (λ n. c.args.first + 5 * n) c.from.ensures in
     reading_step c.args.request c.args.first c.args.high c.loop-bit.bit _ _ _ _ c.loop-bit-test.true c.loop-bit.invariant
-    (c.in_ok-push.ensures.items ∙ ap (λ g. c.loop-bit.drivers.items ++ g ∷ []) (c.in_ok-read_rail.ensures ∙ ap (read_rail c.args.request) rail))
-    (c.in_ok-push-2.ensures.items ∙ ap (λ g. c.push.new.self.items ++ g ∷ []) (c.in_ok-read_rail-2.ensures ∙ ap (λ n. read_rail c.args.request (n + 1)) rail))
+    (c.in_ok-push.ensures.items ∙ ap (λ g. c.loop-bit.drivers.items ++ g ∷ []) (c.read.ensures ∙ ap (read_rail c.args.request) rail))
+    (c.in_ok-push-2.ensures.items ∙ ap (λ g. c.push.new.self.items ++ g ∷ []) (c.read-in-loop-bit.ensures ∙ ap (λ n. read_rail c.args.request (n + 1)) rail))

@@ -8,7 +8,7 @@ use Rattle.net_stream.specs.Circuits.{with_ends}
 use Rattle.net_stream.specs.Drivers.{truth_named}
 use Rattle.net_stream.specs.Led.{IsPut, on_row, row_at}
 use Rattle.net_stream.proofs.Puts.{no_terms}
-use Rattle.net_stream.proofs.RowsPut.{row_holds, row_fails, has_value, has_another, other_value, minterm_below}
+use Rattle.net_stream.proofs.RowsPut.{row_holds, row_fails, has_value, has_another, minterm_below}
 use Rattle.net_stream.proofs.guard.pair_text.Goals as goal
 
 -- the term is that of the row
@@ -38,5 +38,5 @@ returns-else-value-one-clause-put c =
     let f = rows_of c.args.one (truth_named c.args.function) in
     let row = row_at 2 c.args.number in
     let e = row_fails inputs f row (has_another c.args.one c.value.result (truth_named c.args.function) row c.value.ensures
-    (other_value c.args.one c.value.result c.if-value-one.false)) in
+    c.if-value-one.false) in
     subst (λ g. IsPut c.args.net.now c.args.lead c.args.lead (with_ends c.args.ending g) _ _ _ _) (sym e) (no_terms c.args.net.now c.args.lead _ _)

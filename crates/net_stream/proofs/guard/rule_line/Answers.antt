@@ -13,7 +13,7 @@ returns-then-has_begun-clause-ok c =
     let net = c.args.net.now in
     let g = if c.args.up then up_of net c.args.node else down_of net c.args.node in
     let put = subst (λ g. IsPut net Rule c.in_ok-lead.lead g c.args.to.now.items c.guard_text.new.to.items (vec_len c.args.to.now)
-    (vec_len c.guard_text.new.to)) (sym c.rule.ensures.rule) c.in_ok-lead.ensures.put in
+    (vec_len c.guard_text.new.to)) (sym c.rule-ending.ensures.rule) c.in_ok-lead.ensures.put in
     let filled = filled_at net c.args.node c.args.up c.first-net.ensures.net c.requires.node in
     on_ok_weaker c.rule_end.result (λ e. line_is net c.in_ok-lead.lead g c.args.node c.args.up _ _ _ _ _ filled put
     (sym c.has_begun.ensures ∙ c.if-has_begun.true)
@@ -24,5 +24,5 @@ returns-clause-ok c =
     let net = c.args.net.now in
     let g = if c.args.up then up_of net c.args.node else down_of net c.args.node in
     let put = subst (λ g. IsPut net Rule c.in_ok-lead.lead g c.args.to.now.items c.guard_text.new.to.items (vec_len c.args.to.now)
-    (vec_len c.guard_text.new.to)) (sym c.rule.ensures.rule) c.in_ok-lead.ensures.put in
+    (vec_len c.guard_text.new.to)) (sym c.rule-ending.ensures.rule) c.in_ok-lead.ensures.put in
     no_line net c.in_ok-lead.lead g c.args.node c.args.up _ _ _ _ put (sym c.has_begun.ensures ∙ c.if-has_begun.false)

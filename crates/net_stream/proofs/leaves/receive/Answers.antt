@@ -1,4 +1,4 @@
-use Rattle.std.proofs.Common.{◌∷◌, [], ◌+◌, ◌++◌, ap, append_assoc, ◌∙◌}
+use Rattle.std.proofs.Common.{◌∷◌, [], ◌+◌, ◌++◌, ap, append_assoc, ◌∙◌, arith}
 use Rattle.std.specs.Prelude.{slice_index_or}
 use Rattle.prs_core.specs.Pairs.{pairs_from}
 use Rattle.prs_core.specs.Sites.{site_answer}
@@ -9,10 +9,18 @@ use Rattle.cell_channel.specs.Ends.{end_answer, port_rules}
 use Rattle.cell_variable.specs.Variables.{write_answer}
 use Rattle.function_blocks.proofs.Emission.{pairs_apart}
 use Rattle.net_compose.specs.Translation.{ack_at, rails_at, written_at}
-use Rattle.net_compose.proofs.DeclaredRules.{channel_start}
+use Rattle.net_compose.proofs.DeclaredRules.{channel_start, wires_before_body}
 use Rattle.net_stream.specs.Contacts.{takes, writes}
 use Rattle.net_stream.proofs.BodyDriven.{two_on}
 use Rattle.net_stream.proofs.leaves.receive.Goals as goal
+
+pub port-requires : goal.port-requires
+port-requires c =
+    let p = program_of c.args.program.now in
+    let first = c.first_of-first.ensures ∙ (ap (λ xs. slice_index_or xs c.args.chan 0) c.deref-3.ensures.value
+    ∙ channel_start p c.args.firsts.now.channels.items c.args.chan 0 c.requires.channels c.requires.process.within) in
+    let before = wires_before_body p c.args.chan c.requires.process.within in
+    omega (arith, first, before, c.channel_bits-width.ensures, c.requires.root, c.requires.room)
 
 pub returns-clause-made : goal.returns-clause-made
 returns-clause-made c =

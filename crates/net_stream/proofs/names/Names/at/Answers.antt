@@ -73,6 +73,7 @@ returns c =
     let from = c.start_of-from.result in
     let begins : from ≡ start_of 0 ends place = c.start_of-from.ensures ∙ ap (λ (l : List ℕ). start_of 0 l place) c.deref.ensures.value in
     let end : c.index-end.result.now ≡ get_or ends place 0 = get_or_read ends place c.index-end.result.now within c.index-end.ensures 0 in
-    ap (λ n. take (n - from) (drop from bytes)) end
+    ap (λ l. take (c.index-end.result.now - from) (drop from l)) c.deref-2.ensures.value
+    ∙ (ap (λ n. take (n - from) (drop from bytes)) end
     ∙ (ap (λ n. take (get_or ends place 0 - n) (drop n bytes)) begins
-    ∙ (sym (cut_at bytes 0 ends place 0 within) ∙ ap (λ (l : List (List ℕ)). slice_index_or l place []) c.self.view_is))
+    ∙ (sym (cut_at bytes 0 ends place 0 within) ∙ ap (λ (l : List (List ℕ)). slice_index_or l place []) c.self.view_is)))
