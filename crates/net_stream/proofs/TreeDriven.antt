@@ -1,6 +1,6 @@
 -- A level of a completion tree, two nodes at a time.
-use Rattle.std.proofs.Common.{◌≡◌, ◌∙◌, ℕ, zero, suc, ◌+◌, ◌<◌, ◌≤◌, List, [], ◌∷◌, ◌++◌, length, get_or, drop, refl, sym, ap, append_assoc, arith}
-use Rattle.std.proofs.lemmas.List.{drop_more, append-nil}
+use Rattle.std.proofs.Common.{◌≡◌, ◌∙◌, ℕ, zero, suc, ◌+◌, ◌-◌, ◌<◌, ◌≤◌, List, [], ◌∷◌, ◌++◌, length, get_or, take, drop, refl, sym, ap, append_assoc, length-drop, arith}
+use Rattle.std.proofs.lemmas.List.{drop_more, take_all, append-nil}
 use Rattle.prs_core.specs.Nets.{NodeRules}
 use Rattle.handshake_expand.proofs.Branches.{sites_more}
 use Rattle.cell_parallel.specs.Trees.{c_element, level_rules, next_level}
@@ -44,6 +44,9 @@ few_left (n ∷ ns) (suc i) l = few_left ns i (omega (arith, l))
 pub level_over : (ns : List ℕ) (i : ℕ) (now whole : List NodeRules) → length ns ≤ i + 1 → now ++ level_rules (drop i ns) ≡ whole → now ≡ whole
 level_over ns i now whole l so_far = sym (append-nil now) ∙ (ap (λ xs. now ++ xs) (sym (last_rules (drop i ns) (few_left ns i l))) ∙ so_far)
 
-pub above_over : (ns : List ℕ) (i node : ℕ) (now new whole : List ℕ) → length ns ≤ i + 1 → new ≡ now ++ drop i ns
-    → now ++ next_level (drop i ns) node ≡ whole → new ≡ whole
-above_over ns i node now new whole l made so_far = made ∙ (ap (λ xs. now ++ xs) (sym (last_above (drop i ns) node (few_left ns i l))) ∙ so_far)
+pub above_over : (ns : List ℕ) (i node : ℕ) (now new whole : List ℕ) → length ns ≤ i + 1 → i ≤ length ns
+    → new ≡ now ++ take (length ns - i) (drop i ns) → now ++ next_level (drop i ns) node ≡ whole → new ≡ whole
+above_over ns i node now new whole l within made so_far =
+    let count : length (drop i ns) ≡ length ns - i = length-drop i ns in
+    made ∙ (ap (λ xs. now ++ xs) (take_all (length ns - i) (drop i ns) (omega (arith, count)))
+    ∙ (ap (λ xs. now ++ xs) (sym (last_above (drop i ns) node (few_left ns i l))) ∙ so_far))

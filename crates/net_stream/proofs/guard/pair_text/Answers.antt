@@ -30,7 +30,7 @@ returns-then-value-one-clause-room c =
     let f = rows_of c.args.one (truth_named c.args.function) in
     let row = row_at 2 c.args.number in
     let e = row_holds inputs f row (has_value c.args.one c.value.result (truth_named c.args.function) row c.value.ensures c.if-value-one.true) in
-    rw e (rw (c.rail.ensures, c.rail-then-value-one.ensures) at c.term_text.ensures.room)
+    rw e c.term_text.ensures.room
 
 pub returns-else-value-one-clause-put : goal.returns-else-value-one-clause-put
 returns-else-value-one-clause-put c =
@@ -39,4 +39,5 @@ returns-else-value-one-clause-put c =
     let row = row_at 2 c.args.number in
     let e = row_fails inputs f row (has_another c.args.one c.value.result (truth_named c.args.function) row c.value.ensures
     c.if-value-one.false) in
-    subst (λ g. IsPut c.args.net.now c.args.lead c.args.lead (with_ends c.args.ending g) _ _ _ _) (sym e) (no_terms c.args.net.now c.args.lead _ _)
+    subst (λ g. IsPut c.args.net.now c.args.lead c.args.lead (with_ends c.args.ending g) c.args.to.now.items c.args.to.now.items
+    (vec_len c.args.to.now) (vec_len c.args.to.now)) (sym e) (no_terms c.args.net.now c.args.lead _ _)

@@ -31,4 +31,4 @@ returns-clause-made c =
 pub returns-clause-above : goal.returns-clause-above
 returns-clause-above c =
     above_over c.args.nodes.now c.loop-place.place c.loop-place.node c.loop-place.above.items _ _ (omega (arith, c.loop-place-test.false))
-    c.in_ok-extend_from_slice.ensures.items c.loop-place.invariant.above
+    c.loop-place.invariant.within c.in_ok-extend_from_slice.ensures.items c.loop-place.invariant.above
