@@ -12,8 +12,8 @@ use Rattle.net_compose.proofs.NamesFree.{names_free}
 use Rattle.net_stream.proofs.CircuitNets.{circuit_is, circuit_holds}
 use Rattle.net_stream.proofs.circuit.circuit_of.Goals as goal
 
-pub drivers_of-drivers-requires-clause-own : goal.drivers_of-drivers-requires-clause-own
-drivers_of-drivers-requires-clause-own c = sym (ap (λ (l : List Bool). length l) c.deref_mut.ensures.value ∙ c.in_ok-first.ensures.count)
+pub drivers_of-requires-clause-own : goal.drivers_of-requires-clause-own
+drivers_of-requires-clause-own c = sym (ap (λ (l : List Bool). length l) c.deref_mut.ensures.value ∙ c.in_ok-first.ensures.count)
 
 pub invariant_of-result : goal.invariant_of-result
 invariant_of-result c =
