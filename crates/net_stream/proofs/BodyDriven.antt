@@ -1,5 +1,5 @@
 -- The drivers of statements, one behind the other.
-use Rattle.std.proofs.Common.{◌≡◌, ◌∙◌, ℕ, ◌+◌, Bool, true, false, List, ◌++◌, refl, sym, ap, append_assoc}
+use Rattle.std.proofs.Common.{◌≡◌, ◌∙◌, ℕ, ◌+◌, Bool, true, false, List, ◌++◌, refl, ap, append_assoc}
 use Rattle.prs_core.specs.Nets.{NodeRules}
 use Rattle.width_check.specs.Processes.{choosing, Choices, choice_count, TypedProgram}
 use Rattle.handshake_expand.specs.Answers.{guards_from, bodies_from, select_own, again_own}

@@ -1,12 +1,12 @@
 -- The drivers of a selection's own nodes and of a guarded repetition's, one behind the other.
-use Rattle.std.proofs.Common.{◌≡◌, ◌∙◌, ℕ, suc, ◌+◌, List, [], ◌∷◌, ◌++◌, refl, sym, ap, append_assoc, arith}
+use Rattle.std.proofs.Common.{◌≡◌, ◌∙◌, ℕ, ◌+◌, List, [], ◌∷◌, ◌++◌, sym, ap, append_assoc}
 use Rattle.std.specs.List.{range_with_len}
 use Rattle.prs_core.specs.Nets.{NodeRules, is_low, one_term}
 use Rattle.prs_core.specs.Pairs.{Pair, or_of, rails_of}
 use Rattle.width_check.specs.Processes.{Choices, choice_count, TypedProgram}
 use Rattle.handshake_expand.specs.Answers.{guards_from, bodies_from, select_own, again_own}
 use Rattle.cell_sequence.specs.Sequence.{q_child}
-use Rattle.cell_select.specs.Selections.{joined_answer, evaluation, turn_request, latches, starts, leave_latch, leave_answer, select_rules, again_rules}
+use Rattle.cell_select.specs.Selections.{joined_answer, turn_request, latches, starts, select_rules, again_rules}
 use Rattle.net_compose.specs.Translation.{branch_answers, guard_pairs, guards_rules, choosing_at, repeating_at}
 use Rattle.net_stream.specs.Drivers.{wanted_latch, let_go}
 use Rattle.net_stream.specs.Wanted.{all_unwanted}

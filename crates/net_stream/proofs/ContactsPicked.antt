@@ -1,5 +1,5 @@
 -- What is picked of all contacts is what the statements contribute of that kind.
-use Rattle.std.proofs.Common.{◌≡◌, ◌∙◌, ℕ, ◌+◌, ◌==◌, Bool, true, false, List, [], ◌∷◌, ◌++◌, map, refl, ap}
+use Rattle.std.proofs.Common.{◌≡◌, ◌∙◌, ℕ, ◌==◌, Bool, true, false, List, [], ◌∷◌, ◌++◌, map, refl, ap}
 use Rattle.std.specs.Prelude.{if◌then◌else◌}
 use Rattle.std.specs.List.{flat_map}
 use Rattle.std.proofs.lemmas.Bool.{eqb-true}
@@ -7,7 +7,7 @@ use Rattle.std.proofs.lemmas.List.{map-id}
 use Rattle.prs_core.specs.Pairs.{Pair}
 use Rattle.width_check.specs.Processes.{Formula, Process, skipping, assigning, sending, receiving, in_turn, side_by_side, choosing, repeating, TypedProgram}
 use Rattle.handshake_expand.specs.Layout.{body_from}
-use Rattle.handshake_expand.specs.Sites.{in_body, sites_in}
+use Rattle.handshake_expand.specs.Sites.{in_body}
 use Rattle.net_compose.specs.Translation.{send_site, receive_site, write_site, assigned_rails}
 use Rattle.net_compose.proofs.SitesPicked.{picked}
 use Rattle.net_stream.specs.Contacts.{every_contact, sent_by, taken_by, written_by}

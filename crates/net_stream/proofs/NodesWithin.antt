@@ -1,8 +1,8 @@
 -- The guards of a typed program's net are over its own nodes alone.
-use Rattle.std.proofs.Common.{◌≡◌, ℕ, zero, suc, ◌+◌, ◌-◌, ◌*◌, ◌/◌, ◌<◌, ◌≤◌, Bool, true, false, ◌^◌, List, [], ◌∷◌, ◌++◌, length, map, All, refl, sym, ap, subst, ◌∙◌, arith}
+use Rattle.std.proofs.Common.{◌≡◌, ℕ, zero, suc, ◌+◌, ◌*◌, ◌/◌, ◌<◌, ◌≤◌, Bool, true, false, ◌^◌, List, [], ◌∷◌, ◌++◌, length, map, All, refl, sym, ap, subst, ◌∙◌, arith}
 use Rattle.std.specs.Prelude.{if◌then◌else◌, replicate}
-use Rattle.std.specs.List.{flat_map, range_with_len}
-use Rattle.std.proofs.lemmas.List.Elements.{All-nil, All-cons, All-head, All-tail, All-append, All-weaker, All-map, All-replicate, All-push}
+use Rattle.std.specs.List.{range_with_len}
+use Rattle.std.proofs.lemmas.List.Elements.{All-nil, All-cons, All-head, All-tail, All-append, All-weaker, All-map, All-replicate}
 use Rattle.chp_base.specs.declared.channel.Channel.{Channel}
 use Rattle.chp_base.specs.declared.channel.Kind.{Kind}
 use Rattle.chp_base.specs.declared.channel.Kind.TheVariants.{In, Out, Chan}
@@ -10,14 +10,13 @@ use Rattle.prs_core.specs.declared.rule.Literal.{Literal}
 use Rattle.prs_core.specs.Nets.{NodeRules, IsBelow, IsRules, is_high, is_low}
 use Rattle.prs_core.specs.Pairs.{Pair, pair_at, pair_of, pairs_from, no_rules, or_of, lows, rails_of, merged_true, merged_false}
 use Rattle.width_check.specs.declared.typed.Var.{Var}
-use Rattle.width_check.specs.Processes.{Formula, Process, skipping, assigning, sending, receiving, in_turn, side_by_side, choosing, repeating, Processes, no_members, and_member, member_count, Choices, no_choices, and_choice, choice_count, TypedProgram}
+use Rattle.width_check.specs.Processes.{Formula, Process, skipping, assigning, sending, receiving, in_turn, side_by_side, choosing, repeating, Processes, no_members, and_member, Choices, no_choices, and_choice, choice_count, TypedProgram}
 use Rattle.width_check.specs.Values.{IsWellFormed}
 use Rattle.width_check.specs.Typing.{channel_width, var_width, ReadsFrom, IsProcess, AreProcesses, AreChoices, IsDeclaredVar, IsTyped}
 use Rattle.width_check.specs.Reads.{reads}
 use Rattle.handshake_expand.specs.Layout.{formula_size, block_size, through_size, size_of, guards_size, bodies_size, branches_size, turn_size, blocks_before, var_from, root_request, root_latch, body_from, nodes_of, go_node}
 use Rattle.handshake_expand.specs.Answers.{answer_of, guards_from, bodies_from, select_own, again_own}
 use Rattle.handshake_expand.specs.Sites.{in_body}
-use Rattle.handshake_expand.proofs.Branches.{choosing_size}
 use Rattle.handshake_expand.proofs.Ranges.{answer_within}
 use Rattle.cell_sequence.specs.Sequence.{q_child, q_latch, q_next, skip_answer, loop_request}
 use Rattle.cell_parallel.specs.Trees.{c_element, level_rules, next_level, levels_rules, tree_rules}
@@ -25,14 +24,13 @@ use Rattle.cell_parallel.specs.Sizes.{next_length}
 use Rattle.cell_variable.specs.Variables.{Bit, bit_at, bits_from, kept_rail, bit_written, bits_rules, written_leaves, variable_rules, all_written, write_answer}
 use Rattle.cell_channel.specs.Ends.{taken_rail, port_rules}
 use Rattle.cell_select.specs.Selections.{Choosing, Repeating, all_false, only_one_true, latches, started, starts, joined_answer, evaluation, turn_request, leave_latch, leave_answer, select_rules, again_rules}
-use Rattle.function_blocks.specs.Blocks.{AreBelow, bits_in_blocks}
+use Rattle.function_blocks.specs.Blocks.{AreBelow}
 use Rattle.function_blocks.specs.Expressions.{read_rail, read_bits, formula_result, formula_rules}
 use Rattle.function_blocks.proofs.Callers.{rules_in_blocks}
 use Rattle.function_blocks.proofs.Within.{rules_within}
 use Rattle.net_compose.specs.Begins.{var_firsts}
 use Rattle.net_compose.specs.Translation.{rails_at, bits_at, block_bits, ack_at, written_at, q_rules, through_at, through_rules, guard_pairs, branch_answers, guards_rules, choosing_at, repeating_at, branch_ends, branches_end, rules_of, turn_rules, branches_rules, bodies_rules, send_site, receive_site, write_site, rail_rules, channel_rules, channels_rules, vars_rules, body_answer, all_rules, composed}
 use Rattle.net_compose.specs.EverySite.{every_site}
-use Rattle.net_compose.specs.SortedSites.{sent_on, taken_on, written_to}
 use Rattle.net_compose.proofs.EndsReady.{all_written_is, var_some}
 use Rattle.net_compose.proofs.FlatBlocks.{blocks_below}
 use Rattle.net_compose.proofs.FlatWires.{wires_below}

@@ -4,7 +4,7 @@ use mathlib.Core.Bool.{beq}
 use Rattle.std.specs.Prelude.{filter, not, if◌then◌else◌}
 use Rattle.std.proofs.lemmas.List.Elements.{All-nil, All-cons, All-head, All-tail}
 use Rattle.prs_core.specs.declared.rule.Literal.{Literal}
-use Rattle.prs_core.specs.Nets.{GuardValue, IsBelow, is_high}
+use Rattle.prs_core.specs.Nets.{IsBelow, is_high}
 use Rattle.prs_core.specs.Pairs.{Pair, rails_of}
 use Rattle.function_blocks.specs.Gates.{minterm, table}
 use Rattle.function_blocks.specs.Waves.{rows_of}

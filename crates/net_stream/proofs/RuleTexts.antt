@@ -1,5 +1,5 @@
 -- The text of a rule's terms, behind their leads, is that of its guard.
-use Rattle.std.proofs.Common.{◌≡◌, ◌∙◌, ℕ, ◌<◌, Bool, true, false, List, [], ◌∷◌, ◌++◌, length, All, refl, sym, ap, arith}
+use Rattle.std.proofs.Common.{◌≡◌, ◌∙◌, ℕ, ◌<◌, Bool, true, false, List, [], ◌∷◌, ◌++◌, length, refl, ap, arith}
 use Rattle.std.specs.Prelude.{if◌then◌else◌}
 use Rattle.std.proofs.lemmas.List.Elements.{All-head, All-tail}
 use Rattle.prs_core.specs.declared.rule.Literal.{Literal}
@@ -9,7 +9,7 @@ use Rattle.prs_file.specs.declared.forms.Lead.TheVariants.{Rule, And, Or}
 use Rattle.prs_file.specs.Spelling.{lead_spelling, term_spelling, literal_behind, end_spelling, rule_spelling}
 use Rattle.prs_file.proofs.Rules.{term_is, guard_is, rule_is}
 use Rattle.prs_file.proofs.Rules as rules_of_file
-use Rattle.net_stream.specs.Led.{literals_behind, terms_behind, lead_behind, has_begun, IsPut}
+use Rattle.net_stream.specs.Led.{literals_behind, terms_behind, has_begun, IsPut}
 
 literals_same : (net : NetValue) (lead : Lead) (ls : List Literal) → literals_behind net lead ls ≡ rules_of_file.literals_behind net lead ls
 literals_same net lead [] = refl

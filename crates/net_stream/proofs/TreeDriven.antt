@@ -2,7 +2,6 @@
 use Rattle.std.proofs.Common.{◌≡◌, ◌∙◌, ℕ, zero, suc, ◌+◌, ◌-◌, ◌<◌, ◌≤◌, List, [], ◌∷◌, ◌++◌, length, get_or, take, drop, refl, sym, ap, append_assoc, length-drop, arith}
 use Rattle.std.proofs.lemmas.List.{drop_more, take_all, append-nil}
 use Rattle.prs_core.specs.Nets.{NodeRules}
-use Rattle.handshake_expand.proofs.Branches.{sites_more}
 use Rattle.cell_parallel.specs.Trees.{c_element, level_rules, next_level}
 
 pub two_left : (ns : List ℕ) (i : ℕ) → i + 1 < length ns → drop i ns ≡ get_or ns i 0 ∷ get_or ns (i + 1) 0 ∷ drop (i + 2) ns

@@ -1,8 +1,7 @@
 -- What drives a node, told by the nodes that it reads: the two guards that each kind of driver stands for.
-use Rattle.std.specs.Prelude.{ℕ, zero, suc, Bool, List, [], ◌∷◌, ◌++◌, map, Option}
-use Rattle.prs_core.specs.declared.rule.Literal.{Literal}
+use Rattle.std.specs.Prelude.{ℕ, Bool, List, [], ◌∷◌, map}
 use Rattle.prs_core.specs.Nets.{NodeRules, is_high, is_low, one_term}
-use Rattle.prs_core.specs.Pairs.{Pair, no_rules, lows, or_of}
+use Rattle.prs_core.specs.Pairs.{no_rules, lows, or_of}
 use Rattle.prs_core.specs.Sites.{site_answer}
 use Rattle.cell_sequence.specs.Sequence.{q_child, q_latch, q_next, skip_answer}
 use Rattle.cell_parallel.specs.Trees.{c_element}

@@ -1,5 +1,5 @@
 -- A buffer that has room for each line of a rule file.
-use Rattle.std.specs.Prelude.{◌≡◌, ℕ, ◌+◌, ◌*◌, ◌≤◌, List, length, All}
+use Rattle.std.specs.Prelude.{ℕ, ◌+◌, ◌*◌, ◌≤◌, length, All}
 use Rattle.prs_core.specs.Nets.{GuardValue, NodeRules, NetValue, guard_literals}
 
 -- no guard of the node has more literals than so many, or more terms

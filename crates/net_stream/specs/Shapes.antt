@@ -1,8 +1,7 @@
 -- The forms of guards, and those of the guards of each kind of driver.
-use Rattle.std.specs.Prelude.{ℕ, ◌<◌, Bool, List, [], ◌∷◌, map, Option, All, if◌then◌else◌}
-use Rattle.prs_core.specs.declared.rule.Literal.{Literal}
-use Rattle.prs_core.specs.Nets.{GuardValue, IsBelow, is_high, is_low, one_term}
-use Rattle.prs_core.specs.Pairs.{Pair, lows, rails_of}
+use Rattle.std.specs.Prelude.{ℕ, ◌<◌, Bool, List, [], ◌∷◌, map, All, if◌then◌else◌}
+use Rattle.prs_core.specs.Nets.{GuardValue, IsBelow, is_high, is_low}
+use Rattle.prs_core.specs.Pairs.{lows, rails_of}
 use Rattle.function_blocks.specs.Functions.{carried_on}
 use Rattle.function_blocks.specs.Gates.{gate_rail}
 use Rattle.function_blocks.specs.Waves.{rows_of}

@@ -1,4 +1,4 @@
-use Rattle.std.proofs.Common.{◌≡◌, ◌+◌, ◌-◌, ◌<◌, ◌≤◌, List, ℕ, [], ◌∷◌, ◌++◌, length, get_or, drop, All, refl, sym, ap, ◌∙◌, subst, rules, arith}
+use Rattle.std.proofs.Common.{◌≡◌, ◌+◌, ◌-◌, ◌<◌, ◌≤◌, List, ℕ, [], ◌∷◌, ◌++◌, length, get_or, drop, refl, sym, ap, ◌∙◌, subst, rules, arith}
 use Rattle.std.proofs.lemmas.List.{get_or_read, append-nil}
 use Rattle.width_check.specs.declared.typed.TStmt.{TStmt, the_lemmas}
 use Rattle.width_check.specs.Processes.{skipping, assigning, sending, receiving, in_turn, side_by_side, choosing, repeating, choice_count, TypedProgram}

@@ -1,9 +1,9 @@
 use Rattle.width_check.specs.View.{members_in, choices_in}
-use Rattle.std.proofs.Common.{◌≡◌, ◌+◌, ◌-◌, ◌<◌, ◌≤◌, ◌++◌, length, drop}
+use Rattle.std.proofs.Common.{◌≡◌, ◌+◌, ◌-◌, ◌≤◌, ◌++◌, length, drop}
 use Rattle.width_check.specs.Processes.{choosing}
 use Rattle.width_check.specs.Typed.{program_of}
 use Rattle.width_check.specs.Typing.{AreProcesses, AreChoices}
-use Rattle.handshake_expand.specs.Layout.{size_of, turn_size, branches_size, bodies_size, root_request}
+use Rattle.handshake_expand.specs.Layout.{size_of, turn_size, branches_size, bodies_size}
 use Rattle.handshake_expand.specs.Answers.{bodies_from}
 use Rattle.handshake_expand.specs.PartTree.{own_before}
 use Rattle.net_stream.specs.Contacts.{every_contact}

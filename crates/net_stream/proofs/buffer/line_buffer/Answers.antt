@@ -1,4 +1,4 @@
-use Rattle.std.proofs.Common.{All, ap, sym, subst, ◌∙◌, vec_capacity, arith}
+use Rattle.std.proofs.Common.{All, subst, vec_capacity, arith}
 use Rattle.std.proofs.lemmas.Result.{IfOk-weaker}
 use Rattle.net_stream.specs.Rooms.{HasRoom, IsFew}
 use Rattle.net_stream.proofs.FewLiterals.{has_room}

@@ -1,4 +1,4 @@
-use Rattle.std.proofs.Common.{◌+◌, List, ℕ, length, ap, sym, ◌∙◌, subst}
+use Rattle.std.proofs.Common.{◌+◌, List, ℕ, length, ap, sym, subst}
 use Rattle.net_stream.specs.Drivers.{driven}
 use Rattle.net_stream.specs.Rooms.{IsFew}
 use Rattle.net_stream.proofs.FewLiterals.{few_is}

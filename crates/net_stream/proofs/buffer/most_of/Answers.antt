@@ -1,4 +1,4 @@
-use Rattle.std.proofs.Common.{All, take, subst, sym, arith}
+use Rattle.std.proofs.Common.{All, take, subst}
 use Rattle.std.proofs.lemmas.List.{take_all}
 use Rattle.std.proofs.lemmas.List.Elements.{All-nil, All-more, All-weaker}
 use Rattle.net_stream.specs.Rooms.{IsFew}

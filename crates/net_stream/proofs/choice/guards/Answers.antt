@@ -1,4 +1,4 @@
-use Rattle.std.proofs.Common.{◌≡◌, ◌+◌, ◌∷◌, ◌++◌, drop, refl, sym, ap, ◌∙◌, arith}
+use Rattle.std.proofs.Common.{◌≡◌, ◌+◌, ◌++◌, drop, refl, sym, ap, ◌∙◌, arith}
 use Rattle.width_check.specs.Typed.{program_of}
 use Rattle.width_check.specs.View.{formula_of, choices_in}
 use Rattle.handshake_expand.specs.Layout.{formula_size}

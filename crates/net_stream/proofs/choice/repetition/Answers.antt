@@ -1,6 +1,6 @@
 use Rattle.std.proofs.Common.{◌≡◌, ◌∙◌, ◌+◌, ◌*◌, ℕ, suc, true, [], ◌∷◌, ◌++◌, length, refl, ap, sym, arith}
 use Rattle.std.specs.List.{range_with_len}
-use Rattle.prs_core.specs.Pairs.{Pair, or_of, rails_of}
+use Rattle.prs_core.specs.Pairs.{rails_of}
 use Rattle.width_check.specs.Processes.{choice_count}
 use Rattle.width_check.specs.Typed.{program_of}
 use Rattle.width_check.specs.View.{choices_in}

@@ -1,6 +1,5 @@
-use Rattle.std.proofs.Common.{◌≡◌, ◌∙◌, ◌+◌, ◌*◌, ℕ, false, [], ◌∷◌, ◌++◌, length, ap, sym, arith}
+use Rattle.std.proofs.Common.{◌≡◌, ◌∙◌, ◌+◌, ◌*◌, false, [], ◌∷◌, ◌++◌, length, ap, sym, arith}
 use Rattle.std.specs.List.{range_with_len}
-use Rattle.prs_core.specs.Pairs.{Pair, or_of}
 use Rattle.width_check.specs.Processes.{choice_count}
 use Rattle.width_check.specs.Typed.{program_of}
 use Rattle.width_check.specs.View.{choices_in}

@@ -1,11 +1,11 @@
-use Rattle.std.proofs.Common.{◌≡◌, ◌∙◌, [], ◌∷◌, ◌++◌, Bool, List, length, ap, sym, arith}
+use Rattle.std.proofs.Common.{◌∙◌, [], ◌∷◌, ◌++◌, Bool, List, length, ap, sym, arith}
 use Rattle.std.specs.Prelude.{if◌then◌else◌}
 use Rattle.std.proofs.lemmas.List.{length-map}
 use Rattle.prs_core.specs.Nets.{NodeRules}
 use Rattle.prs_core.specs.Pairs.{no_rules}
 use Rattle.width_check.specs.Typed.{program_of}
 use Rattle.handshake_expand.specs.Sites.{in_body}
-use Rattle.net_compose.specs.Translation.{all_rules, first_values, hidden_high}
+use Rattle.net_compose.specs.Translation.{all_rules, hidden_high}
 use Rattle.net_compose.proofs.Raised.{with_raised}
 use Rattle.net_compose.proofs.Composed.{all_values, written_over}
 use Rattle.net_compose.proofs.NamesFree.{names_free}

@@ -1,9 +1,7 @@
-use Rattle.std.proofs.Common.{◌≡◌, ◌∙◌, ◌-◌, [], ◌∷◌, ◌++◌, ap, sym, subst, arith}
-use Rattle.prs_core.specs.Pairs.{no_rules}
+use Rattle.std.proofs.Common.{◌≡◌, ◌∙◌, ◌-◌, [], ◌∷◌, ◌++◌, ap, arith}
 use Rattle.width_check.specs.Typed.{program_of}
-use Rattle.width_check.specs.Typing.{IsProcess}
 use Rattle.width_check.specs.View.{process_of}
-use Rattle.handshake_expand.specs.Layout.{size_of, root_latch, body_from}
+use Rattle.handshake_expand.specs.Layout.{size_of, body_from}
 use Rattle.net_compose.specs.Translation.{body_answer}
 use Rattle.net_compose.proofs.Composed.{root_answer}
 use Rattle.net_stream.proofs.AllDriven.{all_driven}

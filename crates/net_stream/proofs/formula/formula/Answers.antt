@@ -1,4 +1,4 @@
-use Rattle.std.proofs.Common.{◌≡◌, ◌+◌, ◌^◌, ◌<◌, ◌++◌, length, ap, sym, ◌∙◌, arith}
+use Rattle.std.proofs.Common.{◌≡◌, ◌^◌, ◌++◌, ap, ◌∙◌, arith}
 use Rattle.width_check.specs.Typed.{program_of}
 use Rattle.width_check.specs.View.{formula_of}
 use Rattle.handshake_expand.specs.Layout.{root_request}

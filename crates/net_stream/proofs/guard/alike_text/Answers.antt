@@ -1,4 +1,4 @@
-use Rattle.std.proofs.Common.{◌<◌, [], ◌∷◌, length, subst, sym}
+use Rattle.std.proofs.Common.{[], ◌∷◌, length, subst, sym}
 use Rattle.prs_core.specs.Pairs.{Pair}
 use Rattle.prs_core.specs.Nets.{IsBelow, is_high}
 use Rattle.net_stream.proofs.guard.alike_text.Goals as goal

@@ -1,5 +1,5 @@
 use Rattle.net_stream.proofs.ShapesDriven.{one_near}
-use Rattle.std.proofs.Common.{◌≡◌, length, ◌+◌, ◌∷◌, [], ◌++◌, ℕ, List, get_or, drop, map, ap, refl, arith}
+use Rattle.std.proofs.Common.{length, ◌+◌, ◌∷◌, [], ℕ, List, get_or, drop, map, ap, refl, arith}
 use Rattle.std.proofs.lemmas.Result.{err_from_is_err_and}
 use Rattle.std.proofs.lemmas.List.{drop_more, drop_all}
 use Rattle.prs_core.specs.Nets.{GuardValue, is_high}

@@ -1,9 +1,9 @@
-use Rattle.std.proofs.Common.{[], ◌∷◌, sym, subst, arith, vec_len}
-use Rattle.prs_core.specs.Nets.{is_high, guard_literals}
+use Rattle.std.proofs.Common.{[], ◌∷◌, sym, subst, vec_len}
+use Rattle.prs_core.specs.Nets.{is_high}
 use Rattle.prs_file.specs.declared.forms.Lead.TheVariants.{And, Or}
 use Rattle.net_stream.specs.Circuits.{guard_end}
 use Rattle.net_stream.specs.Led.{IsPut}
-use Rattle.net_stream.proofs.Puts.{no_terms, one_put, one_count}
+use Rattle.net_stream.proofs.Puts.{no_terms, one_put}
 use Rattle.net_stream.proofs.guard.guard_end_text.Goals as goal
 
 pub returns-in-Plain-clause-put : goal.returns-in-Plain-clause-put

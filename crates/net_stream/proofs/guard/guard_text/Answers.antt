@@ -1,11 +1,10 @@
-use Rattle.std.proofs.Common.{◌≡◌, ◌∙◌, ◌+◌, ◌*◌, ◌<◌, length, ap, sym, subst, arith, vec_len, vec_capacity}
+use Rattle.std.proofs.Common.{◌≡◌, ◌∙◌, ◌+◌, ◌*◌, ◌<◌, length, ap, sym, subst, vec_len, vec_capacity}
 use Rattle.std.proofs.lemmas.Result.{IfOk-weaker, on_err_weaker, err_from_is_err_and}
-use Rattle.prs_core.specs.Nets.{IsBelow, GuardValue, NodeRules, guard_literals}
+use Rattle.prs_core.specs.Nets.{IsBelow, NodeRules, guard_literals}
 use Rattle.prs_file.specs.declared.forms.Lead.TheVariants.{Rule}
-use Rattle.net_stream.specs.Circuits.{with_ends, guard_end, side, ended}
-use Rattle.net_stream.specs.Drivers.{driven}
+use Rattle.net_stream.specs.Circuits.{with_ends, guard_end, side}
 use Rattle.net_stream.specs.Led.{IsPut}
-use Rattle.net_stream.specs.Shapes.{IsNear, shaped, shape_of, listed}
+use Rattle.net_stream.specs.Shapes.{shaped, shape_of}
 use Rattle.net_stream.proofs.Puts.{put_more, room_first, room_second}
 use Rattle.net_stream.proofs.ShapesDriven.{shape_is, shape_near}
 use Rattle.net_stream.proofs.guard.guard_text.Goals as goal

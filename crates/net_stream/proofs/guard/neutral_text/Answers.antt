@@ -1,4 +1,4 @@
-use Rattle.std.proofs.Common.{◌≡◌, ◌∙◌, ◌<◌, false, List, ℕ, [], ◌∷◌, length, ap, subst, sym, vec_len}
+use Rattle.std.proofs.Common.{◌≡◌, ◌∙◌, false, [], ◌∷◌, length, ap, subst, sym, vec_len}
 use Rattle.std.specs.Prelude.{IfOk, Option}
 use Rattle.prs_core.specs.Pairs.{Pair, rails_of}
 use Rattle.prs_core.specs.Nets.{IsBelow}

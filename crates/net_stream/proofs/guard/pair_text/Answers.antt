@@ -1,12 +1,8 @@
-use Rattle.std.proofs.Common.{◌≡◌, ◌∙◌, ◌+◌, ◌*◌, ◌<◌, [], ◌∷◌, ◌++◌, length, ap, sym, subst, arith, vec_len, vec_capacity}
-use Rattle.std.specs.Prelude.{IfOk, OnErr, if◌then◌else◌}
-use Rattle.prs_core.specs.declared.rule.Literal.{Literal}
-use Rattle.prs_core.specs.Nets.{GuardValue, IsBelow, guard_literals, is_high}
-use Rattle.function_blocks.specs.Gates.{minterm}
+use Rattle.std.proofs.Common.{[], ◌∷◌, length, sym, subst, vec_len}
 use Rattle.function_blocks.specs.Waves.{rows_of}
 use Rattle.net_stream.specs.Circuits.{with_ends}
 use Rattle.net_stream.specs.Drivers.{truth_named}
-use Rattle.net_stream.specs.Led.{IsPut, on_row, row_at}
+use Rattle.net_stream.specs.Led.{IsPut, row_at}
 use Rattle.net_stream.proofs.Puts.{no_terms}
 use Rattle.net_stream.proofs.RowsPut.{row_holds, row_fails, has_value, has_another, minterm_below}
 use Rattle.net_stream.proofs.guard.pair_text.Goals as goal

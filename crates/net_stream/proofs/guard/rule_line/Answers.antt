@@ -1,7 +1,7 @@
-use Rattle.std.proofs.Common.{◌≡◌, ◌∙◌, ◌+◌, ◌++◌, ap, sym, subst, arith, vec_len}
+use Rattle.std.proofs.Common.{◌∙◌, ◌++◌, ap, sym, subst, vec_len}
 use Rattle.std.specs.Prelude.{if◌then◌else◌}
-use Rattle.std.proofs.lemmas.Result.{on_ok_weaker, on_err_weaker}
-use Rattle.prs_core.specs.Nets.{NetValue, GuardValue, IsFilled, up_of, down_of}
+use Rattle.std.proofs.lemmas.Result.{on_ok_weaker}
+use Rattle.prs_core.specs.Nets.{up_of, down_of}
 use Rattle.prs_file.specs.Spelling.{end_spelling}
 use Rattle.prs_file.specs.declared.forms.Lead.TheVariants.{Rule}
 use Rattle.net_stream.specs.Led.{IsPut}

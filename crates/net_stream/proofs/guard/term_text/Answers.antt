@@ -1,4 +1,4 @@
-use Rattle.std.proofs.Common.{◌<◌, List, length, [], ◌∷◌, ◌++◌, All, arith}
+use Rattle.std.proofs.Common.{◌<◌, List, length, [], ◌++◌, All, arith}
 use Rattle.std.proofs.lemmas.Result.{err_from_is_err_and}
 use Rattle.std.proofs.lemmas.List.Elements.{All-head}
 use Rattle.prs_core.specs.declared.rule.Literal.{Literal}

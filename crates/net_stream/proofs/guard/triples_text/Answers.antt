@@ -1,4 +1,4 @@
-use Rattle.std.proofs.Common.{◌≡◌, ◌+◌, [], ◌∷◌, ◌++◌, drop, ap, refl, arith}
+use Rattle.std.proofs.Common.{◌+◌, [], ◌∷◌, drop, ap, refl, arith}
 use Rattle.std.proofs.lemmas.Result.{err_from_is_err_and}
 use Rattle.std.proofs.lemmas.List.{drop_all}
 use Rattle.prs_file.specs.declared.forms.Lead.TheVariants.{Rule}

@@ -1,4 +1,4 @@
-use Rattle.std.proofs.Common.{◌<◌, List, length, [], ◌∷◌, ◌++◌, All, arith}
+use Rattle.std.proofs.Common.{◌<◌, List, length, [], ◌∷◌, ◌++◌, All}
 use Rattle.std.proofs.lemmas.List.Elements.{All-nil, All-cons, All-head, All-tail}
 use Rattle.std.proofs.lemmas.Result.{IfOk-weaker, on_err_weaker, err_from_is_err_and}
 use Rattle.prs_core.specs.declared.rule.Literal.{Literal}

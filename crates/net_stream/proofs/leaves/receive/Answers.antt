@@ -4,7 +4,6 @@ use Rattle.prs_core.specs.Pairs.{pairs_from}
 use Rattle.prs_core.specs.Sites.{site_answer}
 use Rattle.width_check.specs.Typed.{program_of}
 use Rattle.width_check.specs.Typing.{channel_width}
-use Rattle.handshake_expand.specs.Layout.{channel_from}
 use Rattle.cell_channel.specs.Ends.{end_answer, port_rules}
 use Rattle.cell_variable.specs.Variables.{write_answer}
 use Rattle.function_blocks.proofs.Emission.{pairs_apart}

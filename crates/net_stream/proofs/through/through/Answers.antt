@@ -1,4 +1,4 @@
-use Rattle.std.proofs.Common.{◌≡◌, ◌+◌, ◌-◌, ◌∷◌, [], ◌++◌, refl, ap, ◌∙◌, sym, arith}
+use Rattle.std.proofs.Common.{◌≡◌, ◌+◌, ◌-◌, ◌∷◌, [], ◌++◌, refl, ap, ◌∙◌, arith}
 use Rattle.prs_core.specs.Pairs.{pairs_from}
 use Rattle.std.proofs.lemmas.Result.{IfOk-weaker}
 use Rattle.width_check.specs.Typed.{program_of}
@@ -6,7 +6,6 @@ use Rattle.width_check.specs.Typing.{var_width}
 use Rattle.width_check.specs.View.{formula_of}
 use Rattle.handshake_expand.specs.Layout.{block_size, formula_size}
 use Rattle.cell_variable.specs.Variables.{variable_rules}
-use Rattle.function_blocks.specs.Blocks.{bits_apart}
 use Rattle.function_blocks.specs.Expressions.{formula_rules, read_bits}
 use Rattle.function_blocks.proofs.Emission.{pairs_apart}
 use Rattle.net_compose.specs.Translation.{bits_at, block_bits}

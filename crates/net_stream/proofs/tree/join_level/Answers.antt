@@ -1,4 +1,4 @@
-use Rattle.std.proofs.Common.{◌≡◌, ◌∙◌, ◌+◌, ◌<◌, [], ◌∷◌, ◌++◌, get_or, length, refl, ap, arith}
+use Rattle.std.proofs.Common.{◌∙◌, ◌+◌, ◌<◌, [], ◌∷◌, ◌++◌, length, refl, ap, arith}
 use Rattle.cell_parallel.specs.Trees.{next_level}
 use Rattle.net_stream.proofs.TreeDriven.{level_more, above_more, level_over, above_over}
 use Rattle.net_stream.proofs.tree.join_level.Goals as goal

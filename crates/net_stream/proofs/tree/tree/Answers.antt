@@ -1,4 +1,4 @@
-use Rattle.std.proofs.Common.{◌≡◌, ◌∙◌, ◌+◌, ◌-◌, ◌/◌, ◌<◌, ℕ, List, [], ◌∷◌, ◌++◌, length, sym, ap, arith}
+use Rattle.std.proofs.Common.{◌≡◌, ◌∙◌, ◌+◌, ◌/◌, ℕ, List, ◌++◌, length, sym, ap, arith}
 use Rattle.handshake_expand.proofs.Branches.{sites_more}
 use Rattle.cell_parallel.specs.Trees.{level_rules, next_level, tree_rules}
 use Rattle.cell_parallel.specs.Sizes.{next_length}

@@ -1,11 +1,11 @@
-use Rattle.std.proofs.Common.{◌≡◌, ◌∙◌, ◌<◌, [], false, length, get_or, ap, sym, subst, arith}
+use Rattle.std.proofs.Common.{◌≡◌, ◌∙◌, ◌<◌, false, length, get_or, ap, sym, subst, arith}
 use Rattle.std.specs.Prelude.{if◌then◌else◌}
 use Rattle.std.proofs.lemmas.List.{get_or_read}
 use Rattle.prs_core.specs.Nets.{NetValue, NodeRules, IsBelow, up_of, down_of}
 use Rattle.prs_core.specs.Pairs.{no_rules}
 use Rattle.reset_net.specs.Resets.{has_rules}
 use Rattle.net_stream.specs.Circuits.{ended, ending_of, side}
-use Rattle.net_stream.proofs.CircuitNets.{leads_back, rule_here, rule_near, is_ending}
+use Rattle.net_stream.proofs.CircuitNets.{leads_back, rule_here, rule_near}
 use Rattle.net_stream.proofs.circuit.Circuit.rule.Goals as goal
 
 pub returns-clause-rule : goal.returns-clause-rule
