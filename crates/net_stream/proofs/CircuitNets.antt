@@ -71,16 +71,32 @@ module _ (names : List (List ℕ)) (first : List Bool) (rs : List NodeRules) (ch
 
   chosen : (b : Bool) (r : NodeRules) (high : Bool) → has_rules r.up r.down ≡ b
       → (if b then reset_guard (length first) high r.up else []) ≡ side true (reset_rules (length first) high r)
-  chosen true r high is = ap (λ c. side true (if c then record { up = reset_guard (length first) high r.up; down = reset_guard (length first) (not high) r.down }
+  chosen true r high is = ap (λ c. side true (if c then record {
+    up = reset_guard (length first) high r.up;
+    down = reset_guard (length first)
+        (not high) r.down;
+  }
       else no_rules)) (sym is)
-  chosen false r high is = ap (λ c. side true (if c then record { up = reset_guard (length first) high r.up; down = reset_guard (length first) (not high) r.down }
+  chosen false r high is = ap (λ c. side true (if c then record {
+    up = reset_guard (length first) high r.up;
+    down = reset_guard (length first)
+        (not high) r.down;
+  }
       else no_rules)) (sym is)
 
   chosen_down : (b : Bool) (r : NodeRules) (high : Bool) → has_rules r.up r.down ≡ b
       → (if b then reset_guard (length first) (not high) r.down else []) ≡ side false (reset_rules (length first) high r)
-  chosen_down true r high is = ap (λ c. side false (if c then record { up = reset_guard (length first) high r.up; down = reset_guard (length first) (not high) r.down }
+  chosen_down true r high is = ap (λ c. side false (if c then record {
+    up = reset_guard (length first) high r.up;
+    down = reset_guard (length first)
+        (not high) r.down;
+  }
       else no_rules)) (sym is)
-  chosen_down false r high is = ap (λ c. side false (if c then record { up = reset_guard (length first) high r.up; down = reset_guard (length first) (not high) r.down }
+  chosen_down false r high is = ap (λ c. side false (if c then record {
+    up = reset_guard (length first) high r.up;
+    down = reset_guard (length first)
+        (not high) r.down;
+  }
       else no_rules)) (sym is)
 
   up_here : (i : ℕ) → reset_up plain i ≡ side true (reset_rules (length first) (slice_index_or first i false) (slice_index_or rs i no_rules))

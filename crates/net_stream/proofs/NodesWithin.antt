@@ -162,11 +162,13 @@ module _ (count : ℕ) where
   module _ (some : 1 < count) (sites : List (List Pair)) (near : AreSites sites) where
     true_in : (place : ℕ) → Within (merged_true sites place)
     true_in place = or_in (map (λ site. (pair_of site place).t) sites) (All-map IsNear (λ site. (pair_of site place).t) sites
-        (All-weaker (λ (site : List Pair). AreNear (rails_of site)) (λ site. (pair_of site place).t < count) (λ site h. (bit_of site place some h).0) sites near))
+        (All-weaker (λ (site : List Pair). AreNear (rails_of site)) (λ site. (pair_of site place).t < count) (λ site h.
+        (bit_of site place some h).0) sites near))
 
     false_in : (place : ℕ) → Within (merged_false sites place)
     false_in place = or_in (map (λ site. (pair_of site place).f) sites) (All-map IsNear (λ site. (pair_of site place).f) sites
-        (All-weaker (λ (site : List Pair). AreNear (rails_of site)) (λ site. (pair_of site place).f < count) (λ site h. (bit_of site place some h).1) sites near))
+        (All-weaker (λ (site : List Pair). AreNear (rails_of site)) (λ site. (pair_of site place).f < count) (λ site h.
+        (bit_of site place some h).1) sites near))
 
     merges_in : (place : ℕ) (rest : List NodeRules) → AreWithin rest → AreWithin (merged_true sites place ∷ merged_false sites place ∷ rest)
     merges_in place rest h = more (merged_true sites place) (merged_false sites place ∷ rest) (true_in place)
@@ -204,7 +206,8 @@ module _ (count : ℕ) where
 
     leaves_near : (n from : ℕ) → from + 5 * n ≤ count → AreNear (written_leaves n from)
     leaves_near zero from room = All-nil IsNear
-    leaves_near (suc n) from room = All-cons IsNear (from + 4) (written_leaves n (from + 5)) (omega (arith, room)) (leaves_near n (from + 5) (omega (arith, room)))
+    leaves_near (suc n) from room = All-cons IsNear (from + 4) (written_leaves n (from + 5)) (omega (arith, room)) (leaves_near n (from + 5) (omega
+        (arith, room)))
 
     leaves_count : (n from : ℕ) → length (written_leaves n from) ≡ n
     leaves_count zero from = refl
@@ -469,9 +472,11 @@ module _ (p : TypedProgram) (typed : IsTyped p.channels p.vars p.body) (count : 
         (range_near count (from + select_own) (choice_count choices) (omega (arith, end)))
         (guards_near choices (guards_from choices select_own from) h.2 (omega (arith, end)))
         (bodies_near choices (bodies_from choices select_own from) h.2 (omega (arith, end))))
-        (joined count (guards_rules p choices (from + 1) (guards_from choices select_own from)) (bodies_rules p choices starts (bodies_from choices select_own from))
+        (joined count (guards_rules p choices (from + 1) (guards_from choices select_own from)) (bodies_rules p choices starts
+        (bodies_from choices select_own from))
         (guards_in choices (from + 1) (guards_from choices select_own from) h.2 (omega (arith, base)) (omega (arith, end)) (omega (arith, end)))
-        (bodies_in choices starts (bodies_from choices select_own from) h.2 (omega (arith, base)) (omega (arith, end)) (omega (arith, base)) (omega (arith, end))))
+        (bodies_in choices starts (bodies_from choices select_own from) h.2 (omega (arith, base)) (omega (arith, end)) (omega (arith, base)) (omega
+        (arith, end))))
     statement_in (choosing true choices) request from h low asked base end =
         let starts = from + again_own + choice_count choices in
         joined count (again_rules (repeating_at p choices request from))
@@ -480,9 +485,11 @@ module _ (p : TypedProgram) (typed : IsTyped p.channels p.vars p.body) (count : 
         (range_near count (from + again_own) (choice_count choices) (omega (arith, end)))
         (guards_near choices (guards_from choices again_own from) h.2 (omega (arith, end)))
         (bodies_near choices (bodies_from choices again_own from) h.2 (omega (arith, end))))
-        (joined count (guards_rules p choices (from + 3) (guards_from choices again_own from)) (bodies_rules p choices starts (bodies_from choices again_own from))
+        (joined count (guards_rules p choices (from + 3) (guards_from choices again_own from)) (bodies_rules p choices starts
+        (bodies_from choices again_own from))
         (guards_in choices (from + 3) (guards_from choices again_own from) h.2 (omega (arith, base)) (omega (arith, end)) (omega (arith, end)))
-        (bodies_in choices starts (bodies_from choices again_own from) h.2 (omega (arith, base)) (omega (arith, end)) (omega (arith, base)) (omega (arith, end))))
+        (bodies_in choices starts (bodies_from choices again_own from) h.2 (omega (arith, base)) (omega (arith, end)) (omega (arith, base)) (omega
+        (arith, end))))
     statement_in (repeating s) request from h low asked base end =
         let inside = answer_within p s (from + 2) h in
         let answer = answer_of p s (from + 2) in
@@ -613,7 +620,8 @@ module _ (p : TypedProgram) (typed : IsTyped p.channels p.vars p.body) where
       (more count (q_child go_node (root_latch p)) (q_latch go_node (body_answer p) ∷ body)
       (two_one count (is_high go_node) (is_low (root_latch p)) (is_high (root_latch p)) (omega arith) latch latch)
       (more count (q_latch go_node (body_answer p)) body (one_one count (is_high (body_answer p)) (is_low go_node) answered (omega arith))
-      (statement_in p typed count (omega arith) p.body (root_request p) (body_from p) typed.body_is (omega arith) (omega arith) (omega arith) (omega arith)))))))
+      (statement_in p typed count (omega arith) p.body (root_request p) (body_from p) typed.body_is (omega arith) (omega arith) (omega arith)
+      (omega arith)))))))
     where
       first_block : (vs : List Var) → blocks_before vs 0 ≡ 0
       first_block [] = refl

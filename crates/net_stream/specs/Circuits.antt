@@ -11,7 +11,8 @@ use Rattle.net_stream.specs.declared.ending.Ending.TheVariants.{Plain, Held, For
 -- a node's rules where the net has a reset node, and the node this first value
 abbrev pub reset_rules : (reset : ℕ) → Bool → NodeRules → NodeRules
 reset_rules reset high r =
-    if has_rules r.up r.down then record { up = reset_guard reset high r.up; down = reset_guard reset (not high) r.down }
+    if has_rules r.up r.down then
+    record { up = reset_guard reset high r.up; down = reset_guard reset (not high) r.down }
     else no_rules
 
 abbrev pub each_reset : (reset : ℕ) → List Bool → List NodeRules → List NodeRules

@@ -39,7 +39,8 @@ pub record IsTermPut (net : NetValue) (lead next : Lead) (ls : List Literal) (be
   pub long : end ≤ start + 64 * length ls
 
 -- and these terms more
-pub record IsPut (net : NetValue) (lead next : Lead) (g : GuardValue) (before now : List ℕ) (start end : ℕ) : Type 0 where
+pub record IsPut (net : NetValue) (lead next : Lead) (g : GuardValue) (before now : List ℕ)
+    (start end : ℕ) : Type 0 where
   pub text : now ≡ before ++ terms_behind net lead g
   pub leads : next ≡ lead_behind lead g
   pub long : end ≤ start + 64 * guard_literals g

@@ -43,7 +43,8 @@ pub(crate) fn body_answers(
 ) -> Result<Vec<u32>, AllocError>
     requires choices { AreChoices program.now.channels program.now.vars (choices_in arms.now) }
     requires room { from + bodies_size (program_of program.now) (choices_in arms.now) < 2 ^ 32 }
-    ensures { IfOk result (λ answers. answers.items ≡ branch_answers (program_of program.now) (choices_in arms.now) from) }
+    ensures { IfOk result (λ answers. answers.items
+        ≡ branch_answers (program_of program.now) (choices_in arms.now) from) }
 {
     let mut answers = Vec::new(alloc);
     let mut next = from;

@@ -120,7 +120,8 @@ fn vars(
     Ok(())
 }
 
-/// The drivers of all nodes, in order of their numbers. The rails of hidden variables that are high at first are raised.
+/// The drivers of all nodes, in order of their numbers. The rails of hidden variables that are high at first are
+/// raised.
 pub(crate) fn drivers_of(
     alloc: Global,
     program: &Typed,

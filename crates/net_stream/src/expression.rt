@@ -33,7 +33,8 @@ fn constant_bit(one: bool, request: u32, drivers: &mut Vec<Driver>) -> Result<()
 
 /// Adds the drivers of a number's bits.
 fn constant(bits: &Bits, request: u32, drivers: &mut Vec<Driver>) -> Result<(), AllocError>
-    ensures { OnOk result (drivers.new.items ≡ drivers.old.items ++ constant_bits request bits.now.width bits.now.value) }
+    ensures { OnOk result (drivers.new.items
+        ≡ drivers.old.items ++ constant_bits request bits.now.width bits.now.value) }
 {
     let mut value = bits.value();
     for _bit in 0..bits.width() {

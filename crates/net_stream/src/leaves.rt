@@ -65,8 +65,8 @@ pub(crate) fn send(
     Ok(())
 }
 
-/// Adds the drivers of a receive, whose nodes are numbered from `from` on: its answer, the node that says that the value
-/// is stored, and its port.
+/// Adds the drivers of a receive, whose nodes are numbered from `from` on: its answer, the node that says that the
+/// value is stored, and its port.
 pub(crate) fn receive(
     alloc: Global,
     program: &Typed,

@@ -42,7 +42,8 @@ fn each_place(
     requires most { length left.now ≤ 64 }
     requires agree { length right.now ≡ length left.now }
     requires room { from + 2 * length left.now < 2 ^ 32 }
-    ensures made { OnOk result (drivers.new.items ≡ drivers.old.items ++ bitwise (truth_named function) left.now right.now) }
+    ensures made { OnOk result (drivers.new.items
+        ≡ drivers.old.items ++ bitwise (truth_named function) left.now right.now) }
     ensures bits { IfOk result (λ bits. bits.items ≡ result_pairs left.now from) }
 {
     bitwise(function, left, right, drivers)?;

@@ -260,7 +260,8 @@ parallel-loop-branch-preserved t c =
     let step : next + 3 + c.statement_nodes-size.result ≡ next + 3 + size_of p s = ap (λ n. next + 3 + n) count in
     record {
       made = element_then c.loop-branch.drivers.items _ _ _ (q_rules c.args.request c.answer_node-answer.result next) (rules_of p s next (next + 3))
-          (branches_rules p behind c.args.request (next + 3 + c.statement_nodes-size.result)) (branches_rules p (members_in (drop i branches)) c.args.request next)
+          (branches_rules p behind c.args.request (next + 3 + c.statement_nodes-size.result)) (branches_rules p (members_in
+          (drop i branches)) c.args.request next)
           c.in_ok-element.ensures c.in_ok-statement.ensures.made
           (branch_rules_here p branches i b within at c.args.request next
           ∙ (ap (λ a. q_rules c.args.request a next ++ (rules_of p s next (next + 3) ++ branches_rules p behind c.args.request (next + 3 + size_of p s)))
@@ -506,7 +507,8 @@ selection-loop-arm-preserved t c =
           (body_rules_here p arms i a within at start next ∙ ap (λ n. rules_of p s start next ++ bodies_rules p behind (start + 1) n) (sym step))
           c.loop-arm.invariant.made;
       contacts = sites_more c.loop-arm.contacts.items _ (sites_in p (every_contact p) s next) _ _ _ c.in_ok-statement.ensures.contacts
-          (body_sites_here p arms i a within at (every_contact p) next ∙ ap (λ n. sites_in p (every_contact p) s next ++ sites_in_bodies p (every_contact p) behind n)
+          (body_sites_here p arms i a within at (every_contact p) next ∙ ap (λ n. sites_in p (every_contact p) s next ++ sites_in_bodies p
+          (every_contact p) behind n)
           (sym step))
           c.loop-arm.invariant.contacts;
       first = raised_more c.loop-arm.first _ _ (sites_in p (hidden_high p) s next) _ _ c.in_ok-statement.ensures.first
@@ -575,7 +577,8 @@ pub statement-returns-in-Assign-clause-first : goal.statement-returns-in-Assign-
 statement-returns-in-Assign-clause-first t c =
     let p = program_of c.args.program.now in
     let is : process_of c.args.s.now ≡ assigning c.in-Assign.var c.in-Assign.at (formula_of c.in-Assign.value) = ap process_of c.in-Assign.is in
-    on_ok c.assign.result (λ f. f c.in-Assign.at ∙ ap (λ q. with_raised c.args.first.now (sites_in p (hidden_high p) q c.args.from)) (sym is)) c.assign.ensures.first
+    on_ok c.assign.result (λ f. f c.in-Assign.at ∙ ap (λ q. with_raised c.args.first.now (sites_in p (hidden_high p) q c.args.from))
+    (sym is)) c.assign.ensures.first
 
 pub statement-send-requires-clause-process : goal.statement-send-requires-clause-process
 statement-send-requires-clause-process t c =

@@ -33,7 +33,8 @@ returns c =
     let wide = var_wide c.vars-vars.result.now p.vars c.args.number c.index-vars-number.result c.vars-vars.ensures c.requires.within c.index-vars-number.is in
     let start = var_start p c.args.firsts.now c.args.number 0 c.requires.firsts c.requires.within in
     let sites = c.deref.ensures.value ∙ (c.in_ok-sites.ensures ∙ (ap (flat_map (written_by c.args.number)) c.requires.contacts ∙ writes_are p c.args.number)) in
-    on_ok c.block.result (λ made. made ∙ (ap (λ s. c.args.drivers.now.items ++ variable_rules c.index-vars-number.result.width (slice_index_or c.args.firsts.now c.args.number 0) s) sites
+    on_ok c.block.result (λ made. made ∙ (ap (λ s. c.args.drivers.now.items ++ variable_rules c.index-vars-number.result.width
+    (slice_index_or c.args.firsts.now c.args.number 0) s) sites
     ∙ (ap (λ n. c.args.drivers.now.items ++ variable_rules c.index-vars-number.result.width n (in_body p (write_site p c.args.number))) start
     ∙ ap (λ w. c.args.drivers.now.items ++ variable_rules w (var_from p c.args.number) (in_body p (write_site p c.args.number))) wide)))
     c.block.ensures

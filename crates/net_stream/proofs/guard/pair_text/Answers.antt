@@ -10,7 +10,8 @@ use Rattle.net_stream.proofs.guard.pair_text.Goals as goal
 -- the term is that of the row
 pub term_text-requires-clause-within : goal.term_text-requires-clause-within
 term_text-requires-clause-within c =
-    rw (c.rail.ensures, c.rail-then-value-one.ensures) (minterm_below (length c.args.net.now.first) (c.args.left ∷ c.args.right ∷ []) (row_at 2 c.args.number) c.requires.within)
+    rw (c.rail.ensures, c.rail-then-value-one.ensures) (minterm_below (length c.args.net.now.first) (c.args.left ∷ c.args.right ∷ [])
+    (row_at 2 c.args.number) c.requires.within)
 
 pub returns-then-value-one-clause-put : goal.returns-then-value-one-clause-put
 returns-then-value-one-clause-put c =

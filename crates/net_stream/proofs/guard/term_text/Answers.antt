@@ -8,11 +8,13 @@ use Rattle.net_stream.proofs.Puts.{term_more, one_put, front_all, behind_all, te
 use Rattle.net_stream.proofs.guard.term_text.Goals as goal
 
 pub literals_text-requires : goal.literals_text-requires
-literals_text-requires c = front_all (λ (l : Literal). l.node < length c.args.net.now.first) c.args.first.now (all_wanted c.args.high c.args.nodes.now) (All-head (λ (t : List Literal). All (λ (l : Literal). l.node < length c.args.net.now.first) t)
+literals_text-requires c = front_all (λ (l : Literal). l.node < length c.args.net.now.first) c.args.first.now (all_wanted c.args.high c.args.nodes.now)
+    (All-head (λ (t : List Literal). All (λ (l : Literal). l.node < length c.args.net.now.first) t)
     (c.args.first.now ++ all_wanted c.args.high c.args.nodes.now) [] c.requires.within)
 
 pub nodes_text-requires : goal.nodes_text-requires
-nodes_text-requires c = behind_all (λ (l : Literal). l.node < length c.args.net.now.first) c.args.first.now (all_wanted c.args.high c.args.nodes.now) (All-head (λ (t : List Literal). All (λ (l : Literal). l.node < length c.args.net.now.first) t)
+nodes_text-requires c = behind_all (λ (l : Literal). l.node < length c.args.net.now.first) c.args.first.now (all_wanted c.args.high c.args.nodes.now)
+    (All-head (λ (t : List Literal). All (λ (l : Literal). l.node < length c.args.net.now.first) t)
     (c.args.first.now ++ all_wanted c.args.high c.args.nodes.now) [] c.requires.within)
 
 pub returns-in_err-behind-clause-room : goal.returns-in_err-behind-clause-room

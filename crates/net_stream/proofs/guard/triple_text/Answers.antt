@@ -10,7 +10,8 @@ use Rattle.net_stream.proofs.guard.triple_text.Goals as goal
 -- the term is that of the row
 pub term_text-requires-clause-within : goal.term_text-requires-clause-within
 term_text-requires-clause-within c =
-    rw (c.rail.ensures, c.rail-then-value-one.ensures, c.rail-then-value-one-2.ensures) (minterm_below (length c.args.net.now.first) (c.args.left ∷ c.args.right ∷ c.args.carried ∷ []) (row_at 3 c.args.number) c.requires.within)
+    rw (c.rail.ensures, c.rail-then-value-one.ensures, c.rail-then-value-one-2.ensures) (minterm_below (length c.args.net.now.first)
+    (c.args.left ∷ c.args.right ∷ c.args.carried ∷ []) (row_at 3 c.args.number) c.requires.within)
 
 pub returns-then-value-one-clause-put : goal.returns-then-value-one-clause-put
 returns-then-value-one-clause-put c =

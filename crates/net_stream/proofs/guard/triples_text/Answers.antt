@@ -13,7 +13,8 @@ use Rattle.net_stream.proofs.guard.triples_text.Goals as goal
 
 pub loop-number-init : goal.loop-number-init
 loop-number-init c = record {
-  left = begins c.args.net.now Rule (with_ends c.args.ending (gate_rail (c.args.left ∷ c.args.right ∷ c.args.carried ∷ []) (rows_of c.args.one (truth_named c.args.function))).up) _ _ _ refl;
+  left = begins c.args.net.now Rule (with_ends c.args.ending (gate_rail (c.args.left ∷ c.args.right ∷ c.args.carried ∷ []) (rows_of c.args.one
+      (truth_named c.args.function))).up) _ _ _ refl;
   capacity = omega arith;
 }
 
