@@ -1,3 +1,10 @@
 pub mod Places
 pub mod Rooms
 pub mod Cursors
+pub mod Drivers
+pub mod Shapes
+pub mod Contacts
+pub mod Wanted
+pub mod Cuts
+pub mod Led
+pub mod Circuits

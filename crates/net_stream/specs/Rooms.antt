@@ -1,11 +1,13 @@
 -- A buffer that has room for each line of a rule file.
-use Rattle.std.specs.Prelude.{ℕ, ◌+◌, ◌*◌, ◌≤◌, List, All}
-use Rattle.prs_core.specs.Nets.{GuardValue, NetValue, guard_literals}
+use Rattle.std.specs.Prelude.{ℕ, ◌+◌, ◌*◌, ◌≤◌, length, All}
+use Rattle.prs_core.specs.Nets.{GuardValue, NodeRules, NetValue, guard_literals}
 
--- no guard of the net has more literals than so many
-pub record HasFewLiterals (n : NetValue) (most : ℕ) : Type 0 where
-  pub up : All (λ g. guard_literals g ≤ most) n.up
-  pub down : All (λ g. guard_literals g ≤ most) n.down
+-- no guard of the node has more literals than so many, or more terms
+pub record IsFew (most : ℕ) (r : NodeRules) : Type 0 where
+  pub up : guard_literals r.up ≤ most
+  pub up_terms : length r.up ≤ most
+  pub down : guard_literals r.down ≤ most
+  pub down_terms : length r.down ≤ most
 
 -- 64 bytes for each literal of a guard and for the end of its rule, and for each other line
 abbrev pub IsRoomFor : ℕ → GuardValue → Type 0

@@ -1,47 +1,60 @@
 //! The buffer for one line.
 
-ghost use Rattle.std.specs.Prelude.{◌≡◌, ◌≤◌, [], All, IfOk, vec_len, vec_capacity};
-ghost use Rattle.prs_core.specs.Nets.{guard_literals};
-ghost use Rattle.net_stream.specs.Rooms.{HasRoom, HasFewLiterals};
+ghost use Rattle.std.specs.Prelude.{◌≡◌, ◌+◌, ◌*◌, ◌≤◌, [], All, IfOk, IfSome, vec_len, vec_capacity};
+ghost use Rattle.net_stream.specs.Rooms.{HasRoom, IsFew};
 
-use prs_core::{Guard, Net};
+use crate::circuit::Circuit;
+use crate::driver::Driver;
 use std::alloc::{AllocError, Global};
 
-/// How many bytes a literal has at most with what leads to it, and so does the end of a rule.
-const MOST_OF_LITERAL: usize = 64;
+/// As many literals as the terms of a gate of three inputs have together.
+const MOST_OF_GATE: usize = 24;
 
-/// How many literals the guard has.
-fn literal_count(guard: &Guard) -> usize
-    requires { guard_literals guard.now ≤ 8454144 }
-    ensures { result ≡ guard_literals guard.now }
+/// So many literals, and so many terms, no guard of the driver has more than.
+fn most_literals(driver: &Driver) -> usize
+    ensures { IsFew result driver.now }
 {
-    let mut count = 0;
-    for term in guard.terms() {
-        count += term.literals().len();
-    }
-    count
+    driver.pattern.listed().len() + MOST_OF_GATE
 }
 
-/// How many literals a guard of the net has at most.
-fn most_literals(net: &Net) -> usize
-    ensures most { HasFewLiterals net.now result }
-    ensures few { result ≤ 8454144 }
+/// The larger of two numbers.
+fn larger(a: usize, b: usize) -> usize
+    ensures first { a ≤ result }
+    ensures second { b ≤ result }
+{
+    if a < b { b } else { a }
+}
+
+/// The same of all drivers.
+fn most_of(drivers: &[Driver]) -> usize
+    ensures { All (IsFew result) drivers.now }
 {
     let mut most = 0;
-    for node in 0..net.first().len() as u32 {
-        let up = literal_count(net.up(node));
-        let down = literal_count(net.down(node));
-        most = most.max(up.max(down));
+    for driver in drivers {
+        most = larger(most, most_literals(driver));
     }
     most
 }
 
-/// An empty buffer with room for each line of the net's file.
-pub(crate) fn line_buffer(alloc: Global, net: &Net) -> Result<Vec<u8>, AllocError>
+/// 64 bytes for each literal and for the end of the rule, where a reset adds a literal to each term, or a term. None
+/// where that is more than memory has.
+fn bytes_for(most: usize) -> Option<usize>
+    ensures { IfSome result (λ bytes. bytes ≡ 128 * (most + 1)) }
+{
+    match most.checked_add(1) {
+        Some(literals) => literals.checked_mul(128),
+        None => None,
+    }
+}
+
+/// An empty buffer with room for each line of the circuit's file.
+pub(crate) fn line_buffer(alloc: Global, net: &Circuit) -> Result<Vec<u8>, AllocError>
     ensures room { IfOk result (λ line. HasRoom net.now (vec_capacity line)) }
     ensures empty { IfOk result (λ line. line.items ≡ []) }
     ensures none { IfOk result (λ line. vec_len line ≡ 0) }
 {
-    let most = most_literals(net);
-    Vec::with_capacity(alloc, MOST_OF_LITERAL * (most + 1))
+    match bytes_for(most_of(&net.drivers)) {
+        Some(bytes) => Vec::with_capacity(alloc, bytes),
+        None => Err(AllocError),
+    }
 }

@@ -4,9 +4,9 @@ ghost use Rattle.std.specs.Prelude.{◌≡◌, ◌<◌, ◌≤◌, [], ◌++◌,
 ghost use Rattle.net_stream.specs.Places.{IsPlaceOf, places_left, text_from};
 ghost use Rattle.net_stream.specs.Cursors.{IsCursor, text_left};
 
+use crate::circuit::Circuit;
 use crate::line::make_line;
 use crate::place::Place;
-use prs_core::Net;
 
 /// The line in the buffer, how many of its bytes were given out, and the place of the next line.
 #[derive(Debug, Drop)]
@@ -17,7 +17,7 @@ pub(crate) struct Cursor {
 }
 
 /// Whether the text has ended at this place.
-fn is_over(net: &Net, place: Place) -> bool
+fn is_over(net: &Circuit, place: Place) -> bool
     requires { IsPlaceOf net.now place }
     ensures over { result ≡ true → text_from net.now place ≡ [] }
     ensures goes_on { result ≡ false → 0 < places_left net.now place }
@@ -47,7 +47,7 @@ fn behind(bytes: &[u8], done: usize) -> &[u8]
 }
 
 /// Makes lines until one has bytes that weren't given out, or the text has ended.
-fn refresh(net: &Net, cursor: &mut Cursor)
+fn refresh(net: &Circuit, cursor: &mut Cursor)
     requires { IsCursor net.now cursor.old }
     ensures left { text_left net.now cursor.new ≡ text_left net.now cursor.old }
     ensures ready { cursor.new.given ≡ vec_len cursor.new.line → text_left net.now cursor.new ≡ [] }
@@ -64,7 +64,7 @@ fn refresh(net: &Net, cursor: &mut Cursor)
 }
 
 /// Gives out bytes of one line, at least one where the piece isn't empty and the text hasn't ended.
-pub(crate) fn give(net: &Net, cursor: &mut Cursor, piece: &mut [u8]) -> usize
+pub(crate) fn give(net: &Circuit, cursor: &mut Cursor, piece: &mut [u8]) -> usize
     requires { IsCursor net.now cursor.old }
     ensures given { text_left net.now cursor.old ≡ take result piece.new ++ text_left net.now cursor.new }
     ensures within { result ≤ length piece.old }

@@ -7,13 +7,13 @@ ghost use Rattle.net_stream.specs.Places.{IsMadeAt, IsPlaceOf, places_left};
 ghost use Rattle.net_stream.specs.Rooms.{HasRoom};
 ghost use Rattle.net_stream.specs.declared.place.Place.TheVariants.{Head, Node, Channel, Up, Down};
 
-use crate::guard::{node_name, rule_line};
+use crate::circuit::Circuit;
+use crate::guard::rule_line;
 use crate::place::Place;
-use prs_core::Net;
 use prs_file::{channel_line, head_line, node_line};
 use std::alloc::AllocError;
 
-fn version(net: &Net) -> u8
+fn version(net: &Circuit) -> u8
     ensures value { result ≡ version_of net.now.reset }
     ensures some { 1 ≤ result }
     ensures most { result ≤ 2 }
@@ -25,7 +25,7 @@ fn version(net: &Net) -> u8
 }
 
 /// Appends the first line, and answers the next place.
-fn head_at(net: &Net, to: &mut Vec<u8>) -> Result<Place, AllocError>
+fn head_at(net: &Circuit, to: &mut Vec<u8>) -> Result<Place, AllocError>
     ensures made { IfOk result (λ next. IsMadeAt net.now Head next to.old.items to.new.items) }
     ensures room { OnErr result (vec_capacity to.old < vec_len to.old + 64) }
     ensures capacity { vec_capacity to.old ≤ vec_capacity to.new }
@@ -35,7 +35,7 @@ fn head_at(net: &Net, to: &mut Vec<u8>) -> Result<Place, AllocError>
 }
 
 /// Appends the line of a node, where there is one more.
-fn node_at(net: &Net, node: u32, to: &mut Vec<u8>) -> Result<Place, AllocError>
+fn node_at(net: &Circuit, node: u32, to: &mut Vec<u8>) -> Result<Place, AllocError>
     requires { node ≤ length net.now.first }
     ensures made { IfOk result (λ next. IsMadeAt net.now (Node node) next to.old.items to.new.items) }
     ensures room { OnErr result (vec_capacity to.old < vec_len to.old + 64) }
@@ -45,12 +45,12 @@ fn node_at(net: &Net, node: u32, to: &mut Vec<u8>) -> Result<Place, AllocError>
     if node as usize == first.len() {
         return Ok(Place::Channel(0));
     }
-    node_line(node_name(net, node), first[node as usize], to)?;
+    node_line(net.name(node), first[node as usize], to)?;
     Ok(Place::Node(node + 1))
 }
 
 /// Appends the line of a channel, where there is one more.
-fn channel_at(net: &Net, number: usize, to: &mut Vec<u8>) -> Result<Place, AllocError>
+fn channel_at(net: &Circuit, number: usize, to: &mut Vec<u8>) -> Result<Place, AllocError>
     requires { number ≤ length net.now.channels }
     ensures made { IfOk result (λ next. IsMadeAt net.now (Channel number) next to.old.items to.new.items) }
     ensures room { OnErr result (vec_capacity to.old < vec_len to.old + 64) }
@@ -66,7 +66,7 @@ fn channel_at(net: &Net, number: usize, to: &mut Vec<u8>) -> Result<Place, Alloc
 }
 
 /// Appends the line of a node's up rule, where it has one.
-fn up_at(net: &Net, node: u32, to: &mut Vec<u8>) -> Result<Place, AllocError>
+fn up_at(net: &Circuit, node: u32, to: &mut Vec<u8>) -> Result<Place, AllocError>
     requires { node < length net.now.first }
     ensures made { IfOk result (λ next. IsMadeAt net.now (Up node) next to.old.items to.new.items) }
     ensures room { OnErr result
@@ -74,12 +74,12 @@ fn up_at(net: &Net, node: u32, to: &mut Vec<u8>) -> Result<Place, AllocError>
     ensures capacity { vec_capacity to.old ≤ vec_capacity to.new }
 {
     let _net = net.first();
-    rule_line(net, net.up(node), node, true, to)?;
+    rule_line(net, node, true, to)?;
     Ok(Place::Down(node))
 }
 
 /// Appends the line of a node's down rule, where it has one.
-fn down_at(net: &Net, node: u32, to: &mut Vec<u8>) -> Result<Place, AllocError>
+fn down_at(net: &Circuit, node: u32, to: &mut Vec<u8>) -> Result<Place, AllocError>
     requires { node < length net.now.first }
     ensures made { IfOk result (λ next. IsMadeAt net.now (Down node) next to.old.items to.new.items) }
     ensures room { OnErr result
@@ -87,12 +87,12 @@ fn down_at(net: &Net, node: u32, to: &mut Vec<u8>) -> Result<Place, AllocError>
     ensures capacity { vec_capacity to.old ≤ vec_capacity to.new }
 {
     let _net = net.first();
-    rule_line(net, net.down(node), node, false, to)?;
+    rule_line(net, node, false, to)?;
     Ok(Place::Up(node + 1))
 }
 
 /// Appends the line at the place, if it has one, to an empty buffer.
-fn line_at(net: &Net, place: Place, to: &mut Vec<u8>) -> Result<Place, AllocError>
+fn line_at(net: &Circuit, place: Place, to: &mut Vec<u8>) -> Result<Place, AllocError>
     requires place { IsPlaceOf net.now place }
     requires goes_on { 0 < places_left net.now place }
     requires empty { vec_len to.old ≡ 0 }
@@ -112,7 +112,7 @@ fn line_at(net: &Net, place: Place, to: &mut Vec<u8>) -> Result<Place, AllocErro
 
 /// Writes the line at the place, if it has one, into an empty buffer with room for each line of the file, and answers
 /// the next place.
-pub(crate) fn make_line(net: &Net, place: Place, to: &mut Vec<u8>) -> Place
+pub(crate) fn make_line(net: &Circuit, place: Place, to: &mut Vec<u8>) -> Place
     requires place { IsPlaceOf net.now place }
     requires goes_on { 0 < places_left net.now place }
     requires empty { vec_len to.old ≡ 0 }

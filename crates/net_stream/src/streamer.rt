@@ -1,6 +1,6 @@
 //! Streaming a program's rule file.
 
-ghost use Rattle.std.specs.Prelude.{◌≡◌, ◌≢◌, ◌↔◌, ◌<◌, ◌≤◌, [], ◌++◌, All, None, codes, length, take, min, IfOk, OnOk, IfErr};
+ghost use Rattle.std.specs.Prelude.{◌≡◌, ◌↔◌, ◌<◌, ◌≤◌, [], ◌++◌, length, take, min, if◌then◌else◌, IfOk, OnOk, IfErr};
 ghost use Rattle.prs_core.specs.Nets.{IsNet};
 ghost use Rattle.prs_file.specs.Spelling.{NetText};
 ghost use Rattle.reset_net.specs.Resets.{reset_of};
@@ -11,12 +11,13 @@ ghost use Rattle.net_compose.specs.Errors.{IfTooMany};
 ghost use Rattle.net_compose.specs.Translation.{translation};
 
 use crate::buffer::line_buffer;
+use crate::circuit::{Circuit, circuit_of};
 use crate::cursor::{Cursor, give};
+use crate::laws::whole_nets;
 use crate::place::Place;
-use net_compose::laws::carries_reset;
-use net_compose::{NetError, translate};
-use prs_core::Net;
-use reset_net::with_reset;
+use handshake_expand::count_nodes;
+use net_compose::NetError;
+use net_compose::laws::{carries, carries_reset};
 use sharing_check::Disjoint;
 use std::alloc::{AllocError, Global};
 use std::marker::Model;
@@ -25,7 +26,7 @@ use std::marker::Model;
 /// line at a time is held, in a buffer that is large enough for each line of the file.
 #[derive(Debug, Drop)]
 pub struct Streamer {
-    net: Net,
+    net: Circuit,
     cursor: Cursor,
 }
 
@@ -40,8 +41,11 @@ impl Model for Streamer {
     ghost invariant = { λ s. IsCursor s.net s.cursor };
 }
 
-/// The streamer of the net's file.
-fn stream(alloc: Global, net: Net) -> Result<Streamer, AllocError>
+/// The most nodes of a net that a rule file can hold.
+const MOST_NODES: u64 = 65_536;
+
+/// The streamer of the circuit's file.
+fn stream(alloc: Global, net: Circuit) -> Result<Streamer, AllocError>
     ensures { IfOk result (λ s. NetText s net) }
 {
     let _net = net.first();
@@ -54,14 +58,33 @@ fn stream(alloc: Global, net: Net) -> Result<Streamer, AllocError>
     Ok(Streamer { net, cursor })
 }
 
-/// The streamer of the net's file with a reset node.
-fn stream_reset(alloc: Global, net: Net) -> Result<Streamer, AllocError>
-    requires plain { net.reset ≡ None }
-    requires free { All (λ name. name ≢ codes "reset") net.names }
-    ensures { IfOk result (λ s. NetText s (reset_of net)) }
+/// The streamer of the program's file, with a reset node where one is asked for.
+fn stream_program(alloc: Global, program: &Disjoint, reset: bool) -> Result<Streamer, NetError>
+    ensures text { IfOk result (λ s. NetText s (if reset then reset_of (translation (program_of program.now))
+        else translation (program_of program.now))) }
+    ensures carries { OnOk result (Carries (translation (program_of program.now)) (program_of program.now)) }
+    ensures net { OnOk result (IsNet (translation (program_of program.now))) }
+    ensures fits { OnOk result (nodes_of (program_of program.now) ≤ 65536) }
+    ensures count { IfErr result (IfTooMany (λ count. count ≡ node_count (program_of program.now))) }
+    ensures too_many { IfErr result (IfTooMany (λ _. 65536 < nodes_of (program_of program.now))) }
 {
-    let net = with_reset(alloc, net)?;
-    stream(alloc, net)
+    carries();
+    whole_nets();
+    let typed = program.typed();
+    // what the program's type keeps is told of its body
+    let _kept = typed.body();
+    let count = count_nodes(typed);
+    if count > MOST_NODES {
+        return Err(NetError::TooManyNodes(count));
+    }
+    let net = match circuit_of(alloc, typed, reset) {
+        Ok(net) => net,
+        Err(e) => return Err(NetError::NoMemory(e)),
+    };
+    match stream(alloc, net) {
+        Ok(streamer) => Ok(streamer),
+        Err(e) => Err(NetError::NoMemory(e)),
+    }
 }
 
 impl Streamer {
@@ -74,11 +97,7 @@ impl Streamer {
         ensures count { IfErr result (IfTooMany (λ count. count ≡ node_count (program_of program.now))) }
         ensures too_many { IfErr result (IfTooMany (λ _. 65536 < nodes_of (program_of program.now))) }
     {
-        let net = translate(alloc, program)?;
-        match stream(alloc, net) {
-            Ok(streamer) => Ok(streamer),
-            Err(e) => Err(NetError::NoMemory(e)),
-        }
+        stream_program(alloc, program, false)
     }
 
     /// The same with a reset node: that net carries the program from every power-up state.
@@ -91,12 +110,7 @@ impl Streamer {
         ensures too_many { IfErr result (IfTooMany (λ _. 65536 < nodes_of (program_of program.now))) }
     {
         carries_reset();
-        let net = translate(alloc, program)?;
-        let _net = net.first();
-        match stream_reset(alloc, net) {
-            Ok(streamer) => Ok(streamer),
-            Err(e) => Err(NetError::NoMemory(e)),
-        }
+        stream_program(alloc, program, true)
     }
 
     /// Writes the next bytes of the file into the front of the piece, as many as it takes and as are left, and answers

@@ -6,5 +6,5 @@ pub returns-clause-made : goal.returns-clause-made
 returns-clause-made c =
     let within : c.args.node < length c.args.net.now.first =
     omega (arith, c.if-node-first.false, ap length c.first-first.ensures.first, c.requires) in
-    let line = rw (c.node_name.ensures.value, c.first-first.ensures.first) at c.in_ok-node_line.ensures.ok in
+    let line = rw (c.name.ensures.value, c.first-first.ensures.first) at c.in_ok-node_line.ensures.ok in
     node_made c.args.net.now c.args.node c.args.to.now.items c.node_line.new.to.items within line

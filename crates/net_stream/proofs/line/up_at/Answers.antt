@@ -1,9 +1,6 @@
-use Rattle.std.proofs.Common.{true, ◌++◌, ap, ◌∙◌}
-use Rattle.prs_file.specs.Spelling.{rule_spelling}
 use Rattle.net_stream.proofs.PlaceSteps.{up_made}
 use Rattle.net_stream.proofs.line.up_at.Goals as goal
 
 pub returns-clause-made : goal.returns-clause-made
 returns-clause-made c =
-    up_made c.args.net.now c.args.node c.args.to.now.items c.rule_line.new.to.items c.requires
-    (c.in_ok-rule_line.ensures.ok ∙ ap (λ g. c.args.to.now.items ++ rule_spelling c.args.net.now g c.args.node true) c.up.ensures)
+    up_made c.args.net.now c.args.node c.args.to.now.items c.rule_line.new.to.items c.requires c.in_ok-rule_line.ensures.ok

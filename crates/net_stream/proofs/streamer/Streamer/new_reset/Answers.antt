@@ -1,15 +1,16 @@
-use Rattle.std.proofs.Common.{refl, subst}
-use Rattle.prs_core.specs.Nets.{IsNet}
+use Rattle.std.proofs.Common.{refl}
+use Rattle.std.specs.Prelude.{Result, Ok, Err, OnOk}
 use Rattle.width_check.specs.Typed.{program_of}
 use Rattle.net_compose.specs.Translation.{translation}
 use Rattle.net_compose.proofs.NamesFree.{names_free}
 use Rattle.net_stream.proofs.streamer.Streamer.new_reset.Goals as goal
 
-pub stream_reset-requires-clause-free : goal.stream_reset-requires-clause-free
-stream_reset-requires-clause-free c = rw c.in_ok-net.ensures.net (names_free (program_of c.args.program.now))
+on_both : {T E P Q R : Type 0} (r : Result T E) → (P → Q → R) → OnOk r P → OnOk r Q → OnOk r R
+on_both (Ok x) f p q = f p q
+on_both (Err e) f p q = tt
 
-pub returns-in-Ok-clause-carries : goal.returns-in-Ok-clause-carries
-returns-in-Ok-clause-carries c =
+pub returns-clause-carries : goal.returns-clause-carries
+returns-clause-carries c =
     let p = program_of c.args.program.now in
-    let whole = subst IsNet c.in_ok-net.ensures.net c.first-net.ensures.net in
-    c.carries_reset.ensures (translation p) p c.in_ok-net.ensures.carries whole refl whole.most (names_free p)
+    on_both c.stream_program.result (λ carried whole. c.carries_reset.ensures (translation p) p carried whole refl whole.most (names_free p))
+    c.stream_program.ensures.carries c.stream_program.ensures.net

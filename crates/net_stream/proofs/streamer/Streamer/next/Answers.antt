@@ -1,4 +1,4 @@
-use Rattle.std.proofs.Common.{◌≡◌, ◌∙◌, ◌-◌, ◌≤◌, ◌++◌, length, take, sym, ap, append_assoc, arith, length-take, length-drop}
+use Rattle.std.proofs.Common.{◌∙◌, ◌-◌, ◌≤◌, ◌++◌, length, take, sym, ap, append_assoc, arith}
 use Rattle.net_stream.specs.Cursors.{text_left}
 use Rattle.net_stream.proofs.Pieces.{front_on, front_within}
 use Rattle.net_stream.proofs.streamer.Streamer.next.Goals as goal

@@ -1,0 +1,11 @@
+use Rattle.std.proofs.Common.{◌≡◌, ◌+◌, ◌*◌, ap, ◌∙◌}
+use Rattle.prs_core.specs.Pairs.{pair_at}
+use Rattle.function_blocks.proofs.Emitted.{apart_step}
+use Rattle.net_stream.proofs.bit.bits_apart.Goals as goal
+
+pub loop-place-preserved : goal.loop-place-preserved
+loop-place-preserved c =
+    let at : c.args.from + c.args.step * c.from.result ≡ c.args.from + c.args.step * c.loop-place.place =
+    ap (λ n. c.args.from + c.args.step * n) c.from.ensures in
+    apart_step c.args.step c.args.count c.args.from c.loop-place.place _ _ _ _ c.loop-place-test.true c.loop-place.invariant (c.at.ensures ∙ ap pair_at at)
+    c.in_ok-push.ensures.items

@@ -1,0 +1,836 @@
+use Rattle.std.proofs.Common.{◌≡◌, ◌+◌, ◌-◌, ◌<◌, ◌≤◌, List, ℕ, [], ◌∷◌, ◌++◌, length, get_or, drop, refl, sym, ap, ◌∙◌, subst, rules, arith}
+use Rattle.std.proofs.lemmas.List.{get_or_read, append-nil}
+use Rattle.width_check.specs.declared.typed.TStmt.{TStmt, the_lemmas}
+use Rattle.width_check.specs.Processes.{skipping, assigning, sending, receiving, in_turn, side_by_side, choosing, repeating, choice_count, TypedProgram}
+use Rattle.width_check.specs.Typed.{program_of}
+use Rattle.width_check.specs.Typing.{IsProcess}
+use Rattle.width_check.specs.View.{formula_of, process_of, members_in, choices_in}
+use Rattle.handshake_expand.specs.Layout.{size_of, root_request}
+use Rattle.handshake_expand.specs.Answers.{answer_of, bodies_from}
+use Rattle.handshake_expand.specs.PartTree.{own_before}
+use Rattle.handshake_expand.proofs.Branches.{branch_size_here, branch_size_end, body_size_here, arm_typed, choosing_size, guards_formed, sites_more, sites_done}
+use Rattle.handshake_expand.proofs.Rows.{then_is, beside_is, select_is, members_counted, arms_counted}
+use Rattle.handshake_expand.proofs.Turns.{this_typed, size_here, size_last}
+use Rattle.net_stream.specs.Contacts.{every_contact}
+use Rattle.handshake_expand.specs.Sites.{sites_in, sites_in_turn, sites_in_branches, sites_in_bodies}
+use Rattle.net_compose.specs.Translation.{branch_ends, branch_answers, branches_end, branches_rules, bodies_rules, q_rules, turn_rules, rules_of, hidden_high}
+use Rattle.net_compose.proofs.BodyWritten.{raised_more, raised_done, on_ok, given}
+use Rattle.net_compose.proofs.FlatRules.{length-branch_ends, branches_end_is}
+use Rattle.net_compose.proofs.Raised.{with_raised}
+use Rattle.net_compose.proofs.RulesInTurn.{turn_rules_here, turn_rules_last, branch_rules_here, branch_rules_end, body_rules_here, body_rules_end, turn_sites_here, turn_sites_last, branch_sites_here, branch_sites_end, branch_ends_here, branch_ends_end, body_sites_here, body_sites_end, choosing_sites}
+use Rattle.net_stream.proofs.body.+statements.Goals as goal
+use Rattle.cell_parallel.specs.Trees.{tree_rules}
+use Rattle.net_stream.proofs.BodyDriven.{element_then, two_on, choice_left}
+use Rattle.prs_core.specs.Pairs.{no_rules}
+use Rattle.cell_sequence.specs.Sequence.{loop_request}
+
+-- sequences
+
+pub sequence-statement_nodes-size-requires : goal.sequence-statement_nodes-size-requires
+sequence-statement_nodes-size-requires t c = (this_typed _ _ c.args.members.now c.loop-place.place _ c.index-members-place.is (omega arith)
+    c.loop-place.invariant.formed).0
+
+pub sequence-overflow_cast-size : goal.sequence-overflow_cast-size
+sequence-overflow_cast-size t c =
+    let size = size_here (program_of c.args.program.now) c.args.members.now c.loop-place.place _ c.index-members-place.is (omega arith) in
+    omega (arith, size, c.statement_nodes-size.ensures, c.loop-place.invariant.size, c.requires.own, c.requires.few)
+
+pub sequence-overflow_add-own : goal.sequence-overflow_add-own
+sequence-overflow_add-own t c =
+    let size = size_here (program_of c.args.program.now) c.args.members.now c.loop-place.place _ c.index-members-place.is (omega arith) in
+    omega (arith, size, c.loop-place.invariant.size, c.requires.own, c.requires.few)
+
+pub sequence-answer_node-answer-requires : goal.sequence-answer_node-answer-requires
+sequence-answer_node-answer-requires t c =
+    let size = size_here (program_of c.args.program.now) c.args.members.now c.loop-place.place _ c.index-members-place.is (omega arith) in
+    record {
+      process = (this_typed _ _ c.args.members.now c.loop-place.place _ c.index-members-place.is (omega arith) c.loop-place.invariant.formed).0;
+      room = omega (arith, size, c.loop-place.invariant.size, c.requires.own, c.requires.few);
+    }
+
+pub sequence-statement-requires : goal.sequence-statement-requires
+sequence-statement-requires t c =
+    let p = program_of c.args.program.now in
+    let next = c.loop-place.next in
+    let s = process_of c.index-members-place.result in
+    let size = size_here p c.args.members.now c.loop-place.place _ c.index-members-place.is (omega arith) in
+    let typed = (this_typed _ _ c.args.members.now c.loop-place.place _ c.index-members-place.is (omega arith) c.loop-place.invariant.formed).0 in
+    let root : root_request p ≤ next + 3 = omega (arith, c.requires.root, c.loop-place.invariant.low) in
+    let room : next + 3 + size_of p s ≤ length c.loop-place.first =
+    omega (arith, size, c.loop-place.invariant.size, c.loop-place.invariant.values, c.requires.own) in
+    let few : length c.loop-place.first ≤ 65536 = omega (arith, c.loop-place.invariant.values, c.requires.few) in
+    (search (rules, the_lemmas, get_or_read), (c.requires.channels, (c.requires.vars, (typed, (root, (room, few))))))
+
+pub sequence-overflow_add-asked : goal.sequence-overflow_add-asked
+sequence-overflow_add-asked t c =
+    let size = size_here (program_of c.args.program.now) c.args.members.now c.loop-place.place _ c.index-members-place.is (omega arith) in
+    omega (arith, size, c.loop-place.invariant.size, c.requires.own, c.requires.few)
+
+pub sequence-overflow_add-next : goal.sequence-overflow_add-next
+sequence-overflow_add-next t c =
+    let size = size_here (program_of c.args.program.now) c.args.members.now c.loop-place.place _ c.index-members-place.is (omega arith) in
+    omega (arith, size, c.statement_nodes-size.ensures, c.loop-place.invariant.size, c.requires.own, c.requires.few)
+
+pub sequence-loop-place-preserved : goal.sequence-loop-place-preserved
+sequence-loop-place-preserved t c =
+    let p = program_of c.args.program.now in
+    let members = c.args.members.now in
+    let i = c.loop-place.place in
+    let m = c.index-members-place.result in
+    let s = process_of m in
+    let at = c.index-members-place.is in
+    let next = c.loop-place.next in
+    let asked = c.loop-place.asked in
+    let behind = members_in (drop (i + 1) members) in
+    let within : i + 1 < length members = omega arith in
+    let size = size_here p members i m at within in
+    let typed = this_typed _ _ members i m at (omega (arith, within)) c.loop-place.invariant.formed in
+    let count : c.statement_nodes-size.result ≡ size_of p s = omega (
+      arith,
+      size,
+      c.statement_nodes-size.ensures,
+      c.loop-place.invariant.size,
+      c.requires.own,
+      c.requires.few,
+    ) in
+    let step : next + 3 + c.statement_nodes-size.result ≡ next + 3 + size_of p s = ap (λ n. next + 3 + n) count in
+    record {
+      made = element_then c.loop-place.drivers.items _ _ _ (q_rules asked c.answer_node-answer.result next) (rules_of p s next (next + 3))
+          (turn_rules p behind (next + 2) (next + 3 + c.statement_nodes-size.result)) (turn_rules p (members_in (drop i members)) asked next)
+          c.in_ok-element.ensures c.in_ok-statement.ensures.made
+          (turn_rules_here p members i m at asked next within
+          ∙ (ap (λ a. q_rules asked a next ++ (rules_of p s next (next + 3) ++ turn_rules p behind (next + 2) (next + 3 + size_of p s)))
+          (sym c.answer_node-answer.ensures)
+          ∙ ap (λ n. q_rules asked c.answer_node-answer.result next ++ (rules_of p s next (next + 3) ++ turn_rules p behind (next + 2) n)) (sym step)))
+          c.loop-place.invariant.made;
+      contacts = sites_more c.loop-place.contacts.items _ (sites_in p (every_contact p) s (next + 3)) _ _ _ c.in_ok-statement.ensures.contacts
+          (turn_sites_here p members i m at (every_contact p) next within ∙ ap
+          (λ n. sites_in p (every_contact p) s (next + 3) ++ sites_in_turn p (every_contact p) behind n) (sym step))
+          c.loop-place.invariant.contacts;
+      first = raised_more c.loop-place.first _ _ (sites_in p (hidden_high p) s (next + 3)) _ _ c.in_ok-statement.ensures.first
+          (turn_sites_here p members i m at (hidden_high p) next within ∙ ap
+          (λ n. sites_in p (hidden_high p) s (next + 3) ++ sites_in_turn p (hidden_high p) behind n) (sym step))
+          c.loop-place.invariant.first;
+      values = omega (arith, c.statement.ensures.count, c.loop-place.invariant.values);
+      size = omega (arith, size, step, c.loop-place.invariant.size);
+      formed = typed.1;
+      low = omega (arith, c.loop-place.invariant.low);
+    }
+
+pub sequence-statement-requires-2 : goal.sequence-statement-requires-2
+sequence-statement-requires-2 t c =
+    let p = program_of c.args.program.now in
+    let members = c.args.members.now in
+    let i = c.loop-place.place in
+    let m = c.index-members-last.result in
+    let end : length members - 1 ≡ i = omega arith in
+    let whole : i + 1 ≡ length members = omega (arith, end, c.requires.process.0, members_counted members) in
+    let at : m ≡ get_or members i m = c.index-members-last.is ∙ ap (λ n. get_or members n m) end in
+    let size = size_last p members i m at whole in
+    let typed = (this_typed _ _ members i m at (omega (arith, whole)) c.loop-place.invariant.formed).0 in
+    let root : root_request p ≤ c.loop-place.next = omega (arith, c.requires.root, c.loop-place.invariant.low) in
+    let room : c.loop-place.next + size_of p (process_of m) ≤ length c.loop-place.first =
+    omega (arith, size, c.loop-place.invariant.size, c.loop-place.invariant.values, c.requires.own) in
+    let few : length c.loop-place.first ≤ 65536 = omega (arith, c.loop-place.invariant.values, c.requires.few) in
+    (search (rules, the_lemmas, get_or_read), (c.requires.channels, (c.requires.vars, (typed, (root, (room, few))))))
+
+pub sequence-returns-clause-made : goal.sequence-returns-clause-made
+sequence-returns-clause-made t c =
+    let p = program_of c.args.program.now in
+    let members = c.args.members.now in
+    let i = c.loop-place.place in
+    let m = c.index-members-last.result in
+    let end : length members - 1 ≡ i = omega arith in
+    let whole : i + 1 ≡ length members = omega (arith, end, c.requires.process.0, members_counted members) in
+    let at : m ≡ get_or members i m = c.index-members-last.is ∙ ap (λ n. get_or members n m) end in
+    c.in_ok-statement-2.ensures.made ∙ (ap (λ rs. c.loop-place.drivers.items ++ rs)
+    (sym (turn_rules_last p members i m at c.loop-place.asked c.loop-place.next whole)) ∙ c.loop-place.invariant.made)
+
+pub sequence-returns-clause-contacts : goal.sequence-returns-clause-contacts
+sequence-returns-clause-contacts t c =
+    let p = program_of c.args.program.now in
+    let members = c.args.members.now in
+    let i = c.loop-place.place in
+    let m = c.index-members-last.result in
+    let end : length members - 1 ≡ i = omega arith in
+    let whole : i + 1 ≡ length members = omega (arith, end, c.requires.process.0, members_counted members) in
+    let at : m ≡ get_or members i m = c.index-members-last.is ∙ ap (λ n. get_or members n m) end in
+    c.in_ok-statement-2.ensures.contacts ∙ (ap (λ xs. c.loop-place.contacts.items ++ xs)
+    (sym (turn_sites_last p members i m at (every_contact p) c.loop-place.next whole)) ∙ c.loop-place.invariant.contacts)
+
+pub sequence-returns-clause-first : goal.sequence-returns-clause-first
+sequence-returns-clause-first t c =
+    let p = program_of c.args.program.now in
+    let members = c.args.members.now in
+    let i = c.loop-place.place in
+    let m = c.index-members-last.result in
+    let end : length members - 1 ≡ i = omega arith in
+    let whole : i + 1 ≡ length members = omega (arith, end, c.requires.process.0, members_counted members) in
+    let at : m ≡ get_or members i m = c.index-members-last.is ∙ ap (λ n. get_or members n m) end in
+    c.in_ok-statement-2.ensures.first ∙ (ap (with_raised c.loop-place.first) (sym (turn_sites_last p members i m at (hidden_high p) c.loop-place.next whole))
+    ∙ c.loop-place.invariant.first)
+
+-- parallel compositions
+
+pub parallel-loop-branch-init : goal.parallel-loop-branch-init
+parallel-loop-branch-init t c =
+    record {
+      made = refl;
+      contacts = refl;
+      first = refl;
+      ends = ap (λ ns. ns ++ branch_ends (program_of c.args.program.now) (members_in c.args.branches.now) c.args.from) c.new-ends.ensures.items;
+      values = refl;
+      size = refl;
+      formed = c.requires.process.1;
+      low = omega arith;
+    }
+
+pub parallel-statement_nodes-size-requires : goal.parallel-statement_nodes-size-requires
+parallel-statement_nodes-size-requires t c =
+    (this_typed _ _ c.args.branches.now c.loop-branch.branch-index _ c.branch-item.is c.loop-branch-test.true c.loop-branch.invariant.formed).0
+
+pub parallel-overflow_cast-size : goal.parallel-overflow_cast-size
+parallel-overflow_cast-size t c =
+    let p = program_of c.args.program.now in
+    let size = branch_size_here p c.args.branches.now c.loop-branch.branch-index _ c.loop-branch-test.true c.branch-item.is in
+    omega (arith, size, c.statement_nodes-size.ensures, c.loop-branch.invariant.size, c.requires.own, c.requires.few)
+
+pub parallel-overflow_add-own : goal.parallel-overflow_add-own
+parallel-overflow_add-own t c =
+    let p = program_of c.args.program.now in
+    let size = branch_size_here p c.args.branches.now c.loop-branch.branch-index _ c.loop-branch-test.true c.branch-item.is in
+    omega (arith, size, c.loop-branch.invariant.size, c.requires.own, c.requires.few)
+
+pub parallel-answer_node-answer-requires : goal.parallel-answer_node-answer-requires
+parallel-answer_node-answer-requires t c =
+    let p = program_of c.args.program.now in
+    let size = branch_size_here p c.args.branches.now c.loop-branch.branch-index _ c.loop-branch-test.true c.branch-item.is in
+    record {
+      process = (this_typed _ _ c.args.branches.now c.loop-branch.branch-index _ c.branch-item.is c.loop-branch-test.true
+          c.loop-branch.invariant.formed).0;
+      room = omega (
+        arith,
+        size,
+        c.loop-branch.invariant.size,
+        c.requires.own,
+        c.requires.few,
+      );
+    }
+
+pub parallel-statement-requires : goal.parallel-statement-requires
+parallel-statement-requires t c =
+    let p = program_of c.args.program.now in
+    let next = c.loop-branch.next in
+    let s = process_of c.branch-item.result in
+    let size = branch_size_here p c.args.branches.now c.loop-branch.branch-index _ c.loop-branch-test.true c.branch-item.is in
+    let typed = (this_typed _ _ c.args.branches.now c.loop-branch.branch-index _ c.branch-item.is c.loop-branch-test.true c.loop-branch.invariant.formed).0 in
+    let root : root_request p ≤ next + 3 = omega (arith, c.requires.root, c.loop-branch.invariant.low) in
+    let room : next + 3 + size_of p s ≤ length c.loop-branch.first =
+    omega (arith, size, c.loop-branch.invariant.size, c.loop-branch.invariant.values, c.requires.own) in
+    let few : length c.loop-branch.first ≤ 65536 = omega (arith, c.loop-branch.invariant.values, c.requires.few) in
+    (search (rules, the_lemmas, get_or_read), (c.requires.channels, (c.requires.vars, (typed, (root, (room, few))))))
+
+pub parallel-overflow_add-next : goal.parallel-overflow_add-next
+parallel-overflow_add-next t c =
+    let p = program_of c.args.program.now in
+    let size = branch_size_here p c.args.branches.now c.loop-branch.branch-index _ c.loop-branch-test.true c.branch-item.is in
+    omega (arith, size, c.statement_nodes-size.ensures, c.loop-branch.invariant.size, c.requires.own, c.requires.few)
+
+pub parallel-loop-branch-preserved : goal.parallel-loop-branch-preserved
+parallel-loop-branch-preserved t c =
+    let p = program_of c.args.program.now in
+    let branches = c.args.branches.now in
+    let i = c.loop-branch.branch-index in
+    let b = c.branch-item.result in
+    let s = process_of b in
+    let at = c.branch-item.is in
+    let within = c.loop-branch-test.true in
+    let next = c.loop-branch.next in
+    let behind = members_in (drop (i + 1) branches) in
+    let size = branch_size_here p branches i b within at in
+    let typed = this_typed _ _ branches i b at within c.loop-branch.invariant.formed in
+    let count : c.statement_nodes-size.result ≡ size_of p s = omega (
+      arith,
+      size,
+      c.statement_nodes-size.ensures,
+      c.loop-branch.invariant.size,
+      c.requires.own,
+      c.requires.few,
+    ) in
+    let step : next + 3 + c.statement_nodes-size.result ≡ next + 3 + size_of p s = ap (λ n. next + 3 + n) count in
+    record {
+      made = element_then c.loop-branch.drivers.items _ _ _ (q_rules c.args.request c.answer_node-answer.result next) (rules_of p s next (next + 3))
+          (branches_rules p behind c.args.request (next + 3 + c.statement_nodes-size.result)) (branches_rules p (members_in
+          (drop i branches)) c.args.request next)
+          c.in_ok-element.ensures c.in_ok-statement.ensures.made
+          (branch_rules_here p branches i b within at c.args.request next
+          ∙ (ap (λ a. q_rules c.args.request a next ++ (rules_of p s next (next + 3) ++ branches_rules p behind c.args.request (next + 3 + size_of p s)))
+          (sym c.answer_node-answer.ensures)
+          ∙ ap (λ n. q_rules c.args.request c.answer_node-answer.result next ++ (rules_of p s next (next + 3) ++ branches_rules p behind c.args.request n))
+          (sym step)))
+          c.loop-branch.invariant.made;
+      contacts = sites_more c.loop-branch.contacts.items _ (sites_in p (every_contact p) s (next + 3)) _ _ _ c.in_ok-statement.ensures.contacts
+          (branch_sites_here p branches i b within at (every_contact p) next
+          ∙ ap (λ n. sites_in p (every_contact p) s (next + 3) ++ sites_in_branches p (every_contact p) behind n) (sym step))
+          c.loop-branch.invariant.contacts;
+      first = raised_more c.loop-branch.first _ _ (sites_in p (hidden_high p) s (next + 3)) _ _ c.in_ok-statement.ensures.first
+          (branch_sites_here p branches i b within at (hidden_high p) next
+          ∙ ap (λ n. sites_in p (hidden_high p) s (next + 3) ++ sites_in_branches p (hidden_high p) behind n) (sym step))
+          c.loop-branch.invariant.first;
+      ends = sites_more c.loop-branch.ends.items _ ((next + 2) ∷ []) _ _ _ c.in_ok-push.ensures.items
+          (branch_ends_here p branches i b within at next ∙ ap (λ n. (next + 2) ∷ branch_ends p behind n) (sym step))
+          c.loop-branch.invariant.ends;
+      values = omega (arith, c.statement.ensures.count, c.loop-branch.invariant.values);
+      size = omega (arith, size, step, c.loop-branch.invariant.size);
+      formed = typed.1;
+      low = omega (arith, c.loop-branch.invariant.low);
+    }
+
+ends_are : (p : TypedProgram) (branches : List TStmt) (i from next : ℕ) (ends nodes : List ℕ) → length branches ≤ i
+    → ends ++ branch_ends p (members_in (drop i branches)) next ≡ branch_ends p (members_in branches) from → nodes ≡ ends
+    → nodes ≡ branch_ends p (members_in branches) from
+ends_are p branches i from next ends nodes over so_far is = is ∙ sites_done ends _ _ (branch_ends_end p branches i over next) so_far
+
+pub parallel-tree-requires : goal.parallel-tree-requires
+parallel-tree-requires t c =
+    let p = program_of c.args.program.now in
+    let ms = members_in c.args.branches.now in
+    let are = ends_are p c.args.branches.now c.loop-branch.branch-index c.args.from c.loop-branch.next c.loop-branch.ends.items c.deref.result.now
+    c.loop-branch-test.false c.loop-branch.invariant.ends c.deref.ensures.value in
+    let end = branch_size_end p c.args.branches.now c.loop-branch.branch-index c.loop-branch-test.false in
+    omega (
+      arith,
+      ap length are,
+      length-branch_ends p ms c.args.from,
+      end,
+      c.loop-branch.invariant.size,
+      c.requires.process.0,
+      c.requires.own,
+      c.requires.few,
+    )
+
+pub parallel-returns-clause-made : goal.parallel-returns-clause-made
+parallel-returns-clause-made t c =
+    let p = program_of c.args.program.now in
+    let branches = c.args.branches.now in
+    let ms = members_in branches in
+    let i = c.loop-branch.branch-index in
+    let over = c.loop-branch-test.false in
+    let size = branch_size_end p branches i over in
+    let are = ends_are p branches i c.args.from c.loop-branch.next c.loop-branch.ends.items c.deref.result.now over c.loop-branch.invariant.ends
+    c.deref.ensures.value in
+    let end : c.loop-branch.next ≡ branches_end p ms c.args.from =
+    omega (arith, size, c.loop-branch.invariant.size, branches_end_is p ms c.args.from) in
+    two_on c.args.drivers.now.items c.loop-branch.drivers.items _ (branches_rules p ms c.args.request c.args.from) _
+    (sites_done c.loop-branch.drivers.items _ _ (branch_rules_end p branches i over c.args.request c.loop-branch.next) c.loop-branch.invariant.made)
+    (c.in_ok-tree.ensures ∙ (ap (λ es. c.loop-branch.drivers.items ++ tree_rules es c.loop-branch.next) are
+    ∙ ap (λ n. c.loop-branch.drivers.items ++ tree_rules (branch_ends p ms c.args.from) n) end))
+
+pub parallel-returns-clause-contacts : goal.parallel-returns-clause-contacts
+parallel-returns-clause-contacts t c =
+    let p = program_of c.args.program.now in
+    sites_done c.loop-branch.contacts.items _ _ (branch_sites_end p c.args.branches.now c.loop-branch.branch-index c.loop-branch-test.false
+    (every_contact p) c.loop-branch.next) c.loop-branch.invariant.contacts
+
+pub parallel-returns-clause-first : goal.parallel-returns-clause-first
+parallel-returns-clause-first t c =
+    let p = program_of c.args.program.now in
+    raised_done c.loop-branch.first _ _ (branch_sites_end p c.args.branches.now c.loop-branch.branch-index c.loop-branch-test.false (hidden_high p)
+    c.loop-branch.next) c.loop-branch.invariant.first
+
+-- selections
+
+pub selection-overflow_cast-guards : goal.selection-overflow_cast-guards
+selection-overflow_cast-guards t c = omega (arith, c.requires.process.1, arms_counted c.args.arms.now)
+
+pub selection-overflow_add-start-2 : goal.selection-overflow_add-start-2
+selection-overflow_add-start-2 t c =
+    omega (
+      arith,
+      choosing_size (program_of c.args.program.now) c.args.again (choices_in c.args.arms.now),
+      arms_counted c.args.arms.now,
+      c.own_nodes.ensures,
+      c.requires.own,
+      c.requires.few,
+    )
+
+pub selection-overflow_add-next : goal.selection-overflow_add-next
+selection-overflow_add-next t c =
+    omega (
+      arith,
+      choosing_size (program_of c.args.program.now) c.args.again (choices_in c.args.arms.now),
+      arms_counted c.args.arms.now,
+      c.own_nodes.ensures,
+      c.requires.own,
+      c.requires.few,
+    )
+
+pub selection-guards_nodes-requires-clause-formed : goal.selection-guards_nodes-requires-clause-formed
+selection-guards_nodes-requires-clause-formed t c = guards_formed _ _ (choices_in c.args.arms.now) c.requires.process.2
+
+pub selection-guards_nodes-requires-clause-room : goal.selection-guards_nodes-requires-clause-room
+selection-guards_nodes-requires-clause-room t c =
+    omega (
+      arith,
+      choosing_size (program_of c.args.program.now) c.args.again (choices_in c.args.arms.now),
+      c.requires.own,
+      c.requires.few,
+    )
+
+pub selection-overflow_add-next-2 : goal.selection-overflow_add-next-2
+selection-overflow_add-next-2 t c =
+    omega (
+      arith,
+      choosing_size (program_of c.args.program.now) c.args.again (choices_in c.args.arms.now),
+      arms_counted c.args.arms.now,
+      c.own_nodes.ensures,
+      c.guards_nodes.ensures,
+      c.requires.own,
+      c.requires.few,
+    )
+
+pub selection-body_answers-requires-clause-choices : goal.selection-body_answers-requires-clause-choices
+selection-body_answers-requires-clause-choices t c = c.requires.process.2
+
+pub selection-body_answers-requires-clause-room : goal.selection-body_answers-requires-clause-room
+selection-body_answers-requires-clause-room t c =
+    omega (
+      arith,
+      choosing_size (program_of c.args.program.now) c.args.again (choices_in c.args.arms.now),
+      arms_counted c.args.arms.now,
+      c.own_nodes.ensures,
+      c.guards_nodes.ensures,
+      c.requires.own,
+      c.requires.few,
+    )
+
+pub selection-choice-requires-clause-answers : goal.selection-choice-requires-clause-answers
+selection-choice-requires-clause-answers t c =
+    let p = program_of c.args.program.now in
+    let choices = choices_in c.args.arms.now in
+    let again = c.args.again in
+    let from = c.args.from in
+    let next : from + c.own_nodes.result + length c.args.arms.now + length c.args.arms.now + c.guards_nodes.result ≡ bodies_from choices
+    (own_before again) from = omega (arith, arms_counted c.args.arms.now, c.own_nodes.ensures, c.guards_nodes.ensures) in
+    c.in_ok-answers.ensures ∙ ap (branch_answers p choices) next
+
+pub selection-loop-arm-init : goal.selection-loop-arm-init
+selection-loop-arm-init t c =
+    let p = program_of c.args.program.now in
+    let arms = c.args.arms.now in
+    let choices = choices_in arms in
+    let again = c.args.again in
+    let from = c.args.from in
+    let size = choosing_size p again choices in
+    let start : from + c.own_nodes.result + length arms ≡ from + own_before again + choice_count choices = omega
+    (arith, arms_counted arms, c.own_nodes.ensures) in
+    let next : from + c.own_nodes.result + length arms + length arms + c.guards_nodes.result ≡ bodies_from choices (own_before again) from = omega
+    (arith, arms_counted arms, c.own_nodes.ensures, c.guards_nodes.ensures) in
+    record {
+      made = choice_left p again choices c.args.request from _ _ c.args.drivers.now.items c.choice.new.drivers.items start next
+          c.in_ok-choice.ensures.once c.in_ok-choice.ensures.repeated;
+      contacts = ap (λ n. c.args.contacts.now.items ++ sites_in_bodies p (every_contact p) choices n) next;
+      first = ap (λ n. with_raised c.args.first.now (sites_in_bodies p (hidden_high p) choices n)) next;
+      values = refl;
+      size = omega (arith, size, next);
+      formed = c.requires.process.2;
+      low = omega (arith, next);
+      starts = omega (arith, start, next, arms_counted arms);
+    }
+
+pub selection-statement_nodes-size-requires : goal.selection-statement_nodes-size-requires
+selection-statement_nodes-size-requires t c =
+    (arm_typed (program_of c.args.program.now) c.args.arms.now c.loop-arm.arm-index _ c.loop-arm-test.true c.arm-item.is _ _ c.loop-arm.invariant.formed).0
+
+pub selection-overflow_cast-size : goal.selection-overflow_cast-size
+selection-overflow_cast-size t c =
+    let p = program_of c.args.program.now in
+    let size = body_size_here p c.args.arms.now c.loop-arm.arm-index _ c.loop-arm-test.true c.arm-item.is in
+    omega (arith, size, c.statement_nodes-size.ensures, c.loop-arm.invariant.size, c.requires.own, c.requires.few)
+
+pub selection-statement-requires : goal.selection-statement-requires
+selection-statement-requires t c =
+    let p = program_of c.args.program.now in
+    let size = body_size_here p c.args.arms.now c.loop-arm.arm-index _ c.loop-arm-test.true c.arm-item.is in
+    let typed = (arm_typed p c.args.arms.now c.loop-arm.arm-index _ c.loop-arm-test.true c.arm-item.is _ _ c.loop-arm.invariant.formed).0 in
+    let root : root_request p ≤ c.loop-arm.next = omega (arith, c.requires.root, c.loop-arm.invariant.low) in
+    let room : c.loop-arm.next + size_of p (process_of c.arm-item.result.body) ≤ length c.loop-arm.first =
+    omega (arith, size, c.loop-arm.invariant.size, c.loop-arm.invariant.values, c.requires.own) in
+    let few : length c.loop-arm.first ≤ 65536 = omega (arith, c.loop-arm.invariant.values, c.requires.few) in
+    (search (rules, the_lemmas, get_or_read), (c.requires.channels, (c.requires.vars, (typed, (root, (room, few))))))
+
+pub selection-overflow_add-start-in-loop-arm : goal.selection-overflow_add-start-in-loop-arm
+selection-overflow_add-start-in-loop-arm t c =
+    let p = program_of c.args.program.now in
+    let size = body_size_here p c.args.arms.now c.loop-arm.arm-index _ c.loop-arm-test.true c.arm-item.is in
+    omega (
+      arith,
+      size,
+      c.loop-arm.invariant.starts,
+      c.loop-arm-test.true,
+      c.loop-arm.invariant.size,
+      c.requires.own,
+      c.requires.few,
+    )
+
+pub selection-overflow_add-next-in-loop-arm : goal.selection-overflow_add-next-in-loop-arm
+selection-overflow_add-next-in-loop-arm t c =
+    let p = program_of c.args.program.now in
+    let size = body_size_here p c.args.arms.now c.loop-arm.arm-index _ c.loop-arm-test.true c.arm-item.is in
+    omega (arith, size, c.statement_nodes-size.ensures, c.loop-arm.invariant.size, c.requires.own, c.requires.few)
+
+pub selection-loop-arm-preserved : goal.selection-loop-arm-preserved
+selection-loop-arm-preserved t c =
+    let p = program_of c.args.program.now in
+    let arms = c.args.arms.now in
+    let i = c.loop-arm.arm-index in
+    let a = c.arm-item.result in
+    let s = process_of a.body in
+    let at = c.arm-item.is in
+    let within = c.loop-arm-test.true in
+    let start = c.loop-arm.start in
+    let next = c.loop-arm.next in
+    let behind = choices_in (drop (i + 1) arms) in
+    let size = body_size_here p arms i a within at in
+    let typed = arm_typed p arms i a within at _ _ c.loop-arm.invariant.formed in
+    let count : c.statement_nodes-size.result ≡ size_of p s = omega (
+      arith,
+      size,
+      c.statement_nodes-size.ensures,
+      c.loop-arm.invariant.size,
+      c.requires.own,
+      c.requires.few,
+    ) in
+    let step : next + c.statement_nodes-size.result ≡ next + size_of p s = ap (λ n. next + n) count in
+    record {
+      made = sites_more c.loop-arm.drivers.items _ (rules_of p s start next) _ _ _ c.in_ok-statement.ensures.made
+          (body_rules_here p arms i a within at start next ∙ ap (λ n. rules_of p s start next ++ bodies_rules p behind (start + 1) n) (sym step))
+          c.loop-arm.invariant.made;
+      contacts = sites_more c.loop-arm.contacts.items _ (sites_in p (every_contact p) s next) _ _ _ c.in_ok-statement.ensures.contacts
+          (body_sites_here p arms i a within at (every_contact p) next ∙ ap (λ n. sites_in p (every_contact p) s next ++ sites_in_bodies p
+          (every_contact p) behind n)
+          (sym step))
+          c.loop-arm.invariant.contacts;
+      first = raised_more c.loop-arm.first _ _ (sites_in p (hidden_high p) s next) _ _ c.in_ok-statement.ensures.first
+          (body_sites_here p arms i a within at (hidden_high p) next ∙ ap
+          (λ n. sites_in p (hidden_high p) s next ++ sites_in_bodies p (hidden_high p) behind n) (sym step))
+          c.loop-arm.invariant.first;
+      values = omega (arith, c.statement.ensures.count, c.loop-arm.invariant.values);
+      size = omega (arith, size, step, c.loop-arm.invariant.size);
+      formed = typed.1;
+      low = omega (arith, c.loop-arm.invariant.low);
+      starts = omega (arith, c.loop-arm.invariant.starts, within);
+    }
+
+pub selection-returns-clause-made : goal.selection-returns-clause-made
+selection-returns-clause-made t c = sites_done c.loop-arm.drivers.items _ _ (body_rules_end (program_of c.args.program.now) c.args.arms.now
+    c.loop-arm.arm-index c.loop-arm-test.false c.loop-arm.start c.loop-arm.next) c.loop-arm.invariant.made
+
+pub selection-returns-clause-contacts : goal.selection-returns-clause-contacts
+selection-returns-clause-contacts t c =
+    let p = program_of c.args.program.now in
+    sites_done c.loop-arm.contacts.items _ _ (body_sites_end p c.args.arms.now c.loop-arm.arm-index c.loop-arm-test.false (every_contact p)
+    c.loop-arm.next) c.loop-arm.invariant.contacts
+    ∙ ap (λ xs. c.args.contacts.now.items ++ xs) (sym (choosing_sites p (every_contact p) c.args.again c.args.arms.now c.args.from))
+
+pub selection-returns-clause-first : goal.selection-returns-clause-first
+selection-returns-clause-first t c =
+    let p = program_of c.args.program.now in
+    raised_done c.loop-arm.first _ _ (body_sites_end p c.args.arms.now c.loop-arm.arm-index c.loop-arm-test.false (hidden_high p) c.loop-arm.next)
+    c.loop-arm.invariant.first
+    ∙ ap (with_raised c.args.first.now) (sym (choosing_sites p (hidden_high p) c.args.again c.args.arms.now c.args.from))
+
+-- all statements
+
+pub statement-assign-requires-clause-within : goal.statement-assign-requires-clause-within
+statement-assign-requires-clause-within t c =
+    let p = program_of c.args.program.now in
+    let is : process_of c.args.s.now ≡ assigning c.in-Assign.var c.in-Assign.at (formula_of c.in-Assign.value) = ap process_of c.in-Assign.is in
+    (subst (IsProcess p.channels p.vars) is c.requires.process).0
+
+pub statement-assign-requires-clause-width : goal.statement-assign-requires-clause-width
+statement-assign-requires-clause-width t c =
+    let p = program_of c.args.program.now in
+    let is : process_of c.args.s.now ≡ assigning c.in-Assign.var c.in-Assign.at (formula_of c.in-Assign.value) = ap process_of c.in-Assign.is in
+    (subst (IsProcess p.channels p.vars) is c.requires.process).1
+
+pub statement-assign-requires-clause-own : goal.statement-assign-requires-clause-own
+statement-assign-requires-clause-own t c =
+    let p = program_of c.args.program.now in
+    let is : process_of c.args.s.now ≡ assigning c.in-Assign.var c.in-Assign.at (formula_of c.in-Assign.value) = ap process_of c.in-Assign.is in
+    omega (arith, ap (size_of p) is, c.requires.own, c.requires.few)
+
+pub statement-returns-in-Assign-clause-made : goal.statement-returns-in-Assign-clause-made
+statement-returns-in-Assign-clause-made t c =
+    let p = program_of c.args.program.now in
+    let is : process_of c.args.s.now ≡ assigning c.in-Assign.var c.in-Assign.at (formula_of c.in-Assign.value) = ap process_of c.in-Assign.is in
+    on_ok c.assign.result (λ f. f c.in-Assign.at ∙ ap (λ q. c.args.drivers.now.items ++ rules_of p q c.args.request c.args.from) (sym is))
+    c.assign.ensures.made
+
+pub statement-returns-in-Assign-clause-contacts : goal.statement-returns-in-Assign-clause-contacts
+statement-returns-in-Assign-clause-contacts t c =
+    let p = program_of c.args.program.now in
+    let is : process_of c.args.s.now ≡ assigning c.in-Assign.var c.in-Assign.at (formula_of c.in-Assign.value) = ap process_of c.in-Assign.is in
+    on_ok c.assign.result (λ f. f ∙ ap (λ q. c.args.contacts.now.items ++ sites_in p (every_contact p) q c.args.from) (sym is)) c.assign.ensures.contacts
+
+pub statement-returns-in-Assign-clause-first : goal.statement-returns-in-Assign-clause-first
+statement-returns-in-Assign-clause-first t c =
+    let p = program_of c.args.program.now in
+    let is : process_of c.args.s.now ≡ assigning c.in-Assign.var c.in-Assign.at (formula_of c.in-Assign.value) = ap process_of c.in-Assign.is in
+    on_ok c.assign.result (λ f. f c.in-Assign.at ∙ ap (λ q. with_raised c.args.first.now (sites_in p (hidden_high p) q c.args.from))
+    (sym is)) c.assign.ensures.first
+
+pub statement-send-requires-clause-process : goal.statement-send-requires-clause-process
+statement-send-requires-clause-process t c =
+    let p = program_of c.args.program.now in
+    let is : process_of c.args.s.now ≡ sending c.in-Send.chan c.in-Send.at (formula_of c.in-Send.value) = ap process_of c.in-Send.is in
+    subst (IsProcess p.channels p.vars) is c.requires.process
+
+pub statement-send-requires-clause-room : goal.statement-send-requires-clause-room
+statement-send-requires-clause-room t c =
+    let p = program_of c.args.program.now in
+    let is : process_of c.args.s.now ≡ sending c.in-Send.chan c.in-Send.at (formula_of c.in-Send.value) = ap process_of c.in-Send.is in
+    omega (arith, ap (size_of p) is, c.requires.own, c.requires.few)
+
+pub statement-returns-in-Send-clause-made : goal.statement-returns-in-Send-clause-made
+statement-returns-in-Send-clause-made t c =
+    let p = program_of c.args.program.now in
+    let is : process_of c.args.s.now ≡ sending c.in-Send.chan c.in-Send.at (formula_of c.in-Send.value) = ap process_of c.in-Send.is in
+    on_ok c.send.result (λ f. f ∙ ap (λ q. c.args.drivers.now.items ++ rules_of p q c.args.request c.args.from)
+    (sym is)) c.send.ensures.made
+
+pub statement-returns-in-Send-clause-contacts : goal.statement-returns-in-Send-clause-contacts
+statement-returns-in-Send-clause-contacts t c =
+    let p = program_of c.args.program.now in
+    let is : process_of c.args.s.now ≡ sending c.in-Send.chan c.in-Send.at (formula_of c.in-Send.value) = ap process_of c.in-Send.is in
+    on_ok c.send.result (λ f. f ∙ ap (λ q. c.args.contacts.now.items ++ sites_in p (every_contact p) q c.args.from) (sym is))
+    c.send.ensures.contacts
+
+pub statement-returns-in-Send-clause-first : goal.statement-returns-in-Send-clause-first
+statement-returns-in-Send-clause-first t c =
+    let p = program_of c.args.program.now in
+    let is : process_of c.args.s.now ≡ sending c.in-Send.chan c.in-Send.at (formula_of c.in-Send.value) = ap process_of c.in-Send.is in
+    given c.send.result (ap (λ q. with_raised c.args.first.now (sites_in p (hidden_high p) q c.args.from)) (sym is))
+
+pub statement-receive-requires-clause-process : goal.statement-receive-requires-clause-process
+statement-receive-requires-clause-process t c =
+    let p = program_of c.args.program.now in
+    let is : process_of c.args.s.now ≡ receiving c.in-Receive.chan c.in-Receive.chan_at c.in-Receive.var c.in-Receive.var_at = ap process_of
+    c.in-Receive.is in
+    subst (IsProcess p.channels p.vars) is c.requires.process
+
+pub statement-receive-requires-clause-room : goal.statement-receive-requires-clause-room
+statement-receive-requires-clause-room t c =
+    let p = program_of c.args.program.now in
+    let is : process_of c.args.s.now ≡ receiving c.in-Receive.chan c.in-Receive.chan_at c.in-Receive.var c.in-Receive.var_at = ap process_of
+    c.in-Receive.is in
+    omega (arith, ap (size_of p) is, c.requires.own, c.requires.few)
+
+pub statement-returns-in-Receive-clause-made : goal.statement-returns-in-Receive-clause-made
+statement-returns-in-Receive-clause-made t c =
+    let p = program_of c.args.program.now in
+    let is : process_of c.args.s.now ≡ receiving c.in-Receive.chan c.in-Receive.chan_at c.in-Receive.var c.in-Receive.var_at = ap process_of
+    c.in-Receive.is in
+    on_ok c.receive.result (λ f. f ∙ ap (λ q. c.args.drivers.now.items ++ rules_of p q c.args.request c.args.from) (sym is)) c.receive.ensures.made
+
+pub statement-returns-in-Receive-clause-contacts : goal.statement-returns-in-Receive-clause-contacts
+statement-returns-in-Receive-clause-contacts t c =
+    let p = program_of c.args.program.now in
+    let is : process_of c.args.s.now ≡ receiving c.in-Receive.chan c.in-Receive.chan_at c.in-Receive.var c.in-Receive.var_at = ap process_of
+    c.in-Receive.is in
+    on_ok c.receive.result (λ f. f ∙ ap (λ q. c.args.contacts.now.items ++ sites_in p (every_contact p) q c.args.from) (sym is)) c.receive.ensures.contacts
+
+pub statement-returns-in-Receive-clause-first : goal.statement-returns-in-Receive-clause-first
+statement-returns-in-Receive-clause-first t c =
+    let p = program_of c.args.program.now in
+    let is : process_of c.args.s.now ≡ receiving c.in-Receive.chan c.in-Receive.chan_at c.in-Receive.var c.in-Receive.var_at = ap process_of
+    c.in-Receive.is in
+    given c.receive.result (ap (λ q. with_raised c.args.first.now (sites_in p (hidden_high p) q c.args.from)) (sym is))
+
+pub statement-returns-in-Skip-clause-made : goal.statement-returns-in-Skip-clause-made
+statement-returns-in-Skip-clause-made t c =
+    let p = program_of c.args.program.now in
+    let is : process_of c.args.s.now ≡ skipping = ap process_of c.in-Skip.is in
+    on_ok c.skip.result (λ f. f ∙ ap (λ q. c.args.drivers.now.items ++ rules_of p q c.args.request c.args.from) (sym is))
+    c.skip.ensures
+
+pub statement-returns-in-Skip-clause-contacts : goal.statement-returns-in-Skip-clause-contacts
+statement-returns-in-Skip-clause-contacts t c =
+    let p = program_of c.args.program.now in
+    let is : process_of c.args.s.now ≡ skipping = ap process_of c.in-Skip.is in
+    given c.skip.result (sym (append-nil (c.args.contacts.now.items))
+    ∙ ap (λ q. c.args.contacts.now.items ++ sites_in p (every_contact p) q c.args.from) (sym is))
+
+pub statement-returns-in-Skip-clause-first : goal.statement-returns-in-Skip-clause-first
+statement-returns-in-Skip-clause-first t c =
+    let p = program_of c.args.program.now in
+    let is : process_of c.args.s.now ≡ skipping = ap process_of c.in-Skip.is in
+    given c.skip.result (ap (λ q. with_raised c.args.first.now (sites_in p (hidden_high p) q c.args.from)) (sym is))
+
+pub statement-sequence-requires : goal.statement-sequence-requires
+statement-sequence-requires t c =
+    let p = program_of c.args.program.now in
+    let is : process_of c.args.s.now ≡ in_turn (members_in c.deref-in-Then.result.now) =
+    then_is _ c.in-Then.parts c.in-Then.is ∙ ap (λ xs. in_turn (members_in xs)) (sym c.deref-in-Then.ensures.value) in
+    let typed = subst (IsProcess p.channels p.vars) is c.requires.process in
+    let room : c.args.from + size_of p (in_turn (members_in c.deref-in-Then.result.now)) ≤ length c.args.first.now = omega
+    (arith, ap (size_of p) is, c.requires.own) in (
+      search (rules, the_lemmas, get_or_read),
+      (c.requires.channels, (c.requires.vars, (typed, (c.requires.root, (room, c.requires.few))))),
+    )
+
+pub statement-returns-in-Then-clause-made : goal.statement-returns-in-Then-clause-made
+statement-returns-in-Then-clause-made t c =
+    let p = program_of c.args.program.now in
+    let is : process_of c.args.s.now ≡ in_turn (members_in c.deref-in-Then.result.now) = then_is _ c.in-Then.parts c.in-Then.is
+    ∙ ap (λ xs. in_turn (members_in xs)) (sym c.deref-in-Then.ensures.value) in
+    on_ok c.sequence.result (λ f. f ∙ ap (λ q. c.args.drivers.now.items ++ rules_of p q c.args.request c.args.from) (sym is))
+    c.sequence.ensures.made
+
+pub statement-returns-in-Then-clause-contacts : goal.statement-returns-in-Then-clause-contacts
+statement-returns-in-Then-clause-contacts t c =
+    let p = program_of c.args.program.now in
+    let is : process_of c.args.s.now ≡ in_turn (members_in c.deref-in-Then.result.now) = then_is _ c.in-Then.parts c.in-Then.is
+    ∙ ap (λ xs. in_turn (members_in xs)) (sym c.deref-in-Then.ensures.value) in
+    on_ok c.sequence.result (λ f. f ∙ ap (λ q. c.args.contacts.now.items ++ sites_in p (every_contact p) q c.args.from) (sym is))
+    c.sequence.ensures.contacts
+
+pub statement-returns-in-Then-clause-first : goal.statement-returns-in-Then-clause-first
+statement-returns-in-Then-clause-first t c =
+    let p = program_of c.args.program.now in
+    let is : process_of c.args.s.now ≡ in_turn (members_in c.deref-in-Then.result.now) = then_is _ c.in-Then.parts c.in-Then.is
+    ∙ ap (λ xs. in_turn (members_in xs)) (sym c.deref-in-Then.ensures.value) in
+    on_ok c.sequence.result (λ f. f ∙ ap (λ q. with_raised c.args.first.now (sites_in p (hidden_high p) q c.args.from)) (sym is)) c.sequence.ensures.first
+
+pub statement-parallel-requires : goal.statement-parallel-requires
+statement-parallel-requires t c =
+    let p = program_of c.args.program.now in
+    let is : process_of c.args.s.now ≡ side_by_side (members_in c.deref-in-Beside.result.now) =
+    beside_is _ c.in-Beside.parts c.in-Beside.is ∙ ap (λ xs. side_by_side (members_in xs)) (sym c.deref-in-Beside.ensures.value) in
+    let typed = subst (IsProcess p.channels p.vars) is c.requires.process in
+    let room : c.args.from + size_of p (side_by_side (members_in c.deref-in-Beside.result.now)) ≤ length c.args.first.now = omega
+    (arith, ap (size_of p) is, c.requires.own) in (
+      search (rules, the_lemmas, get_or_read),
+      (c.requires.channels, (c.requires.vars, (typed, (c.requires.root, (room, c.requires.few))))),
+    )
+
+pub statement-returns-in-Beside-clause-made : goal.statement-returns-in-Beside-clause-made
+statement-returns-in-Beside-clause-made t c =
+    let p = program_of c.args.program.now in
+    let is : process_of c.args.s.now ≡ side_by_side (members_in c.deref-in-Beside.result.now) = beside_is _ c.in-Beside.parts c.in-Beside.is
+    ∙ ap (λ xs. side_by_side (members_in xs)) (sym c.deref-in-Beside.ensures.value) in
+    on_ok c.parallel.result (λ f. f ∙ ap (λ q. c.args.drivers.now.items ++ rules_of p q c.args.request c.args.from) (sym is))
+    c.parallel.ensures.made
+
+pub statement-returns-in-Beside-clause-contacts : goal.statement-returns-in-Beside-clause-contacts
+statement-returns-in-Beside-clause-contacts t c =
+    let p = program_of c.args.program.now in
+    let is : process_of c.args.s.now ≡ side_by_side (members_in c.deref-in-Beside.result.now) = beside_is _ c.in-Beside.parts c.in-Beside.is
+    ∙ ap (λ xs. side_by_side (members_in xs)) (sym c.deref-in-Beside.ensures.value) in
+    on_ok c.parallel.result (λ f. f ∙ ap (λ q. c.args.contacts.now.items ++ sites_in p (every_contact p) q c.args.from) (sym is))
+    c.parallel.ensures.contacts
+
+pub statement-returns-in-Beside-clause-first : goal.statement-returns-in-Beside-clause-first
+statement-returns-in-Beside-clause-first t c =
+    let p = program_of c.args.program.now in
+    let is : process_of c.args.s.now ≡ side_by_side (members_in c.deref-in-Beside.result.now) = beside_is _ c.in-Beside.parts c.in-Beside.is
+    ∙ ap (λ xs. side_by_side (members_in xs)) (sym c.deref-in-Beside.ensures.value) in
+    on_ok c.parallel.result (λ f. f ∙ ap (λ q. with_raised c.args.first.now (sites_in p (hidden_high p) q c.args.from)) (sym is)) c.parallel.ensures.first
+
+pub statement-selection-requires : goal.statement-selection-requires
+statement-selection-requires t c =
+    let p = program_of c.args.program.now in
+    let is : process_of c.args.s.now ≡ choosing c.in-Select.again (choices_in c.deref-in-Select.result.now) =
+    select_is _ c.in-Select.again c.in-Select.arms c.in-Select.is ∙ ap (λ xs. choosing c.in-Select.again (choices_in xs))
+    (sym c.deref-in-Select.ensures.value) in
+    let typed = subst (IsProcess p.channels p.vars) is c.requires.process in
+    let room : c.args.from + size_of p (choosing c.in-Select.again (choices_in c.deref-in-Select.result.now)) ≤ length c.args.first.now = omega
+    (arith, ap (size_of p) is, c.requires.own) in (
+      search (rules, the_lemmas, get_or_read),
+      (c.requires.channels, (c.requires.vars, (typed, (c.requires.root, (room, c.requires.few))))),
+    )
+
+pub statement-returns-in-Select-clause-made : goal.statement-returns-in-Select-clause-made
+statement-returns-in-Select-clause-made t c =
+    let p = program_of c.args.program.now in
+    let is : process_of c.args.s.now ≡ choosing c.in-Select.again (choices_in c.deref-in-Select.result.now) = select_is _ c.in-Select.again c.in-Select.arms
+    c.in-Select.is ∙ ap (λ xs. choosing c.in-Select.again (choices_in xs)) (sym c.deref-in-Select.ensures.value) in
+    on_ok c.selection.result (λ f. f ∙ ap (λ q. c.args.drivers.now.items ++ rules_of p q c.args.request c.args.from) (sym is))
+    c.selection.ensures.made
+
+pub statement-returns-in-Select-clause-contacts : goal.statement-returns-in-Select-clause-contacts
+statement-returns-in-Select-clause-contacts t c =
+    let p = program_of c.args.program.now in
+    let is : process_of c.args.s.now ≡ choosing c.in-Select.again (choices_in c.deref-in-Select.result.now) = select_is _ c.in-Select.again c.in-Select.arms
+    c.in-Select.is ∙ ap (λ xs. choosing c.in-Select.again (choices_in xs)) (sym c.deref-in-Select.ensures.value) in
+    on_ok c.selection.result (λ f. f ∙ ap (λ q. c.args.contacts.now.items ++ sites_in p (every_contact p) q c.args.from) (sym is))
+    c.selection.ensures.contacts
+
+pub statement-returns-in-Select-clause-first : goal.statement-returns-in-Select-clause-first
+statement-returns-in-Select-clause-first t c =
+    let p = program_of c.args.program.now in
+    let is : process_of c.args.s.now ≡ choosing c.in-Select.again (choices_in c.deref-in-Select.result.now) = select_is _ c.in-Select.again c.in-Select.arms
+    c.in-Select.is ∙ ap (λ xs. choosing c.in-Select.again (choices_in xs)) (sym c.deref-in-Select.ensures.value) in
+    on_ok c.selection.result (λ f. f ∙ ap (λ q. with_raised c.args.first.now (sites_in p (hidden_high p) q c.args.from)) (sym is)) c.selection.ensures.first
+
+pub statement-overflow_add-start : goal.statement-overflow_add-start
+statement-overflow_add-start t c =
+    let p = program_of c.args.program.now in
+    omega (arith, ap (size_of p) (ap process_of c.in-Repeat.is), c.requires.own, c.requires.few)
+
+pub statement-overflow_add-next : goal.statement-overflow_add-next
+statement-overflow_add-next t c =
+    let p = program_of c.args.program.now in
+    omega (arith, ap (size_of p) (ap process_of c.in-Repeat.is), c.requires.own, c.requires.few)
+
+pub statement-answer_node-answer-requires : goal.statement-answer_node-answer-requires
+statement-answer_node-answer-requires t c =
+    let p = program_of c.args.program.now in
+    let s = process_of c.deref-in-Repeat.result.now in
+    let from = c.args.from in
+    let is : process_of c.args.s.now ≡ repeating s = ap process_of c.in-Repeat.is ∙ ap (λ b. repeating (process_of b)) (sym c.deref-in-Repeat.ensures) in
+    record {
+      process = subst (IsProcess p.channels p.vars) is c.requires.process;
+      room = omega
+          (arith, ap (size_of p) is, c.requires.own, c.requires.few);
+    }
+
+pub statement-statement-requires : goal.statement-statement-requires
+statement-statement-requires t c =
+    let p = program_of c.args.program.now in
+    let s = process_of c.deref-in-Repeat-2.result.now in
+    let from = c.args.from in
+    let is : process_of c.args.s.now ≡ repeating s = ap process_of c.in-Repeat.is ∙ ap (λ b. repeating (process_of b)) (sym c.deref-in-Repeat-2.ensures) in
+    let typed : IsProcess p.channels p.vars s = subst (IsProcess p.channels p.vars) is c.requires.process in
+    let root : root_request p ≤ from + 2 = omega (arith, c.requires.root) in
+    let room : from + 2 + size_of p s ≤ length c.args.first.now = omega (arith, ap (size_of p) is, c.requires.own) in
+    (search (rules, the_lemmas, get_or_read), (c.requires.channels, (c.requires.vars, (typed, (root, (room, c.requires.few))))))
+
+pub statement-returns-in_ok-statement-in-Repeat-clause-made : goal.statement-returns-in_ok-statement-in-Repeat-clause-made
+statement-returns-in_ok-statement-in-Repeat-clause-made t c =
+    let p = program_of c.args.program.now in
+    let s = process_of c.deref-in-Repeat-2.result.now in
+    let from = c.args.from in
+    let is : process_of c.args.s.now ≡ repeating s = ap process_of c.in-Repeat.is ∙ ap (λ b. repeating (process_of b)) (sym c.deref-in-Repeat-2.ensures) in
+    let answer : c.answer_node-answer.result ≡ answer_of p s (from + 2) =
+    c.answer_node-answer.ensures ∙ ap (λ b. answer_of p (process_of b) (from + 2)) (c.deref-in-Repeat.ensures ∙ sym c.deref-in-Repeat-2.ensures) in
+    two_on c.args.drivers.now.items _ _ _ (rules_of p s (from + 1) (from + 2))
+    (c.in_ok-repeated-in-Repeat.ensures ∙ ap (λ a. c.args.drivers.now.items ++ (no_rules ∷ loop_request c.args.request a ∷ [])) answer)
+    c.in_ok-statement-in-Repeat.ensures.made
+    ∙ ap (λ q. c.args.drivers.now.items ++ rules_of p q c.args.request from) (sym is)
+
+pub statement-returns-in_ok-statement-in-Repeat-clause-contacts : goal.statement-returns-in_ok-statement-in-Repeat-clause-contacts
+statement-returns-in_ok-statement-in-Repeat-clause-contacts t c =
+    let p = program_of c.args.program.now in
+    let s = process_of c.deref-in-Repeat-2.result.now in
+    let from = c.args.from in
+    let is : process_of c.args.s.now ≡ repeating s = ap process_of c.in-Repeat.is ∙ ap (λ b. repeating (process_of b)) (sym c.deref-in-Repeat-2.ensures) in
+    c.in_ok-statement-in-Repeat.ensures.contacts ∙ ap (λ q. c.args.contacts.now.items ++ sites_in p (every_contact p) q from) (sym is)
+
+pub statement-returns-in_ok-statement-in-Repeat-clause-first : goal.statement-returns-in_ok-statement-in-Repeat-clause-first
+statement-returns-in_ok-statement-in-Repeat-clause-first t c =
+    let p = program_of c.args.program.now in
+    let s = process_of c.deref-in-Repeat-2.result.now in
+    let from = c.args.from in
+    let is : process_of c.args.s.now ≡ repeating s = ap process_of c.in-Repeat.is ∙ ap (λ b. repeating (process_of b)) (sym c.deref-in-Repeat-2.ensures) in
+    c.in_ok-statement-in-Repeat.ensures.first ∙ ap (λ q. with_raised c.args.first.now (sites_in p (hidden_high p) q from)) (sym is)

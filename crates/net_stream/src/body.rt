@@ -1,0 +1,306 @@
+//! The drivers of statements: those of a statement's own nodes, and of the statements in it.
+
+ghost use Rattle.std.specs.Prelude.{◌≡◌, ◌+◌, ◌≤◌, ◌++◌, ◌∷◌, [], true, fold, length, slice_set, IfOk, OnOk};
+ghost use Rattle.prs_core.specs.Pairs.{no_rules};
+ghost use Rattle.width_check.specs.Processes.{in_turn, side_by_side, choosing};
+ghost use Rattle.width_check.specs.Typed.{program_of};
+ghost use Rattle.width_check.specs.Typing.{IsProcess};
+ghost use Rattle.width_check.specs.View.{process_of, members_in, choices_in};
+ghost use Rattle.handshake_expand.specs.Layout.{size_of, nodes_of, root_request, body_from};
+ghost use Rattle.handshake_expand.specs.Sites.{sites_in, in_body};
+ghost use Rattle.cell_sequence.specs.Sequence.{skip_answer, loop_request};
+ghost use Rattle.net_compose.specs.Begins.{channel_firsts, var_firsts};
+ghost use Rattle.net_compose.specs.Translation.{rules_of, hidden_high};
+ghost use Rattle.net_stream.specs.Contacts.{every_contact};
+
+use crate::arms::{body_answers, guards_nodes, own_nodes};
+use crate::choice::choice;
+use crate::contact::Contact;
+use crate::driver::Driver;
+use crate::firsts::Firsts;
+use crate::formula::element;
+use crate::leaves::{assign, receive, send};
+use crate::tree::tree;
+use handshake_expand::{answer_node, count_nodes, statement_nodes};
+use std::alloc::{AllocError, Global};
+use width_check::{TArm, TStmt, Typed};
+
+/// Adds the driver of a skip's answer.
+fn skip(request: u32, drivers: &mut Vec<Driver>) -> Result<(), AllocError>
+    ensures { OnOk result (drivers.new.items ≡ drivers.old.items ++ skip_answer request ∷ []) }
+{
+    drivers.push(Driver::skip(request))?;
+    Ok(())
+}
+
+/// Adds the drivers of a loop's own nodes: its answer, which never rises, and the request of its body (Burns and
+/// Martin).
+fn repeated(request: u32, body_answer: u32, drivers: &mut Vec<Driver>) -> Result<(), AllocError>
+    ensures { OnOk result (drivers.new.items
+        ≡ drivers.old.items ++ no_rules ∷ loop_request request body_answer ∷ []) }
+{
+    drivers.push(Driver::undriven())?;
+    drivers.push(Driver::child(request, body_answer))?;
+    Ok(())
+}
+
+/// Adds the drivers of a sequence. Each member but the last stands behind a Q-element of three nodes: its request, the
+/// latch, and the request of what follows.
+#[cycle(statements)]
+fn sequence(
+    alloc: Global,
+    program: &Typed,
+    members: &[TStmt],
+    request: u32,
+    from: u32,
+    firsts: &Firsts,
+    first: &mut [bool],
+    contacts: &mut Vec<Contact>,
+    drivers: &mut Vec<Driver>,
+) -> Result<(), AllocError>
+    requires channels { firsts.now.channels.items ≡ channel_firsts (program_of program.now) }
+    requires vars { firsts.now.vars.items ≡ var_firsts (program_of program.now) }
+    requires process { IsProcess program.now.channels program.now.vars (in_turn (members_in members.now)) }
+    requires root { root_request (program_of program.now) ≤ from }
+    requires own { from + size_of (program_of program.now) (in_turn (members_in members.now)) ≤ length first.old }
+    requires few { length first.old ≤ 65536 }
+    ensures made { OnOk result (drivers.new.items ≡ drivers.old.items
+        ++ rules_of (program_of program.now) (in_turn (members_in members.now)) request from) }
+    ensures contacts { OnOk result (contacts.new.items ≡ contacts.old.items
+        ++ sites_in (program_of program.now) (every_contact (program_of program.now))
+        (in_turn (members_in members.now)) from) }
+    ensures first { OnOk result (first.new ≡ fold (λ values node. slice_set values node true) first.old
+        (sites_in (program_of program.now) (hidden_high (program_of program.now))
+        (in_turn (members_in members.now)) from)) }
+    ensures count { length first.new ≡ length first.old }
+{
+    let last = members.len() - 1;
+    let mut asked = request;
+    let mut next = from;
+    for place in 0..last {
+        let member = &members[place];
+        let size = statement_nodes(program, member) as u32;
+        let own = next + 3;
+        let answer = answer_node(program, member, own);
+        element(asked, answer, next, drivers)?;
+        statement(
+            alloc, program, member, next, own, firsts, first, contacts, drivers,
+        )?;
+        asked = next + 2;
+        next = own + size;
+    }
+    let member = &members[last];
+    statement(
+        alloc, program, member, asked, next, firsts, first, contacts, drivers,
+    )?;
+    Ok(())
+}
+
+/// Adds the drivers of a parallel composition. Each branch stands behind a Q-element under the common request; a
+/// completion tree over the next requests of these comes last.
+#[cycle(statements)]
+fn parallel(
+    alloc: Global,
+    program: &Typed,
+    branches: &[TStmt],
+    request: u32,
+    from: u32,
+    firsts: &Firsts,
+    first: &mut [bool],
+    contacts: &mut Vec<Contact>,
+    drivers: &mut Vec<Driver>,
+) -> Result<(), AllocError>
+    requires channels { firsts.now.channels.items ≡ channel_firsts (program_of program.now) }
+    requires vars { firsts.now.vars.items ≡ var_firsts (program_of program.now) }
+    requires process { IsProcess program.now.channels program.now.vars (side_by_side (members_in branches.now)) }
+    requires root { root_request (program_of program.now) ≤ from }
+    requires own { from + size_of (program_of program.now) (side_by_side (members_in branches.now))
+        ≤ length first.old }
+    requires few { length first.old ≤ 65536 }
+    ensures made { OnOk result (drivers.new.items ≡ drivers.old.items
+        ++ rules_of (program_of program.now) (side_by_side (members_in branches.now)) request from) }
+    ensures contacts { OnOk result (contacts.new.items ≡ contacts.old.items
+        ++ sites_in (program_of program.now) (every_contact (program_of program.now))
+        (side_by_side (members_in branches.now)) from) }
+    ensures first { OnOk result (first.new ≡ fold (λ values node. slice_set values node true) first.old
+        (sites_in (program_of program.now) (hidden_high (program_of program.now))
+        (side_by_side (members_in branches.now)) from)) }
+    ensures count { length first.new ≡ length first.old }
+{
+    let mut ends = Vec::new(alloc);
+    let mut next = from;
+    for branch in branches {
+        let size = statement_nodes(program, branch) as u32;
+        let own = next + 3;
+        let answer = answer_node(program, branch, own);
+        element(request, answer, next, drivers)?;
+        statement(
+            alloc, program, branch, next, own, firsts, first, contacts, drivers,
+        )?;
+        ends.push(next + 2)?;
+        next = own + size;
+    }
+    tree(alloc, &ends, next, drivers)?;
+    Ok(())
+}
+
+/// Adds the drivers of a selection or a guarded repetition: its own nodes, the guards, and the branches, each under its
+/// start.
+#[cycle(statements)]
+fn selection(
+    alloc: Global,
+    program: &Typed,
+    again: bool,
+    arms: &[TArm],
+    request: u32,
+    from: u32,
+    firsts: &Firsts,
+    first: &mut [bool],
+    contacts: &mut Vec<Contact>,
+    drivers: &mut Vec<Driver>,
+) -> Result<(), AllocError>
+    requires channels { firsts.now.channels.items ≡ channel_firsts (program_of program.now) }
+    requires vars { firsts.now.vars.items ≡ var_firsts (program_of program.now) }
+    requires process { IsProcess program.now.channels program.now.vars (choosing again (choices_in arms.now)) }
+    requires root { root_request (program_of program.now) ≤ from }
+    requires own { from + size_of (program_of program.now) (choosing again (choices_in arms.now)) ≤ length first.old }
+    requires few { length first.old ≤ 65536 }
+    ensures made { OnOk result (drivers.new.items ≡ drivers.old.items
+        ++ rules_of (program_of program.now) (choosing again (choices_in arms.now)) request from) }
+    ensures contacts { OnOk result (contacts.new.items ≡ contacts.old.items
+        ++ sites_in (program_of program.now) (every_contact (program_of program.now))
+        (choosing again (choices_in arms.now)) from) }
+    ensures first { OnOk result (first.new ≡ fold (λ values node. slice_set values node true) first.old
+        (sites_in (program_of program.now) (hidden_high (program_of program.now))
+        (choosing again (choices_in arms.now)) from)) }
+    ensures count { length first.new ≡ length first.old }
+{
+    let guards = arms.len() as u32;
+    let mut start = from + own_nodes(again) + guards;
+    let mut next = start + guards + guards_nodes(arms);
+    let answers = body_answers(alloc, program, arms, next)?;
+    let vars = &firsts.vars;
+    choice(
+        alloc, program, again, arms, answers, request, from, vars, drivers,
+    )?;
+    for arm in arms {
+        let size = statement_nodes(program, &arm.body) as u32;
+        statement(
+            alloc, program, &arm.body, start, next, firsts, first, contacts, drivers,
+        )?;
+        start += 1;
+        next += size;
+    }
+    Ok(())
+}
+
+/// Adds the drivers of a statement whose own nodes are numbered from `from` on and which this node asks. Where it meets
+/// channels and variables is listed in text order, and the nodes of hidden variables that are high at first are raised.
+#[cycle(statements)]
+fn statement(
+    alloc: Global,
+    program: &Typed,
+    s: &TStmt,
+    request: u32,
+    from: u32,
+    firsts: &Firsts,
+    first: &mut [bool],
+    contacts: &mut Vec<Contact>,
+    drivers: &mut Vec<Driver>,
+) -> Result<(), AllocError>
+    requires channels { firsts.now.channels.items ≡ channel_firsts (program_of program.now) }
+    requires vars { firsts.now.vars.items ≡ var_firsts (program_of program.now) }
+    requires process { IsProcess program.now.channels program.now.vars (process_of s.now) }
+    requires root { root_request (program_of program.now) ≤ from }
+    requires own { from + size_of (program_of program.now) (process_of s.now) ≤ length first.old }
+    requires few { length first.old ≤ 65536 }
+    ensures made { OnOk result (drivers.new.items ≡ drivers.old.items
+        ++ rules_of (program_of program.now) (process_of s.now) request from) }
+    ensures contacts { OnOk result (contacts.new.items ≡ contacts.old.items
+        ++ sites_in (program_of program.now) (every_contact (program_of program.now))
+        (process_of s.now) from) }
+    ensures first { OnOk result (first.new ≡ fold (λ values node. slice_set values node true) first.old
+        (sites_in (program_of program.now) (hidden_high (program_of program.now))
+        (process_of s.now) from)) }
+    ensures count { length first.new ≡ length first.old }
+{
+    match s {
+        TStmt::Skip => skip(request, drivers),
+        TStmt::Assign { var, value, .. } => assign(
+            alloc,
+            program,
+            *var,
+            value,
+            request,
+            from,
+            &firsts.vars,
+            first,
+            contacts,
+            drivers,
+        ),
+        TStmt::Send { chan, value, .. } => send(
+            alloc, program, *chan, value, request, from, firsts, contacts, drivers,
+        ),
+        TStmt::Receive { chan, var, .. } => receive(
+            alloc, program, *chan, *var, request, from, firsts, contacts, drivers,
+        ),
+        TStmt::Then { parts } => sequence(
+            alloc, program, parts, request, from, firsts, first, contacts, drivers,
+        ),
+        TStmt::Beside { parts } => parallel(
+            alloc, program, parts, request, from, firsts, first, contacts, drivers,
+        ),
+        TStmt::Select { again, arms } => selection(
+            alloc, program, *again, arms, request, from, firsts, first, contacts, drivers,
+        ),
+        TStmt::Repeat { body } => {
+            let start = from + 1;
+            let next = from + 2;
+            let answer = answer_node(program, body, next);
+            repeated(request, answer, drivers)?;
+            statement(
+                alloc, program, body, start, next, firsts, first, contacts, drivers,
+            )?;
+            Ok(())
+        }
+    }
+}
+
+/// The drivers of a program's body, and where it meets channels and variables in text order. The nodes of its hidden
+/// variables that are high at first are raised.
+pub(crate) fn body(
+    alloc: Global,
+    program: &Typed,
+    firsts: &Firsts,
+    first: &mut [bool],
+    contacts: &mut Vec<Contact>,
+) -> Result<Vec<Driver>, AllocError>
+    requires channels { firsts.now.channels.items ≡ channel_firsts (program_of program.now) }
+    requires vars { firsts.now.vars.items ≡ var_firsts (program_of program.now) }
+    requires own { nodes_of (program_of program.now) ≡ length first.old }
+    requires few { length first.old ≤ 65536 }
+    requires none { contacts.old.items ≡ [] }
+    ensures made { IfOk result (λ drivers. drivers.items ≡ rules_of (program_of program.now)
+        (process_of program.now.body) (root_request (program_of program.now)) (body_from (program_of program.now))) }
+    ensures contacts { OnOk result (contacts.new.items
+        ≡ in_body (program_of program.now) (every_contact (program_of program.now))) }
+    ensures first { OnOk result (first.new ≡ fold (λ values node. slice_set values node true) first.old
+        (in_body (program_of program.now) (hidden_high (program_of program.now)))) }
+    ensures count { length first.new ≡ length first.old }
+{
+    let body = program.body();
+    let from = (count_nodes(program) - statement_nodes(program, body)) as u32;
+    let mut drivers = Vec::new(alloc);
+    statement(
+        alloc,
+        program,
+        body,
+        from - 2,
+        from,
+        firsts,
+        first,
+        contacts,
+        &mut drivers,
+    )?;
+    Ok(drivers)
+}

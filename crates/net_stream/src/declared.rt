@@ -1,0 +1,155 @@
+//! The drivers of all nodes of a program's circuit.
+
+ghost use Rattle.std.specs.Prelude.{◌≡◌, ◌<◌, ◌≤◌, ◌++◌, [], true, fold, length, slice_set, IfOk, OnOk};
+ghost use Rattle.width_check.specs.Typed.{program_of};
+ghost use Rattle.width_check.specs.Typing.{channel_width, kind_at, var_width};
+ghost use Rattle.handshake_expand.specs.Layout.{nodes_of, var_from};
+ghost use Rattle.handshake_expand.specs.Sites.{in_body};
+ghost use Rattle.cell_variable.specs.Variables.{variable_rules};
+ghost use Rattle.net_compose.specs.Begins.{channel_firsts, var_firsts};
+ghost use Rattle.net_compose.specs.Translation.{all_rules, channel_rules, channels_rules, vars_rules, write_site, hidden_high};
+ghost use Rattle.net_stream.specs.Contacts.{every_contact};
+
+use crate::block::{block, rails, silent};
+use crate::body::body;
+use crate::contact::{Contact, sent_on, taken_on, written_to};
+use crate::driver::{Driver, add};
+use crate::firsts::Firsts;
+use chp_base::Kind;
+use handshake_expand::{answer_node, count_nodes, statement_nodes};
+use std::alloc::{AllocError, Global};
+use width_check::Typed;
+
+/// Adds the wires of a channel: its rails merge those of the sends, its acknowledge is the OR of the nodes by which
+/// receives have stored the value, and the environment moves the rails of an `in` channel and the acknowledge of an
+/// `out` channel.
+fn channel(
+    alloc: Global,
+    program: &Typed,
+    chan: usize,
+    contacts: &[Contact],
+    drivers: &mut Vec<Driver>,
+) -> Result<(), AllocError>
+    requires contacts { contacts.now ≡ in_body (program_of program.now) (every_contact (program_of program.now)) }
+    requires within { chan < length program.now.channels }
+    ensures { OnOk result (drivers.new.items ≡ drivers.old.items
+        ++ channel_rules (program_of program.now) chan
+        (channel_width program.now.channels chan) (kind_at program.now.channels chan)) }
+{
+    // what the program's type keeps is told of its body
+    let _kept = program.body();
+    let channels = program.channels();
+    let declared = &channels[chan];
+    let sites = sent_on(alloc, contacts, chan)?;
+    let taken = taken_on(alloc, contacts, chan)?;
+    match declared.kind {
+        Kind::In => {
+            silent(2 * u32::from(declared.width), drivers)?;
+            add(Driver::any(taken), drivers)
+        }
+        Kind::Out => {
+            rails(alloc, &sites, declared.width, drivers)?;
+            add(Driver::undriven(), drivers)
+        }
+        Kind::Chan => {
+            rails(alloc, &sites, declared.width, drivers)?;
+            add(Driver::any(taken), drivers)
+        }
+    }
+}
+
+/// Adds the wires of all channels.
+fn channels(
+    alloc: Global,
+    program: &Typed,
+    contacts: &[Contact],
+    drivers: &mut Vec<Driver>,
+) -> Result<(), AllocError>
+    requires contacts { contacts.now ≡ in_body (program_of program.now) (every_contact (program_of program.now)) }
+    ensures { OnOk result (drivers.new.items ≡ drivers.old.items
+        ++ channels_rules (program_of program.now) 0 program.now.channels) }
+{
+    for chan in 0..program.channels().len() {
+        channel(alloc, program, chan, contacts, drivers)?;
+    }
+    Ok(())
+}
+
+/// Adds the block of a variable.
+fn var(
+    alloc: Global,
+    program: &Typed,
+    number: usize,
+    firsts: &[u32],
+    contacts: &[Contact],
+    drivers: &mut Vec<Driver>,
+) -> Result<(), AllocError>
+    requires firsts { firsts.now ≡ var_firsts (program_of program.now) }
+    requires contacts { contacts.now ≡ in_body (program_of program.now) (every_contact (program_of program.now)) }
+    requires within { number < length program.now.vars }
+    requires few { nodes_of (program_of program.now) ≤ 65536 }
+    ensures { OnOk result (drivers.new.items ≡ drivers.old.items
+        ++ variable_rules (var_width program.now.vars number) (var_from (program_of program.now) number)
+        (in_body (program_of program.now) (write_site (program_of program.now) number))) }
+{
+    // what the program's type keeps is told of its body
+    let _kept = program.body();
+    let vars = program.vars();
+    let declared = &vars[number];
+    let sites = written_to(alloc, contacts, number)?;
+    block(alloc, &sites, declared.width, firsts[number], drivers)
+}
+
+/// Adds the blocks of all variables.
+fn vars(
+    alloc: Global,
+    program: &Typed,
+    firsts: &[u32],
+    contacts: &[Contact],
+    drivers: &mut Vec<Driver>,
+) -> Result<(), AllocError>
+    requires firsts { firsts.now ≡ var_firsts (program_of program.now) }
+    requires contacts { contacts.now ≡ in_body (program_of program.now) (every_contact (program_of program.now)) }
+    requires few { nodes_of (program_of program.now) ≤ 65536 }
+    ensures { OnOk result (drivers.new.items ≡ drivers.old.items
+        ++ vars_rules (program_of program.now) 0 program.now.vars) }
+{
+    for number in 0..program.vars().len() {
+        var(alloc, program, number, firsts, contacts, drivers)?;
+    }
+    Ok(())
+}
+
+/// The drivers of all nodes, in order of their numbers. The rails of hidden variables that are high at first are
+/// raised.
+pub(crate) fn drivers_of(
+    alloc: Global,
+    program: &Typed,
+    firsts: &Firsts,
+    first: &mut [bool],
+) -> Result<Vec<Driver>, AllocError>
+    requires channels { firsts.now.channels.items ≡ channel_firsts (program_of program.now) }
+    requires vars { firsts.now.vars.items ≡ var_firsts (program_of program.now) }
+    requires own { nodes_of (program_of program.now) ≡ length first.old }
+    requires few { length first.old ≤ 65536 }
+    ensures made { IfOk result (λ drivers. drivers.items ≡ all_rules (program_of program.now)) }
+    ensures first { OnOk result (first.new ≡ fold (λ values node. slice_set values node true) first.old
+        (in_body (program_of program.now) (hidden_high (program_of program.now)))) }
+    ensures count { length first.new ≡ length first.old }
+{
+    let mut contacts = Vec::new(alloc);
+    let mut inner = body(alloc, program, firsts, first, &mut contacts)?;
+    let statement = program.body();
+    let from = (count_nodes(program) - statement_nodes(program, statement)) as u32;
+    let latch = from - 1;
+    let answer = answer_node(program, statement, from);
+    let mut drivers = Vec::new(alloc);
+    drivers.push(Driver::undriven())?;
+    drivers.push(Driver::next(latch, answer))?;
+    channels(alloc, program, &contacts, &mut drivers)?;
+    vars(alloc, program, &firsts.vars, &contacts, &mut drivers)?;
+    drivers.push(Driver::child(0, latch))?;
+    drivers.push(Driver::latch(0, answer))?;
+    drivers.append(&mut inner)?;
+    Ok(drivers)
+}

@@ -1,0 +1,126 @@
+//! The drivers of the nodes of an expression.
+
+ghost use Rattle.std.specs.Prelude.{◌≡◌, ◌+◌, ◌*◌, ◌<◌, ◌≤◌, ◌^◌, ◌++◌, length, IfOk, OnOk};
+ghost use Rattle.width_check.specs.View.{formula_of};
+ghost use Rattle.width_check.specs.Values.{IsWellFormed};
+ghost use Rattle.handshake_expand.specs.Layout.{formula_size};
+ghost use Rattle.function_blocks.specs.Expressions.{constant_bit, constant_bits, read_bits, bits_between, formula_rules, formula_result};
+ghost use Rattle.function_blocks.specs.Blocks.{bits_apart, bits_in_blocks, HasBit};
+ghost use Rattle.function_blocks.specs.BitsRead.{EachRead};
+
+use crate::bit::{Bit, bits_apart, exchanged};
+use crate::driver::Driver;
+use crate::operator::operator;
+use chp_base::Bits;
+use std::alloc::{AllocError, Global};
+use width_check::TExpr;
+
+/// Adds the drivers of a constant bit: the rail of its value follows the request, and the other one has no rules.
+fn constant_bit(one: bool, request: u32, drivers: &mut Vec<Driver>) -> Result<(), AllocError>
+    ensures { OnOk result (drivers.new.items ≡ drivers.old.items ++ constant_bit request one) }
+{
+    let high_rail = Driver::following(request);
+    let low_rail = Driver::undriven();
+    if one {
+        drivers.push(high_rail)?;
+        drivers.push(low_rail)?;
+    } else {
+        drivers.push(low_rail)?;
+        drivers.push(high_rail)?;
+    }
+    Ok(())
+}
+
+/// Adds the drivers of a number's bits.
+fn constant(bits: &Bits, request: u32, drivers: &mut Vec<Driver>) -> Result<(), AllocError>
+    ensures { OnOk result (drivers.new.items
+        ≡ drivers.old.items ++ constant_bits request bits.now.width bits.now.value) }
+{
+    let mut value = bits.value();
+    for _bit in 0..bits.width() {
+        constant_bit(value % 2 == 1, request, drivers)?;
+        value /= 2;
+    }
+    Ok(())
+}
+
+/// Adds the drivers of the bits from `low` to `high` that are read of a variable whose block begins at `first`.
+pub(crate) fn reading(
+    first: u32,
+    high: u8,
+    low: u8,
+    request: u32,
+    drivers: &mut Vec<Driver>,
+) -> Result<(), AllocError>
+    requires some { low ≤ high }
+    requires most { high ≤ 63 }
+    requires rails { first + 5 * high + 1 < 2 ^ 32 }
+    ensures { OnOk result (drivers.new.items
+        ≡ drivers.old.items ++ read_bits request (bits_between high low (bits_apart 5 64 first))) }
+{
+    for bit in low..high + 1 {
+        let rail = first + 5 * u32::from(bit);
+        drivers.push(Driver::read(request, rail))?;
+        drivers.push(Driver::read(request, rail + 1))?;
+    }
+    Ok(())
+}
+
+/// Adds the drivers of an expression's nodes, and answers the bits of its value. The first of all drivers is that of
+/// node `from`.
+pub(crate) fn expression(
+    alloc: Global,
+    e: &TExpr,
+    request: u32,
+    vars: &[u32],
+    from: u32,
+    drivers: &mut Vec<Driver>,
+) -> Result<Vec<Bit>, AllocError>
+    requires formed { IsWellFormed (formula_of e.now) }
+    requires read { EachRead (HasBit (2 ^ 32) vars.now) (formula_of e.now) }
+    requires room { from + length drivers.old.items + formula_size (formula_of e.now) < 2 ^ 32 }
+    ensures made { OnOk result (drivers.new.items ≡ drivers.old.items
+        ++ formula_rules (bits_in_blocks vars.now) (formula_of e.now) request (from + length drivers.old.items)) }
+    ensures bits { IfOk result (λ bits. bits.items
+        ≡ formula_result (formula_of e.now) (from + length drivers.old.items)) }
+{
+    let node = from + drivers.len() as u32;
+    match e {
+        TExpr::Number { bits } => {
+            constant(bits, request, drivers)?;
+            bits_apart(alloc, 2, bits.width(), node)
+        }
+        TExpr::Read { var, high, low, .. } => {
+            reading(vars[*var as usize], *high, *low, request, drivers)?;
+            bits_apart(alloc, 2, *high + 1 - *low, node)
+        }
+        TExpr::Join { parts } => {
+            let mut bits = Vec::new(alloc);
+            for part in parts {
+                let mut lower = expression(alloc, part, request, vars, from, drivers)?;
+                lower.extend_from_slice(&bits)?;
+                bits = lower;
+            }
+            Ok(bits)
+        }
+        TExpr::Not { inner } => {
+            let bits = expression(alloc, inner, request, vars, from, drivers)?;
+            exchanged(alloc, &bits)
+        }
+        TExpr::Chain { first, rest } => {
+            let mut bits = expression(alloc, first, request, vars, from, drivers)?;
+            for link in rest {
+                let right = expression(alloc, &link.right, request, vars, from, drivers)?;
+                let node = from + drivers.len() as u32;
+                bits = operator(alloc, link.op, &bits, &right, node, drivers)?;
+            }
+            Ok(bits)
+        }
+        TExpr::Compare { op, left, right } => {
+            let left = expression(alloc, left, request, vars, from, drivers)?;
+            let right = expression(alloc, right, request, vars, from, drivers)?;
+            let node = from + drivers.len() as u32;
+            operator(alloc, *op, &left, &right, node, drivers)
+        }
+    }
+}

@@ -1,0 +1,188 @@
+//! The gates of operators on two numbers of one width.
+
+ghost use Rattle.std.specs.Prelude.{◌≡◌, ◌+◌, ◌-◌, ◌*◌, ◌<◌, ◌≤◌, ◌^◌, [], ◌∷◌, ◌++◌, map, length, IfOk, OnOk};
+ghost use Rattle.prs_core.specs.Pairs.{pair_at, exchanged};
+ghost use Rattle.handshake_expand.specs.Layout.{operator_size};
+ghost use Rattle.function_blocks.specs.Gates.{bitwise, result_pairs, ripple, ripple_result, borrow_gates, equality, operator_rules, operator_result};
+ghost use Rattle.net_stream.specs.Drivers.{truth_named};
+
+use crate::bit::{Bit, bits_apart};
+use crate::driver::Driver;
+use crate::function::Function;
+use crate::gate::gate_over;
+use chp_syntax::Op;
+use std::alloc::{AllocError, Global};
+
+/// Adds a gate for each place of the two numbers.
+fn bitwise(
+    function: Function,
+    left: &[Bit],
+    right: &[Bit],
+    drivers: &mut Vec<Driver>,
+) -> Result<(), AllocError>
+    requires agree { length right.now ≡ length left.now }
+    ensures { OnOk result (drivers.new.items ≡ drivers.old.items ++ bitwise (truth_named function) left.now right.now) }
+{
+    for place in 0..left.len() {
+        gate_over(function, &left[place], &right[place], &None, drivers)?;
+    }
+    Ok(())
+}
+
+/// Adds a gate for each place of the two numbers, and answers their bits. They are numbered from `from` on.
+#[tactic(auto, using(function_blocks::proofs::Emitted::results_apart))]
+fn each_place(
+    alloc: Global,
+    function: Function,
+    left: &[Bit],
+    right: &[Bit],
+    from: u32,
+    drivers: &mut Vec<Driver>,
+) -> Result<Vec<Bit>, AllocError>
+    requires most { length left.now ≤ 64 }
+    requires agree { length right.now ≡ length left.now }
+    requires room { from + 2 * length left.now < 2 ^ 32 }
+    ensures made { OnOk result (drivers.new.items
+        ≡ drivers.old.items ++ bitwise (truth_named function) left.now right.now) }
+    ensures bits { IfOk result (λ bits. bits.items ≡ result_pairs left.now from) }
+{
+    bitwise(function, left, right, drivers)?;
+    bits_apart(alloc, 2, left.len() as u8, from)
+}
+
+/// Adds for each place the gate of the result's bit and, below the top place, that of what is carried on, and answers
+/// the result's bits. No gate carries on from the top place: nothing would wait for its rails. The gates' nodes are
+/// numbered from `from` on.
+#[tactic(auto, using(function_blocks::proofs::Emitted::ripples_apart))]
+fn ripple(
+    alloc: Global,
+    carry: Function,
+    left: &[Bit],
+    right: &[Bit],
+    from: u32,
+    drivers: &mut Vec<Driver>,
+) -> Result<Vec<Bit>, AllocError>
+    requires some { 1 ≤ length left.now }
+    requires most { length left.now ≤ 64 }
+    requires agree { length right.now ≡ length left.now }
+    requires room { from + (4 * length left.now - 2) < 2 ^ 32 }
+    ensures made { OnOk result (drivers.new.items
+        ≡ drivers.old.items ++ ripple (truth_named carry) left.now right.now [] from) }
+    ensures bits { IfOk result (λ bits. bits.items ≡ ripple_result left.now from) }
+{
+    let top = left.len() - 1;
+    let mut carried = None;
+    let mut node = from;
+    for place in 0..top {
+        gate_over(
+            Function::Xor,
+            &left[place],
+            &right[place],
+            &carried,
+            drivers,
+        )?;
+        gate_over(carry, &left[place], &right[place], &carried, drivers)?;
+        carried = Some(Bit::at(node + 2));
+        node += 4;
+    }
+    gate_over(Function::Xor, &left[top], &right[top], &carried, drivers)?;
+    bits_apart(alloc, 4, left.len() as u8, from)
+}
+
+/// Adds the gate of the borrow of each place, and answers the top one: whether the left number is less.
+fn less(
+    left: &[Bit],
+    right: &[Bit],
+    from: u32,
+    drivers: &mut Vec<Driver>,
+) -> Result<Bit, AllocError>
+    requires some { 1 ≤ length left.now }
+    requires agree { length right.now ≡ length left.now }
+    requires room { from + 2 * length left.now < 2 ^ 32 }
+    ensures made { OnOk result (drivers.new.items ≡ drivers.old.items ++ borrow_gates left.now right.now [] from) }
+    ensures top { IfOk result (λ bit. bit ≡ pair_at (from + 2 * length left.now - 2)) }
+{
+    let mut borrowed = None;
+    let mut node = from;
+    for place in 0..left.len() {
+        gate_over(
+            Function::Borrow,
+            &left[place],
+            &right[place],
+            &borrowed,
+            drivers,
+        )?;
+        borrowed = Some(Bit::at(node));
+        node += 2;
+    }
+    Ok(Bit::at(node - 2))
+}
+
+/// Adds the gates of each place's equality, then those of the conjunctions, from the lowest place on, and answers the
+/// last one: whether the numbers are equal.
+fn equal(
+    alloc: Global,
+    left: &[Bit],
+    right: &[Bit],
+    from: u32,
+    drivers: &mut Vec<Driver>,
+) -> Result<Bit, AllocError>
+    requires some { 1 ≤ length left.now }
+    requires most { length left.now ≤ 64 }
+    requires agree { length right.now ≡ length left.now }
+    requires room { from + (4 * length left.now - 2) < 2 ^ 32 }
+    ensures made { OnOk result (drivers.new.items ≡ drivers.old.items ++ equality left.now right.now from) }
+    ensures last { IfOk result (λ bit. bit ≡ pair_at (from + (4 * length left.now - 2) - 2)) }
+{
+    bitwise(Function::Equal, left, right, drivers)?;
+    let places = bits_apart(alloc, 2, left.len() as u8, from)?;
+    let mut node = from + 2 * left.len() as u32;
+    let mut all = Bit::at(from);
+    for place in 1..places.len() {
+        gate_over(Function::And, &all, &places[place], &None, drivers)?;
+        all = Bit::at(node);
+        node += 2;
+    }
+    Ok(Bit::at(node - 2))
+}
+
+/// One bit alone.
+fn alone(alloc: Global, bit: Bit) -> Result<Vec<Bit>, AllocError>
+    ensures { IfOk result (λ bits. bits.items ≡ bit ∷ []) }
+{
+    let mut bits = Vec::new(alloc);
+    bits.push(bit)?;
+    Ok(bits)
+}
+
+/// Adds the gates of an operator on two numbers of one width, from 1 to 64 bits, and answers the bits of its result.
+/// The gates' nodes are numbered from `from` on.
+pub(crate) fn operator(
+    alloc: Global,
+    op: Op,
+    left: &[Bit],
+    right: &[Bit],
+    from: u32,
+    drivers: &mut Vec<Driver>,
+) -> Result<Vec<Bit>, AllocError>
+    requires some { 1 ≤ length left.now }
+    requires most { length left.now ≤ 64 }
+    requires agree { length right.now ≡ length left.now }
+    requires room { from + operator_size op (length left.now) < 2 ^ 32 }
+    ensures made { OnOk result (drivers.new.items ≡ drivers.old.items ++ operator_rules op left.now right.now from) }
+    ensures bits { IfOk result (λ bits. bits.items ≡ operator_result op left.now from) }
+{
+    match op {
+        Op::And => each_place(alloc, Function::And, left, right, from, drivers),
+        Op::Or => each_place(alloc, Function::Or, left, right, from, drivers),
+        Op::Xor => each_place(alloc, Function::Xor, left, right, from, drivers),
+        Op::Add => ripple(alloc, Function::Carry, left, right, from, drivers),
+        Op::Sub => ripple(alloc, Function::Borrow, left, right, from, drivers),
+        Op::Eq => alone(alloc, equal(alloc, left, right, from, drivers)?),
+        Op::Ne => alone(alloc, equal(alloc, left, right, from, drivers)?.exchanged()),
+        Op::Lt => alone(alloc, less(left, right, from, drivers)?),
+        Op::Gt => alone(alloc, less(right, left, from, drivers)?),
+        Op::Ge => alone(alloc, less(left, right, from, drivers)?.exchanged()),
+        Op::Le => alone(alloc, less(right, left, from, drivers)?.exchanged()),
+    }
+}
