@@ -16,20 +16,20 @@ use Rattle.net_compose.specs.Translation.{all_rules, first_values, translation, 
 use Rattle.net_stream.specs.declared.ending.Ending.{Ending}
 use Rattle.net_stream.specs.declared.ending.Ending.TheVariants.{Plain, Held, Forced}
 use Rattle.net_stream.proofs.Puts.{front_all}
-use Rattle.net_stream.specs.Circuits.{reset_rules, each_reset, circuit_rules, circuit_net, side, ended, ending_of, term_end, guard_end, with_ends, IsEnding}
+use Rattle.net_stream.specs.Circuits.{reset_rules, each_reset, circuit_rules, circuit_net, side, with_ending, ending_of, term_end, guard_end, with_ends, IsEnding}
 
 -- the ends of guards
 as_is : (g : GuardValue) → map (λ (t : List Literal). t ++ []) g ≡ g
 as_is [] = refl
 as_is (t ∷ g) = ap (λ u. u ∷ map (λ (t : List Literal). t ++ []) g) (append-nil t) ∙ ap (λ u. t ∷ u) (as_is g)
 
-pub plain_is : (g : GuardValue) → ended Plain g ≡ g
+pub plain_is : (g : GuardValue) → with_ending Plain g ≡ g
 plain_is g = append-nil (map (λ (t : List Literal). t ++ []) g) ∙ as_is g
 
-pub held_is : (reset : ℕ) (g : GuardValue) → ended (Held reset) g ≡ held reset g
+pub held_is : (reset : ℕ) (g : GuardValue) → with_ending (Held reset) g ≡ held reset g
 held_is reset g = append-nil (held reset g)
 
-pub forced_is : (reset : ℕ) (g : GuardValue) → ended (Forced reset) g ≡ forced reset g
+pub forced_is : (reset : ℕ) (g : GuardValue) → with_ending (Forced reset) g ≡ forced reset g
 forced_is reset g = ap (λ u. u ++ (reset_literal reset true ∷ []) ∷ []) (as_is g)
 
 -- one node's rule
@@ -136,7 +136,7 @@ none_ended up (t ∷ g) h e = absurd (cc)
 
 reset_rule : (reset : ℕ) (up high b : Bool) (r : NodeRules) → has_rules r.up r.down ≡ b
     → side up (if b then record { up = reset_guard reset high r.up; down = reset_guard reset (not high) r.down } else no_rules)
-    ≡ ended (ending_of (Some reset) b (leads_back up high)) (side up r)
+    ≡ with_ending (ending_of (Some reset) b (leads_back up high)) (side up r)
 reset_rule reset true true true r has = sym (forced_is reset r.up)
 reset_rule reset true false true r has = sym (held_is reset r.up)
 reset_rule reset false false true r has = sym (forced_is reset r.down)
@@ -146,7 +146,7 @@ reset_rule reset false high false r has = sym (plain_is r.down ∙ none_ended fa
 
 pub rule_is : (reset : Option ℕ) (up : Bool) (first : List Bool) (rs : List NodeRules) (node : ℕ) → length rs ≡ length first → node < length first
     → side up (slice_index_or (circuit_rules reset first rs) node no_rules)
-    ≡ ended (ending_of reset (has_rules (slice_index_or rs node no_rules).up (slice_index_or rs node no_rules).down)
+    ≡ with_ending (ending_of reset (has_rules (slice_index_or rs node no_rules).up (slice_index_or rs node no_rules).down)
     (leads_back up (slice_index_or first node false))) (side up (slice_index_or rs node no_rules))
 rule_is None up first rs node same l = sym (plain_is (side up (slice_index_or rs node no_rules)))
 rule_is (Some reset) up first rs node same l =
@@ -156,7 +156,7 @@ rule_is (Some reset) up first rs node same l =
 pub rule_here : (names : List (List ℕ)) (reset : Option ℕ) (up : Bool) (first : List Bool) (rs : List NodeRules) (channels : List Wires) (node : ℕ)
     → length rs ≡ length first → node < length first
     → (if up then up_of (circuit_net names first rs channels reset) node else down_of (circuit_net names first rs channels reset) node)
-    ≡ ended (ending_of reset (has_rules (slice_index_or rs node no_rules).up (slice_index_or rs node no_rules).down)
+    ≡ with_ending (ending_of reset (has_rules (slice_index_or rs node no_rules).up (slice_index_or rs node no_rules).down)
     (leads_back up (slice_index_or first node false))) (side up (slice_index_or rs node no_rules))
 rule_here names reset true first rs channels node same l = guard_at true (circuit_rules reset first rs) node ∙ rule_is reset true first rs node same l
 rule_here names reset false first rs channels node same l = guard_at false (circuit_rules reset first rs) node ∙ rule_is reset false first rs node same l
@@ -175,7 +175,7 @@ module _ (count : ℕ) where
       All-cons Term t g (front_all Near t (term_end ending) (All-head Term (t ++ term_end ending) (with_ends ending g) h))
       (fronts_near ending g (All-tail Term (t ++ term_end ending) (with_ends ending g) h))
 
-  pub ended_near : (ending : Ending) (g : GuardValue) → IsBelow count (ended ending g) → IsBelow count g
+  pub ended_near : (ending : Ending) (g : GuardValue) → IsBelow count (with_ending ending g) → IsBelow count g
   ended_near ending g h = fronts_near ending g (front_all Term (with_ends ending g) (guard_end ending) h)
 
   pub is_ending : (n : NetValue) (reset : Option ℕ) (has back : Bool) → count ≡ length n.first → IsReset n reset → IsEnding count (ending_of reset has back)

@@ -3,7 +3,7 @@ use Rattle.std.proofs.Common.{◌≡◌, ◌∙◌, ℕ, zero, suc, ◌+◌, ◌
 use Rattle.std.specs.Prelude.{take}
 use Rattle.std.proofs.lemmas.List.{take-append-le, drop-append-le, length-append}
 use Rattle.std.proofs.Math.Seq.{drop-append_seam, take-length}
-use Rattle.net_stream.specs.Cuts.{cut, AreEnds, start_of}
+use Rattle.net_stream.specs.Cuts.{cut, AreEnds, cut_begin}
 
 -- each end is one of all bytes
 end_within : (count from : ℕ) (ends : List ℕ) → AreEnds count from ends → from ≤ count
@@ -49,7 +49,7 @@ get_same (x ∷ xs) zero a b l = refl
 get_same (x ∷ xs) (suc i) a b l = get_same xs i a b (omega (arith, l))
 
 pub cut_at : (bytes : List ℕ) (from : ℕ) (ends : List ℕ) (place d : ℕ) → place < length ends
-    → get_or (cut bytes from ends) place [] ≡ take (get_or ends place d - start_of from ends place) (drop (start_of from ends place) bytes)
+    → get_or (cut bytes from ends) place [] ≡ take (get_or ends place d - cut_begin from ends place) (drop (cut_begin from ends place) bytes)
 cut_at bytes from [] place d l = absurd (omega (arith, l))
 cut_at bytes from (end ∷ ends) zero d l = refl
 cut_at bytes from (end ∷ ends) (suc zero) d l = cut_at bytes end ends zero d (omega (arith, l))
@@ -59,7 +59,7 @@ cut_at bytes from (end ∷ ends) (suc (suc place)) d l =
 
 -- no text ends before it begins, or behind all bytes
 pub start_within : (count from : ℕ) (ends : List ℕ) (place d : ℕ) → AreEnds count from ends → place < length ends
-    → (start_of from ends place ≤ get_or ends place d) × (get_or ends place d ≤ count)
+    → (cut_begin from ends place ≤ get_or ends place d) × (get_or ends place d ≤ count)
 start_within count from [] place d h l = absurd (omega (arith, l))
 start_within count from (end ∷ ends) zero d h l = (h.0, end_within count end ends h.1)
 start_within count from (end ∷ ends) (suc zero) d h l = start_within count end ends zero d h.1 (omega (arith, l))
@@ -69,5 +69,5 @@ start_within count from (end ∷ ends) (suc (suc place)) d h l =
       rest.1,
     )
 
-pub start_after : (ends : List ℕ) (place at v : ℕ) → suc at ≡ place → at < length ends → v ≡ get_or ends at v → v ≡ start_of 0 ends place
-start_after ends place at v e l h = subst (λ n. v ≡ start_of 0 ends n) e (h ∙ get_same ends at v 0 l)
+pub start_after : (ends : List ℕ) (place at v : ℕ) → suc at ≡ place → at < length ends → v ≡ get_or ends at v → v ≡ cut_begin 0 ends place
+start_after ends place at v e l h = subst (λ n. v ≡ cut_begin 0 ends n) e (h ∙ get_same ends at v 0 l)

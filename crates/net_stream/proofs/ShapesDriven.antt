@@ -9,7 +9,7 @@ use Rattle.net_stream.specs.declared.driver.Pattern.{Pattern}
 use Rattle.net_stream.specs.declared.driver.Pattern.TheVariants.{Undriven, Follow, Until, Latch, Behind, Site, Read, Both, Kept, Written, Any, Gate, Joined, Wanted, Started, Turn}
 use Rattle.net_stream.specs.Circuits.{side}
 use Rattle.net_stream.specs.Drivers.{driven}
-use Rattle.net_stream.specs.Shapes.{IsNear, shaped, listed, up_shape, down_shape, lows_or_never, shape_of}
+use Rattle.net_stream.specs.Shapes.{ShapeWithin, shaped, listed, up_shape, down_shape, lows_or_never, shape_of}
 
 -- each form is that of the driver's guard
 any_up : (ns : List ℕ) → map (λ k. is_high k ∷ []) ns ≡ (or_of ns).up
@@ -83,11 +83,11 @@ module _ (count : ℕ) where
   any_near [] h = All-nil (λ n. n < count)
   any_near (n ∷ ns) h = each_near (n ∷ ns) h
 
-  any_low : (ns : List ℕ) → IsBelow count (or_of ns).down → IsNear count (lows_or_never ns) ns
+  any_low : (ns : List ℕ) → IsBelow count (or_of ns).down → ShapeWithin count (lows_or_never ns) ns
   any_low [] h = h
   any_low (n ∷ ns) h = h
 
-  up_near : (d : Pattern) → IsBelow count (driven d).up → IsBelow count (driven d).down → IsNear count (up_shape d) (listed d)
+  up_near : (d : Pattern) → IsBelow count (driven d).up → IsBelow count (driven d).down → ShapeWithin count (up_shape d) (listed d)
   up_near Undriven h k = h
   up_near (Follow request) h k = h
   up_near (Until request over) h k = h
@@ -105,7 +105,7 @@ module _ (count : ℕ) where
   up_near (Started latch until rails) h k = h
   up_near (Turn request joined) h k = h
 
-  down_near : (d : Pattern) → IsBelow count (driven d).down → IsNear count (down_shape d) (listed d)
+  down_near : (d : Pattern) → IsBelow count (driven d).down → ShapeWithin count (down_shape d) (listed d)
   down_near Undriven k = k
   down_near (Follow request) k = k
   down_near (Until request over) k = k
@@ -123,7 +123,7 @@ module _ (count : ℕ) where
   down_near (Started latch until rails) k = k
   down_near (Turn request joined) k = k
 
-  pub shape_near : (up : Bool) (d : Pattern) → IsBelow count (driven d).up → IsBelow count (driven d).down → IsNear count (shape_of up d) (listed d)
+  pub shape_near : (up : Bool) (d : Pattern) → IsBelow count (driven d).up → IsBelow count (driven d).down → ShapeWithin count (shape_of up d) (listed d)
   shape_near true d h k = up_near d h k
   shape_near false d h k = down_near d k
 

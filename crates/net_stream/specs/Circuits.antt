@@ -46,8 +46,8 @@ guard_end (Forced reset) = (is_high reset ∷ []) ∷ []
 abbrev pub with_ends : Ending → GuardValue → GuardValue
 with_ends ending g = map (λ t. t ++ term_end ending) g
 
-abbrev pub ended : Ending → GuardValue → GuardValue
-ended ending g = with_ends ending g ++ guard_end ending
+abbrev pub with_ending : Ending → GuardValue → GuardValue
+with_ending ending g = with_ends ending g ++ guard_end ending
 
 -- a reset's node is one of so many
 abbrev pub IsEnding : ℕ → Ending → Type 0

@@ -11,6 +11,6 @@ AreEnds count from [] = from ≡ count
 AreEnds count from (end ∷ ends) = (from ≤ end) × AreEnds count end ends
 
 -- where the text at a place begins
-abbrev pub start_of : (from : ℕ) → List ℕ → ℕ → ℕ
-start_of from ends zero = from
-start_of from ends (suc place) = slice_index_or ends place from
+abbrev pub cut_begin : (from : ℕ) → List ℕ → ℕ → ℕ
+cut_begin from ends zero = from
+cut_begin from ends (suc place) = slice_index_or ends place from

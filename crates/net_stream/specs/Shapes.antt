@@ -27,12 +27,12 @@ shaped (Rows function one left right below) ns =
 shaped (Neutral left right below) ns = lows (rails_of (left ∷ right ∷ carried_on below)) ∷ []
 
 -- all its nodes are among so many; of a gate, all rails of its inputs
-abbrev pub IsNear : ℕ → Shape → List ℕ → Type 0
-IsNear count (Rows function one left right below) ns =
+abbrev pub ShapeWithin : ℕ → Shape → List ℕ → Type 0
+ShapeWithin count (Rows function one left right below) ns =
     All (λ n. n < count) (rails_of (left ∷ right ∷ carried_on below))
-IsNear count (Neutral left right below) ns = All (λ n. n < count) (rails_of (left ∷ right ∷ carried_on below))
-IsNear count Each ns = All (λ n. n < count) ns
-IsNear count s ns = IsBelow count (shaped s ns)
+ShapeWithin count (Neutral left right below) ns = All (λ n. n < count) (rails_of (left ∷ right ∷ carried_on below))
+ShapeWithin count Each ns = All (λ n. n < count) ns
+ShapeWithin count s ns = IsBelow count (shaped s ns)
 
 -- the list of a driver
 abbrev pub listed : Pattern → List ℕ

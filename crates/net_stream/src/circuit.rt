@@ -9,7 +9,7 @@ ghost use Rattle.width_check.specs.Typed.{program_of};
 ghost use Rattle.handshake_expand.specs.Layout.{nodes_of};
 ghost use Rattle.net_compose.specs.Begins.{var_firsts};
 ghost use Rattle.net_compose.specs.Translation.{translation, vars_high};
-ghost use Rattle.net_stream.specs.Circuits.{IsEnding, ended, side};
+ghost use Rattle.net_stream.specs.Circuits.{IsEnding, with_ending, side};
 
 use crate::declared::drivers_of;
 use crate::driver::Driver;
@@ -88,7 +88,7 @@ impl Circuit {
     pub(crate) fn rule(&self, node: u32, up: bool) -> (&Driver, Ending)
         requires { node < length self.now.first }
         ensures rule { (if up then up_of self.now node else down_of self.now node)
-            ≡ ended result.1 (side up result.0.now) }
+            ≡ with_ending result.1 (side up result.0.now) }
         ensures up { IsBelow (length self.now.first) result.0.now.up }
         ensures down { IsBelow (length self.now.first) result.0.now.down }
         ensures ending { IsEnding (length self.now.first) result.1 }

@@ -38,7 +38,7 @@ pub(crate) fn first_of(firsts: &[u32], place: u32) -> u32
 }
 
 /// The number of bits of a channel.
-#[tactic(auto, using(net_compose::proofs::EndsReady::channel_declared, net_compose::proofs::EndsReady::channel_missing))]
+#[tactic(auto, using(net_compose::proofs::EndsReady::channel_declared))]
 pub(crate) fn channel_bits(program: &Typed, chan: u32) -> u8
     ensures { result ≡ channel_width program.now.channels chan }
 {

@@ -8,10 +8,10 @@ ghost use Rattle.prs_file.specs.Spelling.{rule_spelling};
 ghost use Rattle.function_blocks.specs.Functions.{carried_on};
 ghost use Rattle.function_blocks.specs.Gates.{gate_rail, minterm};
 ghost use Rattle.function_blocks.specs.Waves.{rows_of};
-ghost use Rattle.net_stream.specs.Circuits.{IsEnding, ended, guard_end, side, term_end, with_ends};
+ghost use Rattle.net_stream.specs.Circuits.{IsEnding, with_ending, guard_end, side, term_end, with_ends};
 ghost use Rattle.net_stream.specs.Drivers.{truth_named};
 ghost use Rattle.net_stream.specs.Led.{IsPut, IsTermPut, all_wanted, and_behind, has_begun, on_row, row_at};
-ghost use Rattle.net_stream.specs.Shapes.{IsNear, shaped};
+ghost use Rattle.net_stream.specs.Shapes.{ShapeWithin, shaped};
 
 use crate::bit::Bit;
 use crate::circuit::Circuit;
@@ -425,7 +425,7 @@ fn shape_text(
     ending: Ending,
     to: &mut Vec<u8>,
 ) -> Result<Lead, AllocError>
-    requires within { IsNear (length net.now.first) shape nodes.now }
+    requires within { ShapeWithin (length net.now.first) shape nodes.now }
     requires ending { IsEnding (length net.now.first) ending }
     ensures put { IfOk result (λ next. IsPut net.now Lead.Rule next (with_ends ending (shaped shape nodes.now))
         to.old.items to.new.items (vec_len to.old) (vec_len to.new)) }
@@ -493,10 +493,10 @@ fn guard_text(
     requires up { IsBelow (length net.now.first) driver.now.up }
     requires down { IsBelow (length net.now.first) driver.now.down }
     requires ending { IsEnding (length net.now.first) ending }
-    ensures put { IfOk result (λ next. IsPut net.now Lead.Rule next (ended ending (side up driver.now))
+    ensures put { IfOk result (λ next. IsPut net.now Lead.Rule next (with_ending ending (side up driver.now))
         to.old.items to.new.items (vec_len to.old) (vec_len to.new)) }
     ensures room { OnErr result (vec_capacity to.old < vec_len to.old
-        + 64 * guard_literals (ended ending (side up driver.now))) }
+        + 64 * guard_literals (with_ending ending (side up driver.now))) }
     ensures capacity { vec_capacity to.old ≤ vec_capacity to.new }
 {
     let pattern = &driver.pattern;

@@ -5,7 +5,7 @@ ghost use Rattle.chp_base.specs.Names.{IsNodeName};
 ghost use Rattle.width_check.specs.Typed.{program_of};
 ghost use Rattle.handshake_expand.specs.Layout.{nodes_of};
 ghost use Rattle.handshake_expand.specs.Named.{name_of_node, node_names};
-ghost use Rattle.net_stream.specs.Cuts.{cut, AreEnds, start_of};
+ghost use Rattle.net_stream.specs.Cuts.{cut, AreEnds, cut_begin};
 
 use handshake_expand::{count_nodes, node_name};
 use net_compose::laws::all_counted;
@@ -95,9 +95,9 @@ pub(crate) fn names_of(alloc: Global, program: &Typed, reset: bool) -> Result<Na
 }
 
 /// Where the name at a place begins.
-fn start_of(ends: &[usize], place: usize) -> usize
+fn cut_begin(ends: &[usize], place: usize) -> usize
     requires { place < length ends.now }
-    ensures { result ≡ start_of 0 ends.now place }
+    ensures { result ≡ cut_begin 0 ends.now place }
 {
     if place == 0 { 0 } else { ends[place - 1] }
 }
@@ -108,7 +108,7 @@ impl Names {
         requires { place < length self.now }
         ensures { result.now ≡ slice_index_or self.now place [] }
     {
-        let from = start_of(&self.ends, place);
+        let from = cut_begin(&self.ends, place);
         let end = self.ends[place];
         &self.bytes[from..end]
     }

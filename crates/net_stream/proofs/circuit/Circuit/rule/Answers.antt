@@ -4,7 +4,7 @@ use Rattle.std.proofs.lemmas.List.{get_or_read}
 use Rattle.prs_core.specs.Nets.{NetValue, NodeRules, IsBelow, up_of, down_of}
 use Rattle.prs_core.specs.Pairs.{no_rules}
 use Rattle.reset_net.specs.Resets.{has_rules}
-use Rattle.net_stream.specs.Circuits.{ended, ending_of, side}
+use Rattle.net_stream.specs.Circuits.{with_ending, ending_of, side}
 use Rattle.net_stream.proofs.CircuitNets.{leads_back, rule_here, rule_near}
 use Rattle.net_stream.proofs.circuit.Circuit.rule.Goals as goal
 
@@ -25,9 +25,9 @@ returns-clause-rule c =
     ∙ ap (λ b. ending_of x.reset (has_rules driver.up driver.down) b) c.leads_back-back.ensures) in
     ap (λ (n : NetValue). if up then up_of n node else down_of n node) (sym c.self.view_is)
     ∙ (rule_here x.names x.reset up x.first.items x.drivers.items x.channels.items node c.self.invariant.0 within
-    ∙ (ap (λ (r : NodeRules). ended (ending_of x.reset (has_rules r.up r.down) (leads_back up (get_or x.first.items node false))) (side up r)) (sym here)
-    ∙ (ap (λ h. ended (ending_of x.reset (has_rules driver.up driver.down) (leads_back up h)) (side up driver)) (sym high)
-    ∙ ap (λ e. ended e (side up driver)) (sym ending))))
+    ∙ (ap (λ (r : NodeRules). with_ending (ending_of x.reset (has_rules r.up r.down) (leads_back up (get_or x.first.items node false))) (side up r)) (sym here)
+    ∙ (ap (λ h. with_ending (ending_of x.reset (has_rules driver.up driver.down) (leads_back up h)) (side up driver)) (sym high)
+    ∙ ap (λ e. with_ending e (side up driver)) (sym ending))))
 
 pub returns-clause-up : goal.returns-clause-up
 returns-clause-up c =

@@ -1,12 +1,12 @@
 use Rattle.std.proofs.Common.{◌≡◌, ◌∙◌, ◌-◌, ◌<◌, ℕ, List, [], length, get_or, take, drop, ap, sym, arith}
 use Rattle.std.specs.Prelude.{slice_index_or}
 use Rattle.std.proofs.lemmas.List.{get_or_read}
-use Rattle.net_stream.specs.Cuts.{start_of}
+use Rattle.net_stream.specs.Cuts.{cut_begin}
 use Rattle.net_stream.proofs.NamesCut.{cut_at, cut_length, start_within}
 use Rattle.net_stream.proofs.names.Names.at.Goals as goal
 
-pub start_of-from-requires : goal.start_of-from-requires
-start_of-from-requires c =
+pub cut_begin-from-requires : goal.cut_begin-from-requires
+cut_begin-from-requires c =
     let ends = c.self.inside.ends.items in
     let count = cut_length c.self.inside.bytes.items 0 ends in
     let all = ap (λ (l : List (List ℕ)). length l) c.self.view_is in
@@ -28,8 +28,8 @@ slice_bounds-result-count c =
     let count = cut_length bytes 0 ends in
     let all = ap (λ (l : List (List ℕ)). length l) c.self.view_is in
     let within : place < length ends = omega (arith, count, all, c.requires) in
-    let from = c.start_of-from.result in
-    let begins : from ≡ start_of 0 ends place = c.start_of-from.ensures ∙ ap (λ (l : List ℕ). start_of 0 l place) c.deref.ensures.value in
+    let from = c.cut_begin-from.result in
+    let begins : from ≡ cut_begin 0 ends place = c.cut_begin-from.ensures ∙ ap (λ (l : List ℕ). cut_begin 0 l place) c.deref.ensures.value in
     let end : c.index-end.result.now ≡ get_or ends place 0 = get_or_read ends place c.index-end.result.now within c.index-end.ensures 0 in
     let fits = start_within (length bytes) 0 ends place 0 c.self.invariant within in
     omega (arith, begins, end, fits.0, fits.1, c.self.inside.bytes.ok)
@@ -42,8 +42,8 @@ slice_bounds-result-start c =
     let count = cut_length bytes 0 ends in
     let all = ap (λ (l : List (List ℕ)). length l) c.self.view_is in
     let within : place < length ends = omega (arith, count, all, c.requires) in
-    let from = c.start_of-from.result in
-    let begins : from ≡ start_of 0 ends place = c.start_of-from.ensures ∙ ap (λ (l : List ℕ). start_of 0 l place) c.deref.ensures.value in
+    let from = c.cut_begin-from.result in
+    let begins : from ≡ cut_begin 0 ends place = c.cut_begin-from.ensures ∙ ap (λ (l : List ℕ). cut_begin 0 l place) c.deref.ensures.value in
     let end : c.index-end.result.now ≡ get_or ends place 0 = get_or_read ends place c.index-end.result.now within c.index-end.ensures 0 in
     let fits = start_within (length bytes) 0 ends place 0 c.self.invariant within in
     omega (arith, begins, end, fits.0, fits.1, c.self.inside.bytes.ok)
@@ -56,8 +56,8 @@ slice_bounds-result-end c =
     let count = cut_length bytes 0 ends in
     let all = ap (λ (l : List (List ℕ)). length l) c.self.view_is in
     let within : place < length ends = omega (arith, count, all, c.requires) in
-    let from = c.start_of-from.result in
-    let begins : from ≡ start_of 0 ends place = c.start_of-from.ensures ∙ ap (λ (l : List ℕ). start_of 0 l place) c.deref.ensures.value in
+    let from = c.cut_begin-from.result in
+    let begins : from ≡ cut_begin 0 ends place = c.cut_begin-from.ensures ∙ ap (λ (l : List ℕ). cut_begin 0 l place) c.deref.ensures.value in
     let end : c.index-end.result.now ≡ get_or ends place 0 = get_or_read ends place c.index-end.result.now within c.index-end.ensures 0 in
     let fits = start_within (length bytes) 0 ends place 0 c.self.invariant within in
     omega (arith, begins, end, fits.0, fits.1, c.self.inside.bytes.ok)
@@ -70,8 +70,8 @@ returns c =
     let count = cut_length bytes 0 ends in
     let all = ap (λ (l : List (List ℕ)). length l) c.self.view_is in
     let within : place < length ends = omega (arith, count, all, c.requires) in
-    let from = c.start_of-from.result in
-    let begins : from ≡ start_of 0 ends place = c.start_of-from.ensures ∙ ap (λ (l : List ℕ). start_of 0 l place) c.deref.ensures.value in
+    let from = c.cut_begin-from.result in
+    let begins : from ≡ cut_begin 0 ends place = c.cut_begin-from.ensures ∙ ap (λ (l : List ℕ). cut_begin 0 l place) c.deref.ensures.value in
     let end : c.index-end.result.now ≡ get_or ends place 0 = get_or_read ends place c.index-end.result.now within c.index-end.ensures 0 in
     ap (λ l. take (c.index-end.result.now - from) (drop from l)) c.deref-2.ensures.value
     ∙ (ap (λ n. take (n - from) (drop from bytes)) end
