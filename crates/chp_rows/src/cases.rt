@@ -6,6 +6,7 @@ use crate::reading::{show, show_tokens};
 use crate::run::{
     keep, run, run_count, run_cuts, run_orders, run_shelf_faults, run_sink_faults, run_surely,
 };
+use crate::streamed::stream;
 use case_text::{bytes_of, numbers_of};
 use std::alloc::{AllocError, Global};
 use std::fmt::Write;
@@ -94,6 +95,7 @@ fn act<R: Files + AllocGlobal>(
         "keep" => keep(alloc, bench, first, more, page)?,
         "show" => show(alloc, bench.last(), page)?,
         "tokens" => show_tokens(alloc, bench.last(), page)?,
+        "stream" => stream(alloc, bench.last(), page)?,
         "read" => read(alloc, bench, limit, more, page)?,
         "read-surely" => read_surely(alloc, bench, limit, page)?,
         "read-disk" => read_disk(rt, limit, more, page)?,

@@ -9,14 +9,15 @@ mod pickers;
 mod printer;
 mod reading;
 mod run;
+mod streamed;
 
 use bench::Bench;
 use cases::obey;
 use std::{fs, io};
 
-const TOPICS: [&str; 14] = [
-    "texts", "compile", "check", "expand", "grow", "migrate", "simulate", "rounds", "buffers",
-    "edge", "against", "delays", "waves", "unwave",
+const TOPICS: [&str; 15] = [
+    "texts", "compile", "stream", "check", "expand", "grow", "migrate", "simulate", "rounds",
+    "buffers", "edge", "against", "delays", "waves", "unwave",
 ];
 
 fn main(rt: HostRuntime) -> io::Result<()> {
