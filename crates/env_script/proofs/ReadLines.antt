@@ -36,14 +36,14 @@ begun channels offers told made flags = record {
 }
 
 -- what the lines before and one more say
-lines_more : (ws : List (List ℕ)) (line : List ℕ) → filter is_some_line (map words_of (ws ++ line ∷ [])) ≡ filter is_some_line (map words_of ws)
+pub lines_more : (ws : List (List ℕ)) (line : List ℕ) → filter is_some_line (map words_of (ws ++ line ∷ [])) ≡ filter is_some_line (map words_of ws)
     ++ filter is_some_line (words_of line ∷ [])
 lines_more ws line = ap (filter is_some_line) (map-append words_of ws (line ∷ [])) ∙ filter-append is_some_line (map words_of ws) (words_of line ∷ [])
 
-no_line : (words : List (List ℕ)) → words ≡ [] → filter is_some_line (words ∷ []) ≡ []
+pub no_line : (words : List (List ℕ)) → words ≡ [] → filter is_some_line (words ∷ []) ≡ []
 no_line words none = ap (λ (v : List (List ℕ)). filter is_some_line (v ∷ [])) none
 
-one_line : (words : List (List ℕ)) (w : List ℕ) (behind : List (List ℕ)) → words ≡ w ∷ behind → filter is_some_line (words ∷ []) ≡ words ∷ []
+pub one_line : (words : List (List ℕ)) (w : List ℕ) (behind : List (List ℕ)) → words ≡ w ∷ behind → filter is_some_line (words ∷ []) ≡ words ∷ []
 one_line words w behind is = rw (is_some words is) refl
   where
     is_some : (v : List (List ℕ)) → v ≡ w ∷ behind → is_some_line v ≡ true
@@ -167,14 +167,15 @@ fault_is channels ws ls offers told values words fault so_far (of_channel l c pl
     ∙ ap (λ (b : Bool). fault_on c b (values_told channels ls) l.said) (sym flag)
     ∙ ap (λ (n : ℕ). fault_on c (told_at told place) n l.said) (sym so_far.count) ∙ is)
 
-texts_append : (vs ws : Words) → texts (vs ++ ws) ≡ texts vs ++ texts ws
+pub texts_append : (vs ws : Words) → texts (vs ++ ws) ≡ texts vs ++ texts ws
 texts_append vs ws = map-append (λ (word : Bor (List ℕ)). word.now) vs ws
 
-texts_more : (lines : Words) (at : ℕ) (d : Bor (List ℕ)) → at < length lines → texts (take (at + 1) lines) ≡ texts (take at lines) ++ (get_or lines at d).now
+pub texts_more : (lines : Words) (at : ℕ) (d : Bor (List ℕ)) → at < length lines →
+    texts (take (at + 1) lines) ≡ texts (take at lines) ++ (get_or lines at d).now
     ∷ []
 texts_more lines at d within = ap texts (take_more lines at d within) ∙ texts_append (take at lines) (get_or lines at d ∷ [])
 
-texts_parts : (lines : Words) (at : ℕ) (d : Bor (List ℕ)) → at < length lines → texts lines ≡ texts (take at lines) ++ (get_or lines at d).now
+pub texts_parts : (lines : Words) (at : ℕ) (d : Bor (List ℕ)) → at < length lines → texts lines ≡ texts (take at lines) ++ (get_or lines at d).now
     ∷ texts (drop (at + 1) lines)
 texts_parts lines at d within =
     ap texts (sym (take-append-drop at lines)) ∙ texts_append (take at lines) (drop at lines)

@@ -8,4 +8,6 @@ mod node;
 mod operator;
 
 pub use emit::emit_expr;
+pub use gate::Function;
 pub use handshake_expand::expr_nodes;
+pub use node::{Bit, bits_apart};

@@ -14,14 +14,14 @@ use std::alloc::{AllocError, Global};
 use width_check::{TArm, Typed};
 
 /// How many nodes a selection or a guarded repetition has beside the latch and the start of each guard.
-pub(crate) fn own_nodes(again: bool) -> u32
+pub fn own_nodes(again: bool) -> u32
     ensures { result ≡ own_before again }
 {
     if again { 6 } else { 3 }
 }
 
 /// How many nodes the guards have together.
-pub(crate) fn guards_nodes(arms: &[TArm]) -> u32
+pub fn guards_nodes(arms: &[TArm]) -> u32
     requires formed { HasFormedGuards (choices_in arms.now) }
     requires room { guards_size (choices_in arms.now) < 2 ^ 32 }
     ensures { result ≡ guards_size (choices_in arms.now) }
@@ -35,7 +35,7 @@ pub(crate) fn guards_nodes(arms: &[TArm]) -> u32
 }
 
 /// The nodes that answer the bodies, which are numbered from `from` on.
-pub(crate) fn body_answers(
+pub fn body_answers(
     alloc: Global,
     program: &Typed,
     arms: &[TArm],

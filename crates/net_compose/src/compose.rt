@@ -31,7 +31,11 @@ fn all_low(alloc: Global, count: usize) -> Result<Vec<bool>, AllocError>
 }
 
 /// First values as far as declarations go: all nodes are low but one rail of each bit of each variable.
-fn declared_values(alloc: Global, program: &Typed, firsts: &[u32]) -> Result<Vec<bool>, AllocError>
+pub fn declared_values(
+    alloc: Global,
+    program: &Typed,
+    firsts: &[u32],
+) -> Result<Vec<bool>, AllocError>
     requires firsts { firsts.now ≡ var_firsts (program_of program.now) }
     requires few { nodes_of (program_of program.now) ≤ 65536 }
     ensures values { IfOk result (λ first. first.items ≡ fold (λ values node. slice_set values node true)

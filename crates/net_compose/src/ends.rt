@@ -23,7 +23,7 @@ use std::alloc::{AllocError, Global};
 use width_check::{TExpr, Typed};
 
 /// Rail t and rail f of so many bits, numbered from `from` on.
-pub(crate) fn rails_from(alloc: Global, width: u8, from: u32) -> Result<Vec<u32>, AllocError>
+pub fn rails_from(alloc: Global, width: u8, from: u32) -> Result<Vec<u32>, AllocError>
     requires { from + 2 * width < 2 ^ 32 }
     ensures { IfOk result (λ rails. rails.items ≡ rails_of (pairs_from width from)) }
 {
@@ -39,7 +39,7 @@ pub(crate) fn rails_from(alloc: Global, width: u8, from: u32) -> Result<Vec<u32>
 
 /// The number that stands at a place.
 #[tactic(auto, using(crate::proofs::EndsReady::first_found, crate::proofs::EndsReady::no_first))]
-fn first_of(firsts: &[u32], place: u32) -> u32
+pub fn first_of(firsts: &[u32], place: u32) -> u32
     ensures { result ≡ slice_index_or firsts.now place 0 }
 {
     match firsts.get(place as usize) {
@@ -50,7 +50,7 @@ fn first_of(firsts: &[u32], place: u32) -> u32
 
 /// The number of bits of a channel.
 #[tactic(auto, using(crate::proofs::EndsReady::channel_declared, crate::proofs::EndsReady::channel_missing))]
-pub(crate) fn channel_bits(program: &Typed, chan: u32) -> u8
+pub fn channel_bits(program: &Typed, chan: u32) -> u8
     ensures { result ≡ channel_width program.now.channels chan }
 {
     match program.channels().get(chan as usize) {
@@ -61,7 +61,7 @@ pub(crate) fn channel_bits(program: &Typed, chan: u32) -> u8
 
 /// The number of bits of a variable.
 #[tactic(auto, using(crate::proofs::EndsReady::var_declared, crate::proofs::EndsReady::var_missing))]
-pub(crate) fn var_bits(program: &Typed, var: u32) -> u8
+pub fn var_bits(program: &Typed, var: u32) -> u8
     ensures { result ≡ var_width program.now.vars var }
 {
     match program.vars().get(var as usize) {
@@ -71,7 +71,7 @@ pub(crate) fn var_bits(program: &Typed, var: u32) -> u8
 }
 
 /// The acknowledge of a channel.
-pub(crate) fn ack_node(program: &Typed, chan: u32, channels: &[u32]) -> u32
+pub fn ack_node(program: &Typed, chan: u32, channels: &[u32]) -> u32
     requires channels { channels.now ≡ channel_firsts (program_of program.now) }
     requires within { chan < length program.now.channels }
     requires room { root_request (program_of program.now) < 2 ^ 32 }
@@ -82,7 +82,7 @@ pub(crate) fn ack_node(program: &Typed, chan: u32, channels: &[u32]) -> u32
 }
 
 /// The node that says that all bits of a variable are written: the last one of its block.
-pub(crate) fn written_node(program: &Typed, var: u32, vars: &[u32]) -> u32
+pub fn written_node(program: &Typed, var: u32, vars: &[u32]) -> u32
     requires vars { vars.now ≡ var_firsts (program_of program.now) }
     requires within { var < length program.now.vars }
     requires room { root_request (program_of program.now) < 2 ^ 32 }

@@ -13,7 +13,7 @@ fn rail_of(value: u64, node: u32) -> u32
 }
 
 /// Raises the rails of a variable's block that are high at first: one of each bit, by the variable's first value.
-pub(crate) fn raise(first: &mut [bool], width: u8, value: u64, from: u32)
+pub fn raise(first: &mut [bool], width: u8, value: u64, from: u32)
     requires room { from + 5 * width ≤ length first.old }
     requires few { length first.old < 2 ^ 32 }
     ensures raised { first.new

@@ -1,3 +1,3 @@
-mod Guards
+pub mod Guards
 mod Laid
-mod Whole
+pub mod Whole
