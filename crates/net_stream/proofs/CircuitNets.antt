@@ -9,7 +9,7 @@ use Rattle.prs_core.specs.declared.wires.Wires.{Wires}
 use Rattle.prs_core.specs.Nets.{GuardValue, NodeRules, NetValue, net_of, up_of, down_of, first_at, IsBelow, IsNet, IsReset}
 use Rattle.prs_core.specs.Pairs.{no_rules}
 use Rattle.reset_net.specs.Resets.{has_rules, held, forced, reset_guard, reset_literal, reset_up, reset_down, reset_of}
-use Rattle.net_stream.proofs.ResetWhole.{reset_is_net}
+use Rattle.reset_net.proofs.Whole.{reset_is_net}
 use Rattle.width_check.specs.Processes.{TypedProgram}
 use Rattle.handshake_expand.specs.Named.{node_names}
 use Rattle.net_compose.specs.Translation.{all_rules, first_values, translation, wires_from}

@@ -9,13 +9,13 @@ use Rattle.prs_core.specs.declared.wires.Wires.{Wires}
 use Rattle.prs_core.specs.Nets.{GuardValue, NodeRules, guard_literals, is_high, is_low}
 use Rattle.prs_core.specs.Pairs.{Pair, no_rules, or_of, lows, rails_of}
 use Rattle.reset_net.specs.Resets.{has_rules, held, forced, reset_guard, reset_literal}
-use Rattle.function_blocks.specs.Functions.{carried_on}
+use Rattle.function_blocks.specs.Functions.{truth, carried_on}
 use Rattle.function_blocks.specs.Gates.{minterm, table, gate_rail}
 use Rattle.function_blocks.specs.Waves.{rows_of}
 use Rattle.net_stream.specs.declared.driver.Pattern.{Pattern}
 use Rattle.net_stream.specs.declared.driver.Pattern.TheVariants.{Undriven, Follow, Until, Latch, Behind, Site, Read, Both, Kept, Written, Any, Gate, Joined, Wanted, Started, Turn}
 use Rattle.net_stream.specs.Circuits.{reset_rules, each_reset, circuit_rules, circuit_net, side}
-use Rattle.net_stream.specs.Drivers.{driven, truth_named}
+use Rattle.net_stream.specs.Drivers.{driven}
 use Rattle.net_stream.specs.Rooms.{IsFew, IsRoomFor, HasRoom}
 use Rattle.net_stream.specs.Shapes.{listed}
 use Rattle.net_stream.proofs.Puts.{one_count}
@@ -126,7 +126,7 @@ few_is (Any inputs) =
     let both = or_small inputs.items most (omega arith) in
     few_of most (or_of inputs.items) both.0 both.1
 few_is (Gate function one left right below) =
-    let both = gate_small left right below (rows_of one (truth_named function)) 24 (omega arith) in
+    let both = gate_small left right below (rows_of one (truth function)) 24 (omega arith) in
     few_of 24 (driven (Gate function one left right below)) both.0 both.1
 few_is (Joined any answers) =
     let most = length answers.items + 24 in

@@ -5,6 +5,7 @@ pub mod BodyDriven
 pub mod Latched
 pub mod Stored
 pub mod ContactsPicked
+pub mod ContactsSorted
 pub mod DeclaredDriven
 pub mod NamesCut
 pub mod NodesWithin
@@ -16,6 +17,4 @@ pub mod FewLiterals
 pub mod RuleTexts
 pub mod ChoiceDriven
 pub mod AllDriven
-pub mod ResetGuards
-pub mod ResetWhole
 pub mod TreeDriven

@@ -1,5 +1,5 @@
 -- What drives a node, told by the nodes that it reads: the two guards that each kind of driver stands for.
-use Rattle.std.specs.Prelude.{ℕ, Bool, List, [], ◌∷◌, map}
+use Rattle.std.specs.Prelude.{ℕ, List, [], ◌∷◌, map}
 use Rattle.prs_core.specs.Nets.{NodeRules, is_high, is_low, one_term}
 use Rattle.prs_core.specs.Pairs.{no_rules, lows, or_of}
 use Rattle.prs_core.specs.Sites.{site_answer}
@@ -8,22 +8,11 @@ use Rattle.cell_parallel.specs.Trees.{c_element}
 use Rattle.cell_variable.specs.Variables.{kept_rail, bit_written}
 use Rattle.cell_select.specs.Selections.{joined_answer, turn_request}
 use Rattle.function_blocks.specs.Expressions.{read_rail}
-use Rattle.function_blocks.specs.Functions.{carried_on}
-use Rattle.function_blocks.specs.Gates.{all_one, some_one, odd_ones, alike, carries, borrows, gate_rail}
+use Rattle.function_blocks.specs.Functions.{truth, carried_on}
+use Rattle.function_blocks.specs.Gates.{gate_rail}
 use Rattle.function_blocks.specs.Waves.{rows_of}
-use Rattle.net_stream.specs.declared.function.Function.{Function}
-use Rattle.net_stream.specs.declared.function.Function.TheVariants.{And, Or, Xor, Equal, Carry, Borrow}
 use Rattle.net_stream.specs.declared.driver.Pattern.{Pattern}
 use Rattle.net_stream.specs.declared.driver.Pattern.TheVariants.{Undriven, Follow, Until, Latch, Behind, Site, Read, Both, Kept, Written, Any, Gate, Joined, Wanted, Started, Turn}
-
--- the truth function of this name
-abbrev pub truth_named : Function → List Bool → Bool
-truth_named And = all_one
-truth_named Or = some_one
-truth_named Xor = odd_ones
-truth_named Equal = alike
-truth_named Carry = carries
-truth_named Borrow = borrows
 
 -- a latch that rises where all of these are high, and falls with the request
 abbrev pub wanted_latch : (request : ℕ) → List ℕ → NodeRules
@@ -46,7 +35,7 @@ driven (Kept set other reset) = kept_rail set other reset
 driven (Written x w) = bit_written (record { x = x; w = w; written = 0 })
 driven (Any inputs) = or_of inputs.items
 driven (Gate function one left right below) =
-    gate_rail (left ∷ right ∷ carried_on below) (rows_of one (truth_named function))
+    gate_rail (left ∷ right ∷ carried_on below) (rows_of one (truth function))
 driven (Joined any answers) = joined_answer any answers.items
 driven (Wanted request wanted) = wanted_latch request wanted.items
 driven (Started latch until rails) = let_go latch until rails.items

@@ -4,6 +4,7 @@ pub mod Cursors
 pub mod Drivers
 pub mod Shapes
 pub mod Contacts
+pub mod SortedContacts
 pub mod Wanted
 pub mod Cuts
 pub mod Led

@@ -2,14 +2,13 @@
 use Rattle.std.specs.Prelude.{ℕ, ◌<◌, Bool, List, [], ◌∷◌, map, All, if◌then◌else◌}
 use Rattle.prs_core.specs.Nets.{GuardValue, IsBelow, is_high, is_low}
 use Rattle.prs_core.specs.Pairs.{lows, rails_of}
-use Rattle.function_blocks.specs.Functions.{carried_on}
+use Rattle.function_blocks.specs.Functions.{truth, carried_on}
 use Rattle.function_blocks.specs.Gates.{gate_rail}
 use Rattle.function_blocks.specs.Waves.{rows_of}
 use Rattle.net_stream.specs.declared.driver.Pattern.{Pattern}
 use Rattle.net_stream.specs.declared.driver.Pattern.TheVariants.{Undriven, Follow, Until, Latch, Behind, Site, Read, Both, Kept, Written, Any, Gate, Joined, Wanted, Started, Turn}
 use Rattle.net_stream.specs.declared.shape.Shape.{Shape}
 use Rattle.net_stream.specs.declared.shape.Shape.TheVariants.{Never, One, Two, Either, Alike, Each, Highs, Lows, With, Rows, Neutral}
-use Rattle.net_stream.specs.Drivers.{truth_named}
 
 -- the guard of this form over these nodes
 abbrev pub shaped : Shape → List ℕ → GuardValue
@@ -23,7 +22,7 @@ shaped Highs ns = map is_high ns ∷ []
 shaped Lows ns = lows ns ∷ []
 shaped (With l) ns = (l ∷ lows ns) ∷ []
 shaped (Rows function one left right below) ns =
-    (gate_rail (left ∷ right ∷ carried_on below) (rows_of one (truth_named function))).up
+    (gate_rail (left ∷ right ∷ carried_on below) (rows_of one (truth function))).up
 shaped (Neutral left right below) ns = lows (rails_of (left ∷ right ∷ carried_on below)) ∷ []
 
 -- all its nodes are among so many; of a gate, all rails of its inputs

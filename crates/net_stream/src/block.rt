@@ -1,15 +1,14 @@
 //! The drivers of what is declared: of the wires of channels and of the blocks of variables.
 
-ghost use Rattle.std.specs.Prelude.{◌≡◌, ◌+◌, ◌*◌, ◌<◌, ◌≤◌, ◌^◌, ◌++◌, [], ◌∷◌, length, replicate, IfOk, OnOk};
-ghost use Rattle.prs_core.specs.Pairs.{no_rules, or_of, merged_true, merged_false};
+ghost use Rattle.std.specs.Prelude.{◌≡◌, ◌+◌, ◌*◌, ◌<◌, ◌^◌, ◌++◌, [], ◌∷◌, replicate, IfOk, OnOk};
+ghost use Rattle.prs_core.specs.Pairs.{no_rules, merged_true, merged_false};
 ghost use Rattle.cell_variable.specs.Variables.{bit_at, bit_rules, written_leaves, variable_rules};
-ghost use Rattle.handshake_expand.specs.Layout.{block_size};
 ghost use Rattle.net_compose.specs.Translation.{rail_rules};
 
-use crate::bit::Bit;
 use crate::contact::{Site, rails_at};
 use crate::driver::Driver;
 use crate::tree::tree;
+use function_blocks::Bit;
 use std::alloc::{AllocError, Global};
 
 /// Adds so many nodes that no rule moves.

@@ -13,15 +13,14 @@ ghost use Rattle.net_compose.specs.Begins.{channel_firsts, var_firsts};
 ghost use Rattle.net_compose.specs.Translation.{rules_of, hidden_high};
 ghost use Rattle.net_stream.specs.Contacts.{every_contact};
 
-use crate::arms::{body_answers, guards_nodes, own_nodes};
 use crate::choice::choice;
 use crate::contact::Contact;
 use crate::driver::Driver;
-use crate::firsts::Firsts;
 use crate::formula::element;
 use crate::leaves::{assign, receive, send};
 use crate::tree::tree;
 use handshake_expand::{answer_node, count_nodes, statement_nodes};
+use net_compose::{Firsts, body_answers, guards_nodes, own_nodes};
 use std::alloc::{AllocError, Global};
 use width_check::{TArm, TStmt, Typed};
 
@@ -289,8 +288,10 @@ pub(crate) fn body(
     ensures count { length first.new ≡ length first.old }
 {
     let body = program.body();
-    let from = (count_nodes(program) - statement_nodes(program, body)) as u32;
-    let mut drivers = Vec::new(alloc);
+    let count = count_nodes(program);
+    let from = (count - statement_nodes(program, body)) as u32;
+    // with room for those of the declared nodes and of a reset node
+    let mut drivers = Vec::with_capacity(alloc, count as usize + 1)?;
     statement(
         alloc,
         program,

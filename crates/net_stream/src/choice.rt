@@ -1,8 +1,7 @@
 //! The drivers of the own nodes of selections and guarded repetitions, and of their guards.
 
-ghost use Rattle.std.specs.Prelude.{◌≡◌, ◌+◌, ◌*◌, ◌^◌, ◌<◌, ◌≤◌, ◌++◌, ◌∷◌, true, false, length, map, IfOk, OnOk};
+ghost use Rattle.std.specs.Prelude.{◌≡◌, ◌+◌, ◌*◌, ◌^◌, ◌<◌, ◌≤◌, ◌++◌, true, false, length, IfOk, OnOk};
 ghost use Rattle.std.specs.List.{range_with_len};
-ghost use Rattle.prs_core.specs.Pairs.{Pair};
 ghost use Rattle.width_check.specs.Processes.{choosing};
 ghost use Rattle.width_check.specs.Typed.{program_of};
 ghost use Rattle.width_check.specs.Typing.{IsProcess, AreChoices};
@@ -15,10 +14,10 @@ ghost use Rattle.net_compose.specs.Begins.{var_firsts};
 ghost use Rattle.net_compose.specs.Translation.{branch_answers, guard_pairs, guards_rules, choosing_at, repeating_at};
 ghost use Rattle.net_stream.specs.Wanted.{one_wanted, all_unwanted};
 
-use crate::bit::{Bit, rails_of};
+use crate::bit::rails_of;
 use crate::driver::Driver;
 use crate::formula::formula;
-use function_blocks::expr_nodes;
+use function_blocks::{Bit, expr_nodes};
 use std::alloc::{AllocError, Global};
 use width_check::{TArm, Typed};
 

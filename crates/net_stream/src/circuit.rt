@@ -1,26 +1,22 @@
 //! A program's circuit, told by the drivers of its nodes.
 
-ghost use Rattle.std.specs.Prelude.{◌≡◌, ◌<◌, ◌≤◌, true, false, length, fold, replicate, slice_set, if◌then◌else◌, IfOk, OnOk, [], ◌∷◌, ◌++◌, Some, None};
+ghost use Rattle.std.specs.Prelude.{◌≡◌, ◌<◌, ◌≤◌, true, length, if◌then◌else◌, IfOk, OnOk, [], ◌∷◌, ◌++◌, Some, None};
 ghost use Rattle.chp_base.specs.Names.{IsNodeName};
 ghost use Rattle.prs_core.specs.Nets.{IsBelow, IsNet, name_at, up_of, down_of};
 ghost use Rattle.prs_core.specs.Pairs.{no_rules};
 ghost use Rattle.reset_net.specs.Resets.{reset_of};
 ghost use Rattle.width_check.specs.Typed.{program_of};
 ghost use Rattle.handshake_expand.specs.Layout.{nodes_of};
-ghost use Rattle.net_compose.specs.Begins.{var_firsts};
-ghost use Rattle.net_compose.specs.Translation.{translation, vars_high};
+ghost use Rattle.net_compose.specs.Translation.{translation};
 ghost use Rattle.net_stream.specs.Circuits.{IsEnding, with_ending, side};
 
 use crate::declared::drivers_of;
 use crate::driver::Driver;
 use crate::ending::{Ending, ending_of, leads_back};
-use crate::first::raise;
-use crate::firsts::firsts_of;
 use crate::laws::whole_nets;
 use crate::names::{Names, names_of};
-use crate::wires::wires_of;
-use handshake_expand::count_nodes;
 use net_compose::laws::all_counted;
+use net_compose::{declared_values, firsts_of, wires_of};
 use prs_core::Wires;
 use std::alloc::{AllocError, Global};
 use std::marker::Model;
@@ -98,31 +94,6 @@ impl Circuit {
         let ending = ending_of(self.reset, driver.has_rules(), back);
         (driver, ending)
     }
-}
-
-/// So many nodes, all low.
-fn all_low(alloc: Global, count: usize) -> Result<Vec<bool>, AllocError>
-    ensures { IfOk result (λ values. values.items ≡ replicate count false) }
-{
-    vec![in alloc; false; count]
-}
-
-/// First values as far as declarations go: all nodes are low but one rail of each bit of each variable.
-fn declared_values(alloc: Global, program: &Typed, firsts: &[u32]) -> Result<Vec<bool>, AllocError>
-    requires firsts { firsts.now ≡ var_firsts (program_of program.now) }
-    requires few { nodes_of (program_of program.now) ≤ 65536 }
-    ensures values { IfOk result (λ first. first.items ≡ fold (λ values node. slice_set values node true)
-        (replicate (nodes_of (program_of program.now)) false) (vars_high (program_of program.now) 0 program.now.vars)) }
-    ensures count { IfOk result (λ first. length first.items ≡ nodes_of (program_of program.now)) }
-{
-    let count = count_nodes(program) as usize;
-    let mut first = all_low(alloc, count)?;
-    let vars = program.vars();
-    for var in 0..vars.len() {
-        let declared = &vars[var];
-        raise(&mut first, declared.width, declared.first, firsts[var]);
-    }
-    Ok(first)
 }
 
 /// Adds a reset node, where one is asked for, and answers its number.

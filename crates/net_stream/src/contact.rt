@@ -1,11 +1,10 @@
 //! Where the statements of a program meet its channels and variables.
 
-ghost use Rattle.std.specs.Prelude.{◌≡◌, ◌++◌, List, map, if◌then◌else◌, option_to_list, IfOk, OnOk};
-ghost use Rattle.std.specs.List.{flat_map};
+ghost use Rattle.std.specs.Prelude.{◌≡◌, List, map, IfOk};
 ghost use Rattle.prs_core.specs.Pairs.{Pair, pair_of};
-ghost use Rattle.net_stream.specs.Contacts.{sends, takes, writes, sent_by, taken_by, written_by, rail_in};
+ghost use Rattle.net_stream.specs.Contacts.{sends, takes, writes, rail_in};
 
-use crate::bit::Bit;
+use function_blocks::Bit;
 use std::alloc::{AllocError, Global};
 use std::marker::Model;
 
@@ -29,14 +28,6 @@ impl Site {
         ensures { result ≡ bits.items }
     {
         Site { bits }
-    }
-
-    /// A second list of the same bits.
-    fn copy(&self, alloc: Global) -> Result<Site, AllocError>
-        ensures { IfOk result (λ s. s ≡ self.now) }
-    {
-        let bits = Vec::from_slice(alloc, &self.bits)?;
-        Ok(Site { bits })
     }
 
     /// The rail of a bit that is high for this value.
@@ -64,7 +55,7 @@ pub(crate) enum Meeting {
 /// A place where a statement meets a channel or a variable.
 #[derive(Debug, Drop)]
 pub(crate) struct Contact {
-    meeting: Meeting,
+    pub meeting: Meeting,
 }
 
 impl Model for Contact {
@@ -105,87 +96,6 @@ impl Contact {
             },
         }
     }
-
-    /// Adds what is sent on the channel here.
-    fn add_sent(&self, alloc: Global, chan: usize, to: &mut Vec<Site>) -> Result<(), AllocError>
-        ensures { OnOk result (to.new.items ≡ to.old.items ++ sent_by chan self.now) }
-    {
-        if let Meeting::Sends { chan: own, site } = &self.meeting {
-            if *own as usize == chan {
-                to.push(site.copy(alloc)?)?;
-            }
-        }
-        Ok(())
-    }
-
-    /// Adds the node by which what is received on the channel here is stored.
-    fn add_taken(&self, chan: usize, to: &mut Vec<u32>) -> Result<(), AllocError>
-        ensures { OnOk result (to.new.items ≡ to.old.items ++ taken_by chan self.now) }
-    {
-        if let Meeting::Takes { chan: own, node } = &self.meeting {
-            if *own as usize == chan {
-                to.push(*node)?;
-            }
-        }
-        Ok(())
-    }
-
-    /// Adds what is written to the variable here.
-    fn add_written(&self, alloc: Global, var: usize, to: &mut Vec<Site>) -> Result<(), AllocError>
-        ensures { OnOk result (to.new.items ≡ to.old.items ++ written_by var self.now) }
-    {
-        if let Meeting::Writes { var: own, site } = &self.meeting {
-            if *own as usize == var {
-                to.push(site.copy(alloc)?)?;
-            }
-        }
-        Ok(())
-    }
-}
-
-/// What is sent on the channel.
-pub(crate) fn sent_on(
-    alloc: Global,
-    contacts: &[Contact],
-    chan: usize,
-) -> Result<Vec<Site>, AllocError>
-    ensures { IfOk result (λ sites. sites.items ≡ flat_map (sent_by chan) contacts.now) }
-{
-    let mut sites = Vec::new(alloc);
-    for contact in contacts {
-        contact.add_sent(alloc, chan, &mut sites)?;
-    }
-    Ok(sites)
-}
-
-/// The nodes by which what is received on the channel is stored.
-pub(crate) fn taken_on(
-    alloc: Global,
-    contacts: &[Contact],
-    chan: usize,
-) -> Result<Vec<u32>, AllocError>
-    ensures { IfOk result (λ nodes. nodes.items ≡ flat_map (taken_by chan) contacts.now) }
-{
-    let mut nodes = Vec::new(alloc);
-    for contact in contacts {
-        contact.add_taken(chan, &mut nodes)?;
-    }
-    Ok(nodes)
-}
-
-/// What is written to the variable.
-pub(crate) fn written_to(
-    alloc: Global,
-    contacts: &[Contact],
-    var: usize,
-) -> Result<Vec<Site>, AllocError>
-    ensures { IfOk result (λ sites. sites.items ≡ flat_map (written_by var) contacts.now) }
-{
-    let mut sites = Vec::new(alloc);
-    for contact in contacts {
-        contact.add_written(alloc, var, &mut sites)?;
-    }
-    Ok(sites)
 }
 
 /// The rails of a bit at the sites that are high for this value.

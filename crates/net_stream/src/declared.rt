@@ -1,6 +1,6 @@
 //! The drivers of all nodes of a program's circuit.
 
-ghost use Rattle.std.specs.Prelude.{◌≡◌, ◌<◌, ◌≤◌, ◌++◌, [], true, fold, length, slice_set, IfOk, OnOk};
+ghost use Rattle.std.specs.Prelude.{◌≡◌, ◌<◌, ◌≤◌, ◌++◌, true, fold, length, slice_set, IfOk, OnOk};
 ghost use Rattle.width_check.specs.Typed.{program_of};
 ghost use Rattle.width_check.specs.Typing.{channel_width, kind_at, var_width};
 ghost use Rattle.handshake_expand.specs.Layout.{nodes_of, var_from};
@@ -8,15 +8,16 @@ ghost use Rattle.handshake_expand.specs.Sites.{in_body};
 ghost use Rattle.cell_variable.specs.Variables.{variable_rules};
 ghost use Rattle.net_compose.specs.Begins.{channel_firsts, var_firsts};
 ghost use Rattle.net_compose.specs.Translation.{all_rules, channel_rules, channels_rules, vars_rules, write_site, hidden_high};
-ghost use Rattle.net_stream.specs.Contacts.{every_contact};
+ghost use Rattle.net_stream.specs.SortedContacts.{AreSortedContacts};
 
 use crate::block::{block, rails, silent};
 use crate::body::body;
-use crate::contact::{Contact, sent_on, taken_on, written_to};
+use crate::contact::Site;
 use crate::driver::{Driver, add};
-use crate::firsts::Firsts;
+use crate::sorted::{Sorted, sort_contacts};
 use chp_base::Kind;
 use handshake_expand::{answer_node, count_nodes, statement_nodes};
+use net_compose::Firsts;
 use std::alloc::{AllocError, Global};
 use width_check::Typed;
 
@@ -27,10 +28,10 @@ fn channel(
     alloc: Global,
     program: &Typed,
     chan: usize,
-    contacts: &[Contact],
+    sorted: &Sorted,
     drivers: &mut Vec<Driver>,
 ) -> Result<(), AllocError>
-    requires contacts { contacts.now ≡ in_body (program_of program.now) (every_contact (program_of program.now)) }
+    requires sorted { AreSortedContacts (program_of program.now) sorted.now }
     requires within { chan < length program.now.channels }
     ensures { OnOk result (drivers.new.items ≡ drivers.old.items
         ++ channel_rules (program_of program.now) chan
@@ -40,19 +41,19 @@ fn channel(
     let _kept = program.body();
     let channels = program.channels();
     let declared = &channels[chan];
-    let sites = sent_on(alloc, contacts, chan)?;
-    let taken = taken_on(alloc, contacts, chan)?;
+    let sites: &[Site] = &sorted.sent[chan];
+    let taken = Vec::from_slice(alloc, &sorted.taken[chan])?;
     match declared.kind {
         Kind::In => {
             silent(2 * u32::from(declared.width), drivers)?;
             add(Driver::any(taken), drivers)
         }
         Kind::Out => {
-            rails(alloc, &sites, declared.width, drivers)?;
+            rails(alloc, sites, declared.width, drivers)?;
             add(Driver::undriven(), drivers)
         }
         Kind::Chan => {
-            rails(alloc, &sites, declared.width, drivers)?;
+            rails(alloc, sites, declared.width, drivers)?;
             add(Driver::any(taken), drivers)
         }
     }
@@ -62,15 +63,15 @@ fn channel(
 fn channels(
     alloc: Global,
     program: &Typed,
-    contacts: &[Contact],
+    sorted: &Sorted,
     drivers: &mut Vec<Driver>,
 ) -> Result<(), AllocError>
-    requires contacts { contacts.now ≡ in_body (program_of program.now) (every_contact (program_of program.now)) }
+    requires sorted { AreSortedContacts (program_of program.now) sorted.now }
     ensures { OnOk result (drivers.new.items ≡ drivers.old.items
         ++ channels_rules (program_of program.now) 0 program.now.channels) }
 {
     for chan in 0..program.channels().len() {
-        channel(alloc, program, chan, contacts, drivers)?;
+        channel(alloc, program, chan, sorted, drivers)?;
     }
     Ok(())
 }
@@ -81,11 +82,11 @@ fn var(
     program: &Typed,
     number: usize,
     firsts: &[u32],
-    contacts: &[Contact],
+    sorted: &Sorted,
     drivers: &mut Vec<Driver>,
 ) -> Result<(), AllocError>
     requires firsts { firsts.now ≡ var_firsts (program_of program.now) }
-    requires contacts { contacts.now ≡ in_body (program_of program.now) (every_contact (program_of program.now)) }
+    requires sorted { AreSortedContacts (program_of program.now) sorted.now }
     requires within { number < length program.now.vars }
     requires few { nodes_of (program_of program.now) ≤ 65536 }
     ensures { OnOk result (drivers.new.items ≡ drivers.old.items
@@ -96,8 +97,8 @@ fn var(
     let _kept = program.body();
     let vars = program.vars();
     let declared = &vars[number];
-    let sites = written_to(alloc, contacts, number)?;
-    block(alloc, &sites, declared.width, firsts[number], drivers)
+    let sites: &[Site] = &sorted.written[number];
+    block(alloc, sites, declared.width, firsts[number], drivers)
 }
 
 /// Adds the blocks of all variables.
@@ -105,17 +106,17 @@ fn vars(
     alloc: Global,
     program: &Typed,
     firsts: &[u32],
-    contacts: &[Contact],
+    sorted: &Sorted,
     drivers: &mut Vec<Driver>,
 ) -> Result<(), AllocError>
     requires firsts { firsts.now ≡ var_firsts (program_of program.now) }
-    requires contacts { contacts.now ≡ in_body (program_of program.now) (every_contact (program_of program.now)) }
+    requires sorted { AreSortedContacts (program_of program.now) sorted.now }
     requires few { nodes_of (program_of program.now) ≤ 65536 }
     ensures { OnOk result (drivers.new.items ≡ drivers.old.items
         ++ vars_rules (program_of program.now) 0 program.now.vars) }
 {
     for number in 0..program.vars().len() {
-        var(alloc, program, number, firsts, contacts, drivers)?;
+        var(alloc, program, number, firsts, sorted, drivers)?;
     }
     Ok(())
 }
@@ -138,18 +139,20 @@ pub(crate) fn drivers_of(
     ensures count { length first.new ≡ length first.old }
 {
     let mut contacts = Vec::new(alloc);
-    let mut inner = body(alloc, program, firsts, first, &mut contacts)?;
+    // What drives the declared nodes is known behind the body alone, and they come first.
+    let mut drivers = body(alloc, program, firsts, first, &mut contacts)?;
+    let own = drivers.len();
     let statement = program.body();
     let from = (count_nodes(program) - statement_nodes(program, statement)) as u32;
     let latch = from - 1;
     let answer = answer_node(program, statement, from);
-    let mut drivers = Vec::new(alloc);
     drivers.push(Driver::undriven())?;
     drivers.push(Driver::next(latch, answer))?;
-    channels(alloc, program, &contacts, &mut drivers)?;
-    vars(alloc, program, &firsts.vars, &contacts, &mut drivers)?;
+    let sorted = sort_contacts(alloc, program, contacts)?;
+    channels(alloc, program, &sorted, &mut drivers)?;
+    vars(alloc, program, &firsts.vars, &sorted, &mut drivers)?;
     drivers.push(Driver::child(0, latch))?;
     drivers.push(Driver::latch(0, answer))?;
-    drivers.append(&mut inner)?;
+    drivers.rotate_left(own);
     Ok(drivers)
 }

@@ -9,13 +9,12 @@ ghost use Rattle.cell_parallel.specs.Trees.{c_element};
 ghost use Rattle.cell_variable.specs.Variables.{kept_rail, bit_written};
 ghost use Rattle.cell_select.specs.Selections.{joined_answer, turn_request};
 ghost use Rattle.function_blocks.specs.Expressions.{following, read_rail};
-ghost use Rattle.function_blocks.specs.Functions.{carried_on};
+ghost use Rattle.function_blocks.specs.Functions.{truth, carried_on};
 ghost use Rattle.function_blocks.specs.Gates.{gate_rail};
 ghost use Rattle.function_blocks.specs.Waves.{rows_of};
-ghost use Rattle.net_stream.specs.Drivers.{truth_named, wanted_latch, let_go};
+ghost use Rattle.net_stream.specs.Drivers.{wanted_latch, let_go};
 
-use crate::bit::Bit;
-use crate::function::Function;
+use function_blocks::{Bit, Function};
 use std::alloc::AllocError;
 use std::marker::Model;
 
@@ -270,7 +269,7 @@ impl Driver {
         right: Bit,
         below: Option<Bit>,
     ) -> Driver
-        ensures { result ≡ gate_rail (left ∷ right ∷ carried_on below) (rows_of one (truth_named function)) }
+        ensures { result ≡ gate_rail (left ∷ right ∷ carried_on below) (rows_of one (truth function)) }
     {
         Driver {
             pattern: Pattern::Gate {

@@ -8,10 +8,11 @@ ghost use Rattle.function_blocks.specs.Expressions.{constant_bit, constant_bits,
 ghost use Rattle.function_blocks.specs.Blocks.{bits_apart, bits_in_blocks, HasBit};
 ghost use Rattle.function_blocks.specs.BitsRead.{EachRead};
 
-use crate::bit::{Bit, bits_apart, exchanged};
+use crate::bit::exchanged;
 use crate::driver::Driver;
 use crate::operator::operator;
 use chp_base::Bits;
+use function_blocks::{Bit, bits_apart};
 use std::alloc::{AllocError, Global};
 use width_check::TExpr;
 

@@ -1,6 +1,6 @@
 //! The drivers of a program's expressions, and of what a statement that sends, receives or writes has besides.
 
-ghost use Rattle.std.specs.Prelude.{◌≡◌, ◌+◌, ◌*◌, ◌<◌, ◌≤◌, ◌^◌, ◌++◌, IfOk, OnOk};
+ghost use Rattle.std.specs.Prelude.{◌≡◌, ◌+◌, ◌*◌, ◌<◌, ◌^◌, ◌++◌, IfOk, OnOk};
 ghost use Rattle.prs_core.specs.Pairs.{pairs_from};
 ghost use Rattle.width_check.specs.Typed.{program_of};
 ghost use Rattle.width_check.specs.Typing.{ReadsFrom};
@@ -12,9 +12,9 @@ ghost use Rattle.function_blocks.specs.Expressions.{formula_rules, formula_resul
 ghost use Rattle.net_compose.specs.Begins.{var_firsts};
 ghost use Rattle.net_compose.specs.Translation.{bits_at, q_rules};
 
-use crate::bit::Bit;
 use crate::driver::Driver;
 use crate::expression::expression;
+use function_blocks::Bit;
 use std::alloc::{AllocError, Global};
 use width_check::{TExpr, Typed};
 

@@ -5,20 +5,18 @@ ghost use Rattle.prs_core.specs.declared.rule.Literal.{Literal as LiteralValue};
 ghost use Rattle.prs_core.specs.Nets.{IsBelow, is_high, up_of, down_of, guard_literals};
 ghost use Rattle.prs_core.specs.Pairs.{rails_of};
 ghost use Rattle.prs_file.specs.Spelling.{rule_spelling};
-ghost use Rattle.function_blocks.specs.Functions.{carried_on};
-ghost use Rattle.function_blocks.specs.Gates.{gate_rail, minterm};
+ghost use Rattle.function_blocks.specs.Functions.{truth, carried_on};
+ghost use Rattle.function_blocks.specs.Gates.{gate_rail};
 ghost use Rattle.function_blocks.specs.Waves.{rows_of};
 ghost use Rattle.net_stream.specs.Circuits.{IsEnding, with_ending, guard_end, side, term_end, with_ends};
-ghost use Rattle.net_stream.specs.Drivers.{truth_named};
 ghost use Rattle.net_stream.specs.Led.{IsPut, IsTermPut, all_wanted, and_behind, has_begun, on_row, row_at};
 ghost use Rattle.net_stream.specs.Shapes.{ShapeWithin, shaped};
 
-use crate::bit::Bit;
 use crate::circuit::Circuit;
 use crate::driver::Driver;
 use crate::ending::Ending;
-use crate::function::Function;
 use crate::shape::Shape;
+use function_blocks::{Bit, Function};
 use prs_core::Literal;
 use prs_file::{Lead, literal_text, rule_end};
 use std::alloc::AllocError;
@@ -194,10 +192,10 @@ fn pair_text(
     requires within { All (λ n. n < length net.now.first) (rails_of (left ∷ right ∷ [])) }
     requires ending { IsEnding (length net.now.first) ending }
     ensures put { IfOk result (λ next. IsPut net.now lead next (with_ends ending
-        (on_row (left ∷ right ∷ []) (rows_of one (truth_named function)) (row_at 2 number))) to.old.items to.new.items
+        (on_row (left ∷ right ∷ []) (rows_of one (truth function)) (row_at 2 number))) to.old.items to.new.items
         (vec_len to.old) (vec_len to.new)) }
     ensures room { OnErr result (vec_capacity to.old < vec_len to.old + 64 * guard_literals (with_ends ending
-        (on_row (left ∷ right ∷ []) (rows_of one (truth_named function)) (row_at 2 number)))) }
+        (on_row (left ∷ right ∷ []) (rows_of one (truth function)) (row_at 2 number)))) }
     ensures capacity { vec_capacity to.old ≤ vec_capacity to.new }
 {
     let a = number % 2 == 1;
@@ -235,10 +233,10 @@ fn triple_text(
     requires within { All (λ n. n < length net.now.first) (rails_of (left ∷ right ∷ carried ∷ [])) }
     requires ending { IsEnding (length net.now.first) ending }
     ensures put { IfOk result (λ next. IsPut net.now lead next (with_ends ending
-        (on_row (left ∷ right ∷ carried ∷ []) (rows_of one (truth_named function)) (row_at 3 number)))
+        (on_row (left ∷ right ∷ carried ∷ []) (rows_of one (truth function)) (row_at 3 number)))
         to.old.items to.new.items (vec_len to.old) (vec_len to.new)) }
     ensures room { OnErr result (vec_capacity to.old < vec_len to.old + 64 * guard_literals (with_ends ending
-        (on_row (left ∷ right ∷ carried ∷ []) (rows_of one (truth_named function)) (row_at 3 number)))) }
+        (on_row (left ∷ right ∷ carried ∷ []) (rows_of one (truth function)) (row_at 3 number)))) }
     ensures capacity { vec_capacity to.old ≤ vec_capacity to.new }
 {
     let a = number % 2 == 1;
@@ -278,10 +276,10 @@ fn pairs_text(
     requires within { All (λ n. n < length net.now.first) (rails_of (left ∷ right ∷ [])) }
     requires ending { IsEnding (length net.now.first) ending }
     ensures put { IfOk result (λ next. IsPut net.now Lead.Rule next (with_ends ending
-        (gate_rail (left ∷ right ∷ []) (rows_of one (truth_named function))).up) to.old.items to.new.items
+        (gate_rail (left ∷ right ∷ []) (rows_of one (truth function))).up) to.old.items to.new.items
         (vec_len to.old) (vec_len to.new)) }
     ensures room { OnErr result (vec_capacity to.old < vec_len to.old + 64 * guard_literals (with_ends ending
-        (gate_rail (left ∷ right ∷ []) (rows_of one (truth_named function))).up)) }
+        (gate_rail (left ∷ right ∷ []) (rows_of one (truth function))).up)) }
     ensures capacity { vec_capacity to.old ≤ vec_capacity to.new }
 {
     let mut lead = Lead::Rule;
@@ -305,10 +303,10 @@ fn triples_text(
     requires within { All (λ n. n < length net.now.first) (rails_of (left ∷ right ∷ carried ∷ [])) }
     requires ending { IsEnding (length net.now.first) ending }
     ensures put { IfOk result (λ next. IsPut net.now Lead.Rule next (with_ends ending
-        (gate_rail (left ∷ right ∷ carried ∷ []) (rows_of one (truth_named function))).up) to.old.items to.new.items
+        (gate_rail (left ∷ right ∷ carried ∷ []) (rows_of one (truth function))).up) to.old.items to.new.items
         (vec_len to.old) (vec_len to.new)) }
     ensures room { OnErr result (vec_capacity to.old < vec_len to.old + 64 * guard_literals (with_ends ending
-        (gate_rail (left ∷ right ∷ carried ∷ []) (rows_of one (truth_named function))).up)) }
+        (gate_rail (left ∷ right ∷ carried ∷ []) (rows_of one (truth function))).up)) }
     ensures capacity { vec_capacity to.old ≤ vec_capacity to.new }
 {
     let mut lead = Lead::Rule;
@@ -334,10 +332,10 @@ fn rows_text(
     requires within { All (λ n. n < length net.now.first) (rails_of (left ∷ right ∷ carried_on below)) }
     requires ending { IsEnding (length net.now.first) ending }
     ensures put { IfOk result (λ next. IsPut net.now Lead.Rule next (with_ends ending
-        (gate_rail (left ∷ right ∷ carried_on below) (rows_of one (truth_named function))).up) to.old.items to.new.items
+        (gate_rail (left ∷ right ∷ carried_on below) (rows_of one (truth function))).up) to.old.items to.new.items
         (vec_len to.old) (vec_len to.new)) }
     ensures room { OnErr result (vec_capacity to.old < vec_len to.old + 64 * guard_literals (with_ends ending
-        (gate_rail (left ∷ right ∷ carried_on below) (rows_of one (truth_named function))).up)) }
+        (gate_rail (left ∷ right ∷ carried_on below) (rows_of one (truth function))).up)) }
     ensures capacity { vec_capacity to.old ≤ vec_capacity to.new }
 {
     match below {

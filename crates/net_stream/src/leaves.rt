@@ -15,15 +15,13 @@ ghost use Rattle.net_compose.specs.Begins.{channel_firsts, var_firsts};
 ghost use Rattle.net_compose.specs.Translation.{ack_at, assigned_rails, bits_at, hidden_high, rails_at, rules_of, written_at};
 ghost use Rattle.net_stream.specs.Contacts.{sends, takes, writes};
 
-use crate::bit::{Bit, bits_apart};
 use crate::contact::Contact;
 use crate::driver::Driver;
-use crate::ends::{ack_node, channel_bits, first_of, var_bits, written_node};
-use crate::first::raise;
-use crate::firsts::Firsts;
 use crate::formula::{formula, port};
 use crate::through::through;
+use function_blocks::{Bit, bits_apart};
 use handshake_expand::reads;
+use net_compose::{Firsts, ack_node, channel_bits, first_of, raise, var_bits, written_node};
 use std::alloc::{AllocError, Global};
 use width_check::{TExpr, Typed};
 

@@ -1,7 +1,6 @@
 //! The rule file of a program, piece by piece.
 #![tactic(auto)]
 
-mod arms;
 mod bit;
 mod block;
 mod body;
@@ -13,12 +12,8 @@ mod cursor;
 mod declared;
 mod driver;
 mod ending;
-mod ends;
 mod expression;
-mod first;
-mod firsts;
 mod formula;
-mod function;
 mod gate;
 mod guard;
 mod laws;
@@ -28,9 +23,9 @@ mod names;
 mod operator;
 mod place;
 mod shape;
+mod sorted;
 mod streamer;
 mod through;
 mod tree;
-mod wires;
 
 pub use streamer::Streamer;

@@ -1,7 +1,6 @@
 //! The names of nodes.
 
 ghost use Rattle.std.specs.Prelude.{◌≡◌, ◌<◌, ◌≤◌, [], ◌++◌, ◌∷◌, length, codes, take, if◌then◌else◌, slice_index_or, IfOk, OnOk};
-ghost use Rattle.chp_base.specs.Names.{IsNodeName};
 ghost use Rattle.width_check.specs.Typed.{program_of};
 ghost use Rattle.handshake_expand.specs.Layout.{nodes_of};
 ghost use Rattle.handshake_expand.specs.Named.{name_of_node, node_names};

@@ -1,16 +1,15 @@
 //! The gates of operators on two numbers of one width.
 
-ghost use Rattle.std.specs.Prelude.{◌≡◌, ◌+◌, ◌-◌, ◌*◌, ◌<◌, ◌≤◌, ◌^◌, [], ◌∷◌, ◌++◌, map, length, IfOk, OnOk};
+ghost use Rattle.std.specs.Prelude.{◌≡◌, ◌+◌, ◌-◌, ◌*◌, ◌<◌, ◌≤◌, ◌^◌, [], ◌∷◌, ◌++◌, length, IfOk, OnOk};
 ghost use Rattle.prs_core.specs.Pairs.{pair_at, exchanged};
 ghost use Rattle.handshake_expand.specs.Layout.{operator_size};
+ghost use Rattle.function_blocks.specs.Functions.{truth};
 ghost use Rattle.function_blocks.specs.Gates.{bitwise, result_pairs, ripple, ripple_result, borrow_gates, equality, operator_rules, operator_result};
-ghost use Rattle.net_stream.specs.Drivers.{truth_named};
 
-use crate::bit::{Bit, bits_apart};
 use crate::driver::Driver;
-use crate::function::Function;
 use crate::gate::gate_over;
 use chp_syntax::Op;
+use function_blocks::{Bit, Function, bits_apart};
 use std::alloc::{AllocError, Global};
 
 /// Adds a gate for each place of the two numbers.
@@ -21,7 +20,7 @@ fn bitwise(
     drivers: &mut Vec<Driver>,
 ) -> Result<(), AllocError>
     requires agree { length right.now ≡ length left.now }
-    ensures { OnOk result (drivers.new.items ≡ drivers.old.items ++ bitwise (truth_named function) left.now right.now) }
+    ensures { OnOk result (drivers.new.items ≡ drivers.old.items ++ bitwise (truth function) left.now right.now) }
 {
     for place in 0..left.len() {
         gate_over(function, &left[place], &right[place], &None, drivers)?;
@@ -43,7 +42,7 @@ fn each_place(
     requires agree { length right.now ≡ length left.now }
     requires room { from + 2 * length left.now < 2 ^ 32 }
     ensures made { OnOk result (drivers.new.items
-        ≡ drivers.old.items ++ bitwise (truth_named function) left.now right.now) }
+        ≡ drivers.old.items ++ bitwise (truth function) left.now right.now) }
     ensures bits { IfOk result (λ bits. bits.items ≡ result_pairs left.now from) }
 {
     bitwise(function, left, right, drivers)?;
@@ -67,7 +66,7 @@ fn ripple(
     requires agree { length right.now ≡ length left.now }
     requires room { from + (4 * length left.now - 2) < 2 ^ 32 }
     ensures made { OnOk result (drivers.new.items
-        ≡ drivers.old.items ++ ripple (truth_named carry) left.now right.now [] from) }
+        ≡ drivers.old.items ++ ripple (truth carry) left.now right.now [] from) }
     ensures bits { IfOk result (λ bits. bits.items ≡ ripple_result left.now from) }
 {
     let top = left.len() - 1;

@@ -4,9 +4,8 @@ ghost use Rattle.std.specs.Prelude.{◌≡◌};
 ghost use Rattle.prs_core.specs.Nets.{is_high, is_low};
 ghost use Rattle.net_stream.specs.Shapes.{listed, up_shape, down_shape, shape_of};
 
-use crate::bit::Bit;
 use crate::driver::Pattern;
-use crate::function::Function;
+use function_blocks::{Bit, Function};
 use prs_core::Literal;
 
 /// The form of a guard. The nodes of a list, where it has one, stand apart.

@@ -93,6 +93,7 @@ impl Streamer {
     pub fn new(alloc: Global, program: &Disjoint) -> Result<Streamer, NetError>
         ensures text { IfOk result (λ s. NetText s (translation (program_of program.now))) }
         ensures carries { OnOk result (Carries (translation (program_of program.now)) (program_of program.now)) }
+        ensures net { OnOk result (IsNet (translation (program_of program.now))) }
         ensures fits { OnOk result (nodes_of (program_of program.now) ≤ 65536) }
         ensures count { IfErr result (IfTooMany (λ count. count ≡ node_count (program_of program.now))) }
         ensures too_many { IfErr result (IfTooMany (λ _. 65536 < nodes_of (program_of program.now))) }
@@ -105,6 +106,7 @@ impl Streamer {
         ensures text { IfOk result (λ s. NetText s (reset_of (translation (program_of program.now)))) }
         ensures carries { OnOk result
             (CarriesReset (reset_of (translation (program_of program.now))) (program_of program.now)) }
+        ensures net { OnOk result (IsNet (translation (program_of program.now))) }
         ensures fits { OnOk result (nodes_of (program_of program.now) ≤ 65536) }
         ensures count { IfErr result (IfTooMany (λ count. count ≡ node_count (program_of program.now))) }
         ensures too_many { IfErr result (IfTooMany (λ _. 65536 < nodes_of (program_of program.now))) }

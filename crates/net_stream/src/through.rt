@@ -1,7 +1,6 @@
 //! The drivers of an assignment to a variable that its own expression reads.
 
 ghost use Rattle.std.specs.Prelude.{◌≡◌, ◌+◌, ◌^◌, ◌<◌, ◌≤◌, ◌++◌, ◌∷◌, [], length, IfOk, OnOk};
-ghost use Rattle.prs_core.specs.Pairs.{Pair};
 ghost use Rattle.width_check.specs.Typed.{program_of};
 ghost use Rattle.width_check.specs.Typing.{var_width, IsOfWidth};
 ghost use Rattle.width_check.specs.View.{formula_of};
@@ -11,15 +10,13 @@ ghost use Rattle.function_blocks.specs.Expressions.{read_bits};
 ghost use Rattle.net_compose.specs.Begins.{var_firsts};
 ghost use Rattle.net_compose.specs.Translation.{block_bits, read_back, through_at, through_rules};
 
-use crate::bit::{Bit, bits_apart};
 use crate::block::block;
 use crate::contact::Site;
 use crate::driver::Driver;
-use crate::ends::{var_bits, written_node};
 use crate::expression::reading;
-use crate::firsts::block_nodes;
 use crate::formula::{element, formula};
-use function_blocks::expr_nodes;
+use function_blocks::{Bit, bits_apart, expr_nodes};
+use net_compose::{block_nodes, var_bits, written_node};
 use std::alloc::{AllocError, Global};
 use width_check::{TExpr, Typed};
 
