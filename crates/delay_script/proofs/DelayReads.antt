@@ -1,11 +1,11 @@
 -- The lines of a delay file, one after another.
 use Rattle.std.proofs.Common.{◌≡◌, ◌≢◌, ℕ, zero, suc, ◌+◌, ◌<◌, ◌≤◌, Bool, true, false, List, [], ◌∷◌, ◌++◌, length, get_or, set, map, take, drop, replicate, refl, sym, ap, ◌∙◌, subst, arith, length-take, Contains}
-use Rattle.std.specs.Prelude.{not, ◌==◌, if◌then◌else◌, filter, bytes_eq, All}
+use Rattle.std.specs.Prelude.{◌==◌, if◌then◌else◌, filter, bytes_eq, All}
 use Rattle.std.specs.Borrow.{Bor}
 use Rattle.std.specs.List.{AllZip}
-use Rattle.std.proofs.lemmas.Bool.{or_parts, ne_eqb}
-use Rattle.std.proofs.lemmas.List.{length-map, map-append, take_all, take_more, take-append-drop, drop_more}
-use Rattle.std.proofs.lemmas.List.Elements.{All-nil, All-cons, All-push, filter-append}
+use Rattle.std.proofs.lemmas.Bool.{or_parts}
+use Rattle.std.proofs.lemmas.List.{append-nil, length-map, take_all}
+use Rattle.std.proofs.lemmas.List.Elements.{All-nil, All-cons, All-push}
 use Rattle.std.proofs.lemmas.List.Quantifiers.{all_pairs_push}
 use Rattle.std.proofs.lemmas.List.Splits.{length-slice_split}
 use Rattle.std.proofs.lemmas.List.Sums.{count_by-le-length}
@@ -13,6 +13,7 @@ use Rattle.env_script.specs.Cutting.{lines_of, words_of}
 use Rattle.env_script.specs.ScriptText.{is_some_line}
 use Rattle.env_script.proofs.Sayings.{Words, texts}
 use Rattle.env_script.proofs.OneMore.{other_name}
+use Rattle.env_script.proofs.ReadLines.{lines_more, no_line, one_line, texts_more, texts_parts}
 use Rattle.delay_script.specs.declared.line.DelayLine.{DelayLine}
 use Rattle.delay_script.specs.declared.fault.DelayFault.{DelayFault}
 use Rattle.delay_script.specs.declared.step.TakenDelay.{TakenDelay}
@@ -49,24 +50,6 @@ begun names up down marks rises falls unmarked = record {
   marks_are = unmarked ∙ sym (no_marks names);
 }
 
--- what the lines before and one more say
-lines_more : (ws : List (List ℕ)) (line : List ℕ) → filter is_some_line (map words_of (ws ++ line ∷ [])) ≡ filter is_some_line (map words_of ws)
-    ++ filter is_some_line (words_of line ∷ [])
-lines_more ws line = ap (filter is_some_line) (map-append words_of ws (line ∷ [])) ∙ filter-append is_some_line (map words_of ws) (words_of line ∷ [])
-
-no_line : (words : List (List ℕ)) → words ≡ [] → filter is_some_line (words ∷ []) ≡ []
-no_line words none = ap (λ (v : List (List ℕ)). filter is_some_line (v ∷ [])) none
-
-one_line : (words : List (List ℕ)) (w : List ℕ) (behind : List (List ℕ)) → words ≡ w ∷ behind → filter is_some_line (words ∷ []) ≡ words ∷ []
-one_line words w behind is = rw (is_some words is) refl
-  where
-    is_some : (v : List (List ℕ)) → v ≡ w ∷ behind → is_some_line v ≡ true
-    is_some v e = ap is_some_line e ∙ ap not (ne_eqb (suc (length behind)) 0 (omega arith))
-
-append-none : (xs : List (List (List ℕ))) → xs ++ [] ≡ xs
-append-none [] = refl
-append-none (x ∷ xs) = ap (λ (ys : List (List (List ℕ))). x ∷ ys) (append-none xs)
-
 says_push : (wss : List (List (List ℕ))) (ls : List DelayLine) (words : List (List ℕ)) (l : DelayLine) → AllZip SaysDelays wss ls → SaysDelays words l →
     AllZip SaysDelays (wss ++ words ∷ []) (ls ++ l ∷ [])
 says_push [] [] words l all says = (says, tt)
@@ -79,7 +62,7 @@ skipped : (names ws : List (List ℕ)) (line : List ℕ) (ls : List DelayLine) (
 skipped names ws line ls up down marks so_far none =
     let still : filter is_some_line (map words_of (ws ++ line ∷ [])) ≡ filter is_some_line (map words_of ws) =
     lines_more ws line ∙ ap (λ (vs : List (List (List ℕ))). filter is_some_line (map words_of ws) ++ vs) (no_line (words_of line) none)
-    ∙ append-none (filter is_some_line (map words_of ws)) in
+    ∙ append-nil (filter is_some_line (map words_of ws)) in
     record {
       lines_told = record {
         says = subst (λ (vs : List (List (List ℕ))). AllZip SaysDelays vs ls) (sym still) so_far.lines_told.says;
@@ -133,19 +116,6 @@ fault_is names ws ls up down marks words fault so_far (of_marked l place says he
     again l says (place_contains names l.node place here) (sym (mark_is names ls marks l.node place so_far.marks_are here) ∙ marked)
 fault_is names ws ls up down marks words fault so_far (of_slow l place says here fresh late) =
     slow l says (place_contains names l.node place here) (sym (mark_is names ls marks l.node place so_far.marks_are here) ∙ fresh) late
-
-texts_append : (vs ws : Words) → texts (vs ++ ws) ≡ texts vs ++ texts ws
-texts_append vs ws = map-append (λ (word : Bor (List ℕ)). word.now) vs ws
-
-texts_more : (lines : Words) (at : ℕ) (d : Bor (List ℕ)) → at < length lines → texts (take (at + 1) lines) ≡ texts (take at lines) ++ (get_or lines at d).now
-    ∷ []
-texts_more lines at d within = ap texts (take_more lines at d within) ∙ texts_append (take at lines) (get_or lines at d ∷ [])
-
-texts_parts : (lines : Words) (at : ℕ) (d : Bor (List ℕ)) → at < length lines → texts lines ≡ texts (take at lines) ++ (get_or lines at d).now
-    ∷ texts (drop (at + 1) lines)
-texts_parts lines at d within =
-    ap texts (sym (take-append-drop at lines)) ∙ texts_append (take at lines) (drop at lines)
-    ∙ ap (λ (ws : Words). texts (take at lines) ++ texts ws) (drop_more lines at d within)
 
 -- what was read of the lines before this place
 pub record AreReadTo (names : List (List ℕ)) (lines : Words) (at : ℕ) (up down : List ℕ) (marks : List Bool) : Type 0 where

@@ -2,7 +2,7 @@
 use Rattle.std.proofs.Common.{◌≡◌, ◌≢◌, ℕ, zero, suc, ◌<◌, Bool, true, false, Some, List, [], ◌∷◌, ◌++◌, length, get_or, set, map, refl, sym, ap, ◌∙◌, inl, inr, arith, Contains}
 use Rattle.std.specs.Prelude.{◌⊎◌, ◌||◌, AllPairs, slice_get, bytes_eq, if◌then◌else◌}
 use Rattle.std.proofs.lemmas.Bool.{cases_order, or_parts, or_right}
-use Rattle.std.proofs.lemmas.List.{get_or-map}
+use Rattle.std.proofs.lemmas.List.{get_or-map, get_or_default}
 use Rattle.env_script.proofs.OneMore.{same, differ}
 use Rattle.delay_script.specs.declared.line.DelayLine.{DelayLine}
 use Rattle.delay_script.specs.DelayText.{has_line, rise_said, fall_said}
@@ -12,11 +12,6 @@ abbrev pub AreDistinctNames : List (List ℕ) → Type 0
 AreDistinctNames names = AllPairs (λ (a b : List ℕ). a ≢ b) names
 
 -- places
-
-any_default : {X : Type 0} (xs : List X) (k : ℕ) (d e : X) → k < length xs → get_or xs k d ≡ get_or xs k e
-any_default [] k d e within = absurd (omega arith)
-any_default (x ∷ xs) zero d e within = refl
-any_default (x ∷ xs) (suc k) d e within = any_default xs k d e (omega arith)
 
 got : (xs : List (List ℕ)) (k : ℕ) (y : List ℕ) → slice_get xs k ≡ Some y → IsNodePlace xs y k
 got [] k y e = absurd (cc e)
@@ -32,7 +27,7 @@ pub place_got : (xs ys : List (List ℕ)) (k : ℕ) (y : List ℕ) → xs ≡ ys
 place_got xs ys k y e found = got ys k y (ap (λ (v : List (List ℕ)). slice_get v k) (sym e) ∙ found)
 
 pub place_contains : (names : List (List ℕ)) (name : List ℕ) (k : ℕ) → IsNodePlace names name k → Contains names name
-place_contains names name k here = (k, here.within, any_default names k name [] here.within ∙ here.is)
+place_contains names name k here = (k, here.within, get_or_default names k name [] here.within ∙ here.is)
 
 -- a map that differs at one place
 

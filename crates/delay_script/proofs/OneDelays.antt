@@ -1,9 +1,9 @@
 -- A text says at most one table of delays, and a text that is refused says none, for one cause at one line.
-use Rattle.std.proofs.Common.{◌≡◌, ◌≢◌, ℕ, zero, suc, ◌<◌, true, false, List, [], ◌∷◌, ◌++◌, length, get_or, map, refl, sym, ap, ◌∙◌, inl, inr, subst, arith, Contains}
+use Rattle.std.proofs.Common.{◌≡◌, ◌≢◌, ℕ, suc, ◌<◌, true, false, List, [], ◌∷◌, ◌++◌, length, get_or, map, refl, sym, ap, ◌∙◌, inl, inr, subst, arith, Contains}
 use Rattle.std.specs.Prelude.{◌⊎◌, not, ◌==◌, filter, codes, bytes_eq}
 use Rattle.std.specs.List.{AllZip, list_all}
 use Rattle.std.proofs.lemmas.Bool.{cases_order, ne_eqb, or_from, both_ways}
-use Rattle.std.proofs.lemmas.List.{append_cancel_left, map-append}
+use Rattle.std.proofs.lemmas.List.{append_cancel_left, get_or_append_left, get_or_at, length-append, map-append}
 use Rattle.std.proofs.lemmas.List.Elements.{filter-append}
 use Rattle.chp_base.specs.Names.{digit}
 use Rattle.env_script.specs.Numbers.{IsNumber, IsDecimalWord, IsHexadecimalWord, number_of_word}
@@ -66,18 +66,8 @@ not_told (f ∷ fs) name apart =
     or_from (bytes_eq f.node name) (has_line fs name) (differ f.node name (apart 0 f (omega arith)))
     (not_told fs name (λ k d within. apart (suc k) d (omega arith)))
 
-at_end : {X : Type 0} (fs : List X) (l : X) (rest : List X) (d : X) → get_or (fs ++ l ∷ rest) (length fs) d ≡ l
-at_end [] l rest d = refl
-at_end (f ∷ fs) l rest d = at_end fs l rest d
-
 long_enough : {X : Type 0} (fs : List X) (l : X) (rest : List X) → length fs < length (fs ++ l ∷ rest)
-long_enough [] l rest = omega arith
-long_enough (f ∷ fs) l rest = let more = long_enough fs l rest in omega arith
-
-in_front : {X : Type 0} (fs : List X) (rest : List X) (k : ℕ) (d : X) → k < length fs → get_or (fs ++ rest) k d ≡ get_or fs k d
-in_front [] rest k d within = absurd (omega arith)
-in_front (f ∷ fs) rest zero d within = refl
-in_front (f ∷ fs) rest (suc k) d within = in_front fs rest k d (omega arith)
+long_enough fs l rest = omega (arith, length-append fs (l ∷ rest))
 
 -- what a line of good ones is behind those in front of it
 record IsFine (names : List (List ℕ)) (fs : List DelayLine) (l : DelayLine) : Type 0 where
@@ -87,11 +77,12 @@ record IsFine (names : List (List ℕ)) (fs : List DelayLine) (l : DelayLine) : 
 
 fine : (names : List (List ℕ)) (fs : List DelayLine) (l : DelayLine) (rest : List DelayLine) → AreDelays names (fs ++ l ∷ rest) → IsFine names fs l
 fine names fs l rest good = record {
-  node = subst (λ (m : DelayLine). Contains names m.node) (at_end fs l rest l) (good.nodes (length fs) l (long_enough fs l rest));
+  node = subst (λ (m : DelayLine). Contains names m.node) (get_or_at fs l rest l (length fs) refl) (good.nodes (length fs) l (long_enough fs l rest));
   fresh = not_told fs l.node
-      (λ k d within same. good.once k (length fs) d within (long_enough fs l rest) (ap (λ (m : DelayLine). m.node) (in_front fs (l ∷ rest) k d within) ∙ same
-      ∙ ap (λ (m : DelayLine). m.node) (sym (at_end fs l rest d))));
-  quick = subst IsQuick (at_end fs l rest l) (good.quick (length fs) l (long_enough fs l rest));
+      (λ k d within same. good.once k (length fs) d within (long_enough fs l rest)
+      (ap (λ (m : DelayLine). m.node) (get_or_append_left fs (l ∷ rest) d k within) ∙ same
+      ∙ ap (λ (m : DelayLine). m.node) (sym (get_or_at fs l rest d (length fs) refl))));
+  quick = subst IsQuick (get_or_at fs l rest l (length fs) refl) (good.quick (length fs) l (long_enough fs l rest));
 }
 
 -- Lines of a text in front of a line.
