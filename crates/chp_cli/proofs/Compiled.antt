@@ -1,28 +1,27 @@
 -- The text of a program's net, and what that net carries.
-use Rattle.std.proofs.Common.{◌≡◌, ◌∙◌, ℕ, Bool, true, false, List, refl, ap, subst}
-use Rattle.std.specs.Prelude.{if◌then◌else◌}
-use Rattle.net_compose.specs.Carries.{Carries, ResetCarries}
+use Rattle.std.proofs.Common.{ℕ, true, false, List, refl}
+use Rattle.std.specs.Prelude.{Result, Ok, Err, IfOk, OnOk}
+use Rattle.net_compose.specs.Carries.{Carries, CarriesReset}
 use Rattle.net_compose.specs.Translation.{translation}
-use Rattle.prs_core.specs.Nets.{NetValue, IsNet}
-use Rattle.prs_file.specs.Spelling.{NetText, spelling}
+use Rattle.net_compose.proofs.NamesFree.{names_free}
+use Rattle.prs_core.specs.Nets.{IsNet}
+use Rattle.prs_file.specs.Spelling.{NetText}
 use Rattle.reset_net.specs.Resets.{reset_of}
+use Rattle.reset_net.proofs.Whole.{reset_is_net}
 use Rattle.width_check.specs.Processes.{TypedProgram}
 use Rattle.chp_cli.specs.Compiling.{IsCompiled}
-use Rattle.net_compose.proofs.NamesFree.{names_free}
 
-module _ (p : TypedProgram) (net : NetValue) (is : net ≡ translation p) (kept : IsNet net) (carried : Carries (translation p) p)
-    (law : ResetCarries (translation p) p) where
-  pub net_compiled : (reset : Bool) (text : List ℕ) → NetText text (if reset then reset_of net else net) →
-      IsNet (if reset then reset_of net else net) → IsCompiled reset p text
-  net_compiled false text spelled whole = record {
-    plain = subst IsNet is kept;
-    kept = subst IsNet is whole;
-    spells = spelled ∙ ap spelling is;
-    carries = carried;
-  }
-  net_compiled true text spelled whole = record {
-    plain = subst IsNet is kept;
-    kept = subst (λ n. IsNet (reset_of n)) is whole;
-    spells = spelled ∙ ap (λ n. spelling (reset_of n)) is;
-    carries = let held = subst IsNet is kept in law carried held refl held.most (names_free p);
-  }
+pub plain_compiled : {E : Type 0} (p : TypedProgram) (r : Result (List ℕ) E) → IfOk r (λ text. NetText text (translation p)) →
+    OnOk r (IsNet (translation p)) → OnOk r (Carries (translation p) p) → IfOk r (IsCompiled false p)
+plain_compiled p (Ok text) spells net carries = record { plain = net; kept = net; spells = spells; carries = carries }
+plain_compiled p (Err e) spells net carries = tt
+
+pub reset_compiled : {E : Type 0} (p : TypedProgram) (r : Result (List ℕ) E) → IfOk r (λ text. NetText text (reset_of (translation p))) →
+    OnOk r (IsNet (translation p)) → OnOk r (CarriesReset (reset_of (translation p)) p) → IfOk r (IsCompiled true p)
+reset_compiled p (Ok text) spells net carries = record {
+  plain = net;
+  kept = reset_is_net (translation p) net refl (names_free p);
+  spells = spells;
+  carries = carries;
+}
+reset_compiled p (Err e) spells net carries = tt

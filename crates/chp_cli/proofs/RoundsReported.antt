@@ -9,7 +9,7 @@ use Rattle.chp_meaning.specs.Steps.{Configuration, start_of}
 use Rattle.chp_meaning.specs.Ends.{CanStep, IsEnd, held_in}
 use Rattle.history_report.specs.RoundsReports.{rounds_report_of}
 use Rattle.chp_cli.specs.declared.answer.Ending.TheVariants.{Done}
-use Rattle.chp_cli.specs.Answers.{Answer, writes}
+use Rattle.chp_cli.specs.Answers.{writes}
 use Rattle.chp_cli.specs.RoundsReporting.{ReportsRounds, at_rest, spent, most_of_values}
 
 module _ (p : TypedProgram) (script : List OfferValue) (n : ℕ) where

@@ -1,6 +1,7 @@
 -- Steps by themselves, and within the commands that are made of them.
-use Rattle.std.proofs.Common.{◌≡◌, ℕ, ◌+◌, ◌<◌, ◌≤◌, List, [], ◌∷◌, ◌++◌, length, ◌⊎◌, inl, inr, true, Result, Ok, Err, refl, subst, arith, length-append}
-use Rattle.std.specs.Prelude.{Contains, IfOk, IfErr}
+use Rattle.std.proofs.Common.{◌≡◌, ℕ, ◌+◌, ◌<◌, ◌≤◌, List, [], ◌∷◌, ◌++◌, length, ◌⊎◌, inl, inr, true, Result, Ok, Err, refl, sym, subst, arith, length-append}
+use Rattle.std.specs.Prelude.{Contains, IfOk, IfErr, IsErrAnd}
+use Rattle.std.proofs.lemmas.Result.{err_from_is_err_and}
 use Rattle.chp_edge.specs.Faults.{Rose, IsReadFault}
 use Rattle.chp_edge.specs.Reading.{IsLeft}
 use Rattle.chp_syntax.specs.Trees.{ProgramTree}
@@ -92,6 +93,12 @@ pub err_in : {T E : Type 0} (r : Result T E) (P Q : E → Type 0) → ((e : E) �
 err_in (Ok value) P Q is p = tt
 err_in (Err e) P Q is p = is e p
 
+-- what a `?` passes on
+pub passed_on : {T E : Type 0} (r : Result T E) (e : E) (P : E → Type 0) → IsErrAnd r (λ x. x ≡ e) → P e → IfErr r P
+passed_on {T} {E} r e P passes p =
+    let is = err_from_is_err_and r passes in
+    subst (λ (s : Result T E). IfErr s P) (sym is.1) (subst P (sym is.2) p)
+
 -- a command of no file
 pub halts_stops : (I : Answer → Type 0) (r : Result Output Stop) (files : List (List ℕ)) (given : Given) (before after : ℕ) → IfErr r (Halts I) →
     IfErr r (Stops I files given before after)
@@ -135,6 +142,15 @@ module _ (given : Given) (name : List ℕ) (most : ℕ) (text : List ℕ) (Next 
       IfErr r (Stops (FromFile given name most Next) files given before after)
   file_stops files before after = err_in r (Halts (Next text)) (Stops (FromFile given name most Next) files given before after)
       (stops_where (Next text) (FromFile given name most Next) (λ answer is. a_file gives short is) files given before after)
+
+-- what a `?` passes on where a file isn't read
+pub file_passed : {T : Type 0} (given : Given) (name : List ℕ) (most : ℕ) (Next : List ℕ → Answer → Type 0) (before after : ℕ) (r : Result T Stop) (e : Stop)
+    → IsErrAnd r (λ x. x ≡ e) → Stops (FromFile given name most Never) (name ∷ []) given before after e
+    → IfErr r (Stops (FromFile given name most Next) (name ∷ []) given before after)
+file_passed given name most Next before after r e passes stops =
+    passed_on r e (Stops (FromFile given name most Next) (name ∷ []) given before after) passes
+    (stops_in (FromFile given name most Never) (FromFile given name most Next) (λ answer is. file_goes is) (name ∷ []) (name ∷ []) given before before after
+    (λ other own. own) (omega arith) e stops)
 
 -- a file of this name can't be read
 pub unread_file : (given : Given) (name : List ℕ) (most before after : ℕ) → IsReadFault before after given.tells (given.files name)

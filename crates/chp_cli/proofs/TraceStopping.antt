@@ -1,5 +1,5 @@
 -- Steps of `waves` by themselves and within it.
-use Rattle.std.proofs.Common.{◌≡◌, ℕ, suc, ◌≤◌, List, [], ◌∷◌, Option, Some, None, arith}
+use Rattle.std.proofs.Common.{ℕ, suc, ◌≤◌, List, [], ◌∷◌, Option, Some, None, arith}
 use Rattle.std.specs.Prelude.{Contains, option_to_list}
 use Rattle.delay_script.specs.DelayTables.{DelayTable}
 use Rattle.env_script.specs.Environment.{net_channels}

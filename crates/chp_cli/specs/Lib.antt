@@ -1,5 +1,6 @@
 pub mod Statuses
 pub mod Answers
+pub mod Contents
 pub mod Lines
 pub mod Steps
 pub mod Orders

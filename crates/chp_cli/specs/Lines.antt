@@ -110,6 +110,11 @@ values_line = codes "chp: 7 values over 1048576\n"
 abbrev pub too_long_line : (name : List ℕ) → (most : ℕ) → List ℕ
 too_long_line name most = concat (codes "chp: 7 bytes " ∷ name ∷ codes " over " ∷ decimal most ∷ codes "\n" ∷ [])
 
+-- a file is refused: the number and the name of the cause, and the line
+abbrev pub bad_file_line : (number : ℕ) → (name : List ℕ) → (line : ℕ) → List ℕ
+bad_file_line number name line = concat (
+    codes "chp: 8 " ∷ decimal number ∷ codes " " ∷ name ∷ codes " at line " ∷ decimal line ∷ codes "\n" ∷ [])
+
 abbrev pub net_fault_name : NetFault → List ℕ
 net_fault_name net.BadLine = codes "BadLine"
 net_fault_name net.UnknownNode = codes "UnknownNode"
@@ -122,9 +127,7 @@ net_fault_name net.DoubleName = codes "DoubleName"
 net_fault_name net.BadFirst = codes "BadFirst"
 
 abbrev pub bad_net_line : NetFault → (line : ℕ) → List ℕ
-bad_net_line fault line = concat (
-    codes "chp: 8 " ∷ decimal (net_number fault) ∷ codes " " ∷ net_fault_name fault ∷ codes " at line " ∷ decimal line
-    ∷ codes "\n" ∷ [])
+bad_net_line fault line = bad_file_line (net_number fault) (net_fault_name fault) line
 
 -- a power is given for a net without a reset node
 abbrev pub no_reset_line : List ℕ
@@ -140,9 +143,7 @@ script_fault_name script.DoubleChannel = codes "DoubleChannel"
 script_fault_name script.TooManyValues = codes "TooManyValues"
 
 abbrev pub bad_script_line : ScriptFault → (line : ℕ) → List ℕ
-bad_script_line fault line = concat (
-    codes "chp: 8 " ∷ decimal (script_fault_number fault) ∷ codes " " ∷ script_fault_name fault ∷ codes " at line "
-    ∷ decimal line ∷ codes "\n" ∷ [])
+bad_script_line fault line = bad_file_line (script_fault_number fault) (script_fault_name fault) line
 
 -- ---- of a refused delay file
 
@@ -153,9 +154,7 @@ delay_fault_name delay.TooLarge = codes "TooLarge"
 delay_fault_name delay.DoubleNode = codes "DoubleNode"
 
 abbrev pub bad_delays_line : DelayFault → (line : ℕ) → List ℕ
-bad_delays_line fault line = concat (
-    codes "chp: 8 " ∷ decimal (delay_fault_number fault) ∷ codes " " ∷ delay_fault_name fault ∷ codes " at line "
-    ∷ decimal line ∷ codes "\n" ∷ [])
+bad_delays_line fault line = bad_file_line (delay_fault_number fault) (delay_fault_name fault) line
 
 -- ---- of a refused wave file
 
@@ -167,6 +166,4 @@ wave_fault_name wave.NoChange = codes "NoChange"
 wave_fault_name wave.TooMany = codes "TooMany"
 
 abbrev pub bad_wave_line : WaveFault → (line : ℕ) → List ℕ
-bad_wave_line fault line = concat (
-    codes "chp: 8 " ∷ decimal (wave_fault_number fault) ∷ codes " " ∷ wave_fault_name fault ∷ codes " at line "
-    ∷ decimal line ∷ codes "\n" ∷ [])
+bad_wave_line fault line = bad_file_line (wave_fault_number fault) (wave_fault_name fault) line

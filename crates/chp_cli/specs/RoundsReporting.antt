@@ -1,5 +1,5 @@
 -- What `run` answers.
-use Rattle.std.specs.Prelude.{◌≡◌, ℕ, ◌<◌, ◌≤◌, List}
+use Rattle.std.specs.Prelude.{ℕ, ◌<◌, ◌≤◌, List}
 use Rattle.env_script.specs.Scripts.{OfferValue}
 use Rattle.width_check.specs.Processes.{TypedProgram}
 use Rattle.chp_meaning.specs.declared.run.RunEnd.TheVariants.{Rest, Spent}

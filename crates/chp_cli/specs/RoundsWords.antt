@@ -1,5 +1,5 @@
 -- The words of `run`.
-use Rattle.std.specs.Prelude.{ℕ, if◌then◌else◌, List, Option, Some, None, codes, option_and_then, option_map}
+use Rattle.std.specs.Prelude.{ℕ, if◌then◌else◌, List, Option, Some, None, codes, option_map}
 use Rattle.clap.specs.Words.{App, Text, first_of, matches_of, takes, with_rule}
 use Rattle.chp_cli.specs.SimulateWords.{bare_form, word_rule, option_rule, number_or}
 

@@ -1,5 +1,5 @@
 -- The words of `waves`.
-use Rattle.std.specs.Prelude.{ℕ, if◌then◌else◌, List, Option, Some, None, codes, option_map}
+use Rattle.std.specs.Prelude.{if◌then◌else◌, List, Option, Some, None, codes, option_map}
 use Rattle.clap.specs.Words.{App, Rule, Text, first_of, matches_of, new_rule, takes, with_rule}
 use Rattle.clap.specs.declared.builder.ArgAction.TheVariants.{SetTrue}
 use Rattle.chp_cli.specs.SimulateWords.{bare_form, word_rule, option_rule, number_or, most_of_steps}

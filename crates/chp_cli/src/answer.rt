@@ -4,6 +4,7 @@ ghost use Rattle.std.specs.Prelude.{◌≡◌};
 ghost use Rattle.chp_cli.specs.Answers.{status_with};
 ghost use Rattle.chp_cli.specs.Replies.{refusal_status, stop_status, end_status};
 
+use crate::content::Content;
 use crate::status::Status;
 use chp_base::Fault;
 use delay_script::DelayFault;
@@ -36,7 +37,7 @@ impl Ending {
 /// What a command is to write, and how it ends then.
 #[derive(Debug, Drop)]
 pub struct Output {
-    pub text: Vec<u8>,
+    pub content: Content,
     pub end: Ending,
 }
 

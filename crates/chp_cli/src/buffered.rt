@@ -116,14 +116,9 @@ fn buffered_of_text<'a>(
     ensures stopped { IfErr result (Halts (FromProgram text.now (λ tree.
         FromChecks tree (FromBuffer tree (option_map (λ t. t.now) buffer.entry) Never)))) }
 {
-    let program = match program_of_text(alloc, text) {
-        Ok(program) => program,
-        Err(stop) => return Err(stop),
-    };
-    match checked_program(alloc, &program) {
-        Ok(disjoint) => buffered(alloc, &program, disjoint, buffer),
-        Err(stop) => Err(stop),
-    }
+    let program = program_of_text(alloc, text)?;
+    let disjoint = checked_program(alloc, &program)?;
+    buffered(alloc, &program, disjoint, buffer)
 }
 
 /// The accepted program whose text the file of this name has, with a buffer on the channel that is named.
@@ -144,8 +139,6 @@ pub fn buffered_program_in<'a, S: Shelf>(
     ensures kept { S.holds shelf.new ≡ S.holds shelf.old }
     ensures faults { S.faults shelf.old ≤ S.faults shelf.new }
 {
-    match text_of_file(alloc, shelf, file, MOST_OF_TEXT) {
-        Ok(text) => buffered_of_text(alloc, &text, buffer),
-        Err(stop) => Err(stop),
-    }
+    let text = text_of_file(alloc, shelf, file, MOST_OF_TEXT)?;
+    buffered_of_text(alloc, &text, buffer)
 }

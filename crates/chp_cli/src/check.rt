@@ -9,6 +9,7 @@ ghost use Rattle.chp_cli.specs.Replies.{Halts, Stops, told_answer};
 ghost use Rattle.chp_cli.specs.Steps.{FromProgram, most_of_text};
 
 use crate::answer::{Ending, Output, Stop};
+use crate::content::Content;
 use crate::files::{MOST_OF_TEXT, checked_program, program_of_text, text_of_file};
 use chp_edge::Shelf;
 use chp_syntax::Program;
@@ -33,13 +34,10 @@ fn check_program<'a>(alloc: Global, program: &Program) -> Result<Output, Stop<'a
     ensures answered { IfOk result (λ output. ChecksProgram (program_tree program.now) (told_answer output)) }
     ensures stopped { IfErr result (Halts (ChecksProgram (program_tree program.now))) }
 {
-    let disjoint = match checked_program(alloc, program) {
-        Ok(disjoint) => disjoint,
-        Err(stop) => return Err(stop),
-    };
+    let disjoint = checked_program(alloc, program)?;
     match accepted_text(alloc, count_nodes(disjoint.typed())) {
         Ok(text) => Ok(Output {
-            text,
+            content: Content::Held(text),
             end: Ending::Done,
         }),
         Err(_) => Err(Stop::NoMemory),
@@ -51,10 +49,8 @@ fn check_text<'a>(alloc: Global, text: &[u8]) -> Result<Output, Stop<'a>>
     ensures answered { IfOk result (λ output. FromProgram text.now ChecksProgram (told_answer output)) }
     ensures stopped { IfErr result (Halts (FromProgram text.now ChecksProgram)) }
 {
-    match program_of_text(alloc, text) {
-        Ok(program) => check_program(alloc, &program),
-        Err(stop) => Err(stop),
-    }
+    let program = program_of_text(alloc, text)?;
+    check_program(alloc, &program)
 }
 
 /// What `check` answers for the file of this name.
@@ -68,8 +64,6 @@ pub fn check<'a, S: Shelf>(alloc: Global, shelf: &mut S, file: &'a str) -> Resul
     ensures kept { S.holds shelf.new ≡ S.holds shelf.old }
     ensures faults { S.faults shelf.old ≤ S.faults shelf.new }
 {
-    match text_of_file(alloc, shelf, file, MOST_OF_TEXT) {
-        Ok(text) => check_text(alloc, &text),
-        Err(stop) => Err(stop),
-    }
+    let text = text_of_file(alloc, shelf, file, MOST_OF_TEXT)?;
+    check_text(alloc, &text)
 }

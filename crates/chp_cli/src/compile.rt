@@ -1,12 +1,11 @@
 //! `compile FILE [--reset] [--buffer X]`: from a program text to its rule file.
 
-ghost use Rattle.std.specs.Prelude.{◌≡◌, ◌≢◌, ◌≤◌, ◌∷◌, [], All, None, codes, if◌then◌else◌, IfOk, IfErr};
-ghost use Rattle.prs_core.specs.Nets.{IsNet};
-ghost use Rattle.prs_file.specs.Spelling.{NetText};
-ghost use Rattle.reset_net.specs.Resets.{reset_of};
+ghost use Rattle.std.specs.Prelude.{◌≡◌, ◌<◌, ◌≤◌, ◌∷◌, [], IfOk, IfErr, OnOk};
+ghost use Rattle.handshake_expand.specs.Layout.{node_count, nodes_of};
+ghost use Rattle.net_compose.specs.Errors.{IfTooMany};
 ghost use Rattle.width_check.specs.Typed.{program_of as typed_of};
 ghost use Rattle.chp_cli.specs.Answers.{given_by};
-ghost use Rattle.chp_cli.specs.Compiling.{Compiles, CompilesNet};
+ghost use Rattle.chp_cli.specs.Compiling.{Compiles, CompilesNet, IsCompiled};
 ghost use Rattle.chp_cli.specs.CompileWords.{compilation_asked};
 ghost use Rattle.chp_cli.specs.Replies.{Halts, Stops, told_answer};
 ghost use Rattle.chp_cli.specs.Steps.{FromNodes};
@@ -14,47 +13,43 @@ ghost use Rattle.chp_cli.specs.Steps.{FromNodes};
 use crate::answer::{Ending, Output, Refusal, Stop};
 use crate::buffered::buffered_program_in;
 use crate::compile_words::Compilation;
-use crate::migrate::reset_text;
+use crate::content::{Content, Piece};
 use chp_edge::Shelf;
-use net_compose::laws::carries_reset;
-use net_compose::{NetError, translate};
-use prs_core::Net;
-use prs_file::print_net;
+use net_compose::NetError;
+use net_stream::Streamer;
 use sharing_check::Disjoint;
-use std::alloc::{AllocError, Global};
+use std::alloc::Global;
 
-/// The text of the net, with a reset node where that is asked for.
-fn net_text(alloc: Global, net: Net, reset: bool) -> Result<Vec<u8>, AllocError>
-    requires plain { net.reset ≡ None }
-    requires free { All (λ name. name ≢ codes "reset") net.names }
-    ensures spelled { IfOk result (λ text. NetText text.items (if reset then reset_of net else net)) }
-    ensures kept { IsNet net }
-    ensures whole { IfOk result (λ _. IsNet (if reset then reset_of net else net)) }
+/// The streamer of the program's rule file, with a reset node where that is asked for.
+fn streamer_of(alloc: Global, program: &Disjoint, reset: bool) -> Result<Streamer, NetError>
+    ensures compiled { IfOk result (λ s. IsCompiled reset (typed_of program.now) s) }
+    ensures fits { OnOk result (nodes_of (typed_of program.now) ≤ 65536) }
+    ensures count { IfErr result (IfTooMany (λ count. count ≡ node_count (typed_of program.now))) }
+    ensures too_many { IfErr result (IfTooMany (λ _. 65536 < nodes_of (typed_of program.now))) }
 {
     if reset {
-        reset_text(alloc, net)
+        Streamer::new_reset(alloc, program)
     } else {
-        print_net(alloc, &net)
+        Streamer::new(alloc, program)
     }
 }
 
-/// The rule file of an accepted program.
+/// The rule file of an accepted program, which is made while it is written.
 fn compile_accepted<'a>(alloc: Global, program: &Disjoint, reset: bool) -> Result<Output, Stop<'a>>
     ensures answered { IfOk result (λ output. FromNodes (typed_of program.now) (CompilesNet reset)
         (told_answer output)) }
     ensures stopped { IfErr result (Halts (FromNodes (typed_of program.now) (CompilesNet reset))) }
 {
-    carries_reset();
-    let net = match translate(alloc, program) {
-        Ok(net) => net,
+    let streamer = match streamer_of(alloc, program, reset) {
+        Ok(streamer) => streamer,
         Err(NetError::TooManyNodes(count)) => {
             return Err(Stop::Refused(Refusal::TooManyNodes(count)));
         }
         Err(NetError::NoMemory(_)) => return Err(Stop::NoMemory),
     };
-    match net_text(alloc, net, reset) {
-        Ok(text) => Ok(Output {
-            text,
+    match Piece::new(alloc) {
+        Ok(piece) => Ok(Output {
+            content: Content::Made { streamer, piece },
             end: Ending::Done,
         }),
         Err(_) => Err(Stop::NoMemory),
@@ -76,8 +71,6 @@ pub fn compile<'a, S: Shelf>(
     ensures kept { S.holds shelf.new ≡ S.holds shelf.old }
     ensures faults { S.faults shelf.old ≤ S.faults shelf.new }
 {
-    match buffered_program_in(alloc, shelf, asked.file, asked.buffer) {
-        Ok(program) => compile_accepted(alloc, &program, asked.reset),
-        Err(stop) => Err(stop),
-    }
+    let program = buffered_program_in(alloc, shelf, asked.file, asked.buffer)?;
+    compile_accepted(alloc, &program, asked.reset)
 }

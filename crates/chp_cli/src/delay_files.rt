@@ -54,10 +54,8 @@ pub fn delays_in<'a, S: Shelf>(
     ensures kept { S.holds shelf.new ≡ S.holds shelf.old }
     ensures faults { S.faults shelf.old ≤ S.faults shelf.new }
 {
-    match text_of_file(alloc, shelf, file, MOST_OF_DELAYS) {
-        Ok(text) => delays_of_text(alloc, &text, net),
-        Err(stop) => Err(stop),
-    }
+    let text = text_of_file(alloc, shelf, file, MOST_OF_DELAYS)?;
+    delays_of_text(alloc, &text, net)
 }
 
 /// The delays of the net's nodes whose file has this name; where no file is named each is 1, as an empty text says.

@@ -11,6 +11,7 @@ ghost use Rattle.chp_cli.specs.Replies.{Halts, Stops, told_answer};
 ghost use Rattle.chp_cli.specs.Steps.{FromNodes, FromProgram, most_of_nodes, most_of_text};
 
 use crate::answer::{Ending, Output, Stop};
+use crate::content::Content;
 use crate::files::{MOST_OF_TEXT, checked_program, counted, program_of_text, text_of_file};
 use chp_edge::Shelf;
 use chp_syntax::Program;
@@ -32,12 +33,10 @@ fn expand_accepted<'a>(alloc: Global, program: &Typed) -> Result<Output, Stop<'a
     ensures answered { IfOk result (λ output. FromNodes (typed_of program.now) TreeReport (told_answer output)) }
     ensures stopped { IfErr result (Halts (FromNodes (typed_of program.now) TreeReport)) }
 {
-    if let Err(stop) = counted(program) {
-        return Err(stop);
-    }
+    counted(program)?;
     match tree_text(alloc, program) {
         Ok(text) => Ok(Output {
-            text,
+            content: Content::Held(text),
             end: Ending::Done,
         }),
         Err(_) => Err(Stop::NoMemory),
@@ -50,10 +49,8 @@ fn expand_program<'a>(alloc: Global, program: &Program) -> Result<Output, Stop<'
     ensures answered { IfOk result (λ output. ExpandsProgram (program_tree program.now) (told_answer output)) }
     ensures stopped { IfErr result (Halts (ExpandsProgram (program_tree program.now))) }
 {
-    match checked_program(alloc, program) {
-        Ok(disjoint) => expand_accepted(alloc, disjoint.typed()),
-        Err(stop) => Err(stop),
-    }
+    let disjoint = checked_program(alloc, program)?;
+    expand_accepted(alloc, disjoint.typed())
 }
 
 fn expand_text<'a>(alloc: Global, text: &[u8]) -> Result<Output, Stop<'a>>
@@ -61,10 +58,8 @@ fn expand_text<'a>(alloc: Global, text: &[u8]) -> Result<Output, Stop<'a>>
     ensures answered { IfOk result (λ output. FromProgram text.now ExpandsProgram (told_answer output)) }
     ensures stopped { IfErr result (Halts (FromProgram text.now ExpandsProgram)) }
 {
-    match program_of_text(alloc, text) {
-        Ok(program) => expand_program(alloc, &program),
-        Err(stop) => Err(stop),
-    }
+    let program = program_of_text(alloc, text)?;
+    expand_program(alloc, &program)
 }
 
 /// What `expand` answers for the file of this name.
@@ -78,8 +73,6 @@ pub fn expand<'a, S: Shelf>(alloc: Global, shelf: &mut S, file: &'a str) -> Resu
     ensures kept { S.holds shelf.new ≡ S.holds shelf.old }
     ensures faults { S.faults shelf.old ≤ S.faults shelf.new }
 {
-    match text_of_file(alloc, shelf, file, MOST_OF_TEXT) {
-        Ok(text) => expand_text(alloc, &text),
-        Err(stop) => Err(stop),
-    }
+    let text = text_of_file(alloc, shelf, file, MOST_OF_TEXT)?;
+    expand_text(alloc, &text)
 }

@@ -1,12 +1,13 @@
 //! `grow SEED STAGES [--sum]`: a program that is made of a number, or its summary.
 
-ghost use Rattle.std.specs.Prelude.{◌≡◌, map, IfOk, IfErr};
+ghost use Rattle.std.specs.Prelude.{map, IfOk, IfErr};
 ghost use Rattle.chp_cli.specs.GrowWords.{IsGrowable};
 ghost use Rattle.chp_cli.specs.Growing.{Grows, IsGrownText, grow_order};
 ghost use Rattle.chp_cli.specs.Orders.{KeepsOrders, order_state, played_by};
 ghost use Rattle.chp_cli.specs.Replies.{Halts, told_answer};
 
 use crate::answer::{Ending, Output, Stop};
+use crate::content::Content;
 use crate::grow_summary::sum_up;
 use crate::grow_words::Growth;
 use crate::players::Players;
@@ -21,7 +22,7 @@ fn grown<'a>(alloc: Global, growth: &Growth) -> Result<Output, Stop<'a>>
 {
     match grow_text(alloc, growth.seed, growth.stages) {
         Ok(text) => Ok(Output {
-            text,
+            content: Content::Held(text),
             end: Ending::Done,
         }),
         Err(_) => Err(Stop::NoMemory),

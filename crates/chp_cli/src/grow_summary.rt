@@ -18,6 +18,7 @@ ghost use Rattle.chp_cli.specs.Simulating.{HasPlayed, simulation_for};
 ghost use Rattle.chp_cli.specs.Summing.{SumsUp, Summarizes, grown_script, guard_rules, most_of_summed_moves, rule_count, summary_of, summing_order};
 
 use crate::answer::{Ending, Output, Refusal, Stop};
+use crate::content::Content;
 use crate::grow_words::Growth;
 use crate::players::{Players, place_of};
 use crate::program_files::accepted_program;
@@ -173,14 +174,8 @@ fn sum_up_at<'a>(
 {
     power_is_powered();
     safe_moves_bring_no_hazard();
-    let program = match grown_program(alloc, growth) {
-        Ok(program) => program,
-        Err(stop) => return Err(stop),
-    };
-    let net = match grown_net(alloc, &program) {
-        Ok(net) => net,
-        Err(stop) => return Err(stop),
-    };
+    let program = grown_program(alloc, growth)?;
+    let net = grown_net(alloc, &program)?;
     let script = match grown_script(alloc, growth) {
         Ok(script) => script,
         Err(_) => return Err(Stop::NoMemory),
@@ -191,7 +186,7 @@ fn sum_up_at<'a>(
     };
     match summary_text(alloc, &ran) {
         Ok(text) => Ok(Output {
-            text,
+            content: Content::Held(text),
             end: Ending::Done,
         }),
         Err(_) => Err(Stop::NoMemory),

@@ -7,6 +7,7 @@ mod check;
 mod command;
 mod compile;
 mod compile_words;
+mod content;
 mod delay_files;
 mod expand;
 mod files;

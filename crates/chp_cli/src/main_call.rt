@@ -34,7 +34,7 @@ use crate::status::Status;
 use crate::timing::time;
 use crate::unwave::unwave;
 use crate::waves::waves;
-use chp_edge::{Failed, Shelf, Sink, write_all};
+use chp_edge::{Failed, Shelf, Sink};
 use std::alloc::{AllocError, Global};
 
 /// What the command answers.
@@ -108,11 +108,11 @@ fn run<'a, S: Shelf, K: Sink>(
         Ok(None) => return End::Usage,
         Err(AllocError) => return End::Stopped(Stop::NoMemory),
     };
-    let output = match answer(alloc, shelf, players, &command) {
+    let mut output = match answer(alloc, shelf, players, &command) {
         Ok(output) => output,
         Err(stop) => return End::Stopped(stop),
     };
-    match write_all(out, &output.text) {
+    match output.content.write(out) {
         Ok(()) => End::Whole(output.end),
         Err(Failed) => End::CutOff,
     }

@@ -10,6 +10,7 @@ ghost use Rattle.chp_cli.specs.Replies.{Halts, Stops, told_answer};
 ghost use Rattle.chp_cli.specs.Steps.{FromNet, IsFileOf, most_of_net};
 
 use crate::answer::{Ending, Output, Refusal, Stop};
+use crate::content::Content;
 use crate::files::{MOST_OF_NET, net_of_text, text_of_file};
 use chp_base::Name;
 use chp_edge::Shelf;
@@ -32,7 +33,7 @@ fn reset_place(names: &[Name]) -> Option<usize>
 }
 
 /// The text of the net with a reset node.
-pub fn reset_text(alloc: Global, net: Net) -> Result<Vec<u8>, AllocError>
+fn reset_text(alloc: Global, net: Net) -> Result<Vec<u8>, AllocError>
     requires plain { net.reset ≡ None }
     requires free { All (λ name. name ≢ codes "reset") net.names }
     ensures spelled { IfOk result (λ text. NetText text.items (reset_of net)) }
@@ -51,7 +52,7 @@ fn migrate_net<'a>(alloc: Global, text: Vec<u8>, net: Net) -> Result<Output, Sto
 {
     if net.reset().is_some() {
         return Ok(Output {
-            text,
+            content: Content::Held(text),
             end: Ending::Done,
         });
     }
@@ -62,7 +63,7 @@ fn migrate_net<'a>(alloc: Global, text: Vec<u8>, net: Net) -> Result<Output, Sto
     }
     match reset_text(alloc, net) {
         Ok(text) => Ok(Output {
-            text,
+            content: Content::Held(text),
             end: Ending::Done,
         }),
         Err(_) => Err(Stop::NoMemory),
@@ -74,10 +75,8 @@ fn migrate_text<'a>(alloc: Global, text: Vec<u8>) -> Result<Output, Stop<'a>>
     ensures answered { IfOk result (λ output. FromNet text.items MigratesNet (told_answer output)) }
     ensures stopped { IfErr result (Halts (FromNet text.items MigratesNet)) }
 {
-    match net_of_text(alloc, &text) {
-        Ok(net) => migrate_net(alloc, text, net),
-        Err(stop) => Err(stop),
-    }
+    let net = net_of_text(alloc, &text)?;
+    migrate_net(alloc, text, net)
 }
 
 /// What `migrate` answers for the file of this name.
@@ -95,8 +94,6 @@ pub fn migrate<'a, S: Shelf>(
     ensures kept { S.holds shelf.new ≡ S.holds shelf.old }
     ensures faults { S.faults shelf.old ≤ S.faults shelf.new }
 {
-    match text_of_file(alloc, shelf, file, MOST_OF_NET) {
-        Ok(text) => migrate_text(alloc, text),
-        Err(stop) => Err(stop),
-    }
+    let text = text_of_file(alloc, shelf, file, MOST_OF_NET)?;
+    migrate_text(alloc, text)
 }

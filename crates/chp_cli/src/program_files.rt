@@ -24,10 +24,8 @@ pub fn accepted_program<'a>(alloc: Global, text: &[u8]) -> Result<Disjoint, Stop
     ensures stopped { IfErr result (Halts (FromProgram text.now (λ tree. FromChecks tree (Never tree)))) }
 {
     form_is_typed();
-    match program_of_text(alloc, text) {
-        Ok(program) => checked_program(alloc, &program),
-        Err(stop) => Err(stop),
-    }
+    let program = program_of_text(alloc, text)?;
+    checked_program(alloc, &program)
 }
 
 /// The accepted program whose text the file of this name has.
@@ -48,8 +46,6 @@ pub fn program_in<'a, S: Shelf>(
     ensures kept { S.holds shelf.new ≡ S.holds shelf.old }
     ensures faults { S.faults shelf.old ≤ S.faults shelf.new }
 {
-    match text_of_file(alloc, shelf, file, MOST_OF_TEXT) {
-        Ok(text) => accepted_program(alloc, &text),
-        Err(stop) => Err(stop),
-    }
+    let text = text_of_file(alloc, shelf, file, MOST_OF_TEXT)?;
+    accepted_program(alloc, &text)
 }

@@ -32,9 +32,6 @@ pub fn reference_in<'a, S: Shelf>(
 {
     match file {
         None => Ok(None),
-        Some(file) => match program_in(alloc, shelf, file) {
-            Ok(program) => Ok(Some(program)),
-            Err(stop) => Err(stop),
-        },
+        Some(file) => Ok(Some(program_in(alloc, shelf, file)?)),
     }
 }

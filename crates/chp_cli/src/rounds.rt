@@ -14,6 +14,7 @@ ghost use Rattle.chp_cli.specs.RoundsReporting.{ReportsRounds, Runs, most_of_val
 
 use crate::answer::{Ending, Output, Refusal, Stop};
 use crate::buffered::buffered_program_in;
+use crate::content::Content;
 use crate::rounds_words::Rounds;
 use crate::run_files::script_in;
 use chp_edge::Shelf;
@@ -64,7 +65,7 @@ fn report_rounds<'a>(
 {
     match rounds_report(alloc, program, script, n) {
         Ok(Some(text)) => Ok(Output {
-            text,
+            content: Content::Held(text),
             end: Ending::Done,
         }),
         Ok(None) => Err(Stop::Refused(Refusal::TooManyValues)),
@@ -88,16 +89,10 @@ pub fn rounds<'a, S: Shelf>(
     ensures kept { S.holds shelf.new ≡ S.holds shelf.old }
     ensures faults { S.faults shelf.old ≤ S.faults shelf.new }
 {
-    let program = match buffered_program_in(alloc, shelf, asked.file, asked.buffer) {
-        Ok(program) => program,
-        Err(stop) => return Err(stop),
-    };
+    let program = buffered_program_in(alloc, shelf, asked.file, asked.buffer)?;
     let program = program.typed();
     // what its type keeps is told of its channels
     let _kept = program.body();
-    let script = match script_in(alloc, shelf, asked.script, program.channels()) {
-        Ok(script) => script,
-        Err(stop) => return Err(stop),
-    };
+    let script = script_in(alloc, shelf, asked.script, program.channels())?;
     report_rounds(alloc, program, &script, asked.rounds)
 }

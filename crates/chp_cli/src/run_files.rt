@@ -1,6 +1,6 @@
 //! Steps of commands that make runs, from the names of files to nets and scripts.
 
-ghost use Rattle.std.specs.Prelude.{◌≡◌, ◌≢◌, ◌≤◌, ◌∷◌, [], All, AllPairs, length, map, IfOk, IfErr};
+ghost use Rattle.std.specs.Prelude.{◌≡◌, ◌≢◌, ◌≤◌, ◌∷◌, [], All, AllPairs, length, IfOk, IfErr};
 ghost use Rattle.chp_base.specs.declared.channel.Channel.{Channel as ChannelValue};
 ghost use Rattle.env_script.specs.Environment.{net_channels};
 ghost use Rattle.chp_cli.specs.Answers.{given_by};
@@ -32,10 +32,8 @@ pub fn net_in<'a, S: Shelf>(alloc: Global, shelf: &mut S, file: &'a str) -> Resu
     ensures kept { S.holds shelf.new ≡ S.holds shelf.old }
     ensures faults { S.faults shelf.old ≤ S.faults shelf.new }
 {
-    match text_of_file(alloc, shelf, file, MOST_OF_NET) {
-        Ok(text) => net_of_text(alloc, &text),
-        Err(stop) => Err(stop),
-    }
+    let text = text_of_file(alloc, shelf, file, MOST_OF_NET)?;
+    net_of_text(alloc, &text)
 }
 
 fn copied_channels(alloc: Global, net: &Net) -> Result<Vec<Channel>, AllocError>
@@ -102,8 +100,6 @@ pub fn script_in<'a, S: Shelf>(
     ensures kept { S.holds shelf.new ≡ S.holds shelf.old }
     ensures faults { S.faults shelf.old ≤ S.faults shelf.new }
 {
-    match text_of_file(alloc, shelf, file, MOST_OF_SCRIPT) {
-        Ok(text) => script_of_text(alloc, &text, channels),
-        Err(stop) => Err(stop),
-    }
+    let text = text_of_file(alloc, shelf, file, MOST_OF_SCRIPT)?;
+    script_of_text(alloc, &text, channels)
 }

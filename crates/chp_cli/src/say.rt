@@ -1,11 +1,10 @@
 //! The line that is said of a command that didn't end well. It is written in pieces and takes no memory, and its
 //! faults change nothing else.
 
-ghost use Rattle.std.specs.Prelude.{◌≡◌, ◌≤◌, ◌++◌, true, OnOk, OnErr, codes};
+ghost use Rattle.std.specs.Prelude.{◌≡◌, ◌≤◌, ◌++◌, true, OnOk, OnErr};
 ghost use Rattle.std.specs.List.{flat_map};
-ghost use Rattle.chp_base.specs.Faults.{number_of};
 ghost use Rattle.chp_edge.specs.Faults.{Rose};
-ghost use Rattle.chp_cli.specs.Lines.{refused_line, bad_delays_line, bad_net_line, bad_script_line, bad_wave_line, too_long_line, nodes_line, delay_fault_name, fault_name, net_fault_name, script_fault_name, wave_fault_name, has_two_places};
+ghost use Rattle.chp_cli.specs.Lines.{refused_line, bad_file_line, too_long_line, nodes_line, delay_fault_name, fault_name, net_fault_name, script_fault_name, wave_fault_name, has_two_places};
 ghost use Rattle.chp_cli.specs.Replies.{refusal_line, stop_line, end_line};
 
 use crate::answer::{End, Ending, Refusal, Stop};
@@ -147,24 +146,6 @@ fn name_of_net_fault(fault: NetFault) -> &'static str
     }
 }
 
-/// Says the line of a rule file that is refused.
-fn say_bad_net<W: Sink>(say: &mut W, fault: NetFault, line: u32)
-    ensures faults { W.faults say.old ≤ W.faults say.new }
-    ensures same { W.tells say.new ≡ W.tells say.old }
-    ensures said { W.tells say.old ≡ true → ¬ Rose (W.faults say.old) (W.faults say.new) →
-        W.written say.new ≡ W.written say.old ++ bad_net_line fault line }
-{
-    let mut number = Buffer::new();
-    let mut place = Buffer::new();
-    let number = number.format(fault.number());
-    let name = name_of_net_fault(fault);
-    let place = place.format(line);
-    say_pieces(
-        say,
-        &["chp: 8 ", number, " ", name, " at line ", place, "\n"],
-    );
-}
-
 /// The name of the cause for which a script is refused.
 fn name_of_script_fault(fault: ScriptFault) -> &'static str
     ensures { result.now ≡ script_fault_name fault }
@@ -178,24 +159,6 @@ fn name_of_script_fault(fault: ScriptFault) -> &'static str
     }
 }
 
-/// Says the line of a script that is refused.
-fn say_bad_script<W: Sink>(say: &mut W, fault: ScriptFault, line: u32)
-    ensures faults { W.faults say.old ≤ W.faults say.new }
-    ensures same { W.tells say.new ≡ W.tells say.old }
-    ensures said { W.tells say.old ≡ true → ¬ Rose (W.faults say.old) (W.faults say.new) →
-        W.written say.new ≡ W.written say.old ++ bad_script_line fault line }
-{
-    let mut number = Buffer::new();
-    let mut place = Buffer::new();
-    let number = number.format(fault.number());
-    let name = name_of_script_fault(fault);
-    let place = place.format(line);
-    say_pieces(
-        say,
-        &["chp: 8 ", number, " ", name, " at line ", place, "\n"],
-    );
-}
-
 /// The name of the cause for which a delay file is refused.
 fn name_of_delay_fault(fault: DelayFault) -> &'static str
     ensures { result.now ≡ delay_fault_name fault }
@@ -206,24 +169,6 @@ fn name_of_delay_fault(fault: DelayFault) -> &'static str
         DelayFault::TooLarge => "TooLarge",
         DelayFault::DoubleNode => "DoubleNode",
     }
-}
-
-/// Says the line of a delay file that is refused.
-fn say_bad_delays<W: Sink>(say: &mut W, fault: DelayFault, line: u32)
-    ensures faults { W.faults say.old ≤ W.faults say.new }
-    ensures same { W.tells say.new ≡ W.tells say.old }
-    ensures said { W.tells say.old ≡ true → ¬ Rose (W.faults say.old) (W.faults say.new) →
-        W.written say.new ≡ W.written say.old ++ bad_delays_line fault line }
-{
-    let mut number = Buffer::new();
-    let mut place = Buffer::new();
-    let number = number.format(fault.number());
-    let name = name_of_delay_fault(fault);
-    let place = place.format(line);
-    say_pieces(
-        say,
-        &["chp: 8 ", number, " ", name, " at line ", place, "\n"],
-    );
 }
 
 /// The name of the cause for which a wave file is refused.
@@ -239,21 +184,20 @@ fn name_of_wave_fault(fault: WaveFault) -> &'static str
     }
 }
 
-/// Says the line of a wave file that is refused.
-fn say_bad_wave<W: Sink>(say: &mut W, fault: WaveFault, line: u32)
+/// Says the line of a file that is refused: the cause's number and name, and the line.
+fn say_bad_file<W: Sink>(say: &mut W, number: u8, name: &str, line: u32)
     ensures faults { W.faults say.old ≤ W.faults say.new }
     ensures same { W.tells say.new ≡ W.tells say.old }
     ensures said { W.tells say.old ≡ true → ¬ Rose (W.faults say.old) (W.faults say.new) →
-        W.written say.new ≡ W.written say.old ++ bad_wave_line fault line }
+        W.written say.new ≡ W.written say.old ++ bad_file_line number name.now line }
 {
-    let mut number = Buffer::new();
+    let mut cause = Buffer::new();
     let mut place = Buffer::new();
-    let number = number.format(fault.number());
-    let name = name_of_wave_fault(fault);
+    let cause = cause.format(number);
     let place = place.format(line);
     say_pieces(
         say,
-        &["chp: 8 ", number, " ", name, " at line ", place, "\n"],
+        &["chp: 8 ", cause, " ", name, " at line ", place, "\n"],
     );
 }
 
@@ -293,10 +237,18 @@ fn say_refusal<W: Sink>(say: &mut W, refusal: &Refusal)
         Refusal::TooLong { name, limit } => say_too_long(say, name, *limit),
         Refusal::TooManyNodes(count) => say_nodes(say, *count),
         Refusal::TooManyValues => say_pieces(say, &["chp: 7 values over 1048576\n"]),
-        Refusal::BadNet { fault, line } => say_bad_net(say, *fault, *line),
-        Refusal::BadScript { fault, line } => say_bad_script(say, *fault, *line),
-        Refusal::BadDelays { fault, line } => say_bad_delays(say, *fault, *line),
-        Refusal::BadWave { fault, line } => say_bad_wave(say, *fault, *line),
+        Refusal::BadNet { fault, line } => {
+            say_bad_file(say, fault.number(), name_of_net_fault(*fault), *line);
+        }
+        Refusal::BadScript { fault, line } => {
+            say_bad_file(say, fault.number(), name_of_script_fault(*fault), *line);
+        }
+        Refusal::BadDelays { fault, line } => {
+            say_bad_file(say, fault.number(), name_of_delay_fault(*fault), *line);
+        }
+        Refusal::BadWave { fault, line } => {
+            say_bad_file(say, fault.number(), name_of_wave_fault(*fault), *line);
+        }
         Refusal::NoReset => say_pieces(say, &["chp: 8 49 NoReset at line 1\n"]),
         Refusal::NoOrder(name) => say_pieces(say, &["chp: 9 order ", name, "\n"]),
         Refusal::NoChannel(name) => say_pieces(say, &["chp: 16 channel ", name, "\n"]),

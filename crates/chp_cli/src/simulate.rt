@@ -169,10 +169,7 @@ fn simulate_at<'a, S: Shelf>(
     ensures kept { S.holds shelf.new ≡ S.holds shelf.old }
     ensures faults { S.faults shelf.old ≤ S.faults shelf.new }
 {
-    let net = match net_in(alloc, shelf, run.net) {
-        Ok(net) => net,
-        Err(stop) => return Err(stop),
-    };
+    let net = net_in(alloc, shelf, run.net)?;
     if is_powerless(&net, run.power) {
         return Err(Stop::Refused(Refusal::NoReset));
     }
@@ -180,14 +177,8 @@ fn simulate_at<'a, S: Shelf>(
         Ok(channels) => channels,
         Err(_) => return Err(Stop::NoMemory),
     };
-    let script = match script_in(alloc, shelf, run.script, &channels) {
-        Ok(script) => script,
-        Err(stop) => return Err(stop),
-    };
-    let program = match reference_in(alloc, shelf, run.against) {
-        Ok(program) => program,
-        Err(stop) => return Err(stop),
-    };
+    let script = script_in(alloc, shelf, run.script, &channels)?;
+    let program = reference_in(alloc, shelf, run.against)?;
     match report_at(alloc, players, place, net, script, &program, run) {
         Ok(output) => Ok(output),
         Err(_) => Err(Stop::NoMemory),

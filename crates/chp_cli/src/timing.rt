@@ -85,10 +85,7 @@ pub fn time<'a, S: Shelf>(
     ensures kept { S.holds shelf.new ≡ S.holds shelf.old }
     ensures faults { S.faults shelf.old ≤ S.faults shelf.new }
 {
-    let net = match net_in(alloc, shelf, timing.net) {
-        Ok(net) => net,
-        Err(stop) => return Err(stop),
-    };
+    let net = net_in(alloc, shelf, timing.net)?;
     if is_powerless(&net, timing.power) {
         return Err(Stop::Refused(Refusal::NoReset));
     }
@@ -96,18 +93,9 @@ pub fn time<'a, S: Shelf>(
         Ok(channels) => channels,
         Err(_) => return Err(Stop::NoMemory),
     };
-    let script = match script_in(alloc, shelf, timing.script, &channels) {
-        Ok(script) => script,
-        Err(stop) => return Err(stop),
-    };
-    let delays = match delays_in(alloc, shelf, timing.delays, &net) {
-        Ok(delays) => delays,
-        Err(stop) => return Err(stop),
-    };
-    let program = match reference_in(alloc, shelf, timing.against) {
-        Ok(program) => program,
-        Err(stop) => return Err(stop),
-    };
+    let script = script_in(alloc, shelf, timing.script, &channels)?;
+    let delays = delays_in(alloc, shelf, timing.delays, &net)?;
+    let program = reference_in(alloc, shelf, timing.against)?;
     match report_timed(alloc, net, script, delays, &program, timing) {
         Ok(output) => Ok(output),
         Err(_) => Err(Stop::NoMemory),

@@ -8,6 +8,7 @@ ghost use Rattle.chp_cli.specs.Steps.{Never};
 ghost use Rattle.chp_cli.specs.Unwaving.{FromWave, IsWaveIn, PrintsChanges, Unwaves, most_of_wave};
 
 use crate::answer::{Ending, Output, Refusal, Stop};
+use crate::content::Content;
 use crate::files::text_of_file;
 use chp_edge::Shelf;
 use std::alloc::Global;
@@ -37,13 +38,10 @@ fn told_text<'a>(alloc: Global, text: &[u8]) -> Result<Output, Stop<'a>>
     ensures answered { IfOk result (λ output. FromWave text.now PrintsChanges (told_answer output)) }
     ensures stopped { IfErr result (Halts (FromWave text.now PrintsChanges)) }
 {
-    let wave = match wave_of_text(alloc, text) {
-        Ok(wave) => wave,
-        Err(stop) => return Err(stop),
-    };
+    let wave = wave_of_text(alloc, text)?;
     match unwave_text(alloc, &wave) {
         Ok(text) => Ok(Output {
-            text,
+            content: Content::Held(text),
             end: Ending::Done,
         }),
         Err(_) => Err(Stop::NoMemory),
@@ -61,8 +59,6 @@ pub fn unwave<'a, S: Shelf>(alloc: Global, shelf: &mut S, file: &'a str) -> Resu
     ensures kept { S.holds shelf.new ≡ S.holds shelf.old }
     ensures faults { S.faults shelf.old ≤ S.faults shelf.new }
 {
-    match text_of_file(alloc, shelf, file, MOST_OF_WAVE) {
-        Ok(text) => told_text(alloc, &text),
-        Err(stop) => Err(stop),
-    }
+    let text = text_of_file(alloc, shelf, file, MOST_OF_WAVE)?;
+    told_text(alloc, &text)
 }

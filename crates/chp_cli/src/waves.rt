@@ -1,6 +1,6 @@
 //! `waves PRS SCRIPT`: the moves of one timed run of a net under a script, as a wave or as the causes of the last one.
 
-ghost use Rattle.std.specs.Prelude.{◌≡◌, ◌≤◌, ◌<◌, ◌∷◌, ℕ, List, false, length, All, IfOk, IfErr, option_to_list};
+ghost use Rattle.std.specs.Prelude.{◌≡◌, ◌≤◌, ◌<◌, ◌∷◌, false, length, All, IfOk, IfErr, option_to_list};
 ghost use Rattle.delay_script.specs.declared.noted.NotedMove.{NotedMove};
 ghost use Rattle.delay_script.specs.DelayTables.{IsDelayTable};
 ghost use Rattle.delay_script.specs.TimedRuns.{time_behind};
@@ -19,6 +19,7 @@ ghost use Rattle.chp_cli.specs.SimulateWords.{text_given};
 ghost use Rattle.chp_cli.specs.Tracing.{IsTraceText, Traces, TracesNet, trace_for};
 
 use crate::answer::{Output, Stop};
+use crate::content::Content;
 use crate::delay_files::delays_if;
 use crate::run_files::{channels_of, net_in, script_in};
 use crate::run_reports::ending_for;
@@ -86,7 +87,7 @@ fn trace(
     let ran = Noted::new(alloc, net, script, asked.steps, delays)?.run();
     let text = trace_text(alloc, &ran, &kept, asked.causes)?;
     Ok(Output {
-        text,
+        content: Content::Held(text),
         end: ending_for(ran.timed.ran.end()),
     })
 }
@@ -108,22 +109,13 @@ pub fn waves<'a, S: Shelf>(
     ensures kept { S.holds shelf.new ≡ S.holds shelf.old }
     ensures faults { S.faults shelf.old ≤ S.faults shelf.new }
 {
-    let net = match net_in(alloc, shelf, asked.net) {
-        Ok(net) => net,
-        Err(stop) => return Err(stop),
-    };
+    let net = net_in(alloc, shelf, asked.net)?;
     let channels = match channels_of(alloc, &net) {
         Ok(channels) => channels,
         Err(_) => return Err(Stop::NoMemory),
     };
-    let script = match script_in(alloc, shelf, asked.script, &channels) {
-        Ok(script) => script,
-        Err(stop) => return Err(stop),
-    };
-    let delays = match delays_if(alloc, shelf, asked.delays, &net) {
-        Ok(delays) => delays,
-        Err(stop) => return Err(stop),
-    };
+    let script = script_in(alloc, shelf, asked.script, &channels)?;
+    let delays = delays_if(alloc, shelf, asked.delays, &net)?;
     match trace(alloc, net, script, delays, asked) {
         Ok(output) => Ok(output),
         Err(_) => Err(Stop::NoMemory),

@@ -6,15 +6,17 @@ use Rattle.chp_cli.specs.declared.answer.Ending.TheVariants.{Done}
 use Rattle.chp_cli.specs.Answers.{writes}
 use Rattle.chp_cli.specs.Checking.{ChecksProgram, accepted_text}
 use Rattle.chp_cli.specs.Steps.{FromChecks, Never, accepted}
-use Rattle.chp_cli.proofs.Stopping.{checks_go, halts_in}
+use Rattle.chp_cli.proofs.Stopping.{checks_go, halts_in, passed_on}
 use Rattle.chp_cli.proofs.check.check_program.Goals as goal
 
-pub returns-in-Err-clause-stopped : goal.returns-in-Err-clause-stopped
-returns-in-Err-clause-stopped c =
+pub returns-in_err-disjoint-clause-stopped : goal.returns-in_err-disjoint-clause-stopped
+returns-in_err-disjoint-clause-stopped c =
     let program = program_tree c.args.program.now in
-    halts_in (FromChecks program (Never program)) (ChecksProgram program) (λ answer is. checks_go is) c.in-Err.stop c.in-Err.ensures.stopped
+    passed_on c.from_residual.result _ _ c.from_residual.ensures.1
+    (halts_in (FromChecks program (Never program)) (ChecksProgram program) (λ answer is. checks_go is) c.in_err-disjoint.field-0.0
+    c.in_err-disjoint.ensures.stopped)
 
-pub returns-in-Ok-accepted_text-clause-answered : goal.returns-in-Ok-accepted_text-clause-answered
-returns-in-Ok-accepted_text-clause-answered c =
-    let nodes = c.count_nodes.ensures ∙ (ap (λ t. node_count (typed_of t)) c.typed.ensures.program ∙ ap node_count c.in-Ok.ensures.form) in
-    accepted c.in-Ok.ensures.accepted (ap (λ text. writes Done text) (c.in-Ok-accepted_text.ensures ∙ ap accepted_text nodes))
+pub returns-in-Ok-clause-answered : goal.returns-in-Ok-clause-answered
+returns-in-Ok-clause-answered c =
+    let nodes = c.count_nodes.ensures ∙ (ap (λ t. node_count (typed_of t)) c.typed.ensures.program ∙ ap node_count c.in_ok-disjoint.ensures.form) in
+    accepted c.in_ok-disjoint.ensures.accepted (ap (λ text. writes Done text) (c.in-Ok.ensures ∙ ap accepted_text nodes))

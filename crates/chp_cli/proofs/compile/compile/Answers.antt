@@ -6,36 +6,37 @@ use Rattle.chp_cli.specs.Compiling.{Compiles, CompilesNet}
 use Rattle.chp_cli.specs.CompileWords.{compilation_asked}
 use Rattle.chp_cli.specs.Steps.{FromNodes}
 use Rattle.chp_cli.proofs.BufferStopping.{buffered_on, buffered_stopped}
-use Rattle.chp_cli.proofs.Stopping.{err_in, ok_in, stops_where}
+use Rattle.chp_cli.proofs.Stopping.{err_in, ok_in, passed_on, stops_where}
 use Rattle.chp_cli.proofs.compile.compile.Goals as goal
 
-pub returns-in-Ok-clause-answered : goal.returns-in-Ok-clause-answered
-returns-in-Ok-clause-answered g c =
+pub returns-clause-answered : goal.returns-clause-answered
+returns-clause-answered g c =
     let S = g.S.Shelf in
     let given = given_by (S.tells c.args.shelf.now) (S.holds c.args.shelf.now) in
     let asked = compilation_asked c.args.asked.now in
     ok_in c.compile_accepted.result _ _
-    (λ output is. buffered_on given asked.file asked.buffer (λ (p : TypedProgram). FromNodes p (CompilesNet asked.reset)) (typed_of c.in-Ok.program)
-    c.in-Ok.ensures.read _ is)
+    (λ output is. buffered_on given asked.file asked.buffer (λ (p : TypedProgram). FromNodes p (CompilesNet asked.reset)) (typed_of c.in_ok-program.program)
+    c.in_ok-program.ensures.read _ is)
     c.compile_accepted.ensures.answered
 
-pub returns-in-Ok-clause-stopped : goal.returns-in-Ok-clause-stopped
-returns-in-Ok-clause-stopped g c =
+pub returns-clause-stopped : goal.returns-clause-stopped
+returns-clause-stopped g c =
     let S = g.S.Shelf in
     let given = given_by (S.tells c.args.shelf.now) (S.holds c.args.shelf.now) in
     let asked = compilation_asked c.args.asked.now in
-    let next = FromNodes (typed_of c.in-Ok.program) (CompilesNet asked.reset) in
+    let next = FromNodes (typed_of c.in_ok-program.program) (CompilesNet asked.reset) in
     err_in c.compile_accepted.result _ _
     (λ stop halts. stops_where next (Compiles asked given)
-    (λ answer is. buffered_on given asked.file asked.buffer (λ (p : TypedProgram). FromNodes p (CompilesNet asked.reset)) (typed_of c.in-Ok.program)
-    c.in-Ok.ensures.read answer is)
+    (λ answer is. buffered_on given asked.file asked.buffer (λ (p : TypedProgram). FromNodes p (CompilesNet asked.reset)) (typed_of c.in_ok-program.program)
+    c.in_ok-program.ensures.read answer is)
     (asked.file ∷ []) given _ _ stop halts)
     c.compile_accepted.ensures.stopped
 
-pub returns-in-Err-clause-stopped : goal.returns-in-Err-clause-stopped
-returns-in-Err-clause-stopped g c =
+pub returns-in_err-program-clause-stopped : goal.returns-in_err-program-clause-stopped
+returns-in_err-program-clause-stopped g c =
     let S = g.S.Shelf in
     let given = given_by (S.tells c.args.shelf.now) (S.holds c.args.shelf.now) in
     let asked = compilation_asked c.args.asked.now in
-    buffered_stopped given asked.file asked.buffer (λ (p : TypedProgram). FromNodes p (CompilesNet asked.reset)) (asked.file ∷ []) (λ name own. own) _ _
-    c.in-Err.stop c.in-Err.ensures.stopped
+    passed_on c.from_residual.result _ _ c.from_residual.ensures.1
+    (buffered_stopped given asked.file asked.buffer (λ (p : TypedProgram). FromNodes p (CompilesNet asked.reset)) (asked.file ∷ []) (λ name own. own) _ _
+    c.in_err-program.field-0.0 c.in_err-program.ensures.stopped)

@@ -4,13 +4,14 @@ use Rattle.chp_cli.specs.declared.answer.Ending.TheVariants.{Done}
 use Rattle.chp_cli.specs.Answers.{writes}
 use Rattle.chp_cli.specs.Expanding.{TreeReport}
 use Rattle.chp_cli.specs.Steps.{FromNodes, Never, few_enough}
-use Rattle.chp_cli.proofs.Stopping.{halts_in, nodes_go}
+use Rattle.chp_cli.proofs.Stopping.{halts_in, nodes_go, passed_on}
 use Rattle.chp_cli.proofs.expand.expand_accepted.Goals as goal
 
-pub returns-in-Err-clause-stopped : goal.returns-in-Err-clause-stopped
-returns-in-Err-clause-stopped c =
+pub returns-in_err-counted-clause-stopped : goal.returns-in_err-counted-clause-stopped
+returns-in_err-counted-clause-stopped c =
     let program = typed_of c.args.program.now in
-    halts_in (FromNodes program Never) (FromNodes program TreeReport) (λ answer is. nodes_go is) c.in-Err.stop c.in-Err.ensures.stopped
+    passed_on c.from_residual.result _ _ c.from_residual.ensures.1
+    (halts_in (FromNodes program Never) (FromNodes program TreeReport) (λ answer is. nodes_go is) c.in_err-counted.field-0.0 c.in_err-counted.ensures.stopped)
 
 pub returns-in-Ok-clause-answered : goal.returns-in-Ok-clause-answered
-returns-in-Ok-clause-answered c = few_enough c.in_default.ensures.few (ap (λ text. writes Done text) c.in-Ok.ensures)
+returns-in-Ok-clause-answered c = few_enough c.in_ok-counted.ensures.few (ap (λ text. writes Done text) c.in-Ok.ensures)

@@ -4,22 +4,24 @@ use Rattle.width_check.specs.Form.{typed_form}
 use Rattle.width_check.specs.Typed.{program_of as typed_of}
 use Rattle.chp_cli.specs.Expanding.{TreeReport, ExpandsProgram}
 use Rattle.chp_cli.specs.Steps.{FromChecks, FromNodes, Never}
-use Rattle.chp_cli.proofs.Stopping.{checks_go, form_answers, form_stops, halts_in}
+use Rattle.chp_cli.proofs.Stopping.{checks_go, form_answers, form_stops, halts_in, passed_on}
 use Rattle.chp_cli.proofs.expand.expand_program.Goals as goal
 
-pub returns-in-Ok-clause-answered : goal.returns-in-Ok-clause-answered
-returns-in-Ok-clause-answered c =
+pub returns-clause-answered : goal.returns-clause-answered
+returns-clause-answered c =
     let program = program_tree c.args.program.now in
     form_answers program (typed_of c.typed.result.now) (typed_form program) (λ p. FromNodes p TreeReport) (ap typed_of c.typed.ensures.program
-    ∙ c.in-Ok.ensures.form) c.in-Ok.ensures.accepted c.expand_accepted.result c.expand_accepted.ensures.answered
+    ∙ c.in_ok-disjoint.ensures.form) c.in_ok-disjoint.ensures.accepted c.expand_accepted.result c.expand_accepted.ensures.answered
 
-pub returns-in-Ok-clause-stopped : goal.returns-in-Ok-clause-stopped
-returns-in-Ok-clause-stopped c =
+pub returns-clause-stopped : goal.returns-clause-stopped
+returns-clause-stopped c =
     let program = program_tree c.args.program.now in
     form_stops program (typed_of c.typed.result.now) (typed_form program) (λ p. FromNodes p TreeReport) (ap typed_of c.typed.ensures.program
-    ∙ c.in-Ok.ensures.form) c.in-Ok.ensures.accepted c.expand_accepted.result c.expand_accepted.ensures.stopped
+    ∙ c.in_ok-disjoint.ensures.form) c.in_ok-disjoint.ensures.accepted c.expand_accepted.result c.expand_accepted.ensures.stopped
 
-pub returns-in-Err-clause-stopped : goal.returns-in-Err-clause-stopped
-returns-in-Err-clause-stopped c =
+pub returns-in_err-disjoint-clause-stopped : goal.returns-in_err-disjoint-clause-stopped
+returns-in_err-disjoint-clause-stopped c =
     let program = program_tree c.args.program.now in
-    halts_in (FromChecks program (Never program)) (ExpandsProgram program) (λ answer is. checks_go is) c.in-Err.stop c.in-Err.ensures.stopped
+    passed_on c.from_residual.result _ _ c.from_residual.ensures.1
+    (halts_in (FromChecks program (Never program)) (ExpandsProgram program) (λ answer is. checks_go is) c.in_err-disjoint.field-0.0
+    c.in_err-disjoint.ensures.stopped)

@@ -1,6 +1,5 @@
 use Rattle.std.proofs.Common.{◌≡◌, ◌∙◌, true, false, refl, List, Option, None, cond, codes}
-use Rattle.clap.specs.Words.{App, app_of, first_of, found_of, matches_of, rows_of, takes}
-use Rattle.clap.specs.Matches.{first_value}
+use Rattle.clap.specs.Words.{App, first_of, found_of, matches_of, rows_of, takes}
 use Rattle.clap.specs.Walk.{Row, Text}
 use Rattle.clap.proofs.WalkLemmas.{first_value-rows}
 use Rattle.chp_cli.specs.declared.grow_words.Growth.{Growth}

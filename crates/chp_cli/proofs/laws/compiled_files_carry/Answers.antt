@@ -1,4 +1,4 @@
-use Rattle.std.proofs.Common.{◌≡◌, Bool, true, false, ℕ, List, inl, inr, refl, ◌⊎◌}
+use Rattle.std.proofs.Common.{◌≡◌, Bool, true, false, inl, inr, refl, ◌⊎◌}
 use Rattle.std.specs.Prelude.{None}
 use Rattle.net_compose.specs.Carries.{Carries, CarriesReset}
 use Rattle.width_check.specs.Processes.{TypedProgram}

@@ -1,5 +1,6 @@
 use Rattle.std.proofs.Common.{◌≡◌, [], Some, None, rules, take, sym, append-nil}
 use Rattle.chp_cli.specs.Commands.{asked, asked_by}
+use Rattle.chp_cli.specs.Contents.{content_bytes}
 use Rattle.chp_cli.specs.Ends.{formless, whole, cut_off, no_memory}
 use Rattle.chp_cli.specs.Replies.{told_answer}
 use Rattle.chp_cli.proofs.Ending.{answers_of, front_of, stopped_ends}
@@ -18,13 +19,14 @@ returns-in-Err-answer-clause-ended g c =
     let named : asked_by c.args.words.now ≡ Some (asked c.in-Ok-Some.command) = search rules in
     ([], stopped_ends _ _ _ _ _ _ _ (asked c.in-Ok-Some.command) named c.in-Err-answer.stop c.in-Err-answer.ensures.stopped, λ told. sym (append-nil _))
 
-pub returns-in-Ok-write_all-clause-ended : goal.returns-in-Ok-write_all-clause-ended
-returns-in-Ok-write_all-clause-ended g c =
+pub returns-in-Ok-write-clause-ended : goal.returns-in-Ok-write-clause-ended
+returns-in-Ok-write-clause-ended g c =
     let named : asked_by c.args.words.now ≡ Some (asked c.in-Ok-Some.command) = search rules in
-    let output = c.in-Ok.output in (
-      output.text.items,
-      whole output.end output.text.items (answers_of _ _ _ (asked c.in-Ok-Some.command) (told_answer output) named c.in-Ok.ensures.answered),
-      rw c.deref.ensures.value at c.in-Ok-write_all.ensures.whole,
+    let output = c.in-Ok.output in
+    let bytes = content_bytes output.content in (
+      bytes,
+      whole output.end bytes (answers_of _ _ _ (asked c.in-Ok-Some.command) (told_answer output) named c.in-Ok.ensures.answered),
+      c.in-Ok-write.ensures.whole,
     )
 
 pub returns-clause-ended : goal.returns-clause-ended
@@ -32,10 +34,10 @@ returns-clause-ended g c =
     let K = g.K.Sink in
     let named : asked_by c.args.words.now ≡ Some (asked c.in-Ok-Some.command) = search rules in
     let output = c.in-Ok.output in
-    let front = front_of (K.tells c.args.out.now) (K.written c.args.out.now) (K.written c.write_all.new.sink) output.text.items
-    (rw c.deref.ensures.value at c.in-Err-write_all.ensures.prefix) in (
-      take front.0 output.text.items,
-      cut_off output.end output.text.items front.0 (answers_of _ _ _ (asked c.in-Ok-Some.command) (told_answer output) named c.in-Ok.ensures.answered)
-          c.in-Err-write_all.ensures.failed,
+    let bytes = content_bytes output.content in
+    let front = front_of (K.tells c.args.out.now) (K.written c.args.out.now) (K.written c.write.new.sink) bytes c.in-Err-write.ensures.prefix in (
+      take front.0 bytes,
+      cut_off output.end bytes front.0 (answers_of _ _ _ (asked c.in-Ok-Some.command) (told_answer output) named c.in-Ok.ensures.answered)
+          c.in-Err-write.ensures.failed,
       front.1,
     )

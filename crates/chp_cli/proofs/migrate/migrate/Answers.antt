@@ -1,31 +1,28 @@
-use Rattle.std.proofs.Common.{◌∷◌, [], arith}
-use Rattle.chp_cli.specs.Migrating.{Migrates, MigratesNet}
-use Rattle.chp_cli.specs.Steps.{FromFile, FromNet, Never, most_of_net}
+use Rattle.std.proofs.Common.{◌∷◌, []}
+use Rattle.chp_cli.specs.Migrating.{MigratesNet}
+use Rattle.chp_cli.specs.Steps.{FromNet, most_of_net}
 use Rattle.chp_cli.specs.Answers.{given_by}
-use Rattle.chp_cli.proofs.Stopping.{file_answers, file_goes, file_stops, stops_in}
+use Rattle.chp_cli.proofs.Stopping.{file_answers, file_passed, file_stops}
 use Rattle.chp_cli.proofs.migrate.migrate.Goals as goal
 
-pub returns-in-Ok-clause-answered : goal.returns-in-Ok-clause-answered
-returns-in-Ok-clause-answered g c =
+pub returns-clause-answered : goal.returns-clause-answered
+returns-clause-answered g c =
     let S = g.S.Shelf in
     let given = given_by (S.tells c.args.shelf.now) (S.holds c.args.shelf.now) in
-    file_answers given c.args.file.now most_of_net c.in-Ok.text.items (λ text. FromNet text MigratesNet) c.in-Ok.ensures.read c.in-Ok.ensures.short
-    c.migrate_text.result
-    c.migrate_text.ensures.answered
+    file_answers given c.args.file.now most_of_net c.in_ok-text.text.items (λ text. FromNet text MigratesNet) c.in_ok-text.ensures.read
+    c.in_ok-text.ensures.short c.migrate_text.result c.migrate_text.ensures.answered
 
-pub returns-in-Ok-clause-stopped : goal.returns-in-Ok-clause-stopped
-returns-in-Ok-clause-stopped g c =
+pub returns-clause-stopped : goal.returns-clause-stopped
+returns-clause-stopped g c =
     let S = g.S.Shelf in
     let given = given_by (S.tells c.args.shelf.now) (S.holds c.args.shelf.now) in
-    file_stops given c.args.file.now most_of_net c.in-Ok.text.items (λ text. FromNet text MigratesNet) c.in-Ok.ensures.read c.in-Ok.ensures.short
+    file_stops given c.args.file.now most_of_net c.in_ok-text.text.items (λ text. FromNet text MigratesNet) c.in_ok-text.ensures.read c.in_ok-text.ensures.short
     c.migrate_text.result
     (c.args.file.now ∷ []) _ _ c.migrate_text.ensures.stopped
 
-pub returns-in-Err-clause-stopped : goal.returns-in-Err-clause-stopped
-returns-in-Err-clause-stopped g c =
+pub returns-in_err-text-clause-stopped : goal.returns-in_err-text-clause-stopped
+returns-in_err-text-clause-stopped g c =
     let S = g.S.Shelf in
     let given = given_by (S.tells c.args.shelf.now) (S.holds c.args.shelf.now) in
-    let before = S.faults c.args.shelf.now in
-    stops_in (FromFile given c.args.file.now most_of_net Never) (Migrates given c.args.file.now) (λ answer is. file_goes is)
-    (c.args.file.now ∷ []) (c.args.file.now ∷ []) given before before (S.faults c.text_of_file.new.shelf) (λ name own. own) (omega arith) c.in-Err.stop
-    c.in-Err.ensures.stopped
+    file_passed given c.args.file.now most_of_net (λ text. FromNet text MigratesNet) (S.faults c.args.shelf.now) (S.faults c.text_of_file.new.shelf)
+    c.from_residual.result c.in_err-text.field-0.0 c.from_residual.ensures.1 c.in_err-text.ensures.stopped

@@ -1,6 +1,4 @@
-use Rattle.std.proofs.Common.{◌≡◌, ◌∙◌, List, Option, sym, subst}
-use Rattle.std.specs.Prelude.{ℕ, bytes_eq}
-use Rattle.std.specs.List.{position}
+use Rattle.std.proofs.Common.{◌∙◌, sym}
 use Rattle.chp_cli.specs.Orders.{order_state}
 use Rattle.chp_cli.proofs.Keeping.{found_within, named_mapped}
 use Rattle.chp_cli.proofs.players.place_of.Goals as goal

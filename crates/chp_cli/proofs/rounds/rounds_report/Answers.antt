@@ -1,4 +1,4 @@
-use Rattle.std.proofs.Common.{◌≡◌, ◌≢◌, rules}
+use Rattle.std.proofs.Common.{◌≢◌, rules}
 use Rattle.width_check.specs.Typed.{program_of as typed_of}
 use Rattle.chp_meaning.specs.declared.run.RunEnd.TheVariants.{TooMany}
 use Rattle.chp_meaning.specs.Ends.{seen}

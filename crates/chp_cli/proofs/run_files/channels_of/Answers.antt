@@ -1,7 +1,6 @@
-use Rattle.std.proofs.Common.{◌≡◌, ◌≢◌, ◌≤◌, List, sym, subst}
+use Rattle.std.proofs.Common.{◌≢◌, ◌≤◌, List, sym, subst}
 use Rattle.std.specs.Prelude.{All, AllPairs}
 use Rattle.chp_base.specs.declared.channel.Channel.{Channel}
-use Rattle.env_script.specs.Environment.{net_channels}
 use Rattle.chp_cli.proofs.RunChannels.{channels_distinct, channels_wide}
 use Rattle.chp_cli.proofs.Stopping.{ok_in}
 use Rattle.chp_cli.proofs.run_files.channels_of.Goals as goal

@@ -1,27 +1,26 @@
-use Rattle.std.proofs.Common.{◌∷◌, [], arith}
+use Rattle.std.proofs.Common.{◌∷◌, []}
 use Rattle.chp_cli.specs.Answers.{given_by}
 use Rattle.chp_cli.specs.Replies.{Halts, Stops}
 use Rattle.chp_cli.specs.RunSteps.{FromScript, most_of_script}
 use Rattle.chp_cli.specs.Steps.{FromFile, Never, a_file}
-use Rattle.chp_cli.proofs.Stopping.{err_in, file_goes, stops_in, stops_where}
+use Rattle.chp_cli.proofs.Stopping.{err_in, file_passed, stops_where}
 use Rattle.chp_cli.proofs.run_files.script_in.Goals as goal
 
-pub returns-in-Ok-clause-stopped : goal.returns-in-Ok-clause-stopped
-returns-in-Ok-clause-stopped g c =
+pub returns-clause-stopped : goal.returns-clause-stopped
+returns-clause-stopped g c =
     let S = g.S.Shelf in
     let given = given_by (S.tells c.args.shelf.now) (S.holds c.args.shelf.now) in
-    let next = FromScript c.args.channels.now c.in-Ok.text.items Never in
+    let next = FromScript c.args.channels.now c.in_ok-text.text.items Never in
     let whole = FromFile given c.args.file.now most_of_script (λ t. FromScript c.args.channels.now t Never) in
     err_in c.script_of_text.result (Halts next) (Stops whole (c.args.file.now ∷ []) given (S.faults c.args.shelf.now) (S.faults c.text_of_file.new.shelf))
-    (stops_where next whole (λ answer is. a_file c.in-Ok.ensures.read c.in-Ok.ensures.short is) (c.args.file.now ∷ []) given (S.faults c.args.shelf.now)
-    (S.faults c.text_of_file.new.shelf))
+    (stops_where next whole (λ answer is. a_file c.in_ok-text.ensures.read c.in_ok-text.ensures.short is) (c.args.file.now ∷ []) given
+    (S.faults c.args.shelf.now) (S.faults c.text_of_file.new.shelf))
     (rw c.deref.ensures.value at c.script_of_text.ensures.stopped)
 
-pub returns-in-Err-clause-stopped : goal.returns-in-Err-clause-stopped
-returns-in-Err-clause-stopped g c =
+pub returns-in_err-text-clause-stopped : goal.returns-in_err-text-clause-stopped
+returns-in_err-text-clause-stopped g c =
     let S = g.S.Shelf in
     let given = given_by (S.tells c.args.shelf.now) (S.holds c.args.shelf.now) in
-    let before = S.faults c.args.shelf.now in
-    stops_in (FromFile given c.args.file.now most_of_script Never) (FromFile given c.args.file.now most_of_script (λ t. FromScript c.args.channels.now t Never))
-    (λ answer is. file_goes is) (c.args.file.now ∷ []) (c.args.file.now ∷ []) given before before (S.faults c.text_of_file.new.shelf) (λ name own. own)
-    (omega arith) c.in-Err.stop c.in-Err.ensures.stopped
+    file_passed given c.args.file.now most_of_script (λ t. FromScript c.args.channels.now t Never)
+    (S.faults c.args.shelf.now) (S.faults c.text_of_file.new.shelf) c.from_residual.result c.in_err-text.field-0.0
+    c.from_residual.ensures.1 c.in_err-text.ensures.stopped

@@ -1,4 +1,4 @@
-use Rattle.std.proofs.Common.{◌≡◌, ◌<◌, false, List, length, sym, subst}
+use Rattle.std.proofs.Common.{◌<◌, false, length, sym, subst}
 use Rattle.std.specs.Prelude.{All}
 use Rattle.delay_script.specs.declared.noted.NotedMove.{NotedMove}
 use Rattle.delay_script.specs.DelayTables.{DelayTable}

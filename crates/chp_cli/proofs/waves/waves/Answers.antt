@@ -1,35 +1,38 @@
-use Rattle.std.proofs.Common.{◌≡◌, ◌∙◌, ℕ, List, Option, Some, None, sym, subst, arith}
+use Rattle.std.proofs.Common.{◌≡◌, ◌∙◌, arith}
 use Rattle.env_script.specs.Environment.{net_channels}
-use Rattle.chp_cli.specs.Answers.{given_by}
 use Rattle.chp_cli.specs.Commands.{waves_asked}
-use Rattle.chp_cli.proofs.Stopping.{err_in, ok_in}
+use Rattle.chp_cli.proofs.Stopping.{passed_on}
 use Rattle.chp_cli.proofs.TraceStopping.{traced_net_stops, traced_script_stops, traced_delays_stop, trace_answers}
 use Rattle.chp_cli.proofs.waves.waves.Goals as goal
 
-pub returns-in-Err-clause-stopped : goal.returns-in-Err-clause-stopped
-returns-in-Err-clause-stopped g c = traced_net_stops (waves_asked c.args.asked.now) _ _ _ c.in-Err.stop c.in-Err.ensures.stopped
+pub returns-in_err-net-clause-stopped : goal.returns-in_err-net-clause-stopped
+returns-in_err-net-clause-stopped g c =
+    passed_on c.from_residual.result _ _ c.from_residual.ensures.1
+    (traced_net_stops (waves_asked c.args.asked.now) _ _ _ c.in_err-net.field-0.0 c.in_err-net.ensures.stopped)
 
-pub returns-in-Err-script_in-clause-stopped : goal.returns-in-Err-script_in-clause-stopped
-returns-in-Err-script_in-clause-stopped g c =
-    let same : c.deref.result.now ≡ net_channels c.in-Ok.net = c.deref.ensures.value ∙ c.in-Ok-channels_of.ensures.channels in
-    traced_script_stops (waves_asked c.args.asked.now) _ c.in-Ok.net c.in-Ok.ensures.read _ _ _
-    c.net_in.ensures.faults c.in-Err-script_in.stop (rw (same, c.net_in.ensures.same, c.net_in.ensures.kept) at c.in-Err-script_in.ensures.stopped)
+pub returns-in_err-script-clause-stopped : goal.returns-in_err-script-clause-stopped
+returns-in_err-script-clause-stopped g c =
+    let same : c.deref.result.now ≡ net_channels c.in_ok-net.net = c.deref.ensures.value ∙ c.in-Ok.ensures.channels in
+    passed_on c.from_residual-in_err-script.result _ _ c.from_residual-in_err-script.ensures.1
+    (traced_script_stops (waves_asked c.args.asked.now) _ c.in_ok-net.net c.in_ok-net.ensures.read _ _ _
+    c.net_in.ensures.faults c.in_err-script.field-0.0 (rw (same, c.net_in.ensures.same, c.net_in.ensures.kept) at c.in_err-script.ensures.stopped))
 
-pub returns-in-Err-delays_if-clause-stopped : goal.returns-in-Err-delays_if-clause-stopped
-returns-in-Err-delays_if-clause-stopped g c =
-    let same : c.deref.result.now ≡ net_channels c.in-Ok.net = c.deref.ensures.value ∙ c.in-Ok-channels_of.ensures.channels in
-    let told = rw (same, c.net_in.ensures.same, c.net_in.ensures.kept) at c.in-Ok-script_in.ensures.read in
-    traced_delays_stop (waves_asked c.args.asked.now) _ c.in-Ok.net c.in-Ok.ensures.read c.in-Ok-script_in.script told _ _ _
-    (omega (arith, c.net_in.ensures.faults, c.script_in.ensures.faults)) c.in-Err-delays_if.stop
-    (rw (c.script_in.ensures.same, c.script_in.ensures.kept, c.net_in.ensures.same, c.net_in.ensures.kept) at c.in-Err-delays_if.ensures.stopped)
+pub returns-in_err-delays-clause-stopped : goal.returns-in_err-delays-clause-stopped
+returns-in_err-delays-clause-stopped g c =
+    let same : c.deref.result.now ≡ net_channels c.in_ok-net.net = c.deref.ensures.value ∙ c.in-Ok.ensures.channels in
+    let told = rw (same, c.net_in.ensures.same, c.net_in.ensures.kept) at c.in_ok-script.ensures.read in
+    passed_on c.from_residual-in_err-delays.result _ _ c.from_residual-in_err-delays.ensures.1
+    (traced_delays_stop (waves_asked c.args.asked.now) _ c.in_ok-net.net c.in_ok-net.ensures.read c.in_ok-script.script told _ _ _
+    (omega (arith, c.net_in.ensures.faults, c.script_in.ensures.faults)) c.in_err-delays.field-0.0
+    (rw (c.script_in.ensures.same, c.script_in.ensures.kept, c.net_in.ensures.same, c.net_in.ensures.kept) at c.in_err-delays.ensures.stopped))
 
 pub returns-in-Ok-trace-clause-answered : goal.returns-in-Ok-trace-clause-answered
 returns-in-Ok-trace-clause-answered g c =
-    let same : c.deref.result.now ≡ net_channels c.in-Ok.net = c.deref.ensures.value ∙ c.in-Ok-channels_of.ensures.channels in
-    let told = rw (same, c.net_in.ensures.same, c.net_in.ensures.kept) at c.in-Ok-script_in.ensures.read in
-    let said = rw (c.script_in.ensures.same, c.script_in.ensures.kept, c.net_in.ensures.same, c.net_in.ensures.kept) at c.in-Ok-delays_if.ensures.read in
-    trace_answers (waves_asked c.args.asked.now) _ c.in-Ok.net c.in-Ok.ensures.read c.in-Ok-script_in.script told c.in-Ok-delays_if.delays said _
+    let same : c.deref.result.now ≡ net_channels c.in_ok-net.net = c.deref.ensures.value ∙ c.in-Ok.ensures.channels in
+    let told = rw (same, c.net_in.ensures.same, c.net_in.ensures.kept) at c.in_ok-script.ensures.read in
+    let said = rw (c.script_in.ensures.same, c.script_in.ensures.kept, c.net_in.ensures.same, c.net_in.ensures.kept) at c.in_ok-delays.ensures.read in
+    trace_answers (waves_asked c.args.asked.now) _ c.in_ok-net.net c.in_ok-net.ensures.read c.in_ok-script.script told c.in_ok-delays.delays said _
     c.in-Ok-trace.ensures
 
 pub trace-requires-clause-net : goal.trace-requires-clause-net
-trace-requires-clause-net g c = c.in-Ok.ensures.read.is.kept
+trace-requires-clause-net g c = c.in_ok-net.ensures.read.is.kept
