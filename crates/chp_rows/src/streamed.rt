@@ -4,6 +4,7 @@ use chp_syntax::parse;
 use net_compose::{NetError, translate};
 use net_stream::Streamer;
 use prs_file::print_net;
+use reset_net::with_reset;
 use sharing_check::{Disjoint, share};
 use std::alloc::{AllocError, Global};
 use std::fmt::Write;
@@ -60,34 +61,53 @@ fn pieces(alloc: Global, streamer: Streamer, size: usize) -> Result<Vec<u8>, All
     Ok(text)
 }
 
-/// The rule file of the program, printed at once. None stands for one with too many nodes.
-fn printed(alloc: Global, program: &Disjoint) -> Result<Option<Vec<u8>>, AllocError> {
-    match translate(alloc, program) {
-        Ok(net) => Ok(Some(print_net(alloc, &net)?)),
-        Err(NetError::TooManyNodes(_)) => Ok(None),
-        Err(NetError::NoMemory(error)) => Err(error),
+/// The rule file of the program, printed at once, with a reset node where one is asked for. None stands for one with
+/// too many nodes.
+fn printed(alloc: Global, program: &Disjoint, reset: bool) -> Result<Option<Vec<u8>>, AllocError> {
+    let net = match translate(alloc, program) {
+        Ok(net) => net,
+        Err(NetError::TooManyNodes(_)) => return Ok(None),
+        Err(NetError::NoMemory(error)) => return Err(error),
+    };
+    if reset {
+        let net = with_reset(alloc, net)?;
+        return Ok(Some(print_net(alloc, &net)?));
     }
+    Ok(Some(print_net(alloc, &net)?))
 }
 
 /// The same as it comes in pieces of this size.
-fn streamed(alloc: Global, program: &Disjoint, size: usize) -> Result<Option<Vec<u8>>, AllocError> {
-    match Streamer::new(alloc, program) {
+fn streamed(
+    alloc: Global,
+    program: &Disjoint,
+    reset: bool,
+    size: usize,
+) -> Result<Option<Vec<u8>>, AllocError> {
+    let made = if reset {
+        Streamer::new_reset(alloc, program)
+    } else {
+        Streamer::new(alloc, program)
+    };
+    match made {
         Ok(streamer) => Ok(Some(pieces(alloc, streamer, size)?)),
         Err(NetError::TooManyNodes(_)) => Ok(None),
         Err(NetError::NoMemory(error)) => Err(error),
     }
 }
 
-/// Of each size of pieces whether the rule file of the program that the text is comes out in them as it is printed.
-pub fn stream(alloc: Global, text: &[u8], page: &mut String) -> Result<(), AllocError> {
-    let Some(program) = accepted(alloc, text) else {
-        return page.push_str("no program\n");
-    };
-    let Some(whole) = printed(alloc, &program)? else {
+/// Of each size of pieces whether the rule file of the program comes out in them as it is printed.
+fn compare(
+    alloc: Global,
+    program: &Disjoint,
+    reset: bool,
+    page: &mut String,
+) -> Result<(), AllocError> {
+    let Some(whole) = printed(alloc, program, reset)? else {
         return page.push_str("too many nodes\n");
     };
+    let version = if reset { 2 } else { 1 };
     for size in SIZES {
-        let told = match streamed(alloc, &program, size)? {
+        let told = match streamed(alloc, program, reset, size)? {
             Some(text) => {
                 if text == whole {
                     "the same"
@@ -97,7 +117,16 @@ pub fn stream(alloc: Global, text: &[u8], page: &mut String) -> Result<(), Alloc
             }
             None => "no text",
         };
-        writeln!(page, "{size}: {told}")?;
+        writeln!(page, "version {version} by {size}: {told}")?;
     }
     Ok(())
+}
+
+/// The rule files of the program that the text is, without a reset node and with one, as they come in pieces.
+pub fn stream(alloc: Global, text: &[u8], page: &mut String) -> Result<(), AllocError> {
+    let Some(program) = accepted(alloc, text) else {
+        return page.push_str("no program\n");
+    };
+    compare(alloc, &program, false, page)?;
+    compare(alloc, &program, true, page)
 }
