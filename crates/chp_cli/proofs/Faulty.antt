@@ -28,6 +28,3 @@ same_body p t form = ap (λ (q : TypedProgram). q.body) form
 pub shared_fault : (p : ProgramTree) (t : TypedProgram) (f : Fault) → t ≡ typed_form p → HasNone p naming_faults →
     IsFirstSharedFault t.body sharing_faults f.code f.at f.other → IsFaulty p f
 shared_fault p t f form none first = of_sharing none (subst (λ b. IsFirstSharedFault b sharing_faults f.code f.at f.other) (same_body p t form) first)
-
-pub all_accepted : (p : ProgramTree) (t : TypedProgram) → t ≡ typed_form p → IsCallFree p → HasNone p naming_faults → MeetsSharing t.body → IsAccepted p
-all_accepted p t form free none meets = record { call_free = free; named = none; sharing = subst MeetsSharing (same_body p t form) meets }

@@ -63,13 +63,6 @@ module _ (run : AskedRun) (given : Given) (played : Played) (place : ℕ) where
           (λ answer is. file_answers answer (has_power powered (file_as (λ text there. script_goes there) is)))
           (run.script ∷ []) files given first before after (λ name own. second_file run.net run.script (option_to_list run.against) name own) early stop stops
 
--- ---- the shelf tells the same as before
-
-pub same_given : {A : Type 0} (P : Given → A → Type 0) (tells tells_now : Bool) (files files_now : List ℕ → Option (List ℕ)) (a : A) → tells_now ≡ tells →
-    files_now ≡ files → P (given_by tells_now files_now) a → P (given_by tells files) a
-same_given P tells tells_now files files_now a told held is =
-    subst (λ t. P (given_by t files) a) told (subst (λ f. P (given_by tells_now f) a) held is)
-
 -- ---- behind the order
 
 pub order_stops : (run : AskedRun) (given : Given) (played : Played) (place : ℕ) → place_named played.before run.order ≡ Some place →

@@ -1,33 +1,19 @@
 -- A text says at most one table of delays, and a text that is refused says none, for one cause at one line.
 use Rattle.std.proofs.Common.{◌≡◌, ◌≢◌, ℕ, suc, ◌<◌, true, false, List, [], ◌∷◌, ◌++◌, length, get_or, map, refl, sym, ap, ◌∙◌, inl, inr, subst, arith, Contains}
-use Rattle.std.specs.Prelude.{◌⊎◌, not, ◌==◌, filter, codes, bytes_eq}
-use Rattle.std.specs.List.{AllZip, list_all}
-use Rattle.std.proofs.lemmas.Bool.{cases_order, ne_eqb, or_from, both_ways}
-use Rattle.std.proofs.lemmas.List.{append_cancel_left, get_or_append_left, get_or_at, length-append, map-append}
-use Rattle.std.proofs.lemmas.List.Elements.{filter-append}
-use Rattle.chp_base.specs.Names.{digit}
-use Rattle.env_script.specs.Numbers.{IsNumber, IsDecimalWord, IsHexadecimalWord, number_of_word}
+use Rattle.std.specs.Prelude.{◌⊎◌, bytes_eq}
+use Rattle.std.specs.List.{AllZip}
+use Rattle.std.proofs.lemmas.Bool.{cases_order, or_from, both_ways}
+use Rattle.std.proofs.lemmas.List.{get_or_append_left, get_or_at, length-append}
+use Rattle.env_script.specs.Numbers.{IsNumber}
 use Rattle.env_script.specs.Cutting.{lines_of, words_of}
-use Rattle.env_script.specs.ScriptText.{is_some_line}
 use Rattle.env_script.proofs.OneMore.{differ}
+use Rattle.env_script.proofs.OneReading.{number_once, worded, worded_parts, worded_here, longer, same_front}
 use Rattle.delay_script.specs.declared.line.DelayLine.{DelayLine}
 use Rattle.delay_script.specs.declared.fault.DelayFault.{DelayFault}
 use Rattle.delay_script.specs.DelayTables.{DelayTable}
 use Rattle.delay_script.specs.DelayText.{SaysDelays, has_line, IsQuick, AreDelays, AreDelaysTold, delays_said, IsDelayText, DelayLineFault, no_delays, no_node, again, slow, IsDelayRefused}
 
 -- Words say one thing.
-
-hex_is_no_decimal : (word : List ℕ) (n m : ℕ) → IsDecimalWord n word → IsHexadecimalWord m word → ⊥
-hex_is_no_decimal word n m d h =
-    let wrong : list_all digit (codes "0x" ++ h.tail) ≡ true = ap (list_all digit) (sym h.begins) ∙ d.digits in
-    absurd (cc wrong)
-
-number_once : (word : List ℕ) (n m : ℕ) → IsNumber word n → IsNumber word m → n ≡ m
-number_once word n m (inl d) (inl e) = sym d.value ∙ e.value
-number_once word n m (inl d) (inr h) = absurd (hex_is_no_decimal word n m d h)
-number_once word n m (inr h) (inl d) = absurd (hex_is_no_decimal word m n d h)
-number_once word n m (inr h) (inr k) =
-    sym h.value ∙ ap (number_of_word 16) (append_cancel_left (codes "0x") h.tail k.tail (sym h.begins ∙ k.begins)) ∙ k.value
 
 line_same : (n m : List ℕ) (a b c d : ℕ) → n ≡ m → a ≡ b → c ≡ d →
     ◌≡◌ {A = DelayLine} (record { node = n; up = a; down = c }) (record { node = m; up = b; down = d })
@@ -86,19 +72,6 @@ fine names fs l rest good = record {
 }
 
 -- Lines of a text in front of a line.
-
-abbrev worded : List (List ℕ) → List (List (List ℕ))
-worded lines = filter is_some_line (map words_of lines)
-
-worded_parts : (before : List (List ℕ)) (here : List ℕ) (behind : List (List ℕ)) → worded (before ++ here ∷ behind) ≡ worded before ++ worded (here ∷ behind)
-worded_parts before here behind = ap (filter is_some_line) (map-append words_of before (here ∷ behind))
-    ∙ filter-append is_some_line (map words_of before) (map words_of (here ∷ behind))
-
-worded_here : (here : List ℕ) (behind : List (List ℕ)) → 0 < length (words_of here) → worded (here ∷ behind) ≡ words_of here ∷ worded behind
-worded_here here behind some = rw (is_some (length (words_of here)) some) refl
-  where
-    is_some : (n : ℕ) → 0 < n → not (n == 0) ≡ true
-    is_some n some = ap not (ne_eqb n 0 (λ e. omega arith))
 
 record Parted (wss vss : List (List (List ℕ))) (ls : List DelayLine) : Type 0 where
   front : List DelayLine
@@ -192,37 +165,6 @@ fault_once names fs words f g (slow l says there fresh late) (no_node m says_too
 fault_once names fs words f g (slow l says there fresh late) (again m says_too there_too told) =
     absurd (both_ways _ (ap (λ (v : DelayLine). has_line fs v.node) (says_once words m l says_too says) ∙ fresh) told)
 fault_once names fs words f g (slow l says there fresh late) (slow m says_too there_too fresh_too late_too) = refl
-
-record Longer (before : List (List ℕ)) (here : List ℕ) (others : List (List ℕ)) : Type 0 where
-  between : List (List ℕ)
-  whole : others ≡ before ++ here ∷ between
-
-longer : (before : List (List ℕ)) (here : List ℕ) (behind others : List (List ℕ)) (there : List ℕ) (rest : List (List ℕ)) →
-    before ++ here ∷ behind ≡ others ++ there ∷ rest → length before < length others → Longer before here others
-longer before here behind [] there rest same less = absurd (omega arith)
-longer [] here behind (o ∷ others) there rest same less =
-    let e : here ≡ o = cc same in
-    record { between = others; whole = ap (λ (x : List ℕ). x ∷ others) (sym e) }
-longer (b ∷ before) here behind (o ∷ others) there rest same less =
-    let head : b ≡ o = cc same in
-    let tail : before ++ here ∷ behind ≡ others ++ there ∷ rest = cc same in
-    let more = longer before here behind others there rest tail (omega arith) in
-    record { between = more.between; whole = ap (λ (x : List ℕ). x ∷ others) (sym head) ∙ ap (λ (xs : List (List ℕ)). b ∷ xs) more.whole }
-
-record SameFront (before others : List (List ℕ)) (here there : List ℕ) : Type 0 where
-  fronts : before ≡ others
-  heres : here ≡ there
-
-same_front : (before : List (List ℕ)) (here : List ℕ) (behind others : List (List ℕ)) (there : List ℕ) (rest : List (List ℕ)) →
-    before ++ here ∷ behind ≡ others ++ there ∷ rest → length before ≡ length others → SameFront before others here there
-same_front [] here behind [] there rest same count = record { fronts = refl; heres = cc same }
-same_front [] here behind (o ∷ others) there rest same count = absurd (omega arith)
-same_front (b ∷ before) here behind [] there rest same count = absurd (omega arith)
-same_front (b ∷ before) here behind (o ∷ others) there rest same count =
-    let head : b ≡ o = cc same in
-    let tail : before ++ here ∷ behind ≡ others ++ there ∷ rest = cc same in
-    let more = same_front before here behind others there rest tail (omega arith) in
-    record { fronts = ap (λ (x : List ℕ). x ∷ before) head ∙ ap (λ (xs : List (List ℕ)). o ∷ xs) more.fronts; heres = more.heres }
 
 pub one_refusal : (names : List (List ℕ)) (text : List ℕ) (f g : DelayFault) (n m : ℕ) → IsDelayRefused names text f n → IsDelayRefused names text g m →
     (f ≡ g) × (n ≡ m)

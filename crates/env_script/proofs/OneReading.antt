@@ -27,7 +27,7 @@ hex_is_no_decimal word n m d h =
     let wrong : list_all digit (codes "0x" ++ h.tail) ≡ true = ap (list_all digit) (sym h.begins) ∙ d.digits in
     absurd (cc wrong)
 
-number_once : (word : List ℕ) (n m : ℕ) → IsNumber word n → IsNumber word m → n ≡ m
+pub number_once : (word : List ℕ) (n m : ℕ) → IsNumber word n → IsNumber word m → n ≡ m
 number_once word n m (inl d) (inl e) = sym d.value ∙ e.value
 number_once word n m (inl d) (inr h) = absurd (hex_is_no_decimal word n m d h)
 number_once word n m (inr h) (inl d) = absurd (hex_is_no_decimal word m n d h)
@@ -140,14 +140,15 @@ faultless channels fs l rest good =
 
 -- Lines of a text in front of a line.
 
-abbrev worded : List (List ℕ) → List (List (List ℕ))
+abbrev pub worded : List (List ℕ) → List (List (List ℕ))
 worded lines = filter is_some_line (map words_of lines)
 
-worded_parts : (before : List (List ℕ)) (here : List ℕ) (behind : List (List ℕ)) → worded (before ++ here ∷ behind) ≡ worded before ++ worded (here ∷ behind)
+pub worded_parts : (before : List (List ℕ)) (here : List ℕ) (behind : List (List ℕ)) →
+    worded (before ++ here ∷ behind) ≡ worded before ++ worded (here ∷ behind)
 worded_parts before here behind = ap (filter is_some_line) (map-append words_of before (here ∷ behind))
     ∙ filter-append is_some_line (map words_of before) (map words_of (here ∷ behind))
 
-worded_here : (here : List ℕ) (behind : List (List ℕ)) → 0 < length (words_of here) → worded (here ∷ behind) ≡ words_of here ∷ worded behind
+pub worded_here : (here : List ℕ) (behind : List (List ℕ)) → 0 < length (words_of here) → worded (here ∷ behind) ≡ words_of here ∷ worded behind
 worded_here here behind some = rw (is_some (length (words_of here)) some) refl
   where
     is_some : (n : ℕ) → 0 < n → not (n == 0) ≡ true
@@ -213,11 +214,11 @@ fault_once channels fs words f g (of_line l says is) (of_line m says_too is_too)
     let one : Some f ≡ Some g = sym is ∙ ap (line_fault channels fs) (says_once words l m says says_too) ∙ is_too in
     cc one
 
-record Longer (before : List (List ℕ)) (here : List ℕ) (others : List (List ℕ)) : Type 0 where
-  between : List (List ℕ)
-  whole : others ≡ before ++ here ∷ between
+pub record Longer (before : List (List ℕ)) (here : List ℕ) (others : List (List ℕ)) : Type 0 where
+  pub between : List (List ℕ)
+  pub whole : others ≡ before ++ here ∷ between
 
-longer : (before : List (List ℕ)) (here : List ℕ) (behind others : List (List ℕ)) (there : List ℕ) (rest : List (List ℕ)) →
+pub longer : (before : List (List ℕ)) (here : List ℕ) (behind others : List (List ℕ)) (there : List ℕ) (rest : List (List ℕ)) →
     before ++ here ∷ behind ≡ others ++ there ∷ rest → length before < length others → Longer before here others
 longer before here behind [] there rest same less = absurd (omega arith)
 longer [] here behind (o ∷ others) there rest same less =
@@ -229,11 +230,11 @@ longer (b ∷ before) here behind (o ∷ others) there rest same less =
     let more = longer before here behind others there rest tail (omega arith) in
     record { between = more.between; whole = ap (λ (x : List ℕ). x ∷ others) (sym head) ∙ ap (λ (xs : List (List ℕ)). b ∷ xs) more.whole }
 
-record SameFront (before others : List (List ℕ)) (here there : List ℕ) : Type 0 where
-  fronts : before ≡ others
-  heres : here ≡ there
+pub record SameFront (before others : List (List ℕ)) (here there : List ℕ) : Type 0 where
+  pub fronts : before ≡ others
+  pub heres : here ≡ there
 
-same_front : (before : List (List ℕ)) (here : List ℕ) (behind others : List (List ℕ)) (there : List ℕ) (rest : List (List ℕ)) →
+pub same_front : (before : List (List ℕ)) (here : List ℕ) (behind others : List (List ℕ)) (there : List ℕ) (rest : List (List ℕ)) →
     before ++ here ∷ behind ≡ others ++ there ∷ rest → length before ≡ length others → SameFront before others here there
 same_front [] here behind [] there rest same count = record { fronts = refl; heres = cc same }
 same_front [] here behind (o ∷ others) there rest same count = absurd (omega arith)

@@ -144,14 +144,6 @@ taken channels ws line ls offers told values t distinct so_far step =
     )
 
 -- what the step needs to know
-pub few_values : (channels : List Channel) (ws : List (List ℕ)) (ls : List Line) (offers : List OfferValue) (told : List Bool) (values : ℕ) →
-    IsReadSoFar channels ws ls offers told values → values ≤ 65536
-few_values channels ws ls offers told values so_far = omega (arith, so_far.count, so_far.lines_told.good.few)
-
-pub one_flag_each : (channels : List Channel) (ws : List (List ℕ)) (ls : List Line) (offers : List OfferValue) (told : List Bool) (values : ℕ) →
-    IsReadSoFar channels ws ls offers told values → length told ≡ length channels
-one_flag_each channels ws ls offers told values so_far = ap length so_far.flags ∙ length-map channels (λ (c : Channel). is_told ls c.name)
-
 pub one_offer_each : (channels : List Channel) (ws : List (List ℕ)) (ls : List Line) (offers : List OfferValue) (told : List Bool) (values : ℕ) →
     IsReadSoFar channels ws ls offers told values → length offers ≡ length channels
 one_offer_each channels ws ls offers told values so_far = ap length so_far.made ∙ length-map channels _

@@ -20,7 +20,7 @@ pub fn own_nodes(again: bool) -> u32
     if again { 6 } else { 3 }
 }
 
-/// How many nodes the guards have together.
+/// How many nodes the guards of the arms have together.
 pub fn guards_nodes(arms: &[TArm]) -> u32
     requires formed { HasFormedGuards (choices_in arms.now) }
     requires room { guards_size (choices_in arms.now) < 2 ^ 32 }
@@ -34,7 +34,8 @@ pub fn guards_nodes(arms: &[TArm]) -> u32
     count
 }
 
-/// The nodes that answer the bodies, which are numbered from `from` on.
+/// The node that answers each body, one an arm. The nodes of the bodies are numbered from `from` on, one body after the
+/// other.
 pub fn body_answers(
     alloc: Global,
     program: &Typed,

@@ -30,7 +30,8 @@ fn all_low(alloc: Global, count: usize) -> Result<Vec<bool>, AllocError>
     vec![in alloc; false; count]
 }
 
-/// First values as far as declarations go: all nodes are low but one rail of each bit of each variable.
+/// First values as far as declarations go, one for each node: all are low but one rail of each bit of each variable.
+/// `firsts` are the first nodes of the variables' blocks.
 pub fn declared_values(
     alloc: Global,
     program: &Typed,

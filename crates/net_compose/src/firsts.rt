@@ -11,7 +11,9 @@ use width_check::Typed;
 /// The first wire of each channel, and the first node of the block of each variable.
 #[derive(Debug, Drop)]
 pub struct Firsts {
+    /// Rail t of the lowest bit of each channel, in order of declaration.
     pub channels: Vec<u32>,
+    /// Rail t of the lowest bit of each variable, in order of declaration.
     pub vars: Vec<u32>,
 }
 

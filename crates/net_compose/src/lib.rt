@@ -25,7 +25,7 @@ mod wires;
 
 pub use arms::{body_answers, guards_nodes, own_nodes};
 pub use compose::declared_values;
-pub use ends::{ack_node, channel_bits, first_of, rails_from, var_bits, written_node};
+pub use ends::{ack_node, channel_bits, first_of, var_bits, written_node};
 pub use first::raise;
 pub use firsts::{Firsts, block_nodes, firsts_of};
 pub use net::{NetError, translate};

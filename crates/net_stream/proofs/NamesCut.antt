@@ -68,6 +68,3 @@ start_within count from (end ∷ ends) (suc (suc place)) d h l =
       subst (λ s. s ≤ get_or ends (suc place) d) (get_same ends place end from (omega (arith, l))) rest.0,
       rest.1,
     )
-
-pub start_after : (ends : List ℕ) (place at v : ℕ) → suc at ≡ place → at < length ends → v ≡ get_or ends at v → v ≡ cut_begin 0 ends place
-start_after ends place at v e l h = subst (λ n. v ≡ cut_begin 0 ends n) e (h ∙ get_same ends at v 0 l)

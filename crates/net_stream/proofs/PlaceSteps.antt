@@ -46,13 +46,6 @@ line_behind : (n : NetValue) (place next : Place) (line before now : List ℕ) �
 line_behind n place next line before now e rest =
     ap (λ t. t ++ text_from n next) e ∙ append_assoc before line (text_from n next) ∙ ap (λ t. before ++ t) rest
 
-pub head_made : (n : NetValue) (before now : List ℕ) → now ≡ before ++ head_spelling (version_of n.reset) → IsMadeAt n Head (Node 0) before now
-head_made n before now e = record {
-  text = line_behind n Head (Node 0) (head_spelling (version_of n.reset)) before now e (head_text n);
-  within = omega arith;
-  fewer = omega arith;
-}
-
 pub node_made : (n : NetValue) (k : ℕ) (before now : List ℕ) → k < length n.first → now ≡ before ++ node_spelling (name_at n k) (first_at n k) →
     IsMadeAt n (Node k) (Node (k + 1)) before now
 node_made n k before now within e =
@@ -61,37 +54,6 @@ node_made n k before now within e =
       text = line_behind n (Node k) (Node (k + 1)) (node_line_of n k) before now e
           (sym (append_assoc (node_line_of n k) (node_lines_from n (k + 1)) rest)
           ∙ ap (λ t. t ++ rest) (sym (range_front (node_line_of n) (length n.first) k within)));
-      within = omega arith;
-      fewer = omega arith;
-    }
-
-pub nodes_over : (n : NetValue) (k : ℕ) (before : List ℕ) → k ≡ length n.first → IsMadeAt n (Node k) (Channel 0) before before
-nodes_over n k before whole = record {
-  text = sym (ap (λ xs. before ++ (xs ++ (channel_lines_from n 0 ++ rule_lines_from n 0)))
-      (range_over (node_line_of n) (length n.first) k (omega arith)));
-  within = omega arith;
-  fewer = omega arith;
-}
-
-pub channel_made : (n : NetValue) (k : ℕ) (w : Wires) (before now : List ℕ) → k < length n.channels → w ≡ get_or n.channels k w →
-    now ≡ before ++ channel_spelling w.channel → IsMadeAt n (Channel k) (Channel (k + 1)) before now
-channel_made n k w before now within is e =
-    let here : drop k n.channels ≡ w ∷ drop (k + 1) n.channels =
-    drop_more n.channels k w within ∙ ap (λ x. x ∷ drop (k + 1) n.channels) (sym is) in
-    let line : channel_lines_from n k ≡ channel_line_of w ++ channel_lines_from n (k + 1) = ap (flat_map channel_line_of) here in
-    record {
-      text = line_behind n (Channel k) (Channel (k + 1)) (channel_line_of w) before now e
-          (sym (append_assoc (channel_line_of w) (channel_lines_from n (k + 1)) (rule_lines_from n 0))
-          ∙ ap (λ t. t ++ rule_lines_from n 0) (sym line));
-      within = omega arith;
-      fewer = omega arith;
-    }
-
-pub channels_over : (n : NetValue) (k : ℕ) (before : List ℕ) → k ≡ length n.channels → IsMadeAt n (Channel k) (Up 0) before before
-channels_over n k before whole =
-    let none : channel_lines_from n k ≡ [] = ap (flat_map channel_line_of) (drop_all k n.channels (omega arith)) in
-    record {
-      text = sym (ap (λ xs. before ++ (xs ++ rule_lines_from n 0)) none);
       within = omega arith;
       fewer = omega arith;
     }
@@ -105,14 +67,3 @@ up_made n k before now within e = record {
   within = within;
   fewer = omega arith;
 }
-
-pub down_made : (n : NetValue) (k : ℕ) (before now : List ℕ) → k < length n.first → now ≡ before ++ rule_spelling n (down_of n k) k false →
-    IsMadeAt n (Down k) (Up (k + 1)) before now
-down_made n k before now within e = record {
-  text = line_behind n (Down k) (Up (k + 1)) (rule_spelling n (down_of n k) k false) before now e refl;
-  within = omega arith;
-  fewer = omega arith;
-}
-
-pub over_ends : (n : NetValue) (k : ℕ) → k ≡ length n.first → text_from n (Up k) ≡ []
-over_ends n k whole = range_over (rules_spelling n) (length n.first) k (omega arith)

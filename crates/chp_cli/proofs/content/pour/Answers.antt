@@ -15,7 +15,8 @@ loop-count-init g c = record {
 
 pub loop-count-preserved : goal.loop-count-preserved
 loop-count-preserved g c =
-    poured_more c.loop-count.invariant c.write_all.ensures.faults c.write_all.ensures.same c.in_ok-write_all.ensures.whole c.next-count-in-loop-count.ensures.text
+    poured_more c.loop-count.invariant c.write_all.ensures.faults c.write_all.ensures.same c.in_ok-write_all.ensures.whole
+    c.next-count-in-loop-count.ensures.text
     (omega (arith, c.next-count-in-loop-count.ensures.count, c.next-count-in-loop-count.auto.piece)) c.next-count-in-loop-count.ensures.end
 
 pub returns-clause-whole : goal.returns-clause-whole
