@@ -99,12 +99,6 @@ passed_on {T} {E} r e P passes p =
     let is = err_from_is_err_and r passes in
     subst (λ (s : Result T E). IfErr s P) (sym is.1) (subst P (sym is.2) p)
 
--- a command of no file
-pub halts_stops : (I : Answer → Type 0) (r : Result Output Stop) (files : List (List ℕ)) (given : Given) (before after : ℕ) → IfErr r (Halts I) →
-    IfErr r (Stops I files given before after)
-halts_stops I r files given before after =
-    err_in r (Halts I) (Stops I files given before after) (stops_where I I (λ answer is. is) files given before after)
-
 module _ (text : List ℕ) (program : ProgramTree) (Next : ProgramTree → Answer → Type 0) (read : IsTextOf text program) (r : Result Output Stop) where
   pub program_answers : IfOk r (λ output. Next program (told_answer output)) → IfOk r (λ output. FromProgram text Next (told_answer output))
   program_answers = ok_in r (λ output. Next program (told_answer output)) (λ output. FromProgram text Next (told_answer output))

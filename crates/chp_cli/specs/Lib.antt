@@ -1,6 +1,5 @@
 pub mod Statuses
 pub mod Answers
-pub mod Contents
 pub mod Lines
 pub mod Steps
 pub mod Orders
@@ -33,5 +32,6 @@ pub mod Growing
 pub mod Commands
 pub mod TimedFiles
 pub mod Replies
+pub mod RepliesTold
 pub mod Ends
 pub use Rattle.chp_edge.specs.Faults

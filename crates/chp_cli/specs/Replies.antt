@@ -10,12 +10,11 @@ use Rattle.chp_cli.specs.declared.answer.End.{End}
 use Rattle.chp_cli.specs.declared.answer.End.TheVariants.{Whole, CutOff, Usage, Stopped}
 use Rattle.chp_cli.specs.declared.status.Status.{Status}
 use Rattle.chp_cli.specs.declared.status.Status.TheVariants as status
-use Rattle.chp_cli.specs.Contents.{content_bytes}
 use Rattle.chp_cli.specs.Answers.{Given, Answer, writes, refuses, misses, status_with, line_with}
 use Rattle.chp_cli.specs.Lines.{usage_line, read_line, write_line, no_memory_line, refused_line, too_long_line, nodes_line, values_line, bad_net_line, bad_script_line, bad_delays_line, bad_wave_line, no_reset_line, no_order_line, no_channel_line, not_built_line}
 
 abbrev pub told_answer : Output → Answer
-told_answer output = writes output.end (content_bytes output.content)
+told_answer output = writes output.end output.text.items
 
 abbrev pub refusal_status : Refusal → Status
 refusal_status (Text fault) = status.RefusedText

@@ -4,7 +4,6 @@ ghost use Rattle.std.specs.Prelude.{◌≡◌};
 ghost use Rattle.chp_cli.specs.Answers.{status_with};
 ghost use Rattle.chp_cli.specs.Replies.{refusal_status, stop_status, end_status};
 
-use crate::content::Content;
 use crate::status::Status;
 use chp_base::Fault;
 use delay_script::DelayFault;
@@ -34,10 +33,10 @@ impl Ending {
     }
 }
 
-/// What a command is to write, and how it ends then.
+/// The text that a command is to write, and how it ends then.
 #[derive(Debug, Drop)]
 pub struct Output {
-    pub content: Content,
+    pub text: Vec<u8>,
     pub end: Ending,
 }
 

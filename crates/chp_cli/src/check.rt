@@ -9,7 +9,6 @@ ghost use Rattle.chp_cli.specs.Replies.{Halts, Stops, told_answer};
 ghost use Rattle.chp_cli.specs.Steps.{FromProgram, most_of_text};
 
 use crate::answer::{Ending, Output, Stop};
-use crate::content::Content;
 use crate::files::{MOST_OF_TEXT, checked_program, program_of_text, text_of_file};
 use chp_edge::Shelf;
 use chp_syntax::Program;
@@ -37,7 +36,7 @@ fn check_program<'a>(alloc: Global, program: &Program) -> Result<Output, Stop<'a
     let disjoint = checked_program(alloc, program)?;
     match accepted_text(alloc, count_nodes(disjoint.typed())) {
         Ok(text) => Ok(Output {
-            content: Content::Held(text),
+            text,
             end: Ending::Done,
         }),
         Err(_) => Err(Stop::NoMemory),

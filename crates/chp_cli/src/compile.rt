@@ -7,13 +7,14 @@ ghost use Rattle.width_check.specs.Typed.{program_of as typed_of};
 ghost use Rattle.chp_cli.specs.Answers.{given_by};
 ghost use Rattle.chp_cli.specs.Compiling.{Compiles, CompilesNet, IsCompiled};
 ghost use Rattle.chp_cli.specs.CompileWords.{compilation_asked};
-ghost use Rattle.chp_cli.specs.Replies.{Halts, Stops, told_answer};
+ghost use Rattle.chp_cli.specs.Replies.{Halts, Stops};
+ghost use Rattle.chp_cli.specs.RepliesTold.{told_reply};
 ghost use Rattle.chp_cli.specs.Steps.{FromNodes};
 
-use crate::answer::{Ending, Output, Refusal, Stop};
+use crate::answer::{Refusal, Stop};
 use crate::buffered::buffered_program_in;
 use crate::compile_words::Compilation;
-use crate::content::{Content, Piece};
+use crate::reply::{Piece, Reply};
 use chp_edge::Shelf;
 use net_compose::NetError;
 use net_stream::Streamer;
@@ -35,9 +36,9 @@ fn streamer_of(alloc: Global, program: &Disjoint, reset: bool) -> Result<Streame
 }
 
 /// The rule file of an accepted program, which is made while it is written.
-fn compile_accepted<'a>(alloc: Global, program: &Disjoint, reset: bool) -> Result<Output, Stop<'a>>
-    ensures answered { IfOk result (λ output. FromNodes (typed_of program.now) (CompilesNet reset)
-        (told_answer output)) }
+fn compile_accepted<'a>(alloc: Global, program: &Disjoint, reset: bool) -> Result<Reply, Stop<'a>>
+    ensures answered { IfOk result (λ reply. FromNodes (typed_of program.now) (CompilesNet reset)
+        (told_reply reply)) }
     ensures stopped { IfErr result (Halts (FromNodes (typed_of program.now) (CompilesNet reset))) }
 {
     let streamer = match streamer_of(alloc, program, reset) {
@@ -48,10 +49,7 @@ fn compile_accepted<'a>(alloc: Global, program: &Disjoint, reset: bool) -> Resul
         Err(NetError::NoMemory(_)) => return Err(Stop::NoMemory),
     };
     match Piece::new(alloc) {
-        Ok(piece) => Ok(Output {
-            content: Content::Made { streamer, piece },
-            end: Ending::Done,
-        }),
+        Ok(piece) => Ok(Reply::Made { streamer, piece }),
         Err(_) => Err(Stop::NoMemory),
     }
 }
@@ -61,9 +59,9 @@ pub fn compile<'a, S: Shelf>(
     alloc: Global,
     shelf: &mut S,
     asked: &Compilation<'a>,
-) -> Result<Output, Stop<'a>>
-    ensures answered { IfOk result (λ output. Compiles (compilation_asked asked.now)
-        (given_by (S.tells shelf.old) (S.holds shelf.old)) (told_answer output)) }
+) -> Result<Reply, Stop<'a>>
+    ensures answered { IfOk result (λ reply. Compiles (compilation_asked asked.now)
+        (given_by (S.tells shelf.old) (S.holds shelf.old)) (told_reply reply)) }
     ensures stopped { IfErr result (Stops (Compiles (compilation_asked asked.now)
         (given_by (S.tells shelf.old) (S.holds shelf.old))) (asked.now.file.now ∷ [])
         (given_by (S.tells shelf.old) (S.holds shelf.old)) (S.faults shelf.old) (S.faults shelf.new)) }

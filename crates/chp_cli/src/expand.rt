@@ -11,7 +11,6 @@ ghost use Rattle.chp_cli.specs.Replies.{Halts, Stops, told_answer};
 ghost use Rattle.chp_cli.specs.Steps.{FromNodes, FromProgram, most_of_nodes, most_of_text};
 
 use crate::answer::{Ending, Output, Stop};
-use crate::content::Content;
 use crate::files::{MOST_OF_TEXT, checked_program, counted, program_of_text, text_of_file};
 use chp_edge::Shelf;
 use chp_syntax::Program;
@@ -36,7 +35,7 @@ fn expand_accepted<'a>(alloc: Global, program: &Typed) -> Result<Output, Stop<'a
     counted(program)?;
     match tree_text(alloc, program) {
         Ok(text) => Ok(Output {
-            content: Content::Held(text),
+            text,
             end: Ending::Done,
         }),
         Err(_) => Err(Stop::NoMemory),

@@ -7,7 +7,6 @@ ghost use Rattle.chp_cli.specs.Orders.{KeepsOrders, order_state, played_by};
 ghost use Rattle.chp_cli.specs.Replies.{Halts, told_answer};
 
 use crate::answer::{Ending, Output, Stop};
-use crate::content::Content;
 use crate::grow_summary::sum_up;
 use crate::grow_words::Growth;
 use crate::players::Players;
@@ -22,7 +21,7 @@ fn grown<'a>(alloc: Global, growth: &Growth) -> Result<Output, Stop<'a>>
 {
     match grow_text(alloc, growth.seed, growth.stages) {
         Ok(text) => Ok(Output {
-            content: Content::Held(text),
+            text,
             end: Ending::Done,
         }),
         Err(_) => Err(Stop::NoMemory),

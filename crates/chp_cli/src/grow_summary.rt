@@ -18,7 +18,6 @@ ghost use Rattle.chp_cli.specs.Simulating.{HasPlayed, simulation_for};
 ghost use Rattle.chp_cli.specs.Summing.{SumsUp, Summarizes, grown_script, guard_rules, most_of_summed_moves, rule_count, summary_of, summing_order};
 
 use crate::answer::{Ending, Output, Refusal, Stop};
-use crate::content::Content;
 use crate::grow_words::Growth;
 use crate::players::{Players, place_of};
 use crate::program_files::accepted_program;
@@ -186,7 +185,7 @@ fn sum_up_at<'a>(
     };
     match summary_text(alloc, &ran) {
         Ok(text) => Ok(Output {
-            content: Content::Held(text),
+            text,
             end: Ending::Done,
         }),
         Err(_) => Err(Stop::NoMemory),

@@ -7,7 +7,8 @@ ghost use Rattle.chp_cli.specs.Commands.{IsWithinBounds, IsAnswer, asked, asked_
 ghost use Rattle.chp_cli.specs.Ends.{AnswersTo, Ends, IsFile, asked_order};
 ghost use Rattle.chp_cli.specs.Orders.{KeepsOrders, order_state, played_by};
 ghost use Rattle.chp_cli.specs.References.{IsReferredTo};
-ghost use Rattle.chp_cli.specs.Replies.{Stops, end_line, end_status, told_answer};
+ghost use Rattle.chp_cli.specs.Replies.{Stops, end_line, end_status};
+ghost use Rattle.chp_cli.specs.RepliesTold.{told_reply};
 ghost use Rattle.chp_cli.specs.Simulated.{AsksForCompiled, IsCalm};
 ghost use Rattle.chp_cli.specs.Simulating.{AskedRun};
 ghost use Rattle.chp_cli.specs.Statuses.{is_whole};
@@ -15,7 +16,7 @@ ghost use Rattle.chp_cli.specs.TimedFiles.{AsksForTimed};
 ghost use Rattle.chp_cli.specs.Timing.{AskedTiming};
 ghost use Rattle.width_check.specs.Processes.{TypedProgram};
 
-use crate::answer::{End, Output, Stop};
+use crate::answer::{End, Stop};
 use crate::check::check;
 use crate::command::{Command, command_in};
 use crate::compile::compile;
@@ -27,6 +28,7 @@ use crate::laws::{
 };
 use crate::migrate::migrate;
 use crate::players::Players;
+use crate::reply::Reply;
 use crate::rounds::rounds;
 use crate::say::tell;
 use crate::simulate::simulate;
@@ -43,13 +45,13 @@ fn answer<'a, S: Shelf>(
     shelf: &mut S,
     players: &mut Players,
     command: &Command<'a>,
-) -> Result<Output, Stop<'a>>
+) -> Result<Reply, Stop<'a>>
     requires { IsWithinBounds command.now }
-    ensures answered { IfOk result (λ output. IsAnswer (asked command.now)
+    ensures answered { IfOk result (λ reply. IsAnswer (asked command.now)
         (given_by (S.tells shelf.old) (S.holds shelf.old)) (played_by
         (map (λ order. order_state (name order) (log order) (seeded order)) players.old.orders.items)
         (map (λ order. order_state (name order) (log order) (seeded order)) players.new.orders.items))
-        (told_answer output)) }
+        (told_reply reply)) }
     ensures stopped { IfErr result (Stops (IsAnswer (asked command.now)
         (given_by (S.tells shelf.old) (S.holds shelf.old)) (played_by
         (map (λ order. order_state (name order) (log order) (seeded order)) players.old.orders.items)
@@ -66,15 +68,15 @@ fn answer<'a, S: Shelf>(
 {
     match command {
         Command::Compile(asked) => compile(alloc, shelf, asked),
-        Command::Migrate { net } => migrate(alloc, shelf, net),
-        Command::Check { file } => check(alloc, shelf, file),
-        Command::Expand { file } => expand(alloc, shelf, file),
-        Command::Simulate(run) => simulate(alloc, shelf, players, run),
-        Command::Time(timing) => time(alloc, shelf, timing),
-        Command::Waves(asked) => waves(alloc, shelf, asked),
-        Command::Unwave { file } => unwave(alloc, shelf, file),
-        Command::Run(asked) => rounds(alloc, shelf, asked),
-        Command::Grow(growth) => grow(alloc, players, growth),
+        Command::Migrate { net } => Ok(Reply::Held(migrate(alloc, shelf, net)?)),
+        Command::Check { file } => Ok(Reply::Held(check(alloc, shelf, file)?)),
+        Command::Expand { file } => Ok(Reply::Held(expand(alloc, shelf, file)?)),
+        Command::Simulate(run) => Ok(Reply::Held(simulate(alloc, shelf, players, run)?)),
+        Command::Time(timing) => Ok(Reply::Held(time(alloc, shelf, timing)?)),
+        Command::Waves(asked) => Ok(Reply::Held(waves(alloc, shelf, asked)?)),
+        Command::Unwave { file } => Ok(Reply::Held(unwave(alloc, shelf, file)?)),
+        Command::Run(asked) => Ok(Reply::Held(rounds(alloc, shelf, asked)?)),
+        Command::Grow(growth) => Ok(Reply::Held(grow(alloc, players, growth)?)),
     }
 }
 
@@ -108,12 +110,13 @@ fn run<'a, S: Shelf, K: Sink>(
         Ok(None) => return End::Usage,
         Err(AllocError) => return End::Stopped(Stop::NoMemory),
     };
-    let mut output = match answer(alloc, shelf, players, &command) {
-        Ok(output) => output,
+    let mut reply = match answer(alloc, shelf, players, &command) {
+        Ok(reply) => reply,
         Err(stop) => return End::Stopped(stop),
     };
-    match output.content.write(out) {
-        Ok(()) => End::Whole(output.end),
+    let end = reply.end();
+    match reply.write(out) {
+        Ok(()) => End::Whole(end),
         Err(Failed) => End::CutOff,
     }
 }

@@ -10,7 +10,6 @@ ghost use Rattle.chp_cli.specs.Replies.{Halts, Stops, told_answer};
 ghost use Rattle.chp_cli.specs.Steps.{FromNet, IsFileOf, most_of_net};
 
 use crate::answer::{Ending, Output, Refusal, Stop};
-use crate::content::Content;
 use crate::files::{MOST_OF_NET, net_of_text, text_of_file};
 use chp_base::Name;
 use chp_edge::Shelf;
@@ -52,7 +51,7 @@ fn migrate_net<'a>(alloc: Global, text: Vec<u8>, net: Net) -> Result<Output, Sto
 {
     if net.reset().is_some() {
         return Ok(Output {
-            content: Content::Held(text),
+            text,
             end: Ending::Done,
         });
     }
@@ -63,7 +62,7 @@ fn migrate_net<'a>(alloc: Global, text: Vec<u8>, net: Net) -> Result<Output, Sto
     }
     match reset_text(alloc, net) {
         Ok(text) => Ok(Output {
-            content: Content::Held(text),
+            text,
             end: Ending::Done,
         }),
         Err(_) => Err(Stop::NoMemory),

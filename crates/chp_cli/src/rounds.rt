@@ -14,7 +14,6 @@ ghost use Rattle.chp_cli.specs.RoundsReporting.{ReportsRounds, Runs, most_of_val
 
 use crate::answer::{Ending, Output, Refusal, Stop};
 use crate::buffered::buffered_program_in;
-use crate::content::Content;
 use crate::rounds_words::Rounds;
 use crate::run_files::script_in;
 use chp_edge::Shelf;
@@ -65,7 +64,7 @@ fn report_rounds<'a>(
 {
     match rounds_report(alloc, program, script, n) {
         Ok(Some(text)) => Ok(Output {
-            content: Content::Held(text),
+            text,
             end: Ending::Done,
         }),
         Ok(None) => Err(Stop::Refused(Refusal::TooManyValues)),

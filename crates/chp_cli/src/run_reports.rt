@@ -9,7 +9,6 @@ ghost use Rattle.chp_cli.specs.Replies.{told_answer};
 ghost use Rattle.chp_cli.specs.RunReporting.{IsReported, ending_against, ending_for};
 
 use crate::answer::{Ending, Output};
-use crate::content::Content;
 use env_script::{Offer, Script};
 use event_sim::{End, Ran};
 use history_report::{Against, against_text, compare, report_text};
@@ -88,7 +87,7 @@ fn compared(
     let mut text = report_text(alloc, ran, time)?;
     if is_hazard(ran.end()) {
         return Ok(Output {
-            content: Content::Held(text),
+            text,
             end: Ending::Hazard,
         });
     }
@@ -96,7 +95,7 @@ fn compared(
     let line = against_text(alloc, ran, against)?;
     text.extend_from_slice(&line)?;
     Ok(Output {
-        content: Content::Held(text),
+        text,
         end: ending_against(against),
     })
 }
@@ -108,7 +107,7 @@ fn uncompared(alloc: Global, ran: &Ran, time: Option<u64>) -> Result<Output, All
 {
     let text = report_text(alloc, ran, time)?;
     Ok(Output {
-        content: Content::Held(text),
+        text,
         end: ending_for(ran.end()),
     })
 }

@@ -8,7 +8,6 @@ ghost use Rattle.chp_cli.specs.Steps.{Never};
 ghost use Rattle.chp_cli.specs.Unwaving.{FromWave, IsWaveIn, PrintsChanges, Unwaves, most_of_wave};
 
 use crate::answer::{Ending, Output, Refusal, Stop};
-use crate::content::Content;
 use crate::files::text_of_file;
 use chp_edge::Shelf;
 use std::alloc::Global;
@@ -41,7 +40,7 @@ fn told_text<'a>(alloc: Global, text: &[u8]) -> Result<Output, Stop<'a>>
     let wave = wave_of_text(alloc, text)?;
     match unwave_text(alloc, &wave) {
         Ok(text) => Ok(Output {
-            content: Content::Held(text),
+            text,
             end: Ending::Done,
         }),
         Err(_) => Err(Stop::NoMemory),

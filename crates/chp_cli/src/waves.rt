@@ -19,7 +19,6 @@ ghost use Rattle.chp_cli.specs.SimulateWords.{text_given};
 ghost use Rattle.chp_cli.specs.Tracing.{IsTraceText, Traces, TracesNet, trace_for};
 
 use crate::answer::{Output, Stop};
-use crate::content::Content;
 use crate::delay_files::delays_if;
 use crate::run_files::{channels_of, net_in, script_in};
 use crate::run_reports::ending_for;
@@ -87,7 +86,7 @@ fn trace(
     let ran = Noted::new(alloc, net, script, asked.steps, delays)?.run();
     let text = trace_text(alloc, &ran, &kept, asked.causes)?;
     Ok(Output {
-        content: Content::Held(text),
+        text,
         end: ending_for(ran.timed.ran.end()),
     })
 }

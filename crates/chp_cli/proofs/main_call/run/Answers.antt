@@ -1,8 +1,7 @@
 use Rattle.std.proofs.Common.{◌≡◌, [], Some, None, rules, take, sym, append-nil}
 use Rattle.chp_cli.specs.Commands.{asked, asked_by}
-use Rattle.chp_cli.specs.Contents.{content_bytes}
 use Rattle.chp_cli.specs.Ends.{formless, whole, cut_off, no_memory}
-use Rattle.chp_cli.specs.Replies.{told_answer}
+use Rattle.chp_cli.specs.RepliesTold.{reply_bytes, reply_end, told_reply}
 use Rattle.chp_cli.proofs.Ending.{answers_of, front_of, stopped_ends}
 use Rattle.chp_cli.proofs.main_call.run.Goals as goal
 
@@ -22,10 +21,10 @@ returns-in-Err-answer-clause-ended g c =
 pub returns-in-Ok-write-clause-ended : goal.returns-in-Ok-write-clause-ended
 returns-in-Ok-write-clause-ended g c =
     let named : asked_by c.args.words.now ≡ Some (asked c.in-Ok-Some.command) = search rules in
-    let output = c.in-Ok.output in
-    let bytes = content_bytes output.content in (
+    let reply = c.in-Ok.reply in
+    let bytes = reply_bytes reply in (
       bytes,
-      whole output.end bytes (answers_of _ _ _ (asked c.in-Ok-Some.command) (told_answer output) named c.in-Ok.ensures.answered),
+      rw c.end.ensures (whole (reply_end reply) bytes (answers_of _ _ _ (asked c.in-Ok-Some.command) (told_reply reply) named c.in-Ok.ensures.answered)),
       c.in-Ok-write.ensures.whole,
     )
 
@@ -33,11 +32,11 @@ pub returns-clause-ended : goal.returns-clause-ended
 returns-clause-ended g c =
     let K = g.K.Sink in
     let named : asked_by c.args.words.now ≡ Some (asked c.in-Ok-Some.command) = search rules in
-    let output = c.in-Ok.output in
-    let bytes = content_bytes output.content in
+    let reply = c.in-Ok.reply in
+    let bytes = reply_bytes reply in
     let front = front_of (K.tells c.args.out.now) (K.written c.args.out.now) (K.written c.write.new.sink) bytes c.in-Err-write.ensures.prefix in (
       take front.0 bytes,
-      cut_off output.end bytes front.0 (answers_of _ _ _ (asked c.in-Ok-Some.command) (told_answer output) named c.in-Ok.ensures.answered)
+      cut_off (reply_end reply) bytes front.0 (answers_of _ _ _ (asked c.in-Ok-Some.command) (told_reply reply) named c.in-Ok.ensures.answered)
           c.in-Err-write.ensures.failed,
       front.1,
     )

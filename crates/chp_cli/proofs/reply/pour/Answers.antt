@@ -1,6 +1,6 @@
 use Rattle.std.proofs.Common.{[], refl, sym, append-nil, arith}
 use Rattle.chp_cli.proofs.Pouring.{none_left, on_err, poured_more, poured_front, poured_all}
-use Rattle.chp_cli.proofs.content.pour.Goals as goal
+use Rattle.chp_cli.proofs.reply.pour.Goals as goal
 
 pub loop-count-init : goal.loop-count-init
 loop-count-init g c = record {

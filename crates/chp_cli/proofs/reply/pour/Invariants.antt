@@ -1,6 +1,6 @@
 use Rattle.std.proofs.Common.{◌+◌, length}
 use Rattle.chp_cli.proofs.Pouring.{PouredSoFar}
-use Rattle.chp_cli.proofs.content.pour.Given as goal
+use Rattle.chp_cli.proofs.reply.pour.Given as goal
 
 abbrev pub invariant-loop-count : goal.invariant-loop-count
 invariant-loop-count g l =

@@ -1,9 +1,10 @@
-//! What a command writes, with all the memory that writing it takes.
+//! What a call writes, with all the memory that writing it takes.
 
 ghost use Rattle.std.specs.Prelude.{◌≡◌, ℕ, ◌<◌, ◌≤◌, ◌++◌, true, length, take, IfOk, OnOk, OnErr};
 ghost use Rattle.chp_edge.specs.Faults.{Rose};
-ghost use Rattle.chp_cli.specs.Contents.{content_bytes};
+ghost use Rattle.chp_cli.specs.RepliesTold.{reply_bytes, reply_end};
 
+use crate::answer::{Ending, Output};
 use chp_edge::{Failed, Sink, write_all};
 use net_stream::Streamer;
 use std::alloc::{AllocError, Global};
@@ -40,10 +41,10 @@ impl Piece {
 
 /// What is to be written.
 #[derive(Debug, Drop)]
-pub enum Content {
-    /// These bytes.
-    Held(Vec<u8>),
-    /// What the streamer makes while it is written, in this piece.
+pub enum Reply {
+    /// A text that is held.
+    Held(Output),
+    /// A rule file, which the streamer makes while it is written, in this piece.
     Made { streamer: Streamer, piece: Piece },
 }
 
@@ -65,21 +66,31 @@ fn pour<K: Sink>(sink: &mut K, streamer: &mut Streamer, piece: &mut [u8]) -> Res
     Ok(())
 }
 
-impl Content {
+impl Reply {
+    /// How the command ends once all of it is written: a rule file always well.
+    pub fn end(&self) -> Ending
+        ensures { result ≡ reply_end self.now }
+    {
+        match self {
+            Reply::Held(output) => output.end,
+            Reply::Made { .. } => Ending::Done,
+        }
+    }
+
     /// Puts all of it, and takes no memory. After `Failed` a prefix of it was taken.
     pub fn write<K: Sink>(&mut self, sink: &mut K) -> Result<(), Failed>
         ensures faults { K.faults sink.old ≤ K.faults sink.new }
         ensures same { K.tells sink.new ≡ K.tells sink.old }
         ensures whole { OnOk result (K.tells sink.old ≡ true →
-            K.written sink.new ≡ K.written sink.old ++ content_bytes self.old) }
+            K.written sink.new ≡ K.written sink.old ++ reply_bytes self.old) }
         ensures failed { OnErr result (Rose (K.faults sink.old) (K.faults sink.new)) }
         ensures prefix { OnErr result (K.tells sink.old ≡ true →
-            (n : ℕ) × (n ≤ length (content_bytes self.old))
-            × (K.written sink.new ≡ K.written sink.old ++ take n (content_bytes self.old))) }
+            (n : ℕ) × (n ≤ length (reply_bytes self.old))
+            × (K.written sink.new ≡ K.written sink.old ++ take n (reply_bytes self.old))) }
     {
         match self {
-            Content::Held(bytes) => write_all(sink, bytes),
-            Content::Made { streamer, piece } => pour(sink, streamer, &mut piece.bytes),
+            Reply::Held(output) => write_all(sink, &output.text),
+            Reply::Made { streamer, piece } => pour(sink, streamer, &mut piece.bytes),
         }
     }
 }
