@@ -3,6 +3,7 @@
 use crate::bench::Bench;
 use crate::edge::{read, read_disk, read_surely, write, write_narrowly};
 use crate::reading::{show, show_tokens};
+use crate::rounds::rounds_within;
 use crate::run::{
     keep, run, run_count, run_cuts, run_orders, run_shelf_faults, run_sink_faults, run_surely,
 };
@@ -96,6 +97,7 @@ fn act<R: Files + AllocGlobal>(
         "show" => show(alloc, bench.last(), page)?,
         "tokens" => show_tokens(alloc, bench.last(), page)?,
         "stream" => stream(alloc, bench.last(), page)?,
+        "rounds-within" => return rounds_within(alloc, bench.last(), rest, page),
         "read" => read(alloc, bench, limit, more, page)?,
         "read-surely" => read_surely(alloc, bench, limit, page)?,
         "read-disk" => read_disk(rt, limit, more, page)?,

@@ -8,6 +8,7 @@ mod edge;
 mod pickers;
 mod printer;
 mod reading;
+mod rounds;
 mod run;
 mod streamed;
 

@@ -4,11 +4,33 @@ use crate::printer::put_program;
 use case_text::put_bytes;
 use chp_base::TextError;
 use chp_syntax::{Program, Token, TokenKind, parse, tokens};
+use sharing_check::{Disjoint, share};
 use std::alloc::{AllocError, Global};
 use std::fmt::Write;
+use width_check::{is_call_free, resolve};
 
 /// The most bytes of a program text.
 const MOST: usize = 262_144;
+
+/// The accepted program that the text is.
+pub fn accepted(alloc: Global, text: &[u8]) -> Option<Disjoint> {
+    if text.len() > MOST {
+        return None;
+    }
+    let Ok(program) = parse(alloc, text) else {
+        return None;
+    };
+    if program.decls.len() > MOST {
+        return None;
+    }
+    if !is_call_free(&program) {
+        return None;
+    }
+    let Ok(typed) = resolve(alloc, &program) else {
+        return None;
+    };
+    share(alloc, typed).ok()
+}
 
 fn put_refusal(page: &mut String, error: &TextError) -> Result<(), AllocError> {
     match error {

@@ -1,43 +1,19 @@
 //! Rule files that are given out in pieces.
 
-use chp_syntax::parse;
+use crate::reading::accepted;
 use net_compose::{NetError, translate};
 use net_stream::Streamer;
 use prs_file::print_net;
 use reset_net::with_reset;
-use sharing_check::{Disjoint, share};
+use sharing_check::Disjoint;
 use std::alloc::{AllocError, Global};
 use std::fmt::Write;
-use width_check::{is_call_free, resolve};
-
-/// The most bytes of a program text.
-const MOST: usize = 262_144;
 
 /// The sizes of the pieces.
 const SIZES: [usize; 3] = [1, 7, 65_536];
 
 /// More pieces than any streamed file has.
 const MOST_PIECES: usize = 1 << 24;
-
-/// The accepted program that the text is.
-fn accepted(alloc: Global, text: &[u8]) -> Option<Disjoint> {
-    if text.len() > MOST {
-        return None;
-    }
-    let Ok(program) = parse(alloc, text) else {
-        return None;
-    };
-    if program.decls.len() > MOST {
-        return None;
-    }
-    if !is_call_free(&program) {
-        return None;
-    }
-    let Ok(typed) = resolve(alloc, &program) else {
-        return None;
-    };
-    share(alloc, typed).ok()
-}
 
 /// All that is left of the streamer's file, in pieces of this size.
 fn pieces(alloc: Global, streamer: Streamer, size: usize) -> Result<Vec<u8>, AllocError> {
