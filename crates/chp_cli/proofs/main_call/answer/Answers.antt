@@ -1,8 +1,17 @@
-use Rattle.std.proofs.Common.{[]}
-use Rattle.chp_cli.specs.Answers.{given_by}
+use Rattle.std.proofs.Common.{ℕ, []}
+use Rattle.chp_cli.specs.declared.answer.Stop.{Stop}
+use Rattle.chp_cli.specs.declared.grow_words.Growth.{Growth}
+use Rattle.chp_cli.specs.Answers.{Given, given_by}
 use Rattle.chp_cli.specs.Growing.{Grows}
+use Rattle.chp_cli.specs.Orders.{Played}
+use Rattle.chp_cli.specs.Replies.{Halts, Stops}
 use Rattle.chp_cli.proofs.Stopping.{passed_on, stops_where}
 use Rattle.chp_cli.proofs.main_call.answer.Goals as goal
+
+-- `grow` has no file
+grow_stops : (growth : Growth) (played : Played) (given : Given) (before after : ℕ) (stop : Stop) → Halts (Grows growth played) stop →
+    Stops (Grows growth played) [] given before after stop
+grow_stops growth played given before after = stops_where (Grows growth played) (Grows growth played) (λ answer is. is) [] given before after
 
 pub returns-in-Compile-clause-answered : goal.returns-in-Compile-clause-answered
 returns-in-Compile-clause-answered g c = rw c.in-Compile.is c.compile.ensures.answered
@@ -22,21 +31,27 @@ returns-in_ok-check-in-Check-clause-answered g c = rw c.in-Check.is c.in_ok-chec
 
 pub returns-in_err-check-in-Check-clause-stopped : goal.returns-in_err-check-in-Check-clause-stopped
 returns-in_err-check-in-Check-clause-stopped g c =
-    rw c.in-Check.is (passed_on c.from_residual.result _ _ c.from_residual.ensures.1 c.in_err-check-in-Check.ensures.stopped)
+    rw c.in-Check.is
+    (passed_on c.from_residual-in_err-check-in-Check.result _ _ c.from_residual-in_err-check-in-Check.ensures.1
+    c.in_err-check-in-Check.ensures.stopped)
 
 pub returns-in_ok-expand-in-Expand-clause-answered : goal.returns-in_ok-expand-in-Expand-clause-answered
 returns-in_ok-expand-in-Expand-clause-answered g c = rw c.in-Expand.is c.in_ok-expand-in-Expand.ensures.answered
 
 pub returns-in_err-expand-in-Expand-clause-stopped : goal.returns-in_err-expand-in-Expand-clause-stopped
 returns-in_err-expand-in-Expand-clause-stopped g c =
-    rw c.in-Expand.is (passed_on c.from_residual.result _ _ c.from_residual.ensures.1 c.in_err-expand-in-Expand.ensures.stopped)
+    rw c.in-Expand.is
+    (passed_on c.from_residual-in_err-expand-in-Expand.result _ _ c.from_residual-in_err-expand-in-Expand.ensures.1
+    c.in_err-expand-in-Expand.ensures.stopped)
 
 pub returns-in_ok-simulate-in-Simulate-clause-answered : goal.returns-in_ok-simulate-in-Simulate-clause-answered
 returns-in_ok-simulate-in-Simulate-clause-answered g c = rw c.in-Simulate.is c.in_ok-simulate-in-Simulate.ensures.answered
 
 pub returns-in_err-simulate-in-Simulate-clause-stopped : goal.returns-in_err-simulate-in-Simulate-clause-stopped
 returns-in_err-simulate-in-Simulate-clause-stopped g c =
-    rw c.in-Simulate.is (passed_on c.from_residual.result _ _ c.from_residual.ensures.1 c.in_err-simulate-in-Simulate.ensures.stopped)
+    rw c.in-Simulate.is
+    (passed_on c.from_residual-in_err-simulate-in-Simulate.result _ _ c.from_residual-in_err-simulate-in-Simulate.ensures.1
+    c.in_err-simulate-in-Simulate.ensures.stopped)
 
 pub returns-in_ok-simulate-in-Simulate-clause-orders : goal.returns-in_ok-simulate-in-Simulate-clause-orders
 returns-in_ok-simulate-in-Simulate-clause-orders g c = rw c.in-Simulate.is c.simulate.ensures.orders
@@ -52,7 +67,9 @@ returns-in_ok-time-in-Time-clause-answered g c = rw c.in-Time.is c.in_ok-time-in
 
 pub returns-in_err-time-in-Time-clause-stopped : goal.returns-in_err-time-in-Time-clause-stopped
 returns-in_err-time-in-Time-clause-stopped g c =
-    rw c.in-Time.is (passed_on c.from_residual.result _ _ c.from_residual.ensures.1 c.in_err-time-in-Time.ensures.stopped)
+    rw c.in-Time.is
+    (passed_on c.from_residual-in_err-time-in-Time.result _ _ c.from_residual-in_err-time-in-Time.ensures.1
+    c.in_err-time-in-Time.ensures.stopped)
 
 pub time-requires : goal.time-requires
 time-requires g c = rw c.in-Time.is at c.requires
@@ -62,7 +79,9 @@ returns-in_ok-waves-in-Waves-clause-answered g c = rw c.in-Waves.is c.in_ok-wave
 
 pub returns-in_err-waves-in-Waves-clause-stopped : goal.returns-in_err-waves-in-Waves-clause-stopped
 returns-in_err-waves-in-Waves-clause-stopped g c =
-    rw c.in-Waves.is (passed_on c.from_residual.result _ _ c.from_residual.ensures.1 c.in_err-waves-in-Waves.ensures.stopped)
+    rw c.in-Waves.is
+    (passed_on c.from_residual-in_err-waves-in-Waves.result _ _ c.from_residual-in_err-waves-in-Waves.ensures.1
+    c.in_err-waves-in-Waves.ensures.stopped)
 
 pub waves-requires : goal.waves-requires
 waves-requires g c = rw c.in-Waves.is at c.requires
@@ -72,14 +91,18 @@ returns-in_ok-unwave-in-Unwave-clause-answered g c = rw c.in-Unwave.is c.in_ok-u
 
 pub returns-in_err-unwave-in-Unwave-clause-stopped : goal.returns-in_err-unwave-in-Unwave-clause-stopped
 returns-in_err-unwave-in-Unwave-clause-stopped g c =
-    rw c.in-Unwave.is (passed_on c.from_residual.result _ _ c.from_residual.ensures.1 c.in_err-unwave-in-Unwave.ensures.stopped)
+    rw c.in-Unwave.is
+    (passed_on c.from_residual-in_err-unwave-in-Unwave.result _ _ c.from_residual-in_err-unwave-in-Unwave.ensures.1
+    c.in_err-unwave-in-Unwave.ensures.stopped)
 
 pub returns-in_ok-rounds-in-Run-clause-answered : goal.returns-in_ok-rounds-in-Run-clause-answered
 returns-in_ok-rounds-in-Run-clause-answered g c = rw c.in-Run.is c.in_ok-rounds-in-Run.ensures.answered
 
 pub returns-in_err-rounds-in-Run-clause-stopped : goal.returns-in_err-rounds-in-Run-clause-stopped
 returns-in_err-rounds-in-Run-clause-stopped g c =
-    rw c.in-Run.is (passed_on c.from_residual.result _ _ c.from_residual.ensures.1 c.in_err-rounds-in-Run.ensures.stopped)
+    rw c.in-Run.is
+    (passed_on c.from_residual-in_err-rounds-in-Run.result _ _ c.from_residual-in_err-rounds-in-Run.ensures.1
+    c.in_err-rounds-in-Run.ensures.stopped)
 
 pub grow-requires : goal.grow-requires
 grow-requires g c = rw c.in-Grow.is at c.requires
@@ -87,15 +110,14 @@ grow-requires g c = rw c.in-Grow.is at c.requires
 pub returns-in_ok-grow-in-Grow-clause-answered : goal.returns-in_ok-grow-in-Grow-clause-answered
 returns-in_ok-grow-in-Grow-clause-answered g c = rw c.in-Grow.is c.in_ok-grow-in-Grow.ensures.answered
 
--- `grow` has no file
 pub returns-in_err-grow-in-Grow-clause-stopped : goal.returns-in_err-grow-in-Grow-clause-stopped
 returns-in_err-grow-in-Grow-clause-stopped g c =
     let S = g.S.Shelf in
     let given = given_by (S.tells c.args.shelf.now) (S.holds c.args.shelf.now) in
     let faults = S.faults c.args.shelf.now in
-    let grows = Grows c.in-Grow.growth _ in
-    rw c.in-Grow.is (passed_on c.from_residual.result _ _ c.from_residual.ensures.1
-    (stops_where grows grows (λ answer is. is) [] given faults faults c.in_err-grow-in-Grow.field-0.0 c.in_err-grow-in-Grow.ensures.stopped))
+    rw c.in-Grow.is
+    (passed_on c.from_residual-in_err-grow-in-Grow.result _ _ c.from_residual-in_err-grow-in-Grow.ensures.1
+    (grow_stops c.in-Grow.growth _ given faults faults c.in_err-grow-in-Grow.field-0.0 c.in_err-grow-in-Grow.ensures.stopped))
 
 pub returns-in_ok-grow-in-Grow-clause-orders : goal.returns-in_ok-grow-in-Grow-clause-orders
 returns-in_ok-grow-in-Grow-clause-orders g c = rw c.in-Grow.is c.grow.ensures.orders

@@ -24,7 +24,7 @@ returns-in-Ok-write-clause-ended g c =
     let reply = c.in-Ok.reply in
     let bytes = reply_bytes reply in (
       bytes,
-      rw c.end.ensures (whole (reply_end reply) bytes (answers_of _ _ _ (asked c.in-Ok-Some.command) (told_reply reply) named c.in-Ok.ensures.answered)),
+      rw c.end-end.ensures (whole (reply_end reply) bytes (answers_of _ _ _ (asked c.in-Ok-Some.command) (told_reply reply) named c.in-Ok.ensures.answered)),
       c.in-Ok-write.ensures.whole,
     )
 
