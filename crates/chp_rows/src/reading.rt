@@ -12,7 +12,8 @@ use width_check::{is_call_free, resolve};
 /// The most bytes of a program text.
 const MOST: usize = 262_144;
 
-/// The accepted program that the text is.
+/// The accepted program that the text is. `None` where the text is too long or refused, has procedures or calls, or
+/// memory runs out.
 pub fn accepted(alloc: Global, text: &[u8]) -> Option<Disjoint> {
     if text.len() > MOST {
         return None;

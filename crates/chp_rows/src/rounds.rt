@@ -1,4 +1,5 @@
-//! Rounds of a program within a limit of values, which no command has.
+//! Rounds of a program within a limit of values that the case gives. The command `run` has one limit alone, and reports
+//! nothing where that is met.
 
 ghost use Rattle.width_check.specs.Sharing.{MeetsSharing};
 ghost use Rattle.width_check.specs.View.{process_of};
@@ -36,13 +37,14 @@ fn put_end(
     Ok(())
 }
 
-/// Makes so many rounds of the program under the script, but none that would bring the values over `most`.
+/// Makes `n` rounds of the program under the script, but none that would bring the values over `most`, and prints how
+/// they ended and what has passed, or why the script is refused.
 fn make_rounds(
     alloc: Global,
     program: &Typed,
     script: &[u8],
-    most: u32,
     n: u32,
+    most: u32,
     page: &mut String,
 ) -> Result<(), AllocError>
     requires { MeetsSharing (process_of program.now.body) }
@@ -65,7 +67,7 @@ fn make_rounds(
 }
 
 /// Rounds of the program that the text is, under a script of one line: the words are the most values that may pass, how
-/// many rounds are wanted, and that line. Says whether they are.
+/// many rounds are wanted, and that line. Says whether the words are these.
 pub fn rounds_within(
     alloc: Global,
     text: &[u8],
@@ -81,7 +83,7 @@ pub fn rounds_within(
     };
     let script = bytes_of(alloc, script)?;
     match accepted(alloc, text) {
-        Some(program) => make_rounds(alloc, program.typed(), &script, most, n, page)?,
+        Some(program) => make_rounds(alloc, program.typed(), &script, n, most, page)?,
         None => page.push_str("no program\n")?,
     }
     Ok(true)

@@ -13,7 +13,7 @@ use handshake_expand::{answer_node, statement_nodes};
 use std::alloc::{AllocError, Global};
 use width_check::{TArm, Typed};
 
-/// How many nodes a selection or a guarded repetition has beside the latch and the start of each guard.
+/// How many nodes stand before the latches: 3 of a selection, and 6, where `again`, of a guarded repetition.
 pub fn own_nodes(again: bool) -> u32
     ensures { result ≡ own_before again }
 {

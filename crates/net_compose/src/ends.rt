@@ -37,8 +37,8 @@ pub(crate) fn rails_from(alloc: Global, width: u8, from: u32) -> Result<Vec<u32>
     Ok(rails)
 }
 
-/// The number that stands at a place of a list, as the first node of a declared channel or variable stands at its place
-/// among the declarations; 0 where the list ends before it.
+/// The number at a place of a list, counted from 0, as the first node of the channel or the variable of that number; 0
+/// where the list ends before it.
 #[tactic(auto, using(crate::proofs::EndsReady::first_found, crate::proofs::EndsReady::no_first))]
 pub fn first_of(firsts: &[u32], place: u32) -> u32
     ensures { result ≡ slice_index_or firsts.now place 0 }
@@ -49,7 +49,8 @@ pub fn first_of(firsts: &[u32], place: u32) -> u32
     }
 }
 
-/// The number of bits of the channel that is declared at the place `chan`, counted from 0; 0 where none is.
+/// The number of bits, 1 to 64, of the channel number `chan`: channels are numbered from 0 in order of declaration. 0
+/// where there is none.
 #[tactic(auto, using(crate::proofs::EndsReady::channel_declared, crate::proofs::EndsReady::channel_missing))]
 pub fn channel_bits(program: &Typed, chan: u32) -> u8
     ensures { result ≡ channel_width program.now.channels chan }
@@ -60,7 +61,8 @@ pub fn channel_bits(program: &Typed, chan: u32) -> u8
     }
 }
 
-/// The number of bits of the variable that is declared at the place `var`, counted from 0; 0 where none is.
+/// The number of bits, 1 to 64, of the variable number `var`: variables are numbered from 0 in order of declaration. 0
+/// where there is none.
 #[tactic(auto, using(crate::proofs::EndsReady::var_declared, crate::proofs::EndsReady::var_missing))]
 pub fn var_bits(program: &Typed, var: u32) -> u8
     ensures { result ≡ var_width program.now.vars var }
@@ -71,8 +73,8 @@ pub fn var_bits(program: &Typed, var: u32) -> u8
     }
 }
 
-/// The acknowledge of the channel that is declared at the place `chan`: the node behind its rails. `channels` are the
-/// first wires of all channels, as `firsts_of` answers them.
+/// The acknowledge of the channel number `chan`: the node behind its rails. `channels` are the first wires of all
+/// channels, as `firsts_of` answers them.
 pub fn ack_node(program: &Typed, chan: u32, channels: &[u32]) -> u32
     requires channels { channels.now ≡ channel_firsts (program_of program.now) }
     requires within { chan < length program.now.channels }
@@ -83,8 +85,8 @@ pub fn ack_node(program: &Typed, chan: u32, channels: &[u32]) -> u32
     first_of(channels, chan) + 2 * u32::from(channel_bits(program, chan))
 }
 
-/// The node that says that all bits of the variable that is declared at the place `var` are written: the last one of
-/// its block. `vars` are the first nodes of the blocks of all variables, as `firsts_of` answers them.
+/// The node that says that all bits of the variable number `var` are written: the last one of its block. `vars` are the
+/// first nodes of the blocks of all variables, as `firsts_of` answers them.
 pub fn written_node(program: &Typed, var: u32, vars: &[u32]) -> u32
     requires vars { vars.now ≡ var_firsts (program_of program.now) }
     requires within { var < length program.now.vars }

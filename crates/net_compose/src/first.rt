@@ -12,8 +12,9 @@ fn rail_of(value: u64, node: u32) -> u32
     if value % 2 == 1 { node } else { node + 1 }
 }
 
-/// Raises the rails of a variable's block that are high at first: one of each bit, by the variable's first value. The
-/// block's first node is `from`, and `first` holds a value for each node of the net.
+/// Raises the rails of a variable's block that are high at first: one of each of its `width` bits, rail t where that
+/// bit of `value` is 1, and rail f where it is 0. Higher bits of `value` don't count. The block's first node is `from`,
+/// and `first` holds a value for each node of the net.
 pub fn raise(first: &mut [bool], width: u8, value: u64, from: u32)
     requires room { from + 5 * width ≤ length first.old }
     requires few { length first.old < 2 ^ 32 }
