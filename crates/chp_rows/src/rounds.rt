@@ -1,5 +1,5 @@
-//! Rounds of a program within a limit of values that the case gives. The command `run` has one limit alone, and reports
-//! nothing where that is met.
+//! Rounds of a program within a limit of values that the case gives. The command `run` has one limit alone, and refuses
+//! where a round would bring more values.
 
 ghost use Rattle.width_check.specs.Sharing.{MeetsSharing};
 ghost use Rattle.width_check.specs.View.{process_of};
