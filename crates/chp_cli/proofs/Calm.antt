@@ -1,5 +1,6 @@
 -- How a call ends that simulates a rule file which `compile` wrote.
 use Rattle.std.proofs.Common.{◌≡◌, ◌≢◌, ℕ, List, Option, Some, refl, subst}
+use Rattle.width_check.specs.Processes.{TypedProgram}
 use Rattle.chp_cli.specs.declared.answer.Ending.{Ending}
 use Rattle.chp_cli.specs.declared.answer.Ending.TheVariants as ending
 use Rattle.chp_cli.specs.declared.status.Status.{Status}
@@ -8,7 +9,7 @@ use Rattle.chp_cli.specs.Answers.{Given, Answer, writes, status_with}
 use Rattle.chp_cli.specs.Commands.{Asked, IsAnswer, simulates}
 use Rattle.chp_cli.specs.Ends.{AnswersTo, Ends, formless, whole, cut_off, refused, unread, no_memory}
 use Rattle.chp_cli.specs.Orders.{Played}
-use Rattle.chp_cli.specs.Simulated.{EndsAllAtRest, IsCalm, IsFileSimulated}
+use Rattle.chp_cli.specs.Simulated.{EndsAllAtRest, HoldsCompiled, IsCalm, IsFileSimulated, RestsInTime}
 use Rattle.chp_cli.specs.Simulating.{AskedRun, Simulates}
 use Rattle.chp_cli.proofs.Ending.{no_refusal}
 
@@ -52,14 +53,16 @@ module _ (asked : Option Asked) (given : Given) (played : Played) (rb ra pb pa :
 
 module _ (asked : Option Asked) (given : Given) (played : Played) (rb ra pb pa : ℕ) (s : AskedRun) (is : asked ≡ Some (simulates s))
     (right : (end : Ending) (text : List ℕ) → Simulates s given played (writes end text) → IsFileSimulated s given played (writes end text))
-    (ends : (answer : Answer) (run : IsFileSimulated s given played answer) → EndsAllAtRest s given played answer run) where
+    (ends : (answer : Answer) (run : IsFileSimulated s given played answer) → EndsAllAtRest s given played answer run)
+    (rests : (p : TypedProgram) (holds : HoldsCompiled given s.net p) (answer : Answer) (run : IsFileSimulated s given played answer) →
+    RestsInTime s given played p holds answer run) where
   pub steady_of : {status : Status} {appended line : List ℕ} → Ends asked given played rb ra pb pa status appended line → status ≡ Done →
       IsCalm s given played appended
   steady_of (formless none) e = absurd (cc e)
   steady_of (whole end text are) e =
       let run = right end text (subst (λ o. AnswersTo o given played (writes end text)) is are) in
       let done = subst (λ x. IsFileSimulated s given played (writes x text)) (ending_done end e) run in
-      record { run = done; one_length = ends (writes ending.Done text) done }
+      record { run = done; one_length = ends (writes ending.Done text) done; rests = λ p holds. rests p holds (writes ending.Done text) done }
   steady_of (cut_off end text k are rose) e = absurd (cc e)
   steady_of (refused status line r are) e = absurd (no_refusal status Done r refl e)
   steady_of (unread name own fault missed) e = absurd (cc e)

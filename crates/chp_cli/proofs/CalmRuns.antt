@@ -74,7 +74,7 @@ apart_calm net st apart = ap (option_map _) (none_below (length net.first) (both
 
 module _ (net : NetValue) (script : List OfferValue)
     (law : (st : RunState) (n : ℕ) → IsSafeMove net script st n × IsApart net (moved net st n) → hazard_of net script st n ≡ None) where
-  safe_calm : (st : RunState) (ns : List ℕ) → IsSafeRun net script st ns → last_hazard net script st ns ≡ None
+  pub safe_calm : (st : RunState) (ns : List ℕ) → IsSafeRun net script st ns → last_hazard net script st ns ≡ None
   safe_calm st [] safe = apart_calm net st safe
   safe_calm st (n ∷ []) safe = law st n (safe.1, safe.2)
   safe_calm st (n ∷ m ∷ ns) safe = safe_calm (moved net st n) (m ∷ ns) safe.2
@@ -135,7 +135,7 @@ module _ (powered : (net : NetValue) (high : Bool) → IsNet net → IsSome net.
         calm_done _ _ end ended
 
     module _ (s : AskedRun) (given : Given) (played : Played) (p : TypedProgram) (holds : HoldsCarrying given s.net p) where
-      carried_safe : (a : Answer) (f : IsFileSimulated s given played a) → AllSafe f.net f.script (start_at (simulation_for f.net f.script s.steps s.power))
+      pub carried_safe : (a : Answer) (f : IsFileSimulated s given played a) → AllSafe f.net f.script (start_at (simulation_for f.net f.script s.steps s.power))
       carried_safe a f =
           let same : holds.net ≡ f.net = f.file.only holds.net holds.kept (subst (λ x. NetText x holds.net) (same_text holds.held f.held) holds.spelled) in
           all_safe f.net p f.script _ f.file.kept f.told_is.kept (subst (λ n. ((n.reset ≡ None) × Carries n p) ⊎ CarriesReset n p) same holds.carries)

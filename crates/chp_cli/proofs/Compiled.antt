@@ -1,6 +1,7 @@
 -- The text of a program's net, and what that net carries.
 use Rattle.std.proofs.Common.{ℕ, true, false, List, refl}
 use Rattle.std.specs.Prelude.{Result, Ok, Err, IfOk, OnOk}
+use Rattle.net_compose.specs.Bounded.{Ends, EndsReset}
 use Rattle.net_compose.specs.Carries.{Carries, CarriesReset}
 use Rattle.net_compose.specs.Translation.{translation}
 use Rattle.net_compose.proofs.NamesFree.{names_free}
@@ -12,16 +13,17 @@ use Rattle.width_check.specs.Processes.{TypedProgram}
 use Rattle.chp_cli.specs.Compiling.{IsCompiled}
 
 pub plain_compiled : {E : Type 0} (p : TypedProgram) (r : Result (List ℕ) E) → IfOk r (λ text. NetText text (translation p)) →
-    OnOk r (IsNet (translation p)) → OnOk r (Carries (translation p) p) → IfOk r (IsCompiled false p)
-plain_compiled p (Ok text) spells net carries = record { plain = net; kept = net; spells = spells; carries = carries }
-plain_compiled p (Err e) spells net carries = tt
+    OnOk r (IsNet (translation p)) → OnOk r (Carries (translation p) p) → OnOk r (Ends (translation p) p) → IfOk r (IsCompiled false p)
+plain_compiled p (Ok text) spells net carries ends = record { plain = net; kept = net; spells = spells; carries = carries; ends = ends }
+plain_compiled p (Err e) spells net carries ends = tt
 
 pub reset_compiled : {E : Type 0} (p : TypedProgram) (r : Result (List ℕ) E) → IfOk r (λ text. NetText text (reset_of (translation p))) →
-    OnOk r (IsNet (translation p)) → OnOk r (CarriesReset (reset_of (translation p)) p) → IfOk r (IsCompiled true p)
-reset_compiled p (Ok text) spells net carries = record {
+    OnOk r (IsNet (translation p)) → OnOk r (CarriesReset (reset_of (translation p)) p) → OnOk r (EndsReset (reset_of (translation p)) p) → IfOk r (IsCompiled true p)
+reset_compiled p (Ok text) spells net carries ends = record {
   plain = net;
   kept = reset_is_net (translation p) net refl (names_free p);
   spells = spells;
   carries = carries;
+  ends = ends;
 }
-reset_compiled p (Err e) spells net carries = tt
+reset_compiled p (Err e) spells net carries ends = tt

@@ -12,7 +12,7 @@ ghost use Rattle.chp_cli.specs.Commands.{Asked, IsAnswer};
 ghost use Rattle.chp_cli.specs.Orders.{Played};
 ghost use Rattle.chp_cli.specs.References.{IsReferredTo};
 ghost use Rattle.chp_cli.specs.Simulated.{EndsAllAtRest, HoldsCarrying, HoldsCompiled, IsCompiledToSimulate};
-ghost use Rattle.chp_cli.specs.Simulated.{IsFileSimulated, IsToSimulate};
+ghost use Rattle.chp_cli.specs.Simulated.{IsFileSimulated, IsToSimulate, RestsInTime};
 ghost use Rattle.chp_cli.specs.Simulating.{AskedRun, Simulates};
 ghost use Rattle.chp_cli.specs.Statuses.{is_whole};
 ghost use Rattle.chp_cli.specs.TimedFiles.{IsFileTimed};
@@ -116,6 +116,19 @@ pub fn compiled_files_carry()
     ensures { (given : Given) (file : List ℕ) (p : TypedProgram) → HoldsCompiled given file p →
         HoldsCarrying given file p }
 {}
+
+/// Law: where a program goes no further after m steps under the script, the simulation of the rule file that `compile` wrote for
+/// it ends at rest, in whatever order, if its limit is above the most moves that its net makes till then: it has passed what the
+/// program has, and `done` is high exactly where that has ended.
+pub fn compiled_runs_rest()
+    ensures { (s : AskedRun) (given : Given) (played : Played) (p : TypedProgram) →
+        (holds : HoldsCompiled given s.net p) (answer : Answer) (f : IsFileSimulated s given played answer) →
+        RestsInTime s given played p holds answer f }
+{
+    power_is_powered();
+    safe_moves_bring_no_hazard();
+    compiled_files_carry();
+}
 
 /// Law: each rule file that `compile` wrote is within the limit of rule files. So under each script of the program's
 /// channels within its own limit, with any power if it has a reset node, it can be simulated: the only answers of

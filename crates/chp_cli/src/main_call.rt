@@ -24,7 +24,8 @@ use crate::expand::expand;
 use crate::grow::grow;
 use crate::laws::{
     carried_runs_agree, carried_runs_are_safe, carried_runs_have_one_length, compiled_files_carry,
-    one_answer, simulated_right, timed_right, timed_runs_agree, timed_runs_are_safe,
+    compiled_runs_rest, one_answer, simulated_right, timed_right, timed_runs_agree,
+    timed_runs_are_safe,
 };
 use crate::migrate::migrate;
 use crate::players::Players;
@@ -130,7 +131,8 @@ fn run<'a, S: Shelf, K: Sink>(
 /// at any point and is merged with no other answer.
 ///
 /// The simulation of a rule file that `compile` wrote finds no hazard, under whatever script and by whatever order, and
-/// where it reports rest no order makes more moves.
+/// where it reports rest no order makes more moves. Where its program comes to rest under the script, it does so, if the
+/// limit is high enough.
 ///
 /// Of the handed-in orders only the one that the command asks for is used, if it asks for one: all others are as they
 /// were, and all have their names and their places still.
@@ -202,6 +204,7 @@ pub fn chp_main<S: Shelf, K: Sink, W: Sink>(
     timed_runs_are_safe();
     timed_runs_agree();
     carried_runs_have_one_length();
+    compiled_runs_rest();
     let end = run(alloc, words, shelf, out, players);
     tell(say, &end);
     end.status()

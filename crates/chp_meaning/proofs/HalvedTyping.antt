@@ -288,7 +288,7 @@ halves_plain p typed meets = record {
 abbrev first_values : List Var → List ℕ
 first_values vars = map (λ (v : Var). v.first) vars
 
-start_near : (p : TypedProgram) (script : List OfferValue) → IsTyped p.channels p.vars p.body → MeetsSharing p.body →
+pub start_near : (p : TypedProgram) (script : List OfferValue) → IsTyped p.channels p.vars p.body → MeetsSharing p.body →
     Near (length p.vars) (length (p.vars ++ hidden_vars p.body)) (start_of p script) (start_of (halved_program p) script)
 start_near p script typed meets =
     let l = length-append p.vars (hidden_vars p.body) in

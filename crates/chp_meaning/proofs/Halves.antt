@@ -33,11 +33,21 @@ pub record Near (N M : ℕ) (c d : Configuration) : Type 0 where
   pub fits : Fits c.term
   pub new_fits : Fits d.term
 
--- no step, or one, and it stands so again
-pub record Followed (N M : ℕ) (c d : Configuration) : Type 0 where
+-- at the place an assignment to a hidden variable stands
+pub record IsFirst (N : ℕ) (d : Configuration) (b : Place) : Type 0 where
+  pub var : ℕ
+  pub at : Span
+  pub from : Formula
+  pub stands : statement_at d.term b ≡ Some (assigning var at from)
+  pub hidden : N ≤ var
+  pub below : ReadsBelow N from
+
+-- no step, of such an assignment, or one, and it stands so again
+pub record Followed (N M : ℕ) (c : Configuration) (first : Type 0) (d : Configuration) : Type 0 where
   pub to : Configuration
   pub steps : ℕ
   pub few : steps ≤ 1
+  pub none : steps ≡ 0 → first
   pub leads : Leads c steps to
   pub near : Near N M to d
 
@@ -108,12 +118,13 @@ written_both old new N x v first second same y below = by_number (cases_eq y x)
     by_number (inr n) = get_or-set_other old x y v 0 n ∙ (same y below ∙ sym (get_or-set_other new x y v 0 n))
 
 -- steps that leave the stores as they are
-quiet : (N M : ℕ) (c d : Configuration) → Near N M c d → (a b : Place) (l m : Term) → Step c a (leaving c a l) → Step d b (leaving d b m) →
-    Alike N M c.store d.store (with_left c.term a l) (with_left d.term b m) → Followed N M c (leaving d b m)
+quiet : {first : Type 0} (N M : ℕ) (c d : Configuration) → Near N M c d → (a b : Place) (l m : Term) → Step c a (leaving c a l) → Step d b (leaving d b m) →
+    Alike N M c.store d.store (with_left c.term a l) (with_left d.term b m) → Followed N M c first (leaving d b m)
 quiet N M c d n a b l m s u alike = record {
   to = leaving c a l;
   steps = 1;
   few = omega arith;
+  none = λ z. absurd (cc z);
   leads = one_step s no_step;
   near = record {
     alike = alike;
@@ -130,14 +141,15 @@ quiet N M c d n a b l m s u alike = record {
 }
 
 -- both write one value
-wrote : (N M : ℕ) (c d : Configuration) → Near N M c d → (a b : Place) (x v : ℕ) → x < N → Step c a (storing (leaving c a finished) x v) →
+wrote : {first : Type 0} (N M : ℕ) (c d : Configuration) → Near N M c d → (a b : Place) (x v : ℕ) → x < N → Step c a (storing (leaving c a finished) x v) →
     Step d b (storing (leaving d b finished) x v) →
     Alike N M (slice_set c.store x v) (slice_set d.store x v) (with_left c.term a finished) (with_left d.term b finished) →
-    Followed N M c (storing (leaving d b finished) x v)
+    Followed N M c first (storing (leaving d b finished) x v)
 wrote N M c d n a b x v below s u alike = record {
   to = storing (leaving c a finished) x v;
   steps = 1;
   few = omega arith;
+  none = λ z. absurd (cc z);
   leads = one_step s no_step;
   near = record {
     alike = alike;
@@ -158,11 +170,12 @@ begun : (N M : ℕ) (c d : Configuration) → Near N M c d → (b : Place) (x h 
     → ((old' new' : List ℕ) (l m : Term) → OthersKept c.store old' c.term a → OthersKept d.store new' d.term b →
     Alike N M old' new' l (followed m (and_member (assigning x at (read_through h e at)) no_members)) →
     Alike N M old' new' (with_left c.term a l) (with_left d.term b m))
-    → Followed N M c (storing (leaving d b finished) h (value_in d e))
+    → Followed N M c (IsFirst N d b) (storing (leaving d b finished) h (value_in d e))
 begun N M c d n b x h at e i there a on put = record {
   to = c;
   steps = 0;
   few = omega arith;
+  none = λ z. record { var = h; at = at; from = e; stands = there; hidden = i.hidden; below = i.below };
   leads = no_step;
   near = record {
     alike = subst (λ t. Alike N M c.store (slice_set d.store h (value_in d e)) t (with_left d.term b finished)) (put_back c.term a (assigning x at e) on)
@@ -251,11 +264,11 @@ repeat_after (same_repeat {q = q} l) = (q, refl, l)
 
 -- a step of the program in halves, by the statement that it is of
 
-assigned : (N M : ℕ) (c d : Configuration) → Near N M c d → (a b : Place) (x : ℕ) (s : Span) (e f : Formula) → x < N →
+assigned : {first : Type 0} (N M : ℕ) (c d : Configuration) → Near N M c d → (a b : Place) (x : ℕ) (s : Span) (e f : Formula) → x < N →
     statement_at c.term a ≡ Some (assigning x s e) → statement_at d.term b ≡ Some (assigning x s f) → value_in c e ≡ value_in d f
     → ((old' new' : List ℕ) (l m : Term) → OthersKept c.store old' c.term a → OthersKept d.store new' d.term b → Alike N M old' new' l m →
     Alike N M old' new' (with_left c.term a l) (with_left d.term b m))
-    → Followed N M c (storing (leaving d b finished) x (value_in d f))
+    → Followed N M c first (storing (leaving d b finished) x (value_in d f))
 assigned N M c d n a b x s e f below on there same put =
     let v = value_in d f in
     let first : Step c a (storing (leaving c a finished) x v) = subst (λ w. Step c a (storing (leaving c a finished) x w)) same (an_assignment on) in
@@ -268,15 +281,15 @@ assign_by : (N M : ℕ) (c d : Configuration) → Near N M c d → (a b : Place)
     statement_at d.term b ≡ Some (assigning x s e) → (pair : Pair N M c.store d.store p (assigning x s e))
     → ((old' new' : List ℕ) (l m : Term) → OthersKept c.store old' c.term a → OthersKept d.store new' d.term b → Alike N M old' new' l (behind pair m) →
     Alike N M old' new' (with_left c.term a l) (with_left d.term b m))
-    → Followed N M c (storing (leaving d b finished) x (value_in d e))
+    → Followed N M c (IsFirst N d b) (storing (leaving d b finished) x (value_in d e))
 assign_by N M c d n a b x s e p on there (pair_same (same_assign below reads)) put =
     assigned N M c d n a b x s e e below on there (values_near N M c d n e reads) put
 assign_by N M c d n a b x s e p on there (pair_first {x = y} i) put = begun N M c d n b y x s e i there a on put
 assign_by N M c d n a b x s e p on there (pair_second {h = h} {e = f} i v) put = assigned N M c d n a b x s f (read_through h f s) i.target on there (sym v) put
 
-communicated : (N M : ℕ) (c d : Configuration) → Near N M c d → (b other : Place) (k x : ℕ) (s t u : Span) (e : Formula) →
+communicated : {first : Type 0} (N M : ℕ) (c d : Configuration) → Near N M c d → (b other : Place) (k x : ℕ) (s t u : Span) (e : Formula) →
     statement_at d.term b ≡ Some (sending k s e) → statement_at d.term other ≡ Some (receiving k t x u) → offer_at d.rests k ≡ nothing
-    → Followed N M c (passing (storing (leaving (leaving d b finished) other finished) x (value_in d e)) k (value_in d e))
+    → Followed N M c first (passing (storing (leaving (leaving d b finished) other finished) x (value_in d e)) k (value_in d e))
 communicated N M c d n b other k x s t u e on there inside =
     let step : Step d b (passing (storing (leaving (leaving d b finished) other finished) x (value_in d e)) k (value_in d e)) =
     a_communication other on there inside in
@@ -308,6 +321,7 @@ communicated N M c d n b other k x s t u e on there inside =
       to = passing (storing (leaving (leaving c r.place finished) w.place finished) x v) k v;
       steps = 1;
       few = omega arith;
+      none = λ z. absurd (cc z);
       leads = one_step first no_step;
       near = record {
         alike = w.put (slice_set c.store x v) (slice_set d.store x v) finished finished
@@ -330,7 +344,7 @@ communicated N M c d n b other k x s t u e on there inside =
     one_place l w o f g h (inr ne) = absurd (places_apart l w o (receiving k t x u) (receiving k t x u) f ne g h (done_at (receives_on k) t)
         (done_at (receives_on k) t) (inl refl) (inl refl) refl)
 
-follow : (N M : ℕ) {c d e : Configuration} {b : Place} → Near N M c d → Step d b e → Followed N M c e
+pub follow : (N M : ℕ) {c d e : Configuration} {b : Place} → Near N M c d → Step d b e → Followed N M c (IsFirst N d b) e
 follow N M {c = c} {d = d} {b = b} n (a_skip on) =
     let r = plainly N M c.store d.store c.term d.term b skipping refl n.alike on in
     quiet N M c d n r.place b finished finished (a_skip (r.on ∙ ap Some (skip_before r.same))) (a_skip on)
@@ -380,6 +394,7 @@ follow N M {c = c} {d = d} {b = b} n (a_delivery {k = k} {s = s} {e = e} {count 
       to = passing (offering (leaving c r.place finished) k (takes (one_fewer count))) k v;
       steps = 1;
       few = omega arith;
+      none = λ z. absurd (cc z);
       leads = one_step first no_step;
       near = record {
         alike = r.put c.store d.store finished finished (nothing_kept c.store c.term r.place) (nothing_kept d.store d.term b) both_finished;
@@ -405,6 +420,7 @@ follow N M {c = c} {d = d} {b = b} n (an_arrival {k = k} {x = x} {v = v} {s = s}
       to = passing (storing (offering (leaving c r.place finished) k (gives more)) x v) k v;
       steps = 1;
       few = omega arith;
+      none = λ z. absurd (cc z);
       leads = one_step first no_step;
       near = record {
         alike = r.put (slice_set c.store x v) (slice_set d.store x v) finished finished

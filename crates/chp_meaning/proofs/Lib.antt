@@ -5,6 +5,7 @@ pub mod Fitting
 pub mod Moves
 pub mod Meeting
 pub mod RoundRuns
+pub mod OneEnd
 pub mod Rows
 pub mod Guards
 pub mod Planning
@@ -19,5 +20,6 @@ pub mod RoundAnswers
 pub mod Starting
 pub mod Alike
 pub mod Halves
+pub mod Late
 pub mod HalvedPrograms
 pub mod HalvedTyping

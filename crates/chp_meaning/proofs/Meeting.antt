@@ -136,7 +136,7 @@ joined {c = c} {d = d} {e = e} {a = a} {b = b} s u f ne =
 one_outcome : {c d e : Configuration} {a : Place} → Fits c.term → Step c a d → Step c a e → d ≡ e
 one_outcome {d = d} {e = e} f s u = let same : Some d ≡ Some e = sym (found f s) ∙ found f u in cc same
 
-diamond : {c d e : Configuration} {a b : Place} → Fits c.term → Step c a d → Step c b e → (d ≡ e) ⊎ ((g : Configuration) × Step d b g × Step e a g)
+pub diamond : {c d e : Configuration} {a b : Place} → Fits c.term → Step c a d → Step c b e → (d ≡ e) ⊎ ((g : Configuration) × Step d b g × Step e a g)
 diamond {c = c} {d = d} {e = e} {a = a} {b = b} f s u = by_place (same_place a b)
   where
     by_place : (a ≡ b) ⊎ (a ≢ b) → (d ≡ e) ⊎ ((g : Configuration) × Step d b g × Step e a g)

@@ -1,6 +1,6 @@
 -- Assignments that read their own target, in two halves: `x := e` with x in e is `h := e; x := h` with a variable h
 -- that nothing else has.
-use Rattle.std.specs.Prelude.{◌≡◌, ℕ, ◌+◌, ◌-◌, ◌^◌, ◌<◌, ◌≤◌, Bool, true, false, List, [], ◌∷◌, ◌++◌, length, All, ◌↔◌}
+use Rattle.std.specs.Prelude.{◌≡◌, ℕ, ◌+◌, ◌-◌, ◌^◌, ◌*◌, ◌<◌, ◌≤◌, Bool, true, false, List, [], ◌∷◌, ◌++◌, length, All, ◌↔◌}
 use Rattle.chp_base.specs.declared.span.Span.{Span}
 use Rattle.chp_base.specs.declared.channel.Channel.{Channel}
 use Rattle.env_script.specs.Scripts.{OfferValue}
@@ -142,3 +142,9 @@ HalvesFollow = (p : TypedProgram) (script : List OfferValue) → IsTyped p.chann
 abbrev pub HalvesArePlain : Type 0
 HalvesArePlain = (p : TypedProgram) → IsTyped p.channels p.vars p.body → MeetsSharing p.body →
     IsPlain (halved_program p)
+
+-- and it has twice as many steps at most as some run of the program that has passed the same
+abbrev pub HalvesKeepPace : Type 0
+HalvesKeepPace = (p : TypedProgram) (script : List OfferValue) → IsTyped p.channels p.vars p.body → MeetsSharing p.body → (n : ℕ) (d : Configuration)
+    → Leads (start_of (halved_program p) script) n d
+    → (m : ℕ) × (c : Configuration) × Leads (start_of p script) m c × (c.histories ≡ d.histories) × (n ≤ 2 * m)

@@ -1,9 +1,10 @@
 -- What is to hold of rounds and runs.
-use Rattle.std.specs.Prelude.{◌≡◌, ℕ, suc, List, ◌++◌}
+use Rattle.std.specs.Prelude.{◌≡◌, ◌≤◌, ℕ, suc, List, ◌++◌}
 use Rattle.env_script.specs.Scripts.{OfferValue}
 use Rattle.env_script.specs.Runs.{history_at}
 use Rattle.width_check.specs.Processes.{TypedProgram}
-use Rattle.chp_meaning.specs.Steps.{Configuration, Leads, start_of}
+use Rattle.chp_meaning.specs.Terms.{Place}
+use Rattle.chp_meaning.specs.Steps.{Configuration, Step, Leads, start_of}
 use Rattle.chp_meaning.specs.Rounds.{rounds}
 
 -- each history of the first is a prefix of that of the second
@@ -19,3 +20,8 @@ OneHistory p script = (m : ℕ) (c : Configuration) → Leads (start_of p script
 abbrev pub RoundsHold : TypedProgram → List OfferValue → Type 0
 RoundsHold p script = (n : ℕ) → (m : ℕ) × Leads (start_of p script) m (rounds p script n)
     × IsBehind (rounds p script n) (rounds p script (suc n))
+
+-- where a run of m steps goes no further, no run has more than m
+abbrev pub OneEnd : TypedProgram → List OfferValue → Type 0
+OneEnd p script = (m n : ℕ) (c d : Configuration) → Leads (start_of p script) m c → ((at : Place) (e : Configuration) → ¬ Step c at e)
+    → Leads (start_of p script) n d → n ≤ m

@@ -7,8 +7,8 @@ ghost use Rattle.width_check.specs.Sharing.{MeetsSharing};
 ghost use Rattle.chp_meaning.specs.Terms.{Place};
 ghost use Rattle.chp_meaning.specs.Steps.{Configuration, Step, Leads};
 ghost use Rattle.chp_meaning.specs.Rounds.{step_at};
-ghost use Rattle.chp_meaning.specs.Laws.{IsBehind, OneHistory, RoundsHold};
-ghost use Rattle.chp_meaning.specs.Halves.{HalvesFollow, HalvesArePlain};
+ghost use Rattle.chp_meaning.specs.Laws.{IsBehind, OneHistory, RoundsHold, OneEnd};
+ghost use Rattle.chp_meaning.specs.Halves.{HalvesFollow, HalvesArePlain, HalvesKeepPace};
 
 /// Law: what a round does at a place is a step at that place.
 pub fn steps_taken()
@@ -26,6 +26,11 @@ pub fn one_history()
     ensures { (p : TypedProgram) (script : List OfferValue) → MeetsSharing p.body → OneHistory p script }
 {}
 
+/// Law: where a run of such a program goes no further after m steps, none of its runs has more steps.
+pub fn one_end()
+    ensures { (p : TypedProgram) (script : List OfferValue) → MeetsSharing p.body → OneEnd p script }
+{}
+
 /// Law: of such a program each number of rounds is a run, and one round more only appends to the histories.
 pub fn rounds_hold()
     ensures { (p : TypedProgram) (script : List OfferValue) → MeetsSharing p.body → RoundsHold p script }
@@ -36,6 +41,11 @@ pub fn rounds_hold()
 /// it can go on then, so can it in halves; and one of the two has ended exactly where the other has.
 pub fn halves_follow()
     ensures { HalvesFollow }
+{}
+
+/// Law: to each run of such a program in halves there is one of its own of half as many steps at least, with the same histories.
+pub fn halves_keep_pace()
+    ensures { HalvesKeepPace }
 {}
 
 /// Law: such a program in halves meets the sharing rule too, it is typed but for the names of the variables h, and no

@@ -6,7 +6,7 @@ use Rattle.circuit_places.specs.Cores.{Core, Turning, of_joined, of_ask, of_any,
 use Rattle.circuit_places.proofs.Modes.{goes_asks}
 use Rattle.circuit_places.proofs.HeadFacts.{snd_true, both_true, false_none, over_false, neutral_over, over_alone}
 use Rattle.circuit_places.proofs.CoreControl.{Mode, idle, running, answered, returning, asks, goes, noted, spread, freed, lock_may, uncalled, called, evaluating, latched, leaving, works, worked, reported, letting, backs, Closing, told_all, lets_turn, lets_leave, lets_any, lets_answer, closing_turn, closing_leave, closing_any, closing_cells, closing_own, closing_moves, closing_own_is, closing_can_is, core_apart, turning_apart}
-use Rattle.circuit_places.proofs.CoreMoves.{Guards, Branches, Story, CoreAt, in_control, in_branch, CoreSpot, own, guard, branch, core_turned, whole_rule, core_cells, core_leave, core_moves, core_turning, CoreFits, core_shown, core_left, core_can_is, core_turning_is, whole_apart, round_apart, CoreStep, stays, ends, low_still, CoreAfter}
+use Rattle.circuit_places.proofs.CoreMoves.{core_steps, core_round_steps, Guards, Branches, Story, CoreAt, in_control, in_branch, CoreSpot, own, guard, branch, core_turned, whole_rule, core_cells, core_leave, core_moves, core_turning, CoreFits, core_shown, core_left, core_can_is, core_turning_is, whole_apart, round_apart, CoreStep, stays, ends, low_still, CoreAfter}
 
 abbrev pub low_core : {n : ℕ} {G Q B C S T : Type 0} → Guards n G Q → Branches n B C S T → Core n G B
 low_core {n = n} W K = core_of false false false (low_bits n) (low_bits n) W.low K.low
@@ -84,6 +84,11 @@ module _ {n : ℕ} {G Q B C S T : Type 0} (W : Guards n G Q) (K : Branches n B C
   again_moves (closing c) (in_core (own s)) = closing_own c s
   again_moves _ _ = false
 
+  abbrev pub again_steps : {m : Mode} → AgainAt n G W.heads K.At m → AgainSpot n Q C → Bool
+  again_steps (turning x) (round t) = core_round_steps W K x t
+  again_steps (turning x) (in_core s) = core_steps W K x s
+  again_steps _ _ = false
+
   abbrev pub AgainFits : {m : Mode} → AgainAt n G W.heads K.At m → Type 0
   AgainFits (turning x) = CoreFits W K x
   AgainFits _ = Unit {0}
@@ -151,7 +156,7 @@ module _ {n : ℕ} {G Q B C S T : Type 0} (W : Guards n G Q) (K : Branches n B C
     pub way : goes m mode ≡ true
     pub fits : AgainFits W K to
     pub flow : K.Flow (again_shown W K x) (again_shown W K to)
-    pub term : CoreStep true W K y (again_shown W K x) (again_left W K y x) (again_left W K y to)
+    pub term : CoreStep true W K y (again_shown W K x) (again_steps W K x s) (again_left W K y x) (again_left W K y to)
     pub keeps : (p : AgainSpot n Q C) → p ≢ s → again_moves W K x p ≡ true → again_moves W K to p ≡ true
 
   abbrev Kept : {m d : Mode} → AgainAt n G W.heads K.At m → AgainAt n G W.heads K.At d → AgainSpot n Q C → Type 0
@@ -185,7 +190,7 @@ module _ {n : ℕ} {G Q B C S T : Type 0} (W : Guards n G Q) (K : Branches n B C
     way = refl;
     fits = W.begins false;
     flow = K.flow_reading _ _;
-    term = subst (λ (t : T). CoreStep true W K y (K.reading false) (y.wrap K.over) t) z stays;
+    term = subst (λ (t : T). CoreStep true W K y (K.reading false) false (y.wrap K.over) t) z (stays refl);
     keeps = keeps;
   }
     where
@@ -206,7 +211,7 @@ module _ {n : ℕ} {G Q B C S T : Type 0} (W : Guards n G Q) (K : Branches n B C
     way = refl;
     fits = f;
     flow = K.flow_same (K.shown a);
-    term = stays;
+    term = stays refl;
     keeps = keeps;
   }
     where
@@ -256,7 +261,7 @@ module _ {n : ℕ} {G Q B C S T : Type 0} (W : Guards n G Q) (K : Branches n B C
     way = refl;
     fits = tt;
     flow = subst (λ (z : S). K.Flow (K.reading false) z) K.reading_low (K.flow_reading false false);
-    term = stays;
+    term = stays refl;
     keeps = keeps;
   }
     where
@@ -274,7 +279,7 @@ module _ {n : ℕ} {G Q B C S T : Type 0} (W : Guards n G Q) (K : Branches n B C
 
   -- it falls back: the turn's request, the latch, that a latch is up, the answer
   close_turn : AgainAfter (closing lets_turn) (round of_turn)
-  close_turn = record { mode = returning; to = closing lets_leave; same = refl; way = refl; fits = tt; flow = K.flow_same K.none; term = stays; keeps = keeps }
+  close_turn = record { mode = returning; to = closing lets_leave; same = refl; way = refl; fits = tt; flow = K.flow_same K.none; term = stays refl; keeps = keeps }
     where
       keeps : Kept (closing lets_turn) (closing lets_leave) (round of_turn)
       keeps (round of_turn) ne e = absurd (ne refl)
@@ -289,7 +294,7 @@ module _ {n : ℕ} {G Q B C S T : Type 0} (W : Guards n G Q) (K : Branches n B C
       keeps (in_core (branch c)) ne e = absurd (cc e)
 
   close_leave : AgainAfter (closing lets_leave) (round of_leave)
-  close_leave = record { mode = returning; to = closing lets_any; same = refl; way = refl; fits = tt; flow = K.flow_same K.none; term = stays; keeps = keeps }
+  close_leave = record { mode = returning; to = closing lets_any; same = refl; way = refl; fits = tt; flow = K.flow_same K.none; term = stays refl; keeps = keeps }
     where
       keeps : Kept (closing lets_leave) (closing lets_any) (round of_leave)
       keeps (round of_turn) ne e = absurd (cc e)
@@ -304,7 +309,7 @@ module _ {n : ℕ} {G Q B C S T : Type 0} (W : Guards n G Q) (K : Branches n B C
       keeps (in_core (branch c)) ne e = absurd (cc e)
 
   close_any : AgainAfter (closing lets_any) (in_core (own of_any))
-  close_any = record { mode = returning; to = closing lets_answer; same = refl; way = refl; fits = tt; flow = K.flow_same K.none; term = stays; keeps = keeps }
+  close_any = record { mode = returning; to = closing lets_answer; same = refl; way = refl; fits = tt; flow = K.flow_same K.none; term = stays refl; keeps = keeps }
     where
       keeps : Kept (closing lets_any) (closing lets_answer) (in_core (own of_any))
       keeps (round of_turn) ne e = absurd (cc e)
@@ -319,7 +324,7 @@ module _ {n : ℕ} {G Q B C S T : Type 0} (W : Guards n G Q) (K : Branches n B C
       keeps (in_core (branch c)) ne e = absurd (cc e)
 
   close_answer : AgainAfter (closing lets_answer) (round of_answer)
-  close_answer = record { mode = idle; to = again_rests; same = refl; way = refl; fits = tt; flow = K.flow_same K.none; term = stays; keeps = keeps }
+  close_answer = record { mode = idle; to = again_rests; same = refl; way = refl; fits = tt; flow = K.flow_same K.none; term = stays refl; keeps = keeps }
     where
       keeps : Kept (closing lets_answer) again_rests (round of_answer)
       keeps (round of_turn) ne e = absurd (cc e)

@@ -46,10 +46,10 @@ legal n =
 abbrev pub now_of : Bool → Bool → Bool → Bool → Bool → Bool → Now
 now_of xt xf wt wf wa va = record { xt = xt; xf = xf; wt = wt; wf = wf; wa = wa; va = va }
 
-abbrev all_now : (Now → Bool) → Bool
+abbrev pub all_now : (Now → Bool) → Bool
 all_now p = all_6 (λ xt xf wt wf wa va. p (now_of xt xf wt wf wa va))
 
-at_now : (p : Now → Bool) → all_now p ≡ true → (n : Now) → p n ≡ true
+pub at_now : (p : Now → Bool) → all_now p ≡ true → (n : Now) → p n ≡ true
 at_now p h n = at_6 (λ xt xf wt wf wa va. p (now_of xt xf wt wf wa va)) h n.xt n.xf n.wt n.wf n.wa n.va
 
 abbrev agree : Bool → Bool → Bool

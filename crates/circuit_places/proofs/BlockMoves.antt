@@ -105,7 +105,7 @@ module _ (P : TypedProgram) (script : List OfferValue) {m : Mode} {g : GuardedAt
             neutral = good.neutral;
             heard_sited = good.heard_sited;
           };
-          term = λ ne. inl (still_left P script hs good bitten bit_acks);
+          term = λ ne. inl (refl, still_left P script hs good bitten bit_acks);
           frees = λ y. cases (y == x)
               (λ (h : (y == x) ≡ true). λ f. absurd (cc (
                 sym (ap (λ (a : Line → Bool). guarded_writing a g y) (fun_ext bit_acks))
@@ -446,7 +446,7 @@ go_next P script {w = w} hs g_rests good = record {
     neutral = good.neutral;
     heard_sited = good.heard_sited;
   };
-  term = λ ne. inl refl;
+  term = λ ne. inl (refl, refl);
   frees = λ x e. (refl, inl refl);
   keeps = keeps;
 }

@@ -47,7 +47,7 @@ pub record Touch (r : Role) (i : ℕ) (f g : ℕ → Now) : Type 0 where
   pub here : g i ≡ turn r (f i)
   pub far : (j : ℕ) → (j == i) ≡ false → g j ≡ f j
 
-rail_touch : (x w : Rails) (wrote : ℕ → Bool) (va : Bool) (i : ℕ) (one : Bool)
+pub rail_touch : (x w : Rails) (wrote : ℕ → Bool) (va : Bool) (i : ℕ) (one : Bool)
     → Touch (rail_role one) i (now_at x w wrote va) (now_at (rails_turned x i one) w wrote va)
 rail_touch x w wrote va i one = record {
   here = near one;
@@ -62,7 +62,7 @@ rail_touch x w wrote va i one = record {
     near false = ap (λ b. now_of (if b && same_bit true false then not (x i false) else x i true)
         (if b && same_bit false false then not (x i false) else x i false) (w i true) (w i false) (wrote i) va) (self_number i)
 
-write_touch : (x w : Rails) (wrote : ℕ → Bool) (va : Bool) (i : ℕ) (one : Bool)
+pub write_touch : (x w : Rails) (wrote : ℕ → Bool) (va : Bool) (i : ℕ) (one : Bool)
     → Touch (write_role one) i (now_at x w wrote va) (now_at x (rails_turned w i one) wrote va)
 write_touch x w wrote va i one = record {
   here = near one;
@@ -77,7 +77,7 @@ write_touch x w wrote va i one = record {
     near false = ap (λ b. now_of (x i true) (x i false) (if b && same_bit true false then not (w i false) else w i true)
         (if b && same_bit false false then not (w i false) else w i false) (wrote i) va) (self_number i)
 
-wrote_touch : (x w : Rails) (wrote : ℕ → Bool) (va : Bool) (i : ℕ) → Touch written i (now_at x w wrote va) (now_at x w (turned wrote i) va)
+pub wrote_touch : (x w : Rails) (wrote : ℕ → Bool) (va : Bool) (i : ℕ) → Touch written i (now_at x w wrote va) (now_at x w (turned wrote i) va)
 wrote_touch x w wrote va i = record {
   here = ap (λ b. now_of (x i true) (x i false) (w i true) (w i false) (if b then not (wrote i) else wrote i) va) (self_number i);
   far = λ j e. ap (λ b. now_of (x j true) (x j false) (w j true) (w j false) (if b then not (wrote j) else wrote j) va) e;

@@ -21,7 +21,7 @@ use Rattle.std.proofs.lemmas.Bool.{cases_lt}
 use Rattle.circuit_places.specs.Lines.{Line, of_channel, of_var, line_width}
 use Rattle.circuit_places.specs.Circuit.{low, joint_count, tree_answer, same_bit, QElementCells, Cells, turns, one_rule_fires, no_rule, is_apart, guarded_rule, site_rails, takers}
 use Rattle.circuit_places.specs.Whole.{wires_seen, line_ack, is_sent, is_heard, is_merged, merged, brings, drives, offers, bit_rule, wrote_rule, number_rail, first_bits, Whole, Node, go_node, own_node, rail_node, ack_node, bit_node, wrote_node, joint_node, is_node, rule_in, answers, enabled, wires_after, go_after, root_after, cells_moved, first_cells, Reaches, at_first, by_move}
-use Rattle.chp_meaning.specs.Halves.{IsSized, IsSizedVar}
+use Rattle.chp_meaning.specs.Halves.{IsSized, IsSizedVar, IsPlain}
 use Rattle.circuit_places.specs.Carried.{IsSafe, IsCarried, CircuitsCarry}
 use Rattle.circuit_places.proofs.Places.{Mode, idle, running, answered, returning, asks, is_idle, GuardedAt, g_rests, guarded_cells, guarded_shown, guarded_writing, guarded_can_is}
 use Rattle.circuit_places.proofs.Writing.{first_numbers}
@@ -32,12 +32,14 @@ use Rattle.circuit_places.proofs.Blocks.{Block, now_at, bit_apart, wrote_apart}
 use Rattle.circuit_places.proofs.Sites.{any, merged_can, merged_apart, same_sites, guarded_offered, same_takers, guarded_taken}
 use Rattle.circuit_places.proofs.Talks.{either, guarded_takes_listens, guarded_listens_receives}
 use Rattle.circuit_places.proofs.Arriving.{Arriving, arriving, none_arrives}
-use Rattle.circuit_places.proofs.System.{Good, clean_of, can, driven, sent_turns, heard_turns, root_left, Fitted, takes_of, may_low, may_high}
+use Rattle.circuit_places.proofs.System.{node_steps, Good, clean_of, can, driven, sent_turns, heard_turns, root_left, Fitted, takes_of, may_low, may_high}
 use Rattle.circuit_places.proofs.LineMoves.{offered_below, gives_of, brings_below, drives_up, phase_up, phase_down}
 use Rattle.circuit_places.proofs.BlockMoves.{some_of, next_of}
 use Rattle.circuit_places.proofs.Apart.{guarded_apart}
 use Rattle.circuit_places.proofs.Follow.{Followed, started, follows}
-use Rattle.circuit_places.proofs.Flow.{cases}
+use Rattle.circuit_places.proofs.CircuitDue.{circuit_due, due_fits}
+use Rattle.circuit_places.proofs.CircuitFalls.{circuit_falls}
+use Rattle.circuit_places.proofs.Flow.{cases, not_both}
 use Rattle.circuit_places.proofs.RailLemmas.{fst_true, snd_true, not_true, never_and}
 use Rattle.circuit_places.proofs.Absent.{guarded_absent}
 use Rattle.circuit_places.proofs.Ended.{at_end}
@@ -144,6 +146,7 @@ pub record Reached (P : TypedProgram) (script : List OfferValue) (moves : ℕ) (
   pub good : Good P mode place x.wires
   pub brought : Arriving P script x.histories x.wires
   pub followed : Followed P script moves x.histories (root_left (line_ack P x.wires) place) x.wires.bit (guarded_writing (line_ack P x.wires) place)
+      (circuit_due P place x.wires)
 
 or_false : (b : Bool) → (b || false) ≡ b
 or_false true = refl
@@ -219,22 +222,6 @@ module _ (P : TypedProgram) (script : List OfferValue) {moves : ℕ} {x : Whole 
       (channel_width P.channels k) x.wires k (completed x.histories k) (offer_at script k)) unheard)
       ∙ may (ack_node k) (ap (enabled P script x) (sym is) ∙ e)
 
-  abbrev next_reached : Fitted P script → (n : Node P.body) → enabled P script x n ≡ true → Reached P script (suc moves) (cells_moved P x n)
-  next_reached fitted n e =
-      let y = next_of P script fitted x.histories r.good n (may n e) in
-      record {
-        mode = y.mode;
-        place = y.to;
-        root = y.way r.root;
-        go = ap (λ b. go_after b n) r.go ∙ sym y.go;
-        same = ap (λ g. root_after P.body g n) r.same ∙ sym y.same;
-        good = y.good;
-        brought = arriving P script fitted x.histories r.good n (may n e) r.brought;
-        followed = follows x.wires (guarded_writing (line_ack P x.wires) r.place)
-            (guarded_writing (line_ack P (wires_after x.wires n)) y.to) fitted r.followed r.brought (root_left (line_ack P (wires_after x.wires n)) y.to) n
-            (ack_may n e) y.frees (y.term r.root);
-      }
-
   apart : (n : Node P.body) → is_apart (rule_in P x n) ≡ true
   apart go_node = refl
   apart (own_node s) =
@@ -262,11 +249,123 @@ module _ (P : TypedProgram) (script : List OfferValue) {moves : ℕ} {x : Whole 
       ∙ ap (λ b. not ((b && x.wires.bit v i false) && not b)) (low_rail v i false out))
   apart (joint_node v k) = joint_apart (var_width P.vars v) (x.wires.wrote v) (x.wires.joint v) k
 
+-- what isn't a node of the circuit doesn't move
+module _ (P : TypedProgram) (script : List OfferValue) (fitted : Fitted P script) {moves : ℕ} {x : Whole P.body} (r : Reached P script moves x) where
+  not_there : (i n : ℕ) → nat_lt i n ≡ false → i < n → ⊥
+  not_there i n h below = let g : nat_lt i n ≡ true = grind (arith, nat_tests) in cc (g, h)
+
+  no_rail : (k : Line) (i : ℕ) (one : Bool) → nat_lt i (line_width P k) ≡ false → enabled P script x (rail_node k i one) ≡ false
+  no_rail k i one h = enabled_is P script r (rail_node k i one) ∙ neither (sent_turns P x.wires k i one ((guarded_shown r.place).offer k i one))
+      (driven P script x.wires x.histories k i one) sent (drive k h)
+    where
+      neither : (a b : Bool) → a ≡ false → b ≡ false → (a || b) ≡ false
+      neither a b e f = ap (λ z. z || b) e ∙ f
+
+      here : (v o : Bool) → x.wires.rail k i one ≡ v → (guarded_shown r.place).offer k i one ≡ o
+          → turns (x.wires.rail k i one) ((guarded_shown r.place).offer k i one) (not ((guarded_shown r.place).offer k i one)) ≡ false
+      here true o hv ho = absurd (not_there i (line_width P k) h (r.good.wide k i one hv))
+      here false true hv ho = absurd (not_there i (line_width P k) h (offered_below P script x.histories r.good k i one ho))
+      here false false hv ho = ap (λ v. turns v ((guarded_shown r.place).offer k i one) (not ((guarded_shown r.place).offer k i one))) hv ∙ ho
+
+      sent : sent_turns P x.wires k i one ((guarded_shown r.place).offer k i one) ≡ false
+      sent = ap (λ b. is_merged P k && b) (here (x.wires.rail k i one) ((guarded_shown r.place).offer k i one) refl refl) ∙ never_and (is_merged P k)
+
+      drive : (l : Line) → nat_lt i (line_width P l) ≡ false → driven P script x.wires x.histories l i one ≡ false
+      drive (of_var v) z = refl
+      drive (of_channel c) z = cases (driven P script x.wires x.histories (of_channel c) i one)
+          (λ (d : driven P script x.wires x.histories (of_channel c) i one ≡ true).
+          let o = gives_of (channel_width P.channels c) x.wires c (completed x.histories c) (offer_at script c) i one d in
+          let e : drives (channel_width P.channels c) x.wires c (slice_get o.0 (completed x.histories c)) i one ≡ true = sym
+          (ap (λ y. offers (channel_width P.channels c) x.wires c (completed x.histories c) y i one) o.1) ∙ d in
+          absurd (not_there i (channel_width P.channels c) z (cases (x.wires.ack c)
+          (λ (a : x.wires.ack c ≡ true).
+          r.good.wide (of_channel c) i one (sym (ap (λ b. if b then x.wires.rail (of_channel c) i one else brings (channel_width P.channels c)
+          (slice_get o.0 (completed x.histories c)) i one && (not (x.wires.rail (of_channel c) i true) && not (x.wires.rail (of_channel c) i false))) a)
+          ∙ e))
+          (λ (a : x.wires.ack c ≡ false). brings_below (channel_width P.channels c) (slice_get o.0 (completed x.histories c)) i one
+          (drives_up (channel_width P.channels c) x.wires c (slice_get o.0 (completed x.histories c)) i one a e).0))))
+          (λ (d : driven P script x.wires x.histories (of_channel c) i one ≡ false). d)
+
+  no_bit : (v i : ℕ) (one : Bool) → nat_lt i (var_width P.vars v) ≡ false → one_rule_fires (bit_rule (x.wires.rail (of_var v)) (x.wires.bit v) i one) ≡ false
+  no_bit v i one h =
+      ap (λ b. if b then x.wires.rail (of_var v) i (not one) else x.wires.rail (of_var v) i one && not (x.wires.bit v i (not one)))
+      (cases (x.wires.bit v i one) (λ (e : x.wires.bit v i one ≡ true). absurd (not_there i (var_width P.vars v) h (r.good.no_bit v i one e)))
+      (λ (e : x.wires.bit v i one ≡ false). e))
+      ∙ ap (λ b. b && not (x.wires.bit v i (not one))) (low_rail P script r v i one (not_there i (var_width P.vars v) h))
+
+  no_wrote : (v i : ℕ) → nat_lt i (var_width P.vars v) ≡ false → one_rule_fires (wrote_rule (x.wires.rail (of_var v)) (x.wires.bit v) (x.wires.wrote v) i) ≡
+      false
+  no_wrote v i h =
+      ap (λ b. if b then not (x.wires.rail (of_var v) i true) && not (x.wires.rail (of_var v) i false) else
+      (x.wires.rail (of_var v) i true && x.wires.bit v i true) || (x.wires.rail (of_var v) i false && x.wires.bit v i false))
+      (cases (x.wires.wrote v i) (λ (e : x.wires.wrote v i ≡ true). absurd (not_there i (var_width P.vars v) h (r.good.no_wrote v i e)))
+      (λ (e : x.wires.wrote v i ≡ false). e))
+      ∙ (ap (λ b. (b && x.wires.bit v i true) || (x.wires.rail (of_var v) i false && x.wires.bit v i false))
+      (low_rail P script r v i true (not_there i (var_width P.vars v) h))
+      ∙ ap (λ b. b && x.wires.bit v i false) (low_rail P script r v i false (not_there i (var_width P.vars v) h)))
+
+  no_ack : (k : ℕ) → nat_lt k (length P.channels) ≡ false → enabled P script x (ack_node k) ≡ false
+  no_ack k h =
+      let out : length script ≤ k = let e = fitted.same in grind (arith, nat_tests) in
+      enabled_is P script r (ack_node k) ∙ (ap (λ b. b || answers (channel_width P.channels k) x.wires k (completed x.histories k) (offer_at script k))
+      (here (is_heard (kind_at P.channels k)) refl)
+      ∙ ap (answers (channel_width P.channels k) x.wires k (completed x.histories k)) (get_or-eq_default script nothing out))
+    where
+      deaf : (guarded_shown r.place).listen k ≡ true → ⊥
+      deaf z = not_there k (length P.channels) h (receives_within P P.body r.good.meets k (guarded_listens_receives r.place k z))
+
+      low_ack : is_heard (kind_at P.channels k) ≡ true → x.wires.ack k ≡ false
+      low_ack u = cases (x.wires.ack k) (λ (a : x.wires.ack k ≡ true). absurd (deaf (r.good.listen k u a))) (λ (a : x.wires.ack k ≡ false). a)
+
+      no_take : (guarded_shown r.place).take k ≡ false
+      no_take = cases ((guarded_shown r.place).take k) (λ (a : (guarded_shown r.place).take k ≡ true). absurd (deaf (guarded_takes_listens r.place k a)))
+          (λ (a : (guarded_shown r.place).take k ≡ false). a)
+
+      here : (b : Bool) → is_heard (kind_at P.channels k) ≡ b → (b && turns (x.wires.ack k) ((guarded_shown r.place).take k)
+          (not ((guarded_shown r.place).take k))) ≡ false
+      here false u = refl
+      here true u = ap (λ a. turns a ((guarded_shown r.place).take k) (not ((guarded_shown r.place).take k))) (low_ack u) ∙ no_take
+
+  absent : (n : Node P.body) → is_node P n ≡ false → enabled P script x n ≡ false
+  absent go_node h = absurd (cc h)
+  absent (own_node s) h = enabled_is P script r (own_node s) ∙ guarded_absent P (wires_seen P x.wires) (clean_of r.good) r.place r.good.meets r.good.fits s h
+  absent (rail_node k i one) h = no_rail k i one h
+  absent (ack_node k) h = no_ack k h
+  absent (bit_node v i one) h = or_false (one_rule_fires (rule_in P x (bit_node v i one))) ∙ no_bit v i one h
+  absent (wrote_node v i) h = or_false (one_rule_fires (rule_in P x (wrote_node v i))) ∙ no_wrote v i h
+  absent (joint_node v k) h = or_false (one_rule_fires (rule_in P x (joint_node v k)))
+      ∙ joint_absent (var_width P.vars v) (x.wires.wrote v) (x.wires.joint v) k (let g : joint_count (var_width P.vars v) ≤ k = grind (arith, nat_tests) in g)
+
+  all_rest : ((n : Node P.body) → is_node P n ≡ true → enabled P script x n ≡ false) → (n : Node P.body) → can P script r.place x.wires x.histories n ≡ false
+  all_rest none n = sym (enabled_is P script r n) ∙ cases (is_node P n) (λ (h : is_node P n ≡ true). none n h) (λ (h : is_node P n ≡ false). absent n h)
+
+-- a state after one more move
+module _ (P : TypedProgram) (script : List OfferValue) (fitted : Fitted P script) {moves : ℕ} {x : Whole P.body} (r : Reached P script moves x) where
+  present : (n : Node P.body) → enabled P script x n ≡ true → is_node P n ≡ true
+  present n e = cases (is_node P n) (λ (h : is_node P n ≡ true). h) (λ (h : is_node P n ≡ false). absurd (not_both (absent P script fitted r n h) e))
+
+  abbrev next_reached : (n : Node P.body) → enabled P script x n ≡ true → Reached P script (suc moves) (cells_moved P x n)
+  next_reached n e =
+      let y = next_of P script fitted x.histories r.good n (may P script r n e) in
+      record {
+        mode = y.mode;
+        place = y.to;
+        root = y.way r.root;
+        go = ap (λ b. go_after b n) r.go ∙ sym y.go;
+        same = ap (λ g. root_after P.body g n) r.same ∙ sym y.same;
+        good = y.good;
+        brought = arriving P script fitted x.histories r.good n (may P script r n e) r.brought;
+        followed = follows x.wires (guarded_writing (line_ack P x.wires) r.place)
+            (guarded_writing (line_ack P (wires_after x.wires n)) y.to) fitted r.followed r.brought (root_left (line_ack P (wires_after x.wires n)) y.to) n
+            (ack_may P script r n e) y.frees (circuit_due P y.to (wires_after x.wires n)) (due_fits P y.to (wires_after x.wires n)) (node_steps r.place n)
+            (λ stays. circuit_falls P script r.place x.wires x.histories r.good n r.root (present n e) (may P script r n e) y stays) (y.term r.root);
+      }
+
 stable : (P : TypedProgram) (script : List OfferValue) → Fitted P script → {moves : ℕ} (x : Whole P.body) → Reached P script moves x → (n m : Node P.body)
     → n ≢ m → enabled P script x n ≡ true → enabled P script x m ≡ true → enabled P script (cells_moved P x m) n ≡ true
 stable P script fitted x r n m ne hn hm =
     let y = next_of P script fitted x.histories r.good m (may P script r m hm) in
-    enabled_is P script (next_reached P script r fitted m hm) n ∙ y.keeps n ne (may P script r n hn)
+    enabled_is P script (next_reached P script fitted r m hm) n ∙ y.keeps n ne (may P script r n hn)
 
 safe : (P : TypedProgram) (script : List OfferValue) → Fitted P script → {moves : ℕ} (x : Whole P.body) → Reached P script moves x → IsSafe P script x
 safe P script fitted x r = record {
@@ -362,103 +461,13 @@ first_reached law P script fitted meets = record {
     heard_sited = λ c h u. absurd (cc h);
   };
   brought = none_arrives P script (first_cells P).histories (first_cells P).wires (λ k i one. refl);
-  followed = started P script fitted;
+  followed = started P script fitted (circuit_due P {m = idle} g_rests (first_cells P).wires) (let z = due_fits P {m = idle} g_rests (first_cells P).wires in omega (arith, z));
 }
 
 reach : TreesSettle → (P : TypedProgram) (script : List OfferValue) → Fitted P script → Meets P P.body → (moves : ℕ) (x : Whole P.body)
     → Reaches P script moves x → Reached P script moves x
 reach law P script fitted meets _ _ at_first = first_reached law P script fitted meets
-reach law P script fitted meets _ _ (by_move {k = k} {x = x} n run e) = next_reached P script (reach law P script fitted meets k x run) fitted n e
-
--- what isn't a node of the circuit doesn't move
-module _ (P : TypedProgram) (script : List OfferValue) (fitted : Fitted P script) {moves : ℕ} {x : Whole P.body} (r : Reached P script moves x) where
-  not_there : (i n : ℕ) → nat_lt i n ≡ false → i < n → ⊥
-  not_there i n h below = let g : nat_lt i n ≡ true = grind (arith, nat_tests) in cc (g, h)
-
-  no_rail : (k : Line) (i : ℕ) (one : Bool) → nat_lt i (line_width P k) ≡ false → enabled P script x (rail_node k i one) ≡ false
-  no_rail k i one h = enabled_is P script r (rail_node k i one) ∙ neither (sent_turns P x.wires k i one ((guarded_shown r.place).offer k i one))
-      (driven P script x.wires x.histories k i one) sent (drive k h)
-    where
-      neither : (a b : Bool) → a ≡ false → b ≡ false → (a || b) ≡ false
-      neither a b e f = ap (λ z. z || b) e ∙ f
-
-      here : (v o : Bool) → x.wires.rail k i one ≡ v → (guarded_shown r.place).offer k i one ≡ o
-          → turns (x.wires.rail k i one) ((guarded_shown r.place).offer k i one) (not ((guarded_shown r.place).offer k i one)) ≡ false
-      here true o hv ho = absurd (not_there i (line_width P k) h (r.good.wide k i one hv))
-      here false true hv ho = absurd (not_there i (line_width P k) h (offered_below P script x.histories r.good k i one ho))
-      here false false hv ho = ap (λ v. turns v ((guarded_shown r.place).offer k i one) (not ((guarded_shown r.place).offer k i one))) hv ∙ ho
-
-      sent : sent_turns P x.wires k i one ((guarded_shown r.place).offer k i one) ≡ false
-      sent = ap (λ b. is_merged P k && b) (here (x.wires.rail k i one) ((guarded_shown r.place).offer k i one) refl refl) ∙ never_and (is_merged P k)
-
-      drive : (l : Line) → nat_lt i (line_width P l) ≡ false → driven P script x.wires x.histories l i one ≡ false
-      drive (of_var v) z = refl
-      drive (of_channel c) z = cases (driven P script x.wires x.histories (of_channel c) i one)
-          (λ (d : driven P script x.wires x.histories (of_channel c) i one ≡ true).
-          let o = gives_of (channel_width P.channels c) x.wires c (completed x.histories c) (offer_at script c) i one d in
-          let e : drives (channel_width P.channels c) x.wires c (slice_get o.0 (completed x.histories c)) i one ≡ true = sym
-          (ap (λ y. offers (channel_width P.channels c) x.wires c (completed x.histories c) y i one) o.1) ∙ d in
-          absurd (not_there i (channel_width P.channels c) z (cases (x.wires.ack c)
-          (λ (a : x.wires.ack c ≡ true).
-          r.good.wide (of_channel c) i one (sym (ap (λ b. if b then x.wires.rail (of_channel c) i one else brings (channel_width P.channels c)
-          (slice_get o.0 (completed x.histories c)) i one && (not (x.wires.rail (of_channel c) i true) && not (x.wires.rail (of_channel c) i false))) a)
-          ∙ e))
-          (λ (a : x.wires.ack c ≡ false). brings_below (channel_width P.channels c) (slice_get o.0 (completed x.histories c)) i one
-          (drives_up (channel_width P.channels c) x.wires c (slice_get o.0 (completed x.histories c)) i one a e).0))))
-          (λ (d : driven P script x.wires x.histories (of_channel c) i one ≡ false). d)
-
-  no_bit : (v i : ℕ) (one : Bool) → nat_lt i (var_width P.vars v) ≡ false → one_rule_fires (bit_rule (x.wires.rail (of_var v)) (x.wires.bit v) i one) ≡ false
-  no_bit v i one h =
-      ap (λ b. if b then x.wires.rail (of_var v) i (not one) else x.wires.rail (of_var v) i one && not (x.wires.bit v i (not one)))
-      (cases (x.wires.bit v i one) (λ (e : x.wires.bit v i one ≡ true). absurd (not_there i (var_width P.vars v) h (r.good.no_bit v i one e)))
-      (λ (e : x.wires.bit v i one ≡ false). e))
-      ∙ ap (λ b. b && not (x.wires.bit v i (not one))) (low_rail P script r v i one (not_there i (var_width P.vars v) h))
-
-  no_wrote : (v i : ℕ) → nat_lt i (var_width P.vars v) ≡ false → one_rule_fires (wrote_rule (x.wires.rail (of_var v)) (x.wires.bit v) (x.wires.wrote v) i) ≡
-      false
-  no_wrote v i h =
-      ap (λ b. if b then not (x.wires.rail (of_var v) i true) && not (x.wires.rail (of_var v) i false) else
-      (x.wires.rail (of_var v) i true && x.wires.bit v i true) || (x.wires.rail (of_var v) i false && x.wires.bit v i false))
-      (cases (x.wires.wrote v i) (λ (e : x.wires.wrote v i ≡ true). absurd (not_there i (var_width P.vars v) h (r.good.no_wrote v i e)))
-      (λ (e : x.wires.wrote v i ≡ false). e))
-      ∙ (ap (λ b. (b && x.wires.bit v i true) || (x.wires.rail (of_var v) i false && x.wires.bit v i false))
-      (low_rail P script r v i true (not_there i (var_width P.vars v) h))
-      ∙ ap (λ b. b && x.wires.bit v i false) (low_rail P script r v i false (not_there i (var_width P.vars v) h)))
-
-  no_ack : (k : ℕ) → nat_lt k (length P.channels) ≡ false → enabled P script x (ack_node k) ≡ false
-  no_ack k h =
-      let out : length script ≤ k = let e = fitted.same in grind (arith, nat_tests) in
-      enabled_is P script r (ack_node k) ∙ (ap (λ b. b || answers (channel_width P.channels k) x.wires k (completed x.histories k) (offer_at script k))
-      (here (is_heard (kind_at P.channels k)) refl)
-      ∙ ap (answers (channel_width P.channels k) x.wires k (completed x.histories k)) (get_or-eq_default script nothing out))
-    where
-      deaf : (guarded_shown r.place).listen k ≡ true → ⊥
-      deaf z = not_there k (length P.channels) h (receives_within P P.body r.good.meets k (guarded_listens_receives r.place k z))
-
-      low_ack : is_heard (kind_at P.channels k) ≡ true → x.wires.ack k ≡ false
-      low_ack u = cases (x.wires.ack k) (λ (a : x.wires.ack k ≡ true). absurd (deaf (r.good.listen k u a))) (λ (a : x.wires.ack k ≡ false). a)
-
-      no_take : (guarded_shown r.place).take k ≡ false
-      no_take = cases ((guarded_shown r.place).take k) (λ (a : (guarded_shown r.place).take k ≡ true). absurd (deaf (guarded_takes_listens r.place k a)))
-          (λ (a : (guarded_shown r.place).take k ≡ false). a)
-
-      here : (b : Bool) → is_heard (kind_at P.channels k) ≡ b → (b && turns (x.wires.ack k) ((guarded_shown r.place).take k)
-          (not ((guarded_shown r.place).take k))) ≡ false
-      here false u = refl
-      here true u = ap (λ a. turns a ((guarded_shown r.place).take k) (not ((guarded_shown r.place).take k))) (low_ack u) ∙ no_take
-
-  absent : (n : Node P.body) → is_node P n ≡ false → enabled P script x n ≡ false
-  absent go_node h = absurd (cc h)
-  absent (own_node s) h = enabled_is P script r (own_node s) ∙ guarded_absent P (wires_seen P x.wires) (clean_of r.good) r.place r.good.meets r.good.fits s h
-  absent (rail_node k i one) h = no_rail k i one h
-  absent (ack_node k) h = no_ack k h
-  absent (bit_node v i one) h = or_false (one_rule_fires (rule_in P x (bit_node v i one))) ∙ no_bit v i one h
-  absent (wrote_node v i) h = or_false (one_rule_fires (rule_in P x (wrote_node v i))) ∙ no_wrote v i h
-  absent (joint_node v k) h = or_false (one_rule_fires (rule_in P x (joint_node v k)))
-      ∙ joint_absent (var_width P.vars v) (x.wires.wrote v) (x.wires.joint v) k (let g : joint_count (var_width P.vars v) ≤ k = grind (arith, nat_tests) in g)
-
-  all_rest : ((n : Node P.body) → is_node P n ≡ true → enabled P script x n ≡ false) → (n : Node P.body) → can P script r.place x.wires x.histories n ≡ false
-  all_rest none n = sym (enabled_is P script r n) ∙ cases (is_node P n) (λ (h : is_node P n ≡ true). none n h) (λ (h : is_node P n ≡ false). absent n h)
+reach law P script fitted meets _ _ (by_move {k = k} {x = x} n run e) = next_reached P script fitted (reach law P script fitted meets k x run) n e
 
 carried : (P : TypedProgram) (script : List OfferValue) → Fitted P script → {moves : ℕ} (x : Whole P.body) → Reached P script moves x
     → IsCarried P script moves x
@@ -467,6 +476,7 @@ carried P script fitted x r = record {
   to = r.followed.to;
   steps = r.followed.steps;
   within = r.followed.within;
+  paid = (let z = r.followed.paid in omega (arith, z));
   leads = r.followed.leads;
   passed = r.followed.passed;
   rest = λ none.
@@ -478,13 +488,17 @@ carried P script fitted x r = record {
       };
 }
 
-pub circuits_carry : TreesSettle → ExpressionsHold → CircuitsCarry
-circuits_carry law hold P is script s moves x run =
+-- each state that is reached stands somewhere
+pub reached : TreesSettle → ExpressionsHold → (P : TypedProgram) → IsPlain P → (script : List OfferValue) → IsScript P.channels script → (moves : ℕ)
+    (x : Whole P.body) → Reaches P script moves x → Reached P script moves x
+reached law hold P is script s moves x run =
     let there = meets law hold P (var_bits P.vars is.sized.each_var) P.body unshared is.sized.body_is is.plain in
-    let fitted = fits P script is.sized s in
-    carried P script fitted x (reach law P script fitted there moves x run)
+    reach law P script (fits P script is.sized s) there moves x run
   where
     unshared : (a b : Occurrence) → Parallel P.body a b → ¬ Clash a.deed b.deed
     unshared a b h (inl c) = is.unshared.sends a b h c
     unshared a b h (inr (inl c)) = is.unshared.variables a b h c
     unshared a b h (inr (inr c)) = is.unshared.receives a b h c
+
+pub circuits_carry : TreesSettle → ExpressionsHold → CircuitsCarry
+circuits_carry law hold P is script s moves x run = carried P script (fits P script is.sized s) x (reached law hold P is script s moves x run)

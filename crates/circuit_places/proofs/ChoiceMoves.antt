@@ -1,5 +1,5 @@
 -- The core's moves, as those of a selection and of a guarded repetition among other statements.
-use Rattle.std.proofs.Common.{◌≡◌, ◌≢◌, ℕ, Bool, true, false, List, [], ◌∷◌, refl, sym, ap, ◌∙◌, subst, inl, inr}
+use Rattle.std.proofs.Common.{◌≡◌, ◌≢◌, ℕ, Bool, true, false, refl, sym, ap, ◌∙◌, subst, inl}
 use Rattle.std.proofs.Math.Path.{fun_ext}
 use Rattle.function_blocks.specs.Rails.{number_on}
 use Rattle.width_check.specs.Processes.{Formula, Process, choosing, no_members, and_member, Choices, and_choice, choice_count, TypedProgram}
@@ -9,10 +9,11 @@ use Rattle.circuit_places.specs.Lines.{Line, of_channel, of_var, Seen}
 use Rattle.circuit_places.specs.Heads.{Index, under}
 use Rattle.circuit_places.specs.Cores.{OwnSpot, RoundSpot}
 use Rattle.circuit_places.specs.Circuit.{Cells, GuardCells, ChoiceCells, low, low_choices, choice_answers, GuardSpot, Spot, ChoiceSpot, this_choice, other_choice, of_core, of_guard, of_choice, of_round, guards_read, heads, choice_rule, flipped, turned_choice}
-use Rattle.circuit_places.proofs.CoreControl.{Mode, idle, running, answered, returning, isnt_running, uncalled, called, evaluating, latched, leaving, Way, Closing}
-use Rattle.circuit_places.proofs.CoreMoves.{Guards, Branches, Begun, Lowered, Stepped, Story, CoreAt, in_control, in_branch, CoreSpot, own, guard, branch, core_cells, core_leave, core_moves, core_turned, CoreFits, core_shown, core_left, CoreStep, stays, chooses, ends, goes_on, CoreAfter, own_after, guard_after, branch_after}
-use Rattle.circuit_places.proofs.AgainMoves.{AgainAt, again_rests, turning, closing, AgainSpot, round, in_core, again_cells, again_turned, again_moves, AgainFits, again_shown, again_left, AgainAfter, again_core, round_after, closing_after}
+use Rattle.circuit_places.proofs.CoreControl.{Mode, idle, running, answered, isnt_running, uncalled, called, evaluating, latched, leaving, Way, Closing}
+use Rattle.circuit_places.proofs.CoreMoves.{core_steps, Guards, Branches, Begun, Lowered, Stepped, Story, CoreAt, in_control, in_branch, CoreSpot, own, guard, branch, core_cells, core_leave, core_moves, core_turned, CoreFits, core_shown, core_left, CoreStep, stays, chooses, ends, goes_on, CoreAfter, own_after, guard_after, branch_after}
+use Rattle.circuit_places.proofs.AgainMoves.{again_steps, AgainAt, again_rests, turning, closing, AgainSpot, round, in_core, again_cells, again_turned, again_moves, AgainFits, again_shown, again_left, AgainAfter, again_core, round_after, closing_after}
 use Rattle.circuit_places.proofs.GuardWaves.{guards_of}
+use Rattle.circuit_places.proofs.Stepping.{steps, chosen_steps}
 use Rattle.circuit_places.proofs.Opens.{open_alone, open_none}
 use Rattle.circuit_places.proofs.Places.{At, rests, at_choice, at_turning, at_closing, ChoiceAt, control_at, inside_at, ChosenAt, this_one, another, chosen_index, choice_leave, cells, choice_cells, chosen_cells, Shown, none_shown, guards_shown, shown, choice_shown, chosen_shown, writing, choice_writing, chosen_writing, Fits, ChoiceFits, ChosenFits, moves, chosen_moves, low_choice_answers, low_choice_quiet, chosen_answers, chosen_can_is}
 use Rattle.circuit_places.proofs.Apart.{low_choice_apart, chosen_apart}
@@ -60,6 +61,7 @@ choice_branches P env clean choices = record {
   index = λ {k} a. chosen_index a;
   cells = λ {k} a. chosen_cells a;
   moves = λ {k} a. chosen_moves env a;
+  steps = λ {k} a. chosen_steps a;
   Fits = λ {k} a. ChosenFits a env;
   shown = λ {k} a. chosen_told env.ack a;
   none = nothing_told;
@@ -68,7 +70,7 @@ choice_branches P env clean choices = record {
   left = λ {k} a. chosen_left env.ack a;
   over = finished;
   opened = λ i. opened (body_at choices i);
-  Follows = λ z x y. Follows (ToldBy env z.0.read) x y;
+  Follows = λ b z x y. Follows (ToldBy env z.0.read) b x y;
   low_answers = low_choice_answers choices;
   low_quiet = low_choice_quiet choices env;
   low_apart = low_choice_apart choices env;
@@ -126,17 +128,17 @@ module _ (P : TypedProgram) (env : Seen) (clean : Clean P env) (choices : Choice
         → number_on (var_width P.vars x) (env.bit x) ≡ store x
     agreed store agree x h = ap (λ n. number_on n (env.bit x)) (sym (clean.wide (of_var x))) ∙ agree x (within x h)
 
-  step_follows : (again : Bool) (z : Told) (x y : Term) → CoreStep again Waves Kids (story again choices) z x y → Follows (ToldBy env z.0.read) x y
-  step_follows again z x _ stays = inl refl
-  step_follows again z _ _ (chooses e i g f a) = here_follows (choosing again choices) (branch_term again choices (opened (body_at choices i)))
+  step_follows : (again : Bool) (z : Told) (b : Bool) (x y : Term) → CoreStep again Waves Kids (story again choices) z b x y → Follows (ToldBy env z.0.read) b x y
+  step_follows again z b x _ (stays e) = inl (e, refl)
+  step_follows again z b _ _ (chooses e i g f a) = here_follows b (choosing again choices) (branch_term again choices (opened (body_at choices i)))
       (it_chooses i (λ store agree. open_alone P env.bit clean.single store choices laws
       (agreed z.0.read (λ v h. ap (λ (w : Told). w.0.read v) e ∙ h) store agree) g f i a))
-  step_follows true z _ _ (ends e t g f o) = here_follows (choosing true choices) finished
+  step_follows true z b _ _ (ends e t g f o) = here_follows b (choosing true choices) finished
       (it_ends (λ store agree. open_none P env.bit clean.single store choices laws
       (agreed z.0.read (λ v h. ap (λ (w : Told). w.0.read v) e ∙ h) store agree) g f o))
-  step_follows false z _ _ (ends e t g f o) = absurd (cc t)
-  step_follows false z _ _ (goes_on s t r) = r
-  step_follows true z _ _ (goes_on s t r) = followed_follows (ToldBy env z.0.read) (and_member (choosing true choices) no_members) s t r
+  step_follows false z b _ _ (ends e t g f o) = absurd (cc t)
+  step_follows false z b _ _ (goes_on s t r) = r
+  step_follows true z b _ _ (goes_on s t r) = followed_follows (ToldBy env z.0.read) (and_member (choosing true choices) no_members) b s t r
 
   cells_back : {again : Bool} {m : Mode} (x : Core again m) → choice_cells (choice_at x) ≡ core_cells Waves Kids x
   cells_back (in_control c) = refl
@@ -184,6 +186,14 @@ module _ (P : TypedProgram) (env : Seen) (clean : Clean P env) (choices : Choice
   again_moves_back (in_branch a w) (guard q) = refl
   again_moves_back (in_branch a w) (branch s) = refl
 
+  steps_back : {m : Mode} (x : Core false m) (p : CSpot) → steps (at_choice (choice_at x)) (spot_at false p) ≡ core_steps Waves Kids x p
+  steps_back (in_control c) (own s) = refl
+  steps_back (in_control c) (guard q) = refl
+  steps_back (in_control c) (branch s) = refl
+  steps_back (in_branch a w) (own s) = refl
+  steps_back (in_branch a w) (guard q) = refl
+  steps_back (in_branch a w) (branch s) = refl
+
   -- each spot of a selection is one of its core
   data Spotted : Spot (choosing false choices) → Type 0 where
     spotted : (p : CSpot) → Spotted (spot_at false p)
@@ -203,9 +213,10 @@ module _ (P : TypedProgram) (env : Seen) (clean : Clean P env) (choices : Choice
     flows_back : Flows env x y → Flows env a b
     flows_back f = subst (λ (z : Told). Flows env z b) (sym p) (subst (λ (z : Told). Flows env x z) (sym q) f)
 
-    follows_back : (s t l r : Term) → s ≡ l → t ≡ r → Follows (ToldBy env x.0.read) l r → Follows (ToldBy env a.0.read) s t
-    follows_back s t l r e h f = subst (λ (z : Told). Follows (ToldBy env z.0.read) s t) (sym p)
-        (subst (λ (z : Term). Follows (ToldBy env x.0.read) z t) (sym e) (subst (λ (z : Term). Follows (ToldBy env x.0.read) l z) (sym h) f))
+    follows_back : (c d : Bool) → c ≡ d → (s t l r : Term) → s ≡ l → t ≡ r → Follows (ToldBy env x.0.read) d l r → Follows (ToldBy env a.0.read) c s t
+    follows_back c d u s t l r e h f = subst (λ (z : Told). Follows (ToldBy env z.0.read) c s t) (sym p)
+        (subst (λ (z : Term). Follows (ToldBy env x.0.read) c z t) (sym e) (subst (λ (z : Term). Follows (ToldBy env x.0.read) c l z) (sym h)
+        (subst (λ (z : Bool). Follows (ToldBy env x.0.read) z l r) (sym u) f)))
 
   pub choice_after : {m : Mode} (x : Core false m) (s : CSpot) → CoreAfter Waves Kids (story false choices) x s
       → After (choosing false choices) m env (at_choice (choice_at x)) (spot_at false s)
@@ -219,7 +230,8 @@ module _ (P : TypedProgram) (env : Seen) (clean : Clean P env) (choices : Choice
         way = r.way;
         fits = fits_back r.to r.fits;
         flow = flows.0;
-        term = follows_back (told_back x) (told_back r.to) _ _ _ _ (left_back x) (left_back r.to) (step_follows false _ _ _ r.term);
+        term = follows_back (told_back x) (told_back r.to) _ _ (steps_back x s) _ _ _ _ (left_back x) (left_back r.to)
+            (step_follows false _ _ _ _ r.term);
         frees = flows.1;
         keeps = λ q ne e. keeps q (spot_of q) ne e;
       }
@@ -288,6 +300,24 @@ module _ (P : TypedProgram) (env : Seen) (clean : Clean P env) (choices : Choice
   again_all_back (closing c) (in_core (guard q)) = refl
   again_all_back (closing c) (in_core (branch s)) = refl
 
+  again_steps_back : {m : Mode} (x : Again m) (p : ASpot) → steps (again_at x) (again_spot p) ≡ again_steps Waves Kids x p
+  again_steps_back again_rests (round t) = refl
+  again_steps_back again_rests (in_core (own s)) = refl
+  again_steps_back again_rests (in_core (guard q)) = refl
+  again_steps_back again_rests (in_core (branch s)) = refl
+  again_steps_back (turning (in_control c)) (round t) = refl
+  again_steps_back (turning (in_branch a w)) (round t) = refl
+  again_steps_back (turning (in_control c)) (in_core (own s)) = refl
+  again_steps_back (turning (in_control c)) (in_core (guard q)) = refl
+  again_steps_back (turning (in_control c)) (in_core (branch s)) = refl
+  again_steps_back (turning (in_branch a w)) (in_core (own s)) = refl
+  again_steps_back (turning (in_branch a w)) (in_core (guard q)) = refl
+  again_steps_back (turning (in_branch a w)) (in_core (branch s)) = refl
+  again_steps_back (closing c) (round t) = refl
+  again_steps_back (closing c) (in_core (own s)) = refl
+  again_steps_back (closing c) (in_core (guard q)) = refl
+  again_steps_back (closing c) (in_core (branch s)) = refl
+
   pub again_after : {m : Mode} (x : Again m) (s : ASpot) → AgainAfter Waves Kids (story true choices) x s
       → After (choosing true choices) m env (again_at x) (again_spot s)
   again_after x s r =
@@ -300,7 +330,8 @@ module _ (P : TypedProgram) (env : Seen) (clean : Clean P env) (choices : Choice
         way = r.way;
         fits = again_fits_back r.to r.fits;
         flow = flows.0;
-        term = follows_back (again_told_back x) (again_told_back r.to) _ _ _ _ (again_left_back x) (again_left_back r.to) (step_follows true _ _ _ r.term);
+        term = follows_back (again_told_back x) (again_told_back r.to) _ _ (again_steps_back x s) _ _ _ _ (again_left_back x) (again_left_back r.to)
+            (step_follows true _ _ _ _ r.term);
         frees = flows.1;
         keeps = λ q ne e. keeps q (again_spot_of q) ne e;
       }

@@ -1,13 +1,14 @@
 -- Own moves of Q-elements, sequences and loops; and of every statement.
-use Rattle.std.proofs.Common.{◌≡◌, ◌≢◌, ℕ, Bool, true, false, List, refl, sym, ap, ◌∙◌, subst, inl}
-use Rattle.std.specs.Prelude.{not, ◌&&◌, if◌then◌else◌}
-use Rattle.width_check.specs.Processes.{Process, in_turn, repeating, side_by_side, Processes, no_members, and_member, TypedProgram, Choices, choosing, choice_count, and_choice}
-use Rattle.chp_meaning.specs.Terms.{Term, finished, opened, followed}
+use Rattle.std.proofs.Common.{◌≡◌, ◌≢◌, ℕ, Bool, true, false, List, refl, sym, ap, ◌∙◌, subst, inl, inr}
+use Rattle.std.specs.Prelude.{not, ◌&&◌, if◌then◌else◌, Some}
+use Rattle.width_check.specs.Processes.{Process, in_turn, repeating, side_by_side, Processes, no_members, and_member, TypedProgram, Choices}
+use Rattle.chp_meaning.specs.Terms.{Term, finished, opened, followed, statement_at}
 use Rattle.circuit_places.specs.Lines.{of_channel, Seen, Line}
 use Rattle.circuit_places.specs.Circuit.{low_guarded, low, low_turn, GuardedSpot, Spot, TurnSpot, BranchSpot, child, latch, next, inner, of_assign, of_send, of_receive, in_members, of_branch, joint, in_this, in_others, of_loop, ask, in_body, in_last, in_member, in_later, turned_guarded, turned_turn, ChoiceSpot, this_choice, other_choice, of_core, of_guard, of_choice, of_round}
-use Rattle.circuit_places.proofs.Places.{Mode, idle, running, answered, returning, asks, acks, inner_may, link, GuardedAt, At, TurnAt, BranchesAt, g_rests, g_in, g_past, g_back, rests, at_skip, at_assign, at_send, at_receive, at_turn, at_side, at_body, no_more, and_at, turn_rests, at_last, at_member, at_later, guarded_of, ring_of, turn_of, guarded_cells, cells, turn_cells, Shown, none_shown, guarded_shown, shown, turn_shown, branches_shown, GuardedFits, Fits, TurnFits, BranchesFit, guarded_writing, turn_writing, guarded_moves, moves, turn_moves, branch_moves, at_choice, at_turning, at_closing, ChoiceAt, control_at, inside_at, ChosenAt, this_one, another, chosen_shown, ChosenFits, chosen_moves}
-use Rattle.circuit_places.proofs.Meets.{Meets, TurnMeets, EachMeets, sends, turn_sends, receives, each_receives, GuardsMeet, ChoiceMeets, choice_sends, choice_receives}
-use Rattle.circuit_places.proofs.Left.{inner_left, again, guarded_left, left, turn_left, Follows, followed_follows, loop_follows, left_done, turn_left_done, guarded_left_past, writing_done, turn_writing_done, guarded_writing_done, ToldBy}
+use Rattle.circuit_places.proofs.Places.{Mode, idle, running, answered, returning, asks, acks, inner_may, link, GuardedAt, At, TurnAt, BranchesAt, g_rests, g_in, g_past, g_back, rests, at_skip, at_assign, at_send, at_receive, at_turn, at_side, at_body, no_more, and_at, turn_rests, at_last, at_member, at_later, guarded_of, ring_of, turn_of, guarded_cells, cells, turn_cells, Shown, none_shown, guarded_shown, shown, turn_shown, branches_shown, GuardedFits, Fits, TurnFits, BranchesFit, guarded_writing, turn_writing, guarded_moves, moves, turn_moves, branch_moves, at_choice, at_turning, at_closing, control_at, inside_at, ChosenAt, this_one, another, chosen_shown, ChosenFits, chosen_moves}
+use Rattle.circuit_places.proofs.Meets.{Meets, TurnMeets, EachMeets, sends, turn_sends, receives, each_receives, ChoiceMeets, choice_sends, choice_receives}
+use Rattle.circuit_places.proofs.Left.{Silent, inner_left, again, guarded_left, left, turn_left, Follows, followed_follows, loop_follows, left_done, turn_left_done, guarded_left_past, writing_done, turn_writing_done, guarded_writing_done, ToldBy}
+use Rattle.circuit_places.proofs.Stepping.{steps, guarded_steps, turn_steps}
 use Rattle.circuit_places.proofs.Flow.{goes, goes_asks, Flow, flow_same, flow_by, Clean, Backed, Quiet, low_of, quiet_of, After, GuardedAfter, TurnAfter, BranchAfter, or_left, or_right, not_both}
 use Rattle.circuit_places.proofs.Begin.{idle_is, turn_idle_is, guarded_idle_is, idle_moves, turn_idle_moves, guarded_idle_moves, guarded_past_is, answered_moves, turn_answered_moves, begun, turn_begun, lowered, turn_lowered, flow_begun, flow_then}
 use Rattle.circuit_places.proofs.Leaves.{skip_after, send_after, assign_after}
@@ -39,13 +40,20 @@ no_next true answered n h g e = cc e
 no_next true returning n h g e = cc e
 no_next false m n h g e = cc e
 
-inner_follows : (Told : Choices → List Process → Type 0) (u : Bool) (m n : Mode) (s x y : Term) → inner_may u m ≡ true → goes m n ≡ true
-    → ((n ≡ running → ⊥) → y ≡ finished) → Follows Told x y → Follows Told (inner_left u m s x) (inner_left u n s y)
-inner_follows Told false running running s x y h g over r = r
-inner_follows Told false running answered s x y h g over r = subst (λ (z : Term). Follows Told x z) (over (λ e. cc e)) r
-inner_follows Told true returning returning s x y h g over r = inl refl
-inner_follows Told true returning idle s x y h g over r = inl refl
-inner_follows Told _ _ _ s x y h g over r = absurd (cc (h, g))
+-- what has ended makes no step
+no_silent : {Told : Choices → List Process → Type 0} {x y : Term} → x ≡ finished → Silent Told x y → ⊥
+no_silent e s = let z : statement_at finished s.act.at ≡ Some s.statement = ap (λ t. statement_at t s.act.at) (sym e) ∙ s.act.stands in cc z
+
+inner_follows : (Told : Choices → List Process → Type 0) (step u : Bool) (m n : Mode) (s x y : Term) → inner_may u m ≡ true → goes m n ≡ true
+    → ((m ≡ running → ⊥) → x ≡ finished) → ((n ≡ running → ⊥) → y ≡ finished) → Follows Told step x y
+    → Follows Told step (inner_left u m s x) (inner_left u n s y)
+inner_follows Told step false running running s x y h g was over r = r
+inner_follows Told step false running answered s x y h g was over r = subst (λ (z : Term). Follows Told step x z) (over (λ e. cc e)) r
+inner_follows Told step true returning returning s x y h g was over (inl e) = inl (e.0, refl)
+inner_follows Told step true returning returning s x y h g was over (inr z) = absurd (no_silent (was (λ e. cc e)) z)
+inner_follows Told step true returning idle s x y h g was over (inl e) = inl (e.0, refl)
+inner_follows Told step true returning idle s x y h g was over (inr z) = absurd (no_silent (was (λ e. cc e)) z)
+inner_follows Told _ _ _ _ s x y h g was over r = absurd (cc (h, g))
 
 -- a move inside a Q-element
 module _ {p : Process} {m : Mode} (env : Seen) (u : Bool) (a : At p m) (h : inner_may u m ≡ true) (s : Spot p) (r : After p m env a s) where
@@ -65,8 +73,8 @@ module _ {p : Process} {m : Mode} (env : Seen) (u : Bool) (a : At p m) (h : inne
     fits = r.fits;
     flow = r.flow;
     frees = r.frees;
-    term = inner_follows (ToldBy env (shown a).read) u m r.mode (opened p) (left env.ack a) (left env.ack r.to) h r.way
-        (λ (e : r.mode ≡ running → ⊥). left_done env.ack r.to e) r.term;
+    term = inner_follows (ToldBy env (shown a).read) (steps a s) u m r.mode (opened p) (left env.ack a) (left env.ack r.to) h r.way
+        (λ (e : m ≡ running → ⊥). left_done env.ack a e) (λ (e : r.mode ≡ running → ⊥). left_done env.ack r.to e) r.term;
     keeps = inner_keeps;
   }
 
@@ -83,7 +91,7 @@ module _ (P : TypedProgram) {p : Process} (env : Seen) (clean : Clean P env) (me
         fits = b.fits;
         flow = flow_begun env (shown a) (shown b.place) (idle_is a).1 b.offer b.take;
         frees = λ x i. writing_done env.ack a (λ e. cc e) x;
-        term = inl b.term;
+        term = inl (refl, b.term);
         keeps = keeps b.place;
       }
     where
@@ -104,7 +112,7 @@ module _ (P : TypedProgram) {p : Process} (env : Seen) (clean : Clean P env) (me
         fits = b.fits;
         flow = flow_by env (shown a) (shown a) (shown b.place) (sym b.shows) (flow_same env (shown a));
         frees = λ x i. writing_done env.ack a (λ e. cc e) x;
-        term = inl refl;
+        term = inl (refl, refl);
         keeps = keeps b.place;
       }
     where
@@ -123,7 +131,7 @@ module _ (P : TypedProgram) {p : Process} (env : Seen) (clean : Clean P env) (me
     fits = f;
     flow = flow_same env
         (shown a);
-    term = inl refl;
+    term = inl (refl, refl);
     frees = λ x i. i;
     keeps = keeps;
   }
@@ -143,7 +151,7 @@ module _ (P : TypedProgram) {p : Process} (env : Seen) (clean : Clean P env) (me
     fits = tt;
     flow = flow_by env (shown a) (shown a) none_shown (idle_is a).1 (flow_same env (shown a));
     frees = λ x i. writing_done env.ack a (λ e. cc e) x;
-    term = inl refl;
+    term = inl (refl, refl);
     keeps = keeps;
   }
     where
@@ -161,7 +169,7 @@ module _ (P : TypedProgram) {p : Process} (env : Seen) (clean : Clean P env) (me
     way = refl;
     fits = tt;
     flow = flow_same env none_shown;
-    term = inl refl;
+    term = inl (refl, refl);
     frees = λ x i. refl;
     keeps = keeps;
   }
@@ -180,7 +188,7 @@ module _ (P : TypedProgram) {p : Process} (env : Seen) (clean : Clean P env) (me
     way = refl;
     fits = tt;
     flow = flow_same env none_shown;
-    term = inl refl;
+    term = inl (refl, refl);
     frees = λ x i. refl;
     keeps = keeps;
   }
@@ -224,7 +232,7 @@ module _ (P : TypedProgram) {p q : Process} {more : Processes} (env : Seen) wher
       hands_on to b keeps (in_later x) ne z = absurd (cc z)
 
       by_mode : (m : Mode) (to : GuardedAt p m) → guarded_cells to ≡ turned_guarded p (guarded_cells g) s → goes running m ≡ true → GuardedFits to env
-          → Flow env (guarded_shown g) (guarded_shown to) → Follows (ToldBy env (guarded_shown g).read) (guarded_left env.ack g) (guarded_left env.ack to)
+          → Flow env (guarded_shown g) (guarded_shown to) → Follows (ToldBy env (guarded_shown g).read) (guarded_steps g s) (guarded_left env.ack g) (guarded_left env.ack to)
           → ((x : ℕ) → guarded_writing env.ack to x ≡ false → guarded_writing env.ack g x ≡ false)
           → ((x : GuardedSpot p) → x ≢ s → guarded_moves env g x ≡ true → guarded_moves env to x ≡ true)
           → TurnAfter (and_member p (and_member q more)) running env (at_member {q = q} {more = more} g) (in_member s)
@@ -236,7 +244,7 @@ module _ (P : TypedProgram) {p q : Process} {more : Processes} (env : Seen) wher
         fits = fits;
         flow = flow;
         frees = frees;
-        term = followed_follows (ToldBy env (guarded_shown g).read) (and_member q more) (guarded_left env.ack g) (guarded_left env.ack to) term;
+        term = followed_follows (ToldBy env (guarded_shown g).read) (and_member q more) (guarded_steps g s) (guarded_left env.ack g) (guarded_left env.ack to) term;
         keeps = stays to keeps;
       }
       by_mode answered to same way fits flow term frees keeps =
@@ -256,11 +264,11 @@ module _ (P : TypedProgram) {p q : Process} {more : Processes} (env : Seen) wher
             fits = b.fits;
             flow = flow_then env (guarded_shown g) (guarded_shown to) (turn_shown b.place) gone b.offer b.take flow;
             frees = λ x i. frees x (guarded_writing_done env.ack to (λ e. cc e) x);
-            term = subst (λ (z : Term). Follows (ToldBy env (guarded_shown g).read) (followed (guarded_left env.ack g) (and_member q more)) z) (sym b.term)
-                (subst (λ (z : Term). Follows (ToldBy env (guarded_shown g).read) (followed (guarded_left env.ack g) (and_member q more))
+            term = subst (λ (z : Term). Follows (ToldBy env (guarded_shown g).read) (guarded_steps g s) (followed (guarded_left env.ack g) (and_member q more)) z) (sym b.term)
+                (subst (λ (z : Term). Follows (ToldBy env (guarded_shown g).read) (guarded_steps g s) (followed (guarded_left env.ack g) (and_member q more))
                 (followed z (and_member q more)))
                 (guarded_left_past env.ack to)
-                (followed_follows (ToldBy env (guarded_shown g).read) (and_member q more) (guarded_left env.ack g) (guarded_left env.ack to) term));
+                (followed_follows (ToldBy env (guarded_shown g).read) (and_member q more) (guarded_steps g s) (guarded_left env.ack g) (guarded_left env.ack to) term));
             keeps = hands_on to b.place keeps;
           }
       by_mode idle to same way fits flow term frees keeps = absurd (cc way)
@@ -290,7 +298,7 @@ linked _ _ _ _ h g = absurd (cc h)
 later_after : {p q : Process} {more : Processes} {k n m : Mode} (env : Seen) (g : GuardedAt p k) (t : TurnAt (and_member q more) n) (h : link m k n ≡ true)
     (s : TurnSpot (and_member q more))
     → (d : Mode) (to : TurnAt (and_member q more) d) → turn_cells to ≡ turned_turn (and_member q more) (turn_cells t) s → Linked m k n d → TurnFits to env
-    → Flow env (turn_shown t) (turn_shown to) → Follows (ToldBy env (turn_shown t).read) (turn_left env.ack t) (turn_left env.ack to)
+    → Flow env (turn_shown t) (turn_shown to) → Follows (ToldBy env (turn_shown t).read) (turn_steps t s) (turn_left env.ack t) (turn_left env.ack to)
     → ((x : ℕ) → turn_writing env.ack to x ≡ false → turn_writing env.ack t x ≡ false)
     → ((x : TurnSpot (and_member q more)) → x ≢ s → turn_moves env t x ≡ true → turn_moves env to x ≡ true)
     → TurnAfter (and_member p (and_member q more)) m env (at_later g t h) (in_later s)
@@ -351,7 +359,7 @@ later_after {p = p} {q = q} {more = more} env g t h s idle to same comes_home fi
   fits = tt;
   flow = flow_by env (turn_shown t) (turn_shown to) none_shown (turn_idle_is to).1 flow;
   frees = λ x i. frees x (turn_writing_done env.ack to (λ e. cc e) x);
-  term = subst (λ (z : Term). Follows (ToldBy env (turn_shown t).read) (turn_left env.ack t) z) (turn_left_done env.ack to (λ e. cc e)) term;
+  term = subst (λ (z : Term). Follows (ToldBy env (turn_shown t).read) (turn_steps t s) (turn_left env.ack t) z) (turn_left_done env.ack to (λ e. cc e)) term;
   keeps = here;
 }
   where
@@ -382,7 +390,7 @@ behind_after P {p = p} {q = q} {more = more} {n = answered} {m = returning} env 
   fits = f;
   flow = flow_same env (turn_shown t);
   frees = λ x i. i;
-  term = inl refl;
+  term = inl (refl, refl);
   keeps = here t;
 }
   where
@@ -404,7 +412,7 @@ behind_after P {p = p} {q = q} {more = more} {n = answered} {m = returning} env 
       fits = b.fits;
       flow = flow_by env (turn_shown t) (turn_shown t) (turn_shown b.place) (sym b.shows) (flow_same env (turn_shown t));
       frees = λ x i. turn_writing_done env.ack t (λ e. cc e) x;
-      term = inl (turn_left_done env.ack b.place (λ e. cc e) ∙ sym (turn_left_done env.ack t (λ e. cc e)));
+      term = inl (refl, turn_left_done env.ack b.place (λ e. cc e) ∙ sym (turn_left_done env.ack t (λ e. cc e)));
       keeps = here t f b.place;
     }
   where
@@ -443,7 +451,7 @@ body_after {p = p} {m = m} env a s r = record {
   fits = r.fits;
   flow = r.flow;
   frees = r.frees;
-  term = followed_follows (ToldBy env (shown a).read) (again p) (left env.ack a) (left env.ack r.to) r.term;
+  term = followed_follows (ToldBy env (shown a).read) (again p) (steps a s) (left env.ack a) (left env.ack r.to) r.term;
   keeps = here;
 }
   where
@@ -483,7 +491,7 @@ ask_after P {p = p} {m = answered} env clean meets a f back e =
       fits = b.fits;
       flow = flow_by env (shown a) (shown a) (shown b.place) (sym b.shows) (flow_same env (shown a));
       frees = λ x i. writing_done env.ack a (λ e. cc e) x;
-      term = inl (ap (λ z. followed z (again p)) (left_done env.ack b.place (λ e. cc e) ∙ sym (left_done env.ack a (λ e. cc e))));
+      term = inl (refl, ap (λ z. followed z (again p)) (left_done env.ack b.place (λ e. cc e) ∙ sym (left_done env.ack a (λ e. cc e))));
       keeps = here a f b.place;
     }
   where

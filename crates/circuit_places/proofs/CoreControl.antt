@@ -158,6 +158,15 @@ module _ {again : Bool} {n : ℕ} {G : Type 0} {heads : G → Pairs n} where
   turning_moves (leaving y l g h) of_answer = all_neutral n (heads g)
   turning_moves _ _ = false
 
+  -- and which of their moves are steps: the rise of a latch, and of the latch of the end
+  abbrev pub control_steps : {m : Mode} → Control again n G heads m → OwnSpot n → Bool
+  control_steps (evaluating g) (of_latch k) = true
+  control_steps _ _ = false
+
+  abbrev pub turning_steps : {m : Mode} → Control again n G heads m → RoundSpot → Bool
+  turning_steps (evaluating g) of_leave = true
+  turning_steps _ _ = false
+
   pub control_can_is : {m : Mode} {B : Type 0} (low : G) (b : B) → all_neutral n (heads low) ≡ true → (c : Control again n G heads m) (s : OwnSpot n)
       → one_rule_fires (core_rule (asks m) (control_leave c) (heads (control_guards low c)) (low_bits n) (control_cells low b c) s) ≡ control_moves c s
   control_can_is low b z uncalled of_joined = some_none n

@@ -5,7 +5,7 @@ use Rattle.function_blocks.specs.Rails.{Pairs, Rule, one_rule_fires, is_apart}
 use Rattle.circuit_places.specs.Heads.{Index, Bits, low_bits, bit_of, hot, nothing_true, all_neutral, all_valid, all_single, alone, told, over, below}
 use Rattle.circuit_places.specs.Cores.{Core, OwnSpot, of_joined, of_ask, of_any, of_latch, of_start, RoundSpot, of_answer, of_turn, of_leave, core_rule, turning_rule, turned_own, core_of, turning_of}
 use Rattle.circuit_places.proofs.HeadFacts.{fst_true, snd_true, both_true, hot_low, hot_is, hot_turned, hot_up, alone_told, over_false, false_valid, alone_valid, told_alone, told_falls, none_falls, neutral_alone, neutral_over, over_alone}
-use Rattle.circuit_places.proofs.CoreControl.{Mode, idle, running, answered, returning, asks, acks, goes, noted, spread, freed, lock_may, lock_alone, Control, uncalled, called, evaluating, latched, leaving, isnt_running, Way, works, worked, reported, letting, backs, control_leave, control_ask, control_guards, control_any, control_cells, control_moves, turning_moves, way_cells, way_moves, way_turning, control_can_is, turning_can_is, way_can_is, way_turning_is, core_apart, turning_apart}
+use Rattle.circuit_places.proofs.CoreControl.{control_steps, turning_steps, Mode, idle, running, answered, returning, asks, acks, goes, noted, spread, freed, lock_may, lock_alone, Control, uncalled, called, evaluating, latched, leaving, isnt_running, Way, works, worked, reported, letting, backs, control_leave, control_ask, control_guards, control_any, control_cells, control_moves, turning_moves, way_cells, way_moves, way_turning, control_can_is, turning_can_is, way_can_is, way_turning_is, core_apart, turning_apart}
 
 -- The guards as waves: under the request they become good and full, without it they empty. `good r` are the states under the
 -- request r.
@@ -44,6 +44,7 @@ pub record Branches (n : ℕ) (B C S T : Type 0) : Type 1 where
   pub index : {k : Mode} → At k → Index n
   pub cells : {k : Mode} → At k → B
   pub moves : {k : Mode} → At k → C → Bool
+  pub steps : {k : Mode} → At k → C → Bool
   pub Fits : {k : Mode} → At k → Type 0
   pub shown : {k : Mode} → At k → S
   pub none : S
@@ -52,7 +53,7 @@ pub record Branches (n : ℕ) (B C S T : Type 0) : Type 1 where
   pub left : {k : Mode} → At k → T
   pub over : T
   pub opened : Index n → T
-  pub Follows : S → T → T → Type 0
+  pub Follows : Bool → S → T → T → Type 0
   pub low_answers : answers low ≡ low_bits n
   pub low_quiet : (c : C) → one_rule_fires (rule (low_bits n) low c) ≡ false
   pub low_apart : (c : C) → is_apart (rule (low_bits n) low c) ≡ true
@@ -92,7 +93,7 @@ pub record Stepped {n : ℕ} {B C S T : Type 0} (K : Branches n B C S T) {k : Mo
   pub way : goes k mode ≡ true
   pub fits : K.Fits to
   pub flow : K.Flow (K.shown a) (K.shown to)
-  pub term : K.Follows (K.shown a) (K.left a) (K.left to)
+  pub term : K.Follows (K.steps a c) (K.shown a) (K.left a) (K.left to)
   pub keeps : (d : C) → d ≢ c → K.moves a d ≡ true → K.moves to d ≡ true
 
 -- what is left of the statement before it has chosen, where it has ended, and where this is left of its branch
@@ -137,6 +138,16 @@ module _ {again : Bool} {n : ℕ} {G Q B C S T : Type 0} (W : Guards n G Q) (K :
   core_moves (in_branch a w) (own s) = way_moves w (K.index a) s
   core_moves (in_branch a w) (branch c) = K.moves a c
   core_moves _ _ = false
+
+  -- which moves are steps
+  abbrev pub core_steps : {m : Mode} → CoreAt again n G W.heads K.At m → CoreSpot n Q C → Bool
+  core_steps (in_control c) (own s) = control_steps c s
+  core_steps (in_branch a w) (branch c) = K.steps a c
+  core_steps _ _ = false
+
+  abbrev pub core_round_steps : {m : Mode} → CoreAt again n G W.heads K.At m → RoundSpot → Bool
+  core_round_steps (in_control c) t = turning_steps c t
+  core_round_steps (in_branch a w) t = false
 
   abbrev pub core_turning : {m : Mode} → CoreAt again n G W.heads K.At m → RoundSpot → Bool
   core_turning (in_control c) s = turning_moves c s
@@ -215,12 +226,12 @@ module _ {again : Bool} {n : ℕ} {G Q B C S T : Type 0} (W : Guards n G Q) (K :
 
 -- How the statement goes on, where z is shown: not at all; it chooses the branch whose guard is true alone, or ends since all are false, both as
 -- the guards are found full under their request; or its branch goes on.
-pub data CoreStep (again : Bool) {n : ℕ} {G Q B C S T : Type 0} (W : Guards n G Q) (K : Branches n B C S T) (y : Story T) (z : S) : T → T → Type 0 where
-  stays : {s : T} → CoreStep again W K y z s s
+pub data CoreStep (again : Bool) {n : ℕ} {G Q B C S T : Type 0} (W : Guards n G Q) (K : Branches n B C S T) (y : Story T) (z : S) (step : Bool) : T → T → Type 0 where
+  stays : {s : T} → step ≡ false → CoreStep again W K y z step s s
   chooses : z ≡ K.reading true → (i : Index n) (g : G) → W.good true g ≡ true → alone i (W.heads g) ≡ true
-      → CoreStep again W K y z y.whole (y.wrap (K.opened i))
-  ends : z ≡ K.reading true → again ≡ true → (g : G) → W.good true g ≡ true → over n (W.heads g) ≡ true → CoreStep again W K y z y.whole y.gone
-  goes_on : (s t : T) → K.Follows z s t → CoreStep again W K y z (y.wrap s) (y.wrap t)
+      → CoreStep again W K y z step y.whole (y.wrap (K.opened i))
+  ends : z ≡ K.reading true → again ≡ true → (g : G) → W.good true g ≡ true → over n (W.heads g) ≡ true → CoreStep again W K y z step y.whole y.gone
+  goes_on : (s t : T) → K.Follows step z s t → CoreStep again W K y z step (y.wrap s) (y.wrap t)
 
 goes_back : (d : Mode) → goes returning d ≡ true → (asks d ≡ false) × (isnt_running d ≡ true)
 goes_back returning e = (refl, refl)
@@ -246,7 +257,7 @@ module _ {again : Bool} {n : ℕ} {G Q B C S T : Type 0} (W : Guards n G Q) (K :
     pub leave : core_leave W K to ≡ core_leave W K x
     pub fits : CoreFits W K to
     pub flow : K.Flow (core_shown W K x) (core_shown W K to)
-    pub term : CoreStep again W K y (core_shown W K x) (core_left W K y x) (core_left W K y to)
+    pub term : CoreStep again W K y (core_shown W K x) (core_steps W K x s) (core_left W K y x) (core_left W K y to)
     pub keeps : (p : CoreSpot n Q C) → p ≢ s → core_moves W K x p ≡ true → core_moves W K to p ≡ true
     pub turns : (t : RoundSpot) → core_turning W K x t ≡ true → core_turning W K to t ≡ true
 
@@ -266,7 +277,7 @@ module _ {again : Bool} {n : ℕ} {G Q B C S T : Type 0} (W : Guards n G Q) (K :
     leave = refl;
     fits = W.begins true;
     flow = K.flow_reading _ _;
-    term = stays;
+    term = stays refl;
     keeps = keeps;
     turns = turns;
   }
@@ -329,7 +340,7 @@ module _ {again : Bool} {n : ℕ} {G Q B C S T : Type 0} (W : Guards n G Q) (K :
     leave = refl;
     fits = f;
     flow = K.flow_reading _ _;
-    term = stays;
+    term = stays refl;
     keeps = keeps;
     turns = λ t e. absurd (cc e);
   }
@@ -353,7 +364,7 @@ module _ {again : Bool} {n : ℕ} {G Q B C S T : Type 0} (W : Guards n G Q) (K :
     leave = refl;
     fits = f;
     flow = K.flow_reading _ _;
-    term = stays;
+    term = stays refl;
     keeps = keeps;
     turns = turns;
   }
@@ -383,7 +394,7 @@ module _ {again : Bool} {n : ℕ} {G Q B C S T : Type 0} (W : Guards n G Q) (K :
     leave = refl;
     fits = W.ease g f valid;
     flow = K.flow_reading _ _;
-    term = stays;
+    term = stays refl;
     keeps = keeps;
     turns = λ t e. absurd (cc e);
   }
@@ -413,7 +424,7 @@ module _ {again : Bool} {n : ℕ} {G Q B C S T : Type 0} (W : Guards n G Q) (K :
     leave = refl;
     fits = W.ease g f valid;
     flow = K.flow_reading _ _;
-    term = stays;
+    term = stays refl;
     keeps = keeps;
     turns = turns;
   }
@@ -448,7 +459,7 @@ module _ {again : Bool} {n : ℕ} {G Q B C S T : Type 0} (W : Guards n G Q) (K :
     leave = refl;
     fits = W.own true g q f m;
     flow = K.flow_reading _ _;
-    term = stays;
+    term = stays refl;
     keeps = keeps;
     turns = turns;
   }
@@ -478,7 +489,7 @@ module _ {again : Bool} {n : ℕ} {G Q B C S T : Type 0} (W : Guards n G Q) (K :
     leave = refl;
     fits = W.own false g q f m;
     flow = K.flow_reading _ _;
-    term = stays;
+    term = stays refl;
     keeps = keeps;
     turns = λ t e. absurd (cc e);
   }
@@ -506,7 +517,7 @@ module _ {again : Bool} {n : ℕ} {G Q B C S T : Type 0} (W : Guards n G Q) (K :
     leave = refl;
     fits = W.own false g q f m;
     flow = K.flow_reading _ _;
-    term = stays;
+    term = stays refl;
     keeps = keeps;
     turns = turns;
   }
@@ -543,7 +554,7 @@ module _ {again : Bool} {n : ℕ} {G Q B C S T : Type 0} (W : Guards n G Q) (K :
     leave = refl;
     fits = b.fits;
     flow = subst (λ (z : S). K.Flow z (K.shown b.place)) (sym K.reading_low) b.flow;
-    term = subst (λ (t : T). CoreStep again W K y (K.reading false) (y.wrap (K.opened i)) (y.wrap t)) (sym b.term) stays;
+    term = subst (λ (t : T). CoreStep again W K y (K.reading false) false (y.wrap (K.opened i)) (y.wrap t)) (sym b.term) (stays refl);
     keeps = keeps;
     turns = λ t e. absurd (cc e);
   }
@@ -562,7 +573,7 @@ module _ {again : Bool} {n : ℕ} {G Q B C S T : Type 0} (W : Guards n G Q) (K :
   runs a c r = by_mode r.mode r.to r.which r.same r.way r.fits r.flow r.term r.keeps
     where
       by_mode : (d : Mode) (to : K.At d) → K.index to ≡ K.index a → K.cells to ≡ K.turned (K.cells a) c → goes running d ≡ true → K.Fits to
-          → K.Flow (K.shown a) (K.shown to) → K.Follows (K.shown a) (K.left a) (K.left to) → ((b : C) → b ≢ c → K.moves a b ≡ true → K.moves to b ≡ true)
+          → K.Flow (K.shown a) (K.shown to) → K.Follows (K.steps a c) (K.shown a) (K.left a) (K.left to) → ((b : C) → b ≢ c → K.moves a b ≡ true → K.moves to b ≡ true)
           → CoreAfter (in_branch a works) (branch c)
       by_mode running to which same way fits flow term kept = record {
         mode = running;
@@ -638,7 +649,7 @@ module _ {again : Bool} {n : ℕ} {G Q B C S T : Type 0} (W : Guards n G Q) (K :
     leave = refl;
     fits = f;
     flow = K.flow_same (K.shown a);
-    term = stays;
+    term = stays refl;
     keeps = keeps;
     turns = λ t e. absurd (cc e);
   }
@@ -662,7 +673,7 @@ module _ {again : Bool} {n : ℕ} {G Q B C S T : Type 0} (W : Guards n G Q) (K :
     leave = refl;
     fits = f;
     flow = K.flow_same (K.shown a);
-    term = stays;
+    term = stays refl;
     keeps = keeps;
     turns = λ t e. absurd (cc e);
   }
@@ -685,7 +696,7 @@ module _ {again : Bool} {n : ℕ} {G Q B C S T : Type 0} (W : Guards n G Q) (K :
     leave = refl;
     fits = f;
     flow = K.flow_same (K.shown a);
-    term = stays;
+    term = stays refl;
     keeps = keeps;
     turns = λ t e. absurd (cc e);
   }
@@ -711,7 +722,7 @@ module _ {again : Bool} {n : ℕ} {G Q B C S T : Type 0} (W : Guards n G Q) (K :
     leave = refl;
     fits = b.fits;
     flow = subst (λ (x : S). K.Flow (K.shown a) x) (sym b.shows) (K.flow_same (K.shown a));
-    term = subst (λ (t : T). CoreStep again W K y (K.shown a) (y.wrap (K.left a)) (y.wrap t)) (K.left_done a refl ∙ sym (K.left_done b.place refl)) stays;
+    term = subst (λ (t : T). CoreStep again W K y (K.shown a) false (y.wrap (K.left a)) (y.wrap t)) (K.left_done a refl ∙ sym (K.left_done b.place refl)) (stays refl);
     keeps = keeps;
     turns = λ t e. absurd (cc e);
   }
@@ -735,7 +746,7 @@ module _ {again : Bool} {n : ℕ} {G Q B C S T : Type 0} (W : Guards n G Q) (K :
     leave = refl;
     fits = W.begins false;
     flow = subst (λ (x : S). K.Flow (K.shown a) x) (K.idle_shows a ∙ sym K.reading_low) (K.flow_same (K.shown a));
-    term = subst (λ (t : T). CoreStep again W K y (K.shown a) (y.wrap (K.left a)) (y.wrap t)) (K.left_done a refl) stays;
+    term = subst (λ (t : T). CoreStep again W K y (K.shown a) false (y.wrap (K.left a)) (y.wrap t)) (K.left_done a refl) (stays refl);
     keeps = keeps;
     turns = λ t e. absurd (cc e);
   }

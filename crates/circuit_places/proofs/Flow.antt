@@ -6,8 +6,9 @@ use Rattle.width_check.specs.Typing.{channel_width}
 pub use Rattle.circuit_places.proofs.Modes.{goes, goes_asks}
 use Rattle.circuit_places.specs.Lines.{Line, of_channel, line_width, Seen}
 use Rattle.circuit_places.specs.Circuit.{GuardedSpot, Spot, TurnSpot, BranchSpot, turned_guarded, flipped, turned_turn, turned_branches}
-use Rattle.circuit_places.proofs.Places.{Mode, idle, running, answered, returning, asks, GuardedAt, At, TurnAt, BranchesAt, guarded_cells, cells, turn_cells, branch_cells, Shown, none_shown, both_shown, guarded_shown, shown, turn_shown, branches_shown, GuardedFits, Fits, TurnFits, BranchesFit, writing, guarded_writing, turn_writing, branches_writing, guarded_moves, moves, turn_moves, branch_moves}
+use Rattle.circuit_places.proofs.Places.{Mode, GuardedAt, At, TurnAt, BranchesAt, guarded_cells, cells, turn_cells, branch_cells, Shown, none_shown, both_shown, guarded_shown, shown, turn_shown, branches_shown, GuardedFits, Fits, TurnFits, BranchesFit, writing, guarded_writing, turn_writing, branches_writing, guarded_moves, moves, turn_moves, branch_moves}
 use Rattle.circuit_places.proofs.Meets.{sends, receives}
+use Rattle.circuit_places.proofs.Stepping.{steps, guarded_steps, turn_steps, branch_steps}
 use Rattle.function_blocks.specs.Rails.{Single}
 use Rattle.circuit_places.specs.Whole.{value_on, neutral_on}
 use Rattle.circuit_places.proofs.Left.{guarded_left, left, turn_left, branches_left, Follows, FollowsInside, ToldBy}
@@ -116,7 +117,7 @@ pub record After (p : Process) (m : Mode) (env : Seen) (a : At p m) (s : Spot p)
   pub way : goes m mode ≡ true
   pub fits : Fits to env
   pub flow : Flow env (shown a) (shown to)
-  pub term : Follows (ToldBy env (shown a).read) (left env.ack a) (left env.ack to)
+  pub term : Follows (ToldBy env (shown a).read) (steps a s) (left env.ack a) (left env.ack to)
   pub frees : (x : ℕ) → writing env.ack to x ≡ false → writing env.ack a x ≡ false
   pub keeps : (q : Spot p) → q ≢ s → moves env a q ≡ true → moves env to q ≡ true
 
@@ -127,7 +128,7 @@ pub record GuardedAfter (p : Process) (m : Mode) (env : Seen) (a : GuardedAt p m
   pub way : goes m mode ≡ true
   pub fits : GuardedFits to env
   pub flow : Flow env (guarded_shown a) (guarded_shown to)
-  pub term : Follows (ToldBy env (guarded_shown a).read) (guarded_left env.ack a) (guarded_left env.ack to)
+  pub term : Follows (ToldBy env (guarded_shown a).read) (guarded_steps a s) (guarded_left env.ack a) (guarded_left env.ack to)
   pub frees : (x : ℕ) → guarded_writing env.ack to x ≡ false → guarded_writing env.ack a x ≡ false
   pub keeps : (q : GuardedSpot p) → q ≢ s → guarded_moves env a q ≡ true → guarded_moves env to q ≡ true
 
@@ -138,7 +139,7 @@ pub record TurnAfter (members : Processes) (m : Mode) (env : Seen) (a : TurnAt m
   pub way : goes m mode ≡ true
   pub fits : TurnFits to env
   pub flow : Flow env (turn_shown a) (turn_shown to)
-  pub term : Follows (ToldBy env (turn_shown a).read) (turn_left env.ack a) (turn_left env.ack to)
+  pub term : Follows (ToldBy env (turn_shown a).read) (turn_steps a s) (turn_left env.ack a) (turn_left env.ack to)
   pub frees : (x : ℕ) → turn_writing env.ack to x ≡ false → turn_writing env.ack a x ≡ false
   pub keeps : (q : TurnSpot members) → q ≢ s → turn_moves env a q ≡ true → turn_moves env to q ≡ true
 
@@ -154,7 +155,7 @@ pub record BranchAfter (members : Processes) (ks : List Mode) (env : Seen) (a : 
   pub way : OneGoes ks modes
   pub fits : BranchesFit to env
   pub flow : Flow env (branches_shown a) (branches_shown to)
-  pub term : FollowsInside (ToldBy env (branches_shown a).read) (branches_left env.ack a) (branches_left env.ack to)
+  pub term : FollowsInside (ToldBy env (branches_shown a).read) (branch_steps a s) (branches_left env.ack a) (branches_left env.ack to)
   pub frees : (x : ℕ) → branches_writing env.ack to x ≡ false → branches_writing env.ack a x ≡ false
   pub keeps : (q : BranchSpot members) → q ≢ s → branch_moves env a q ≡ true → branch_moves env to q ≡ true
 

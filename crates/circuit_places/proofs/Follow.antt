@@ -1,5 +1,5 @@
 -- How far the program has come: a run of it, with as many steps as moves at most, that has passed the same values.
-use Rattle.std.proofs.Common.{◌≡◌, ℕ, zero, suc, ◌-◌, ◌≤◌, ◌<◌, ◌==◌, Bool, true, false, List, [], ◌∷◌, ◌++◌, length, refl, sym, ap, ◌∙◌, subst, inl, inr, ◌⊎◌, arith, set, replicate}
+use Rattle.std.proofs.Common.{◌≡◌, ℕ, zero, suc, ◌-◌, ◌+◌, ◌*◌, ◌≤◌, ◌<◌, ◌==◌, Bool, true, false, List, [], ◌∷◌, ◌++◌, length, refl, sym, ap, ◌∙◌, subst, inl, inr, ◌⊎◌, arith, set, replicate}
 use Rattle.std.proofs.lemmas.List.{get_or-set_other, get_or-set_same, length-set}
 use Rattle.std.proofs.lemmas.Bool.Decides.{nat_tests}
 use Rattle.std.specs.Prelude.{slice_index, slice_get, map, Option, Some, None, if◌then◌else◌}
@@ -16,13 +16,15 @@ use Rattle.chp_meaning.specs.Steps.{Configuration, one_fewer, leaving, value_in,
 use Rattle.function_blocks.specs.Rails.{number_on}
 use Rattle.circuit_places.specs.Lines.{of_channel, of_var, Rails}
 use Rattle.circuit_places.specs.Whole.{wires_seen, line_ack, is_heard, first_bits, wires_after, rail_turned, bit_turned, Wires, wrote_turned, joint_turned, value_on, Node, go_node, own_node, rail_node, ack_node, bit_node, wrote_node, joint_node, answers, cells_passed, passed_after}
-use Rattle.circuit_places.proofs.Left.{Act, skips, goes_on, Follows, open_by, Goes, chooses, ends, body_at, branch_term}
+use Rattle.circuit_places.proofs.Left.{Act, skips, goes_on, Follows, open_by, Goes, chooses, ends, body_at}
 use Rattle.circuit_places.proofs.Flow.{cases}
 use Rattle.circuit_places.proofs.LineNames.{self_number, same_number}
 use Rattle.circuit_places.proofs.Fires.{Passes}
 use Rattle.circuit_places.proofs.System.{Passing, Others, Arrival, Lands, Arrives, Exchanges, Acks, taken_out, taken_in, taken_over, released, Freed, Rises, Stored, no_store, cleared, stores, takes_in, Moves, Fitted, takes_of, may_low, Decided}
 use Rattle.circuit_places.proofs.Arriving.{Arriving, next_value}
 use Rattle.width_check.specs.Values.{value}
+use Rattle.circuit_places.specs.Bounds.{circuit_most}
+use Rattle.circuit_places.proofs.Unrisen.{Unrisen, Stays}
 
 -- what is left of an offer when so many values have passed
 abbrev pub fewer : Count → ℕ → Count
@@ -55,10 +57,12 @@ behind_none [] (suc n) e = refl
 behind_none (x ∷ xs) zero e = absurd (cc e)
 behind_none (x ∷ xs) (suc n) e = behind_none xs n e
 
-pub record Followed (P : TypedProgram) (script : List OfferValue) (most : ℕ) (hs : List (List ℕ)) (t : Term) (bits : ℕ → Rails) (busy : ℕ → Bool) : Type 0 where
+pub record Followed (P : TypedProgram) (script : List OfferValue) (most : ℕ) (hs : List (List ℕ)) (t : Term) (bits : ℕ → Rails) (busy : ℕ → Bool)
+    (due : ℕ) : Type 0 where
   pub to : Configuration
   pub steps : ℕ
   pub within : steps ≤ most
+  pub paid : most + due ≤ circuit_most P * suc steps
   pub leads : Leads (start_of P script) steps to
   pub term : to.term ≡ t
   pub passed : to.histories ≡ hs
@@ -84,12 +88,13 @@ whole_yet (takes (Times m)) n e = ap (λ k. takes (Times k)) (let g : m ≡ m - 
 whole_yet (gives values) n e = ap (λ k. gives (behind values k)) (sym e)
 whole_yet nothing n e = refl
 
-pub started : (P : TypedProgram) (script : List OfferValue) → Fitted P script
-    → Followed P script 0 (replicate (length P.channels) []) (opened P.body) (first_bits P.vars) (λ x. false)
-started P script fitted = record {
+pub started : (P : TypedProgram) (script : List OfferValue) → Fitted P script → (due : ℕ) → due ≤ circuit_most P
+    → Followed P script 0 (replicate (length P.channels) []) (opened P.body) (first_bits P.vars) (λ x. false) due
+started P script fitted due few = record {
   to = start_of P script;
   steps = 0;
   within = omega arith;
+  paid = omega (arith, few);
   leads = no_step;
   term = refl;
   passed = refl;
@@ -113,18 +118,19 @@ pub open_is : (c : Configuration) (choices : Choices) → open_branches c choice
 open_is c no_choices = refl
 open_is c (and_choice g p more) = ap (λ (ps : List Process). if value (slice_index c.store) g == 1 then p ∷ ps else ps) (open_is c more)
 
-module _ {P : TypedProgram} {script : List OfferValue} {most : ℕ} {hs : List (List ℕ)} {t : Term} {bits : ℕ → Rails} {busy : ℕ → Bool}
-    (r : Followed P script most hs t bits busy) (now : ℕ → Rails) (after : ℕ → Bool)
+module _ {P : TypedProgram} {script : List OfferValue} {most : ℕ} {hs : List (List ℕ)} {t : Term} {bits : ℕ → Rails} {busy : ℕ → Bool} {due : ℕ}
+    (r : Followed P script most hs t bits busy due) (left_due : ℕ) (now : ℕ → Rails) (after : ℕ → Bool)
     (free : (x : ℕ) → after x ≡ false → (now x ≡ bits x) × (busy x ≡ false)) where
   kept_so : (x : ℕ) → x < length P.vars → after x ≡ false → number_on (var_width P.vars x) (now x) ≡ slice_index r.to.store x
   kept_so x less e = ap (number_on (var_width P.vars x)) (free x e).0 ∙ r.stored x less (free x e).1
 
   -- no step
-  stays : (y : Term) → y ≡ t → Followed P script (suc most) hs y now after
-  stays y e = record {
+  stays : suc left_due ≤ due → (y : Term) → y ≡ t → Followed P script (suc most) hs y now after left_due
+  stays less y e = record {
     to = r.to;
     steps = r.steps;
     within = omega (arith, r.within);
+    paid = omega (arith, r.paid, less);
     leads = r.leads;
     term = r.term ∙ sym e;
     passed = r.passed;
@@ -136,11 +142,12 @@ module _ {P : TypedProgram} {script : List OfferValue} {most : ℕ} {hs : List (
   }
 
   -- a step that no channel sees
-  leaves : (s : Process) (left y : Term) (a : Act t s left y) → Step r.to a.at (leaving r.to a.at left) → Followed P script (suc most) hs y now after
-  leaves s left y a step = record {
+  leaves : suc left_due ≤ circuit_most P → (s : Process) (left y : Term) (a : Act t s left y) → Step r.to a.at (leaving r.to a.at left) → Followed P script (suc most) hs y now after left_due
+  leaves few s left y a step = record {
     to = leaving r.to a.at left;
     steps = suc r.steps;
     within = omega (arith, r.within);
+    paid = omega (arith, r.paid, few);
     leads = leads_on r.leads step;
     term = ap (λ x. with_left x a.at left) r.term ∙ sym a.then_is;
     passed = r.passed;
@@ -158,18 +165,19 @@ module _ {P : TypedProgram} {script : List OfferValue} {most : ℕ} {hs : List (
   decided : (choices : Choices) (ps : List Process) → Decided P bits busy choices ps → open_branches r.to choices ≡ ps
   decided choices ps d = open_is r.to choices ∙ d (slice_index r.to.store) r.stored
 
-  silent : (y : Term) → Follows (Decided P bits busy) t y → Followed P script (suc most) hs y now after
-  silent y (inl e) = stays y e
-  silent y (inr s) = by s.statement s.rest s.goes s.act
+  silent : (step : Bool) → suc left_due ≤ circuit_most P → (step ≡ false → suc left_due ≤ due) → (y : Term) → Follows (Decided P bits busy) step t y
+      → Followed P script (suc most) hs y now after left_due
+  silent step few less y (inl e) = stays (less e.0) y e.1
+  silent step few less y (inr s) = by s.statement s.rest s.goes s.act
     where
-      by : (s : Process) (l : Term) → Goes (Decided P bits busy) s l → Act t s l y → Followed P script (suc most) hs y now after
-      by _ _ skips a = leaves skipping finished y a (a_skip (stands skipping finished y a))
-      by _ _ (goes_on {p = p}) a = leaves (repeating p) _ y a (a_repetition (stands (repeating p) _ y a))
+      by : (s : Process) (l : Term) → Goes (Decided P bits busy) s l → Act t s l y → Followed P script (suc most) hs y now after left_due
+      by _ _ skips a = leaves few skipping finished y a (a_skip (stands skipping finished y a))
+      by _ _ (goes_on {p = p}) a = leaves few (repeating p) _ y a (a_repetition (stands (repeating p) _ y a))
       by _ _ (chooses {again = false} {choices = choices} i d) a =
-          leaves (choosing false choices) _ y a (a_selection (stands (choosing false choices) _ y a) (decided choices (body_at choices i ∷ []) d))
+          leaves few (choosing false choices) _ y a (a_selection (stands (choosing false choices) _ y a) (decided choices (body_at choices i ∷ []) d))
       by _ _ (chooses {again = true} {choices = choices} i d) a =
-          leaves (choosing true choices) _ y a (a_turn (stands (choosing true choices) _ y a) (decided choices (body_at choices i ∷ []) d))
-      by _ _ (ends {choices = choices} d) a = leaves (choosing true choices) _ y a (an_end (stands (choosing true choices) _ y a) (decided choices [] d))
+          leaves few (choosing true choices) _ y a (a_turn (stands (choosing true choices) _ y a) (decided choices (body_at choices i ∷ []) d))
+      by _ _ (ends {choices = choices} d) a = leaves few (choosing true choices) _ y a (an_end (stands (choosing true choices) _ y a) (decided choices [] d))
 
 -- an acceptance is used up
 one_more : (count : Count) (n k : ℕ) → k ≡ suc n → takes (one_fewer (fewer count n)) ≡ left_over (takes count) k
@@ -188,8 +196,8 @@ one_longer : (xs : List ℕ) (v : ℕ) → length (xs ++ v ∷ []) ≡ suc (leng
 one_longer [] v = refl
 one_longer (x ∷ xs) v = ap (λ k. suc k) (one_longer xs v)
 
-module _ {P : TypedProgram} {script : List OfferValue} {most : ℕ} {hs : List (List ℕ)} {t : Term} (w : Wires) {busy : ℕ → Bool} (fitted : Fitted P script)
-    (r : Followed P script most hs t w.bit busy) (now : ℕ → Rails) (after : ℕ → Bool) (free : (x : ℕ) → after x ≡ false → (now x ≡ w.bit x) × (busy x ≡ false))
+module _ {P : TypedProgram} {script : List OfferValue} {most : ℕ} {hs : List (List ℕ)} {t : Term} (w : Wires) {busy : ℕ → Bool} {due : ℕ}
+    (fitted : Fitted P script) (r : Followed P script most hs t w.bit busy due) (left_due : ℕ) (few : suc left_due ≤ circuit_most P) (now : ℕ → Rails) (after : ℕ → Bool) (free : (x : ℕ) → after x ≡ false → (now x ≡ w.bit x) × (busy x ≡ false))
     (k : ℕ) where
   -- a value passes
   module _ (y : Term) (count : Count) (offered : offer_at script k ≡ takes count) (more : is_over count (completed hs k) ≡ true)
@@ -231,11 +239,12 @@ module _ {P : TypedProgram} {script : List OfferValue} {most : ℕ} {hs : List (
         ∙ (r.rests c ∙ sym (ap (λ h. left_over (offer_at script c) (length h))
         (get_or-set_other hs k c (history_at hs k ++ value_in r.to pass.expression ∷ []) [] ne))))
 
-    passes_on : Followed P script (suc most) (cells_passed hs k (value_on (channel_width P.channels k) (w.rail (of_channel k)))) y now after
-    passes_on = subst (λ (o : Option ℕ). Followed P script (suc most) (cells_passed hs k o) y now after) (sym read) (record {
+    passes_on : Followed P script (suc most) (cells_passed hs k (value_on (channel_width P.channels k) (w.rail (of_channel k)))) y now after left_due
+    passes_on = subst (λ (o : Option ℕ). Followed P script (suc most) (cells_passed hs k o) y now after left_due) (sym read) (record {
       to = passing (offering (leaving r.to pass.act.at finished) k (takes (one_fewer (fewer count (completed hs k))))) k (value_in r.to pass.expression);
       steps = suc r.steps;
       within = omega (arith, r.within);
+      paid = omega (arith, r.paid, few);
       leads = leads_on r.leads step;
       term = ap (λ x. with_left x pass.act.at finished) r.term ∙ sym pass.act.then_is;
       passed = ap (λ h. set h k (history_at h k ++ value_in r.to pass.expression ∷ [])) r.passed;
@@ -243,19 +252,20 @@ module _ {P : TypedProgram} {script : List OfferValue} {most : ℕ} {hs : List (
       as_many = length-set r.to.rests k (takes (one_fewer (fewer count (completed hs k)))) ∙ r.as_many;
       as_long = length-set hs k (history_at hs k ++ value_in r.to pass.expression ∷ []) ∙ r.as_long;
       as_stored = r.as_stored;
-      stored = kept_so r now after free;
+      stored = kept_so r left_due now after free;
     })
 
-  acknowledged : (y : Term) → answers (channel_width P.channels k) w k (completed hs k) (offer_at script k) ≡ true → (b : Bool) → w.ack k ≡ b
+  acknowledged : (w.ack k ≡ true → suc left_due ≤ due) → (y : Term) → answers (channel_width P.channels k) w k (completed hs k) (offer_at script k) ≡ true → (b : Bool) → w.ack k ≡ b
       → Passing P (wires_seen P w) busy (of_channel k) b t y
       → Followed P script (suc most) (if b then hs else cells_passed hs k (value_on (channel_width P.channels k) (w.rail (of_channel k)))) y now after
-  acknowledged y e true h move = stays r now after free y move
-  acknowledged y e false h move =
+      left_due
+  acknowledged less y e true h move = stays r left_due now after free (less h) y move
+  acknowledged less y e false h move =
       let o = takes_of (channel_width P.channels k) w k (completed hs k) (offer_at script k) e in
       passes_on y o.count o.is (may_low (channel_width P.channels k) w k (is_over o.count (completed hs k)) h o.may).1 move
 
-module _ {P : TypedProgram} {script : List OfferValue} {most : ℕ} {hs : List (List ℕ)} {t : Term} (w : Wires) {busy : ℕ → Bool} (fitted : Fitted P script)
-    (r : Followed P script most hs t w.bit busy) (now : ℕ → Rails) (after : ℕ → Bool) (k : ℕ) where
+module _ {P : TypedProgram} {script : List OfferValue} {most : ℕ} {hs : List (List ℕ)} {t : Term} (w : Wires) {busy : ℕ → Bool} {due : ℕ}
+    (fitted : Fitted P script) (r : Followed P script most hs t w.bit busy due) (left_due : ℕ) (few : suc left_due ≤ circuit_most P) (now : ℕ → Rails) (after : ℕ → Bool) (k : ℕ) where
   -- a value lands in a variable
   landed : (var v : ℕ) → Lands P busy after k var w → value_on (channel_width P.channels k) (w.rail (of_channel k)) ≡ Some v
       → ((x : ℕ) → after x ≡ false → now x ≡ w.bit x) → (z : ℕ) → z < length P.vars → after z ≡ false
@@ -304,11 +314,12 @@ module _ {P : TypedProgram} {script : List OfferValue} {most : ℕ} {hs : List (
         get_or-set_other r.to.rests k c (gives (behind values (suc (completed hs k)))) nothing ne
         ∙ (r.rests c ∙ sym (ap (λ h. left_over (offer_at script c) (length h)) (get_or-set_other hs k c (history_at hs k ++ v ∷ []) [] ne))))
 
-    arrives_on : Followed P script (suc most) (cells_passed hs k (value_on (channel_width P.channels k) (w.rail (of_channel k)))) y now after
-    arrives_on = subst (λ (o : Option ℕ). Followed P script (suc most) (cells_passed hs k o) y now after) (sym told) (record {
+    arrives_on : Followed P script (suc most) (cells_passed hs k (value_on (channel_width P.channels k) (w.rail (of_channel k)))) y now after left_due
+    arrives_on = subst (λ (o : Option ℕ). Followed P script (suc most) (cells_passed hs k o) y now after left_due) (sym told) (record {
       to = passing (storing (offering (leaving r.to a.act.at finished) k (gives (behind values (suc (completed hs k))))) a.var v) k v;
       steps = suc r.steps;
       within = omega (arith, r.within);
+      paid = omega (arith, r.paid, few);
       leads = leads_on r.leads arrival;
       term = ap (λ x. with_left x a.act.at finished) r.term ∙ sym a.act.then_is;
       passed = ap (λ h. set h k (history_at h k ++ v ∷ [])) r.passed;
@@ -347,11 +358,12 @@ module _ {P : TypedProgram} {script : List OfferValue} {most : ℕ} {hs : List (
         let ne : c ≡ k → ⊥ = λ (same : c ≡ k). absurd (cc (e, ap (λ x. x == k) same, self_number k)) in
         sym (ap (λ h. left_over (offer_at script c) (length h)) (get_or-set_other hs k c (history_at hs k ++ sent ∷ []) [] ne)))
 
-    exchanges_on : Followed P script (suc most) (cells_passed hs k (value_on (channel_width P.channels k) (w.rail (of_channel k)))) y now after
-    exchanges_on = subst (λ (o : Option ℕ). Followed P script (suc most) (cells_passed hs k o) y now after) (sym given) (record {
+    exchanges_on : Followed P script (suc most) (cells_passed hs k (value_on (channel_width P.channels k) (w.rail (of_channel k)))) y now after left_due
+    exchanges_on = subst (λ (o : Option ℕ). Followed P script (suc most) (cells_passed hs k o) y now after left_due) (sym given) (record {
       to = passing (storing (leaving (leaving r.to a.act.at finished) a.act.other finished) a.var sent) k sent;
       steps = suc r.steps;
       within = omega (arith, r.within);
+      paid = omega (arith, r.paid, few);
       leads = leads_on r.leads communication;
       term = ap (λ x. with_left (with_left x a.act.at finished) a.act.other finished) r.term ∙ sym a.act.then_is;
       passed = ap (λ h. set h k (history_at h k ++ sent ∷ [])) r.passed;
@@ -374,7 +386,8 @@ calm {P = P} w now before after same frees x e = ((frees x e).0, here (frees x e
 
 -- a variable's acknowledge turns over, or it stays: where it rises the value is stored
 module _ {P : TypedProgram} {script : List OfferValue} {most : ℕ} {hs : List (List ℕ)} {t : Term} (x : ℕ) (w now : Wires) (busy after : ℕ → Bool)
-    (r : Followed P script most hs t w.bit busy) (others : Others P x w now) (frees : (y : ℕ) → Freed P w now (busy y) (after y) y ⊥) where
+    {due : ℕ} (r : Followed P script most hs t w.bit busy due) (left_due : ℕ) (few : suc left_due ≤ circuit_most P)
+    (less : Unrisen P x w now after → suc left_due ≤ due) (others : Others P x w now) (frees : (y : ℕ) → Freed P w now (busy y) (after y) y ⊥) where
   all_same : line_ack P now (of_var x) ≡ line_ack P w (of_var x) → (y : ℕ) → line_ack P now (of_var y) ≡ line_ack P w (of_var y)
   all_same e y = cases (y == x)
       (λ (h : (y == x) ≡ true). ap (λ v. line_ack P now (of_var v)) (same_number y x h) ∙ (e ∙ ap (λ v. line_ack P w (of_var v)) (sym (same_number y x h))))
@@ -393,10 +406,10 @@ module _ {P : TypedProgram} {script : List OfferValue} {most : ℕ} {hs : List (
       here (inr (inl z)) = absurd (none y z)
       here (inr (inr z)) = absurd z
 
-  kept : (y : Term) → Stored P busy after x w now t y → Followed P script (suc most) hs y now.bit after
-  kept y (no_store e s) = stays r now.bit after (calm w now busy after (all_same e) frees) y s
-  kept y (cleared e h s) = stays r now.bit after (free_of (never_rises h)) y s
-  kept y (takes_in e h under s) = stays r now.bit after free y s
+  kept : (y : Term) → Stored P busy after x w now t y → Followed P script (suc most) hs y now.bit after left_due
+  kept y (no_store e s) = stays r left_due now.bit after (calm w now busy after (all_same e) frees) (less (inl e)) y s
+  kept y (cleared e h s) = stays r left_due now.bit after (free_of (never_rises h)) (less (inr (inl h))) y s
+  kept y (takes_in e h under s) = stays r left_due now.bit after free (less (inr (inr under))) y s
     where
       free : (z : ℕ) → after z ≡ false → (now.bit z ≡ w.bit z) × (busy z ≡ false)
       free z f = ((frees z f).0, here (frees z f).1)
@@ -411,6 +424,7 @@ module _ {P : TypedProgram} {script : List OfferValue} {most : ℕ} {hs : List (
     to = storing (leaving r.to pass.act.at finished) x (value_in r.to pass.expression);
     steps = suc r.steps;
     within = omega (arith, r.within);
+    paid = omega (arith, r.paid, few);
     leads = leads_on r.leads (an_assignment (ap (λ z. statement_at z pass.act.at) r.term ∙ pass.act.stands));
     term = ap (λ z. with_left z pass.act.at finished) r.term ∙ sym pass.act.then_is;
     passed = r.passed;
@@ -442,40 +456,48 @@ module _ {P : TypedProgram} {script : List OfferValue} {most : ℕ} {hs : List (
 
 -- an acknowledge moves
 acks : {P : TypedProgram} {script : List OfferValue} {most : ℕ} {hs : List (List ℕ)} {t : Term} (w : Wires) (busy after : ℕ → Bool) (fitted : Fitted P script)
-    (r : Followed P script most hs t w.bit busy) (y : Term) (k : ℕ)
+    {due : ℕ} (r : Followed P script most hs t w.bit busy due) (left_due : ℕ) → suc left_due ≤ circuit_most P → (y : Term) (k : ℕ)
+    → (w.ack k ≡ true → suc left_due ≤ due)
     → (is_heard (kind_at P.channels k) ≡ false → answers (channel_width P.channels k) w k (completed hs k) (offer_at script k) ≡ true) → Arriving P script hs w
     → Acks P busy after k w t y
     → Followed P script (suc most) (if w.ack k then hs else cells_passed hs k (value_on (channel_width P.channels k) (w.rail (of_channel k)))) y w.bit after
-acks w busy after fitted r y k e brought (taken_out out move free) = acknowledged w fitted r w.bit after (λ x f. (refl, free x f)) k y (e out)
+    left_due
+acks w busy after fitted r left_due few y k less e brought (taken_out out move free) =
+    acknowledged w fitted r left_due few w.bit after (λ x f. (refl, free x f)) k less y (e out)
     (w.ack k) refl move
-acks {P = P} {script = script} {most = most} {hs = hs} w busy after fitted r y k e brought (released heard high same free) =
+acks {P = P} {script = script} {most = most} {hs = hs} w busy after fitted r left_due few y k less e brought (released heard high same free) =
     subst (λ (b : Bool). Followed P script (suc most) (if b then hs else cells_passed hs k
-    (value_on (channel_width P.channels k) (w.rail (of_channel k)))) y w.bit after) (sym high) (stays r w.bit after (λ x f. (refl, free x f)) y same)
-acks {P = P} {script = script} {most = most} {hs = hs} w busy after fitted r y k e brought (taken_in heard alone a) =
+    (value_on (channel_width P.channels k) (w.rail (of_channel k)))) y w.bit after left_due) (sym high) (stays r left_due w.bit after (λ x f. (refl, free x f)) (less high) y same)
+acks {P = P} {script = script} {most = most} {hs = hs} w busy after fitted r left_due few y k less e brought (taken_in heard alone a) =
     let o = fitted.hears k a.lands.within alone heard in
     let v = next_value (channel_width P.channels k) (completed hs k) (w.rail (of_channel k)) o.0 (fitted.wide k a.lands.within) (fitted.bounded k o.0 o.1)
     (brought k o.0 o.1 a.lands.low) a.lands.some in
     subst (λ (b : Bool). Followed P script (suc most) (if b then hs else cells_passed hs k
-    (value_on (channel_width P.channels k) (w.rail (of_channel k)))) y w.bit after) (sym a.lands.low)
-    (arrives_on w fitted r w.bit after k y o.0 o.1 a v.next v.is v.told (λ x f. refl))
-acks {P = P} {script = script} {most = most} {hs = hs} w busy after fitted r y k e brought (taken_over heard merged a) =
+    (value_on (channel_width P.channels k) (w.rail (of_channel k)))) y w.bit after left_due) (sym a.lands.low)
+    (arrives_on w fitted r left_due few w.bit after k y o.0 o.1 a v.next v.is v.told (λ x f. refl))
+acks {P = P} {script = script} {most = most} {hs = hs} w busy after fitted r left_due few y k less e brought (taken_over heard merged a) =
     subst (λ (b : Bool). Followed P script (suc most) (if b then hs else cells_passed hs k
-    (value_on (channel_width P.channels k) (w.rail (of_channel k)))) y w.bit after) (sym a.lands.low)
-    (exchanges_on w fitted r w.bit after k y (fitted.inside k a.lands.within merged heard) a (λ x f. refl))
+    (value_on (channel_width P.channels k) (w.rail (of_channel k)))) y w.bit after left_due) (sym a.lands.low)
+    (exchanges_on w fitted r left_due few w.bit after k y (fitted.inside k a.lands.within merged heard) a (λ x f. refl))
 
 -- each move of the circuit is a step of the program or none
 pub follows : {P : TypedProgram} {script : List OfferValue} {most : ℕ} {hs : List (List ℕ)} {t : Term} (w : Wires) (busy after : ℕ → Bool) → Fitted P script
-    → Followed P script most hs t w.bit busy → Arriving P script hs w → (y : Term) (n : Node P.body)
+    → {due : ℕ} → Followed P script most hs t w.bit busy due → Arriving P script hs w → (y : Term) (n : Node P.body)
     → ((k : ℕ) → n ≡ ack_node k → is_heard (kind_at P.channels k) ≡ false
     → answers (channel_width P.channels k) w k (completed hs k) (offer_at script k) ≡ true)
-    → ((x : ℕ) → Freed P w (wires_after w n) (busy x) (after x) x (Arrival P w n)) → Moves P w busy after t y n
-    → Followed P script (suc most) (passed_after P.channels w hs n) y (wires_after w n).bit after
-follows w busy after fitted r brought y go_node e frees move = silent r w.bit after (calm w w busy after (λ x. refl) frees) y move
-follows w busy after fitted r brought y (own_node s) e frees move = silent r w.bit after (calm w w busy after (λ x. refl) frees) y move
-follows w busy after fitted r brought y (rail_node k i one) e frees move = silent r w.bit after
-    (calm w (rail_turned w k i one) busy after (λ x. refl) frees) y move
-follows w busy after fitted r brought y (ack_node k) e frees move = acks w busy after fitted r y k (e k refl) brought move
-follows w busy after fitted r brought y (bit_node x i one) e frees move = silent r (bit_turned w x i one).bit after
-    (calm w (bit_turned w x i one) busy after (λ x. refl) frees) y move
-follows w busy after fitted r brought y (wrote_node x i) e frees move = kept x w (wrote_turned w x i) busy after r move.0 frees y move.1
-follows w busy after fitted r brought y (joint_node x k) e frees move = kept x w (joint_turned w x k) busy after r move.0 frees y move.1
+    → ((x : ℕ) → Freed P w (wires_after w n) (busy x) (after x) x (Arrival P w n)) → (left_due : ℕ) → suc left_due ≤ circuit_most P → (step : Bool)
+    → (Stays P w after step n → suc left_due ≤ due) → Moves P w busy after step t y n
+    → Followed P script (suc most) (passed_after P.channels w hs n) y (wires_after w n).bit after left_due
+follows w busy after fitted r brought y go_node e frees left_due few step less move =
+    silent r left_due w.bit after (calm w w busy after (λ x. refl) frees) step few less y move
+follows w busy after fitted r brought y (own_node s) e frees left_due few step less move =
+    silent r left_due w.bit after (calm w w busy after (λ x. refl) frees) step few less y move
+follows w busy after fitted r brought y (rail_node k i one) e frees left_due few step less move =
+    silent r left_due w.bit after (calm w (rail_turned w k i one) busy after (λ x. refl) frees) step few less y move
+follows w busy after fitted r brought y (ack_node k) e frees left_due few step less move = acks w busy after fitted r left_due few y k less (e k refl) brought move
+follows w busy after fitted r brought y (bit_node x i one) e frees left_due few step less move =
+    silent r left_due (bit_turned w x i one).bit after (calm w (bit_turned w x i one) busy after (λ x. refl) frees) step few less y move
+follows w busy after fitted r brought y (wrote_node x i) e frees left_due few step less move =
+    kept x w (wrote_turned w x i) busy after r left_due few less move.0 frees y move.1
+follows w busy after fitted r brought y (joint_node x k) e frees left_due few step less move =
+    kept x w (joint_turned w x k) busy after r left_due few less move.0 frees y move.1

@@ -38,7 +38,7 @@ skip_after env returning h of_skip e = record {
   fits = tt;
   flow = flow_same env none_shown;
   frees = λ x i. refl;
-  term = inl refl;
+  term = inl (refl, refl);
   keeps = λ q ne z. absurd (ne (only q));
 }
   where
@@ -203,7 +203,7 @@ send_after P c at e env clean m u h s f z = by (site_after P (of_channel c) e en
   where
     by : SiteAfter (of_channel c) e env m u s → After (sending c at e) m env (at_send m u h) (of_send s)
     by (site_goes n x may same way fits flow left writes keeps) =
-        record { mode = n; to = at_send n x may; same = same; way = way; fits = fits; flow = flow; term = inl (left _); frees = λ y i. refl; keeps = kept }
+        record { mode = n; to = at_send n x may; same = same; way = way; fits = fits; flow = flow; term = inl (refl, left _); frees = λ y i. refl; keeps = kept }
       where
         kept : (q : Spot (sending c at e)) → q ≢ of_send s → moves env (at_send {c = c} {at = at} {e = e} m u h) q ≡ true
             → moves env (at_send {c = c} {at = at} {e = e} n x may) q ≡ true
@@ -216,7 +216,7 @@ send_after P c at e env clean m u h s f z = by (site_after P (of_channel c) e en
       fits = tt;
       flow = flow;
       term = inl
-          (left _);
+          (refl, left _);
       frees = λ y i. refl;
       keeps = kept;
     }
@@ -239,7 +239,7 @@ assign_after P x at e env clean m u h s f z = by (site_after P (of_var x) e env 
           way = way;
           fits = fits;
           flow = flow;
-          term = inl (left _);
+          term = inl (refl, left _);
           frees = λ y i. ap
               (λ b. (x == y) && b) writes ∙ i;
           keeps = kept;
@@ -256,7 +256,7 @@ assign_after P x at e env clean m u h s f z = by (site_after P (of_var x) e env 
       fits = tt;
       flow = flow;
       term = inl
-          (left _);
+          (refl, left _);
       frees = λ y i. ap (λ b. (x == y) && b) writes ∙ never_and (x == y);
       keeps = kept;
     }

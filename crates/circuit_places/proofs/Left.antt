@@ -5,7 +5,7 @@ use Rattle.width_check.specs.Processes.{Process, skipping, assigning, sending, r
 use Rattle.chp_meaning.specs.Terms.{Term, Terms, no_branches, and_branch, finished, active, in_sequence, in_parallel, is_finished, all_finished, together, opened, followed, Place, here, in_first, in_branch, statement_at, branch_at, with_left, with_branch}
 use Rattle.circuit_places.specs.Lines.{Line, of_channel, of_var, Seen}
 use Rattle.circuit_places.specs.Circuit.{Bits, joint_count, GuardCells, heads}
-use Rattle.circuit_places.proofs.Places.{Mode, idle, running, answered, returning, link, all_ask, all_ack, SideMay, GuardedAt, At, TurnAt, BranchesAt, g_rests, g_in, g_past, g_back, rests, at_skip, at_assign, at_send, at_receive, at_turn, at_side, at_body, no_more, and_at, turn_rests, at_last, at_member, at_later, under_way, writing, guarded_writing, turn_writing, branches_writing, at_choice, at_turning, at_closing, ChoiceAt, control_at, inside_at, ChosenAt, this_one, another, choice_writing, chosen_writing}
+use Rattle.circuit_places.proofs.Places.{Mode, idle, running, answered, returning, link, all_ask, all_ack, SideMay, GuardedAt, At, TurnAt, BranchesAt, g_rests, g_in, g_past, g_back, rests, at_skip, at_assign, at_send, at_receive, at_turn, at_side, at_body, no_more, and_at, turn_rests, at_last, at_member, at_later, under_way, writing, guarded_writing, turn_writing, branches_writing, at_choice, at_turning, at_closing, ChoiceAt, control_at, inside_at, ChosenAt, this_one, another, chosen_writing}
 use Rattle.width_check.specs.Values.{value}
 use Rattle.function_blocks.specs.Rails.{number_on}
 use Rattle.circuit_places.specs.Heads.{Index, top, under}
@@ -114,14 +114,14 @@ pub record Silent (Told : Choices → List Process → Type 0) (x y : Term) : Ty
   pub goes : Goes Told statement rest
   pub act : Act x statement rest y
 
--- the term stays, or makes such a step
-abbrev pub Follows : (Told : Choices → List Process → Type 0) → Term → Term → Type 0
-Follows Told x y = (y ≡ x) ⊎ Silent Told x y
+-- the term stays, where the move is no step, or makes such a step
+abbrev pub Follows : (Told : Choices → List Process → Type 0) → (step : Bool) → Term → Term → Type 0
+Follows Told step x y = ((step ≡ false) × (y ≡ x)) ⊎ Silent Told x y
 
-pub followed_follows : (Told : Choices → List Process → Type 0) (more : Processes) (x y : Term) → Follows Told x y
-    → Follows Told (followed x more) (followed y more)
-followed_follows Told more x y (inl e) = inl (ap (λ z. followed z more) e)
-followed_follows Told more x y (inr s) = inr (record {
+pub followed_follows : (Told : Choices → List Process → Type 0) (more : Processes) (step : Bool) (x y : Term) → Follows Told step x y
+    → Follows Told step (followed x more) (followed y more)
+followed_follows Told more step x y (inl e) = inl (e.0, ap (λ z. followed z more) e.1)
+followed_follows Told more step x y (inr s) = inr (record {
   statement = s.statement;
   rest = s.rest;
   goes = s.goes;
@@ -136,10 +136,10 @@ wider T U f _ _ goes_on = goes_on
 wider T U f _ _ (chooses {choices = choices} i t) = chooses i (f choices (body_at choices i ∷ []) t)
 wider T U f _ _ (ends {choices = choices} t) = ends (f choices [] t)
 
-pub follows_wider : (T U : Choices → List Process → Type 0) → ((choices : Choices) (ps : List Process) → T choices ps → U choices ps) → (x y : Term)
-    → Follows T x y → Follows U x y
-follows_wider T U f x y (inl e) = inl e
-follows_wider T U f x y (inr s) = inr (record { statement = s.statement; rest = s.rest; goes = wider T U f s.statement s.rest s.goes; act = s.act })
+pub follows_wider : (T U : Choices → List Process → Type 0) → ((choices : Choices) (ps : List Process) → T choices ps → U choices ps) → (step : Bool) (x y : Term)
+    → Follows T step x y → Follows U step x y
+follows_wider T U f step x y (inl e) = inl e
+follows_wider T U f step x y (inr s) = inr (record { statement = s.statement; rest = s.rest; goes = wider T U f s.statement s.rest s.goes; act = s.act })
 
 pub told_wider : (env : Seen) (read more : ℕ → Bool) → ((x : ℕ) → read x ≡ true → more x ≡ true) → (choices : Choices) (ps : List Process)
     → ToldBy env read choices ps → ToldBy env more choices ps
@@ -185,55 +185,56 @@ pub record SilentInside (Told : Choices → List Process → Type 0) (ts us : Te
   pub goes : Goes Told statement rest
   pub act : ActInside ts statement rest us
 
-abbrev pub FollowsInside : (Told : Choices → List Process → Type 0) → Terms → Terms → Type 0
-FollowsInside Told ts us = (us ≡ ts) ⊎ SilentInside Told ts us
+abbrev pub FollowsInside : (Told : Choices → List Process → Type 0) → (step : Bool) → Terms → Terms → Type 0
+FollowsInside Told step ts us = ((step ≡ false) × (us ≡ ts)) ⊎ SilentInside Told ts us
 
-pub this_follows : (Told : Choices → List Process → Type 0) (ts : Terms) (x y : Term) → Follows Told x y
-    → FollowsInside Told (and_branch x ts) (and_branch y ts)
-this_follows Told ts x y (inl e) = inl (ap (λ z. and_branch z ts) e)
-this_follows Told ts x y (inr s) = inr (record {
+pub this_follows : (Told : Choices → List Process → Type 0) (ts : Terms) (step : Bool) (x y : Term) → Follows Told step x y
+    → FollowsInside Told step (and_branch x ts) (and_branch y ts)
+this_follows Told ts step x y (inl e) = inl (e.0, ap (λ z. and_branch z ts) e.1)
+this_follows Told ts step x y (inr s) = inr (record {
   statement = s.statement;
   rest = s.rest;
   goes = s.goes;
   act = this_act ts x s.statement s.rest y s.act;
 })
 
-pub other_follows : (Told : Choices → List Process → Type 0) (x : Term) (ts us : Terms) → FollowsInside Told ts us
-    → FollowsInside Told (and_branch x ts) (and_branch x us)
-other_follows Told x ts us (inl e) = inl (ap (λ z. and_branch x z) e)
-other_follows Told x ts us (inr s) = inr (record {
+pub other_follows : (Told : Choices → List Process → Type 0) (x : Term) (step : Bool) (ts us : Terms) → FollowsInside Told step ts us
+    → FollowsInside Told step (and_branch x ts) (and_branch x us)
+other_follows Told x step ts us (inl e) = inl (e.0, ap (λ z. and_branch x z) e.1)
+other_follows Told x step ts us (inr s) = inr (record {
   statement = s.statement;
   rest = s.rest;
   goes = s.goes;
   act = other_act x ts s.statement s.rest us s.act;
 })
 
-pub inside_wider : (T U : Choices → List Process → Type 0) → ((choices : Choices) (ps : List Process) → T choices ps → U choices ps) → (ts us : Terms)
-    → FollowsInside T ts us → FollowsInside U ts us
-inside_wider T U f ts us (inl e) = inl e
-inside_wider T U f ts us (inr s) = inr (record { statement = s.statement; rest = s.rest; goes = wider T U f s.statement s.rest s.goes; act = s.act })
+pub inside_wider : (T U : Choices → List Process → Type 0) → ((choices : Choices) (ps : List Process) → T choices ps → U choices ps) → (step : Bool)
+    (ts us : Terms) → FollowsInside T step ts us → FollowsInside U step ts us
+inside_wider T U f step ts us (inl e) = inl e
+inside_wider T U f step ts us (inr s) = inr (record { statement = s.statement; rest = s.rest; goes = wider T U f s.statement s.rest s.goes; act = s.act })
 
-pub together_follows : (Told : Choices → List Process → Type 0) (ts us : Terms) → FollowsInside Told ts us → Follows Told (together ts) (together us)
-together_follows Told ts us (inl e) = inl (ap together e)
-together_follows Told ts us (inr s) = inr (record {
+pub together_follows : (Told : Choices → List Process → Type 0) (step : Bool) (ts us : Terms) → FollowsInside Told step ts us
+    → Follows Told step (together ts) (together us)
+together_follows Told step ts us (inl e) = inl (e.0, ap together e.1)
+together_follows Told step ts us (inr s) = inr (record {
   statement = s.statement;
   rest = s.rest;
   goes = s.goes;
   act = together_act ts s.statement s.rest us s.act;
 })
 
-pub here_follows : {Told : Choices → List Process → Type 0} (s : Process) (l : Term) → Goes Told s l → Follows Told (active s) l
-here_follows s l g = inr (record { statement = s; rest = l; goes = g; act = record { at = here; stands = refl; then_is = refl } })
+pub here_follows : {Told : Choices → List Process → Type 0} (step : Bool) (s : Process) (l : Term) → Goes Told s l → Follows Told step (active s) l
+here_follows step s l g = inr (record { statement = s; rest = l; goes = g; act = record { at = here; stands = refl; then_is = refl } })
 
-pub skip_follows : (Told : Choices → List Process → Type 0) → Follows Told (active skipping) finished
-skip_follows Told = here_follows skipping finished skips
+pub skip_follows : (Told : Choices → List Process → Type 0) → Follows Told true (active skipping) finished
+skip_follows Told = here_follows true skipping finished skips
 
 pub loop_follows : (Told : Choices → List Process → Type 0) (p : Process) (x y : Term) → x ≡ finished → y ≡ opened p
-    → Follows Told (followed x (again p)) (followed y (again p))
+    → Follows Told true (followed x (again p)) (followed y (again p))
 loop_follows Told p x y e f =
-    subst (λ (z : Term). Follows Told (followed z (again p)) (followed y (again p))) (sym e)
-    (subst (λ (z : Term). Follows Told (active (repeating p)) (followed z (again p))) (sym f)
-    (here_follows (repeating p) (followed (opened p) (again p)) goes_on))
+    subst (λ (z : Term). Follows Told true (followed z (again p)) (followed y (again p))) (sym e)
+    (subst (λ (z : Term). Follows Told true (active (repeating p)) (followed z (again p))) (sym f)
+    (here_follows true (repeating p) (followed (opened p) (again p)) goes_on))
 
 -- a statement that isn't running is done
 no_run : (m k n : Mode) → link m k n ≡ true → (m ≡ running → ⊥) → n ≡ running → ⊥

@@ -50,17 +50,17 @@ turned_at w k i one c j side = line (same_line c k) refl
     line false e = that (ap (λ (b : Bool). (if b then rails_turned (w.rail k) i one else w.rail c) j side) e)
 
 -- the acknowledges don't change with a rail
-rail_acks : (P : TypedProgram) (w : Wires) (k : Line) (i : ℕ) (one : Bool) (c : Line) → line_ack P (rail_turned w k i one) c ≡ line_ack P w c
+pub rail_acks : (P : TypedProgram) (w : Wires) (k : Line) (i : ℕ) (one : Bool) (c : Line) → line_ack P (rail_turned w k i one) c ≡ line_ack P w c
 rail_acks P w k i one (of_channel c) = refl
 rail_acks P w k i one (of_var x) = refl
 
 -- a rail of a bit of a variable's line may move where its neighbour and the acknowledge let it
-write_rises : (x w : Rails) (wrote : ℕ → Bool) (va : Bool) (i : ℕ) (one : Bool) → w i one ≡ false → w i (not one) ≡ false → va ≡ false
+pub write_rises : (x w : Rails) (wrote : ℕ → Bool) (va : Bool) (i : ℕ) (one : Bool) → w i one ≡ false → w i (not one) ≡ false → va ≡ false
     → may (write_role one) (now_at x w wrote va i) ≡ true
 write_rises x w wrote va i true a b c = ap (λ z. if z then va else not va && not (w i false)) a ∙ (ap (λ z. not z && not (w i false)) c ∙ ap not b)
 write_rises x w wrote va i false a b c = ap (λ z. if z then va else not va && not (w i true)) a ∙ (ap (λ z. not z && not (w i true)) c ∙ ap not b)
 
-write_falls : (x w : Rails) (wrote : ℕ → Bool) (va : Bool) (i : ℕ) (one : Bool) → w i one ≡ true → va ≡ true
+pub write_falls : (x w : Rails) (wrote : ℕ → Bool) (va : Bool) (i : ℕ) (one : Bool) → w i one ≡ true → va ≡ true
     → may (write_role one) (now_at x w wrote va i) ≡ true
 write_falls x w wrote va i true a c = ap (λ z. if z then va else not va && not (w i false)) a ∙ c
 write_falls x w wrote va i false a c = ap (λ z. if z then va else not va && not (w i true)) a ∙ c
@@ -351,7 +351,7 @@ module _ (P : TypedProgram) (script : List OfferValue) {m : Mode} {g : GuardedAt
                 (sym (far_rails c e)) (good.neutral c u h z));
             heard_sited = good.heard_sited;
           };
-          term = λ ne. inl (still_left (rail_turned w k i side) (rail_acks P w k i side));
+          term = λ ne. inl (refl, still_left (rail_turned w k i side) (rail_acks P w k i side));
           frees = λ x. freed (rail_turned w k i side) x ⊥ refl (rail_acks P w k i side);
           keeps = λ q ne z. rail_others q ne x.keeps
               (λ c e z. no_ack c (subst (λ (l : Line). line_ack P w l ≡ false) e low) (subst (λ (l : Line). is_merged P l ≡ true) e n)
@@ -448,7 +448,7 @@ module _ (P : TypedProgram) (script : List OfferValue) {m : Mode} {g : GuardedAt
                 (sym (far_rails c e)) (good.neutral c u h z));
             heard_sited = good.heard_sited;
           };
-          term = λ ne. inl (still_left (rail_turned w k i side) (rail_acks P w k i side));
+          term = λ ne. inl (refl, still_left (rail_turned w k i side) (rail_acks P w k i side));
           frees = λ x. freed (rail_turned w k i side) x ⊥ refl (rail_acks P w k i side);
           keeps = λ q ne z. rail_others q ne x.keeps
               (λ c e z. no_ack c (subst (λ (l : Line). line_ack P w l ≡ true) e high) (subst (λ (l : Line). w.rail l i side ≡ true) e r) z)
@@ -605,7 +605,7 @@ module _ (P : TypedProgram) (script : List OfferValue) {m : Mode} {g : GuardedAt
                 (good.neutral d u h t));
             heard_sited = good.heard_sited;
           };
-          term = λ ne. inl (still_left brought acks_stay);
+          term = λ ne. inl (refl, still_left brought acks_stay);
           frees = λ x. freed brought x ⊥ refl acks_stay;
           keeps = λ q ne z. rail_others (of_channel c) i side q ne x.changed.keeps
               (λ d y a. let t = takes_of (channel_width P.channels d) w d (completed hs d) (offer_at script d) a in

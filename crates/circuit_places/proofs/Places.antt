@@ -676,7 +676,7 @@ site_can_is : (env : Seen) (k : Line) (e : Formula) (m : Mode) (u : Pairs (gate_
 site_can_is env k e m u done = refl
 site_can_is env k e m u (gate i one) = refl
 
-no_leave : {choices : Choices} {m : Mode} (x : ChoiceAt false choices m) → choice_leave x ≡ false
+pub no_leave : {choices : Choices} {m : Mode} (x : ChoiceAt false choices m) → choice_leave x ≡ false
 no_leave (control_at uncalled) = refl
 no_leave (control_at called) = refl
 no_leave (control_at (evaluating g)) = refl

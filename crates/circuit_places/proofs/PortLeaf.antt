@@ -416,7 +416,7 @@ receive_after P c x at to env clean m k q h s meets f z = by (port_after P c x e
       way = way;
       fits = fits;
       flow = flow;
-      term = inl (ap (λ f. f (active (receiving c at x to))) left);
+      term = inl (refl, ap (λ f. f (active (receiving c at x to))) left);
       frees = λ y i. ap (λ b. (x == y) && b) writes ∙ i;
       keeps = kept;
     }
@@ -431,7 +431,7 @@ receive_after P c x at to env clean m k q h s meets f z = by (port_after P c x e
       way = way;
       fits = tt;
       flow = flow;
-      term = inl (sym (ap (λ (n : Mode). waits n (env.ack (of_channel c)) (active (receiving c at x to))) back));
+      term = inl (refl, sym (ap (λ (n : Mode). waits n (env.ack (of_channel c)) (active (receiving c at x to))) back));
       frees = λ y i. ap (λ (n : Mode). (x == y) && under_way n (env.ack (of_channel c))) back ∙ never_and (x == y);
       keeps = kept;
     }

@@ -11,6 +11,7 @@ use Rattle.circuit_places.proofs.RailLemmas.{fst_true, snd_true, same_value}
 use Rattle.circuit_places.proofs.Trees.{Settled, top_of, joint_moves, turned_next, bits_low, leaf_turns, joint_moved, JointMoved, Topped, not_top, at_top, flat_nodes, flat_stands}
 use Rattle.circuit_places.proofs.Places.{Mode, idle, running, answered, returning, asks, acks, all_ask, all_ack, all_idle, ends, SideMay, GuardedAt, BranchesAt, rests, at_side, and_at, sides_of, guarded_cells, branch_cells, none_shown, guarded_shown, branches_shown, GuardedFits, BranchesFit, guarded_writing, branches_writing, moves, branch_moves}
 use Rattle.circuit_places.proofs.Left.{branches_left, guarded_left, this_follows, other_follows, together_follows, branches_left_done, branches_writing_done, none_asked, ToldBy, follows_wider, inside_wider, told_wider}
+use Rattle.circuit_places.proofs.Stepping.{guarded_steps, branch_steps}
 use Rattle.circuit_places.proofs.Flow.{goes, goes_asks, or_free, flow_same, flow_by, flow_both, After, GuardedAfter, BranchAfter, OneGoes, this_goes, other_goes, or_left, or_right}
 use Rattle.circuit_places.proofs.Begin.{as_many, ends_high, branches_idle, branches_idle_moves}
 
@@ -24,11 +25,11 @@ this_after {p = p} {more = more} {ks = ks} env g b s f r = record {
   way = this_goes r.way;
   fits = (r.fits, f);
   flow = flow_both env (guarded_shown g) (guarded_shown r.to) (branches_shown b) (branches_shown b) r.flow (flow_same env (branches_shown b));
-  term = this_follows (ToldBy env (λ x. (guarded_shown g).read x || (branches_shown b).read x)) (branches_left env.ack b) (guarded_left env.ack g)
+  term = this_follows (ToldBy env (λ x. (guarded_shown g).read x || (branches_shown b).read x)) (branches_left env.ack b) (guarded_steps g s) (guarded_left env.ack g)
       (guarded_left env.ack r.to)
       (follows_wider (ToldBy env (guarded_shown g).read) (ToldBy env (λ x. (guarded_shown g).read x || (branches_shown b).read x))
       (told_wider env (guarded_shown g).read (λ x. (guarded_shown g).read x || (branches_shown b).read x)
-      (λ x h. or_left ((guarded_shown g).read x) ((branches_shown b).read x) h)) (guarded_left env.ack g) (guarded_left env.ack r.to) r.term);
+      (λ x h. or_left ((guarded_shown g).read x) ((branches_shown b).read x) h)) (guarded_steps g s) (guarded_left env.ack g) (guarded_left env.ack r.to) r.term);
   frees = λ x e. or_free (guarded_writing env.ack g x) (branches_writing env.ack b x) (guarded_writing env.ack r.to x) (branches_writing env.ack b x)
       (r.frees x) (λ i. i) e;
   keeps = here;
@@ -47,11 +48,11 @@ others_after {p = p} {more = more} {k = k} env g b s f r = record {
   way = other_goes r.way;
   fits = (f, r.fits);
   flow = flow_both env (guarded_shown g) (guarded_shown g) (branches_shown b) (branches_shown r.to) (flow_same env (guarded_shown g)) r.flow;
-  term = other_follows (ToldBy env (λ x. (guarded_shown g).read x || (branches_shown b).read x)) (guarded_left env.ack g) (branches_left env.ack b)
+  term = other_follows (ToldBy env (λ x. (guarded_shown g).read x || (branches_shown b).read x)) (guarded_left env.ack g) (branch_steps b s) (branches_left env.ack b)
       (branches_left env.ack r.to)
       (inside_wider (ToldBy env (branches_shown b).read) (ToldBy env (λ x. (guarded_shown g).read x || (branches_shown b).read x))
       (told_wider env (branches_shown b).read (λ x. (guarded_shown g).read x || (branches_shown b).read x)
-      (λ x h. or_right ((guarded_shown g).read x) ((branches_shown b).read x) h)) (branches_left env.ack b) (branches_left env.ack r.to) r.term);
+      (λ x h. or_right ((guarded_shown g).read x) ((branches_shown b).read x) h)) (branch_steps b s) (branches_left env.ack b) (branches_left env.ack r.to) r.term);
   frees = λ x e. or_free (guarded_writing env.ack g x) (branches_writing env.ack b x) (guarded_writing env.ack g x) (branches_writing env.ack r.to x) (λ i. i)
       (r.frees x) e;
   keeps = here;
@@ -140,7 +141,7 @@ module _ {members : Processes} {ks : List Mode} (env : Seen) (m : Mode) (t : Bit
     way = side_goes m h r.way;
     fits = r.fits;
     flow = r.flow;
-    term = together_follows (ToldBy env (branches_shown b).read) (branches_left env.ack b) (branches_left env.ack r.to) r.term;
+    term = together_follows (ToldBy env (branches_shown b).read) (branch_steps b s) (branches_left env.ack b) (branches_left env.ack r.to) r.term;
     frees = r.frees;
     keeps = here;
   }
@@ -213,7 +214,7 @@ module _ {members : Processes} {ks : List Mode} (env : Seen) (t : Bits (joint_co
       way = g;
       fits = f;
       flow = flow_same env (branches_shown b);
-      term = inl refl;
+      term = inl (refl, refl);
       frees = λ x i. i;
       keeps = here;
     }
@@ -245,7 +246,7 @@ module _ {members : Processes} {ks : List Mode} (env : Seen) (t : Bits (joint_co
         way = refl;
         fits = f;
         flow = flow_same env (branches_shown b);
-        term = inl refl;
+        term = inl (refl, refl);
         frees = λ x i. i;
         keeps = here may;
       }
@@ -272,7 +273,7 @@ module _ {members : Processes} {ks : List Mode} (env : Seen) (t : Bits (joint_co
         way = refl;
         fits = tt;
         flow = flow_by env (branches_shown b) (branches_shown b) none_shown (branches_idle b idles).1 (flow_same env (branches_shown b));
-        term = inl (sym (branches_left_done env.ack b (none_asked ks h.asked)));
+        term = inl (refl, sym (branches_left_done env.ack b (none_asked ks h.asked)));
         frees = λ x i. branches_writing_done env.ack b (none_asked ks h.asked) x;
         keeps = here idles;
       }

@@ -22,6 +22,7 @@ use Rattle.circuit_places.proofs.Blocks.{Block, now_at}
 use Rattle.circuit_places.proofs.BitTable.{single_bit}
 use Rattle.circuit_places.proofs.Places.{Mode, idle, running, answered, returning, asks, is_idle, GuardedAt, guarded_cells, guarded_shown, guarded_writing, GuardedFits, guarded_moves}
 use Rattle.circuit_places.proofs.Meets.{Meets, uses_within}
+use Rattle.circuit_places.proofs.Stepping.{guarded_steps}
 use Rattle.circuit_places.proofs.Left.{guarded_left, Act, Follows, open_by, ToldBy, follows_wider}
 use Rattle.circuit_places.proofs.Flow.{goes, goes_asks, or_map, Clean, GuardedAfter, cases}
 use Rattle.circuit_places.proofs.Begin.{guarded_idle_moves}
@@ -164,11 +165,16 @@ abbrev pub Decided : (P : TypedProgram) → (bits : ℕ → Rails) → (busy : �
 Decided P bits busy choices ps = (store : ℕ → ℕ) → ((x : ℕ) → x < length P.vars → busy x ≡ false → number_on (var_width P.vars x) (bits x) ≡ store x)
     → open_by store choices ≡ ps
 
-abbrev pub Moves : (P : TypedProgram) → Wires → (busy after : ℕ → Bool) → Term → Term → Node P.body → Type 0
-Moves P w busy after t y (ack_node k) = Acks P busy after k w t y
-Moves P w busy after t y (wrote_node x i) = Others P x w (wrote_turned w x i) × Stored P busy after x w (wrote_turned w x i) t y
-Moves P w busy after t y (joint_node x k) = Others P x w (joint_turned w x k) × Stored P busy after x w (joint_turned w x k) t y
-Moves P w busy after t y _ = Follows (Decided P w.bit busy) t y
+abbrev pub Moves : (P : TypedProgram) → Wires → (busy after : ℕ → Bool) → (step : Bool) → Term → Term → Node P.body → Type 0
+Moves P w busy after step t y (ack_node k) = Acks P busy after k w t y
+Moves P w busy after step t y (wrote_node x i) = Others P x w (wrote_turned w x i) × Stored P busy after x w (wrote_turned w x i) t y
+Moves P w busy after step t y (joint_node x k) = Others P x w (joint_turned w x k) × Stored P busy after x w (joint_turned w x k) t y
+Moves P w busy after step t y _ = Follows (Decided P w.bit busy) step t y
+
+-- whether an own move is a silent step
+abbrev pub node_steps : {p : Process} {m : Mode} → GuardedAt p m → Node p → Bool
+node_steps g (own_node s) = guarded_steps g s
+node_steps g _ = false
 
 -- a variable's acknowledge rises
 pub record Rises (P : TypedProgram) (w now : Wires) (x : ℕ) : Type 0 where
@@ -193,7 +199,7 @@ pub record Next (P : TypedProgram) (script : List OfferValue) (m : Mode) (g : Gu
   pub go : asks mode ≡ go_after (asks m) n
   pub way : m ≢ returning → mode ≢ returning
   pub good : Good P mode to (wires_after w n)
-  pub term : m ≢ returning → Moves P w (guarded_writing (line_ack P w) g) (guarded_writing (line_ack P (wires_after w n)) to) (root_left (line_ack P w) g)
+  pub term : m ≢ returning → Moves P w (guarded_writing (line_ack P w) g) (guarded_writing (line_ack P (wires_after w n)) to) (node_steps g n) (root_left (line_ack P w) g)
       (root_left (line_ack P (wires_after w n)) to) n
   pub frees : (x : ℕ) → Freed P w (wires_after w n) (guarded_writing (line_ack P w) g x) (guarded_writing (line_ack P (wires_after w n)) to x) x (Arrival P w n)
   pub keeps : (k : Node P.body) → k ≢ n → can P script g w hs k ≡ true → can P script to (wires_after w n) (passed_after P.channels w hs n) k ≡ true
@@ -312,14 +318,14 @@ module _ (P : TypedProgram) (script : List OfferValue) {m : Mode} {g : GuardedAt
             (λ (e : guarded_writing (line_ack P w) g x ≡ true). absurd (cc (guarded_writing_unread P (line_ack P w) g good.meets x e, read)))
             (λ (e : guarded_writing (line_ack P w) g x ≡ false). e)
 
-    own_term : m ≢ returning → Follows (Decided P w.bit (guarded_writing (line_ack P w) g)) (root_left (line_ack P w) g) (root_left (line_ack P w) r.to)
+    own_term : m ≢ returning → Follows (Decided P w.bit (guarded_writing (line_ack P w) g)) (guarded_steps g s) (root_left (line_ack P w) g) (root_left (line_ack P w) r.to)
     own_term ne = here m r.mode g r.to r.way ne
         (follows_wider (ToldBy (wires_seen P w) (guarded_shown g).read) (Decided P w.bit (guarded_writing (line_ack P w) g))
-        told (guarded_left (line_ack P w) g) (guarded_left (line_ack P w) r.to) r.term)
+        told (guarded_steps g s) (guarded_left (line_ack P w) g) (guarded_left (line_ack P w) r.to) r.term)
       where
         here : (m n : Mode) (a : GuardedAt P.body m) (b : GuardedAt P.body n) → goes m n ≡ true → m ≢ returning
-            → Follows (Decided P w.bit (guarded_writing (line_ack P w) g)) (guarded_left (line_ack P w) a) (guarded_left (line_ack P w) b)
-            → Follows (Decided P w.bit (guarded_writing (line_ack P w) g)) (root_left (line_ack P w) a) (root_left (line_ack P w) b)
+            → Follows (Decided P w.bit (guarded_writing (line_ack P w) g)) (guarded_steps g s) (guarded_left (line_ack P w) a) (guarded_left (line_ack P w) b)
+            → Follows (Decided P w.bit (guarded_writing (line_ack P w) g)) (guarded_steps g s) (root_left (line_ack P w) a) (root_left (line_ack P w) b)
         here running running a b h ne f = f
         here running answered a b h ne f = f
         here running idle a b h ne f = absurd (cc h)

@@ -116,7 +116,7 @@ turned_next v i j = ap (λ b. if b then not (v (suc j)) else v (suc j)) (by (cas
     by (inl e) = eq-eqb (suc j) (suc i) (ap (λ x. suc x) e) ∙ sym (eq-eqb j i e)
     by (inr ne) = ne_eqb (suc j) (suc i) (λ e. ne (cc e)) ∙ sym (ne_eqb j i ne)
 
-turned_at : (n : ℕ) (t : Bits n) (i k : ℕ) → i < n → cell_bit n (turned_bits n t i) k ≡ turned (cell_bit n t) i k
+pub turned_at : (n : ℕ) (t : Bits n) (i k : ℕ) → i < n → cell_bit n (turned_bits n t i) k ≡ turned (cell_bit n t) i k
 turned_at zero t i k less = absurd (omega arith)
 turned_at (suc n) t zero zero less = refl
 turned_at (suc n) t zero (suc k) less = sym (turned_apart (cell_bit (suc n) t) zero (suc k) (λ e. cc e))
@@ -338,6 +338,12 @@ module _ (n : ℕ) where
             ∙ (turned_here (values leaf node) (n + k) ∙ ap (λ x. not (values leaf node x)) e)))
             (λ i below. sym (value_leaf n leaf node i below) ∙ All-contains (λ x. values leaf node x ≡ not (values leaf node (tree_top leaves n))) leaves i
             (known.turns (values leaf node) (node_of k) s.is (own k less) enabled e) (leaf_there i below))
+
+    -- it moves away from the top's value
+    pub moves_from_top : (leaf node : ℕ → Bool) (k : ℕ) → Settling n leaf node → node_moves n leaf node k ≡ true → node k ≡ tree_answer n leaf node
+    moves_from_top leaf node k s f =
+        let less = joint_below n leaf node k f in
+        sym (value_node n leaf node k) ∙ known.leaves_it (values leaf node) (node_of k) s.is (own k less) (own_fires leaf node k ∙ f)
 
     -- where all leaves have the top's value, all nodes have it, and none moves
     pub flat_nodes : (leaf : ℕ → Bool) (node : ℕ → Bool) (b : Bool) → Settling n leaf node → tree_answer n leaf node ≡ b → ((i : ℕ) → i < n → leaf i ≡ b)

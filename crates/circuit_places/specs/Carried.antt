@@ -1,5 +1,5 @@
 -- What holds of each state that a program's circuit reaches.
-use Rattle.std.specs.Prelude.{◌≡◌, ◌≢◌, ◌≤◌, ℕ, Bool, true, false, not, List, is_some}
+use Rattle.std.specs.Prelude.{◌≡◌, ◌≢◌, ◌≤◌, ◌*◌, ℕ, suc, Bool, true, false, not, List, is_some}
 use Rattle.env_script.specs.Scripts.{OfferValue, IsScript}
 use Rattle.width_check.specs.Processes.{TypedProgram}
 use Rattle.width_check.specs.Typing.{channel_width}
@@ -8,6 +8,7 @@ use Rattle.chp_meaning.specs.Terms.{Place, finished}
 use Rattle.chp_meaning.specs.Steps.{Configuration, Step, Leads, start_of}
 use Rattle.circuit_places.specs.Lines.{of_channel}
 use Rattle.circuit_places.specs.Circuit.{is_apart}
+use Rattle.circuit_places.specs.Bounds.{circuit_most}
 use Rattle.circuit_places.specs.Whole.{Whole, Node, rail_node, ack_node, is_node, rule_in, enabled, cells_moved, value_on, neutral_on, Reaches}
 
 -- no move takes away another that is enabled, no node is pulled both ways, and each channel keeps its phases
@@ -35,12 +36,14 @@ pub record CellsSettled (P : TypedProgram) (x : Whole P.body) (c : Configuration
   pub ended : x.root.next ≡ true → c.term ≡ finished
   pub going : x.root.next ≡ false → c.term ≢ finished
 
--- after so many moves: as many steps of the program at most have passed the same values
+-- after so many moves: as many steps of the program at most have passed the same values, and between two steps each node
+-- moves twice at most
 pub record IsCarried (P : TypedProgram) (script : List OfferValue) (moves : ℕ) (x : Whole P.body) : Type 0 where
   pub safe : IsSafe P script x
   pub to : Configuration
   pub steps : ℕ
   pub within : steps ≤ moves
+  pub paid : moves ≤ circuit_most P * suc steps
   pub leads : Leads (start_of P script) steps to
   pub passed : to.histories ≡ x.histories
   pub rest : CellsRest P script x → CellsSettled P x to

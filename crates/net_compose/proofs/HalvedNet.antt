@@ -175,11 +175,11 @@ module _ (counted : Counted) (P : TypedProgram) (typed : IsProcess P.channels P.
         (numbered (root_request P) root_rules ++ own P P.body (root_request P) (body_from P)) (hidden_long counted P P.body typed (body_from P))
         behind_front)
 
-    in_root : (i : ℕ) → i < 2 → v (root_request P + i) ≡ u (root_request Q + i)
+    pub in_root : (i : ℕ) → i < 2 → v (root_request P + i) ≡ u (root_request Q + i)
     in_root i l = values_at v u (root_request P) (root_request Q) root_rules (values_left v u (root_request Q) (numbered (root_request P) root_rules)
         (own P P.body (root_request P) (body_from P)) behind_hidden) i (omega (arith, l))
 
-    in_own : Values v u (body_from Q) (own P P.body (root_request P) (body_from P))
+    pub in_own : Values v u (body_from Q) (own P P.body (root_request P) (body_from P))
     in_own = values_right v u (root_request Q) 2 (numbered (root_request P) root_rules) (own P P.body (root_request P) (body_from P)) refl behind_hidden
 
   -- all rules

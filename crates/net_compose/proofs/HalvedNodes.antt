@@ -168,7 +168,7 @@ module _ (counted : Counted) (P : TypedProgram) where
       subst (λ l. IsPermutation (numbered (from + block_size w) rest ++ numbered from here) l) split
       (IsPermutation-append_comm (numbered (from + block_size w) rest) (numbered from here))
 
-  behind : (q rs rest : List NodeRules) (from size : ℕ) → length q ≡ 3 → length rs ≡ size
+  pub behind : (q rs rest : List NodeRules) (from size : ℕ) → length q ≡ 3 → length rs ≡ size
       → numbered from q ++ (numbered (from + 3) rs ++ numbered (from + 3 + size) rest) ≡ numbered from (q ++ (rs ++ rest))
   behind q rs rest from size three long =
       sym (numbered_append from q (rs ++ rest)

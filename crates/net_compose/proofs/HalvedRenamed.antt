@@ -9,20 +9,21 @@ use Rattle.prs_core.specs.Nets.{NodeRules, NetValue, net_of, up_of, down_of}
 use Rattle.prs_core.specs.Pairs.{pairs_from, rails_of, no_rules}
 use Rattle.prs_core.specs.Moves.{high, guard_holds}
 use Rattle.width_check.specs.declared.typed.Var.{Var}
-use Rattle.width_check.specs.Processes.{Formula, Process, skipping, assigning, sending, receiving, in_turn, side_by_side, choosing, repeating, Processes, no_members, and_member, TypedProgram, Choices, no_choices, and_choice, choice_count}
+use Rattle.width_check.specs.Processes.{Formula, Process, skipping, assigning, sending, receiving, in_turn, side_by_side, choosing, repeating, Processes, no_members, and_member, TypedProgram, Choices, no_choices, and_choice}
 use Rattle.width_check.specs.Reads.{reads}
 use Rattle.width_check.specs.Values.{width_of}
 use Rattle.width_check.proofs.Bounds.{width_some}
 use Rattle.width_check.specs.Typing.{channel_width, var_width, IsOfWidth, IsProcess, AreProcesses, AreChoices}
-use Rattle.handshake_expand.specs.Layout.{block_size, size_of, channel_from, var_from, root_request, body_from, nodes_of, guards_size}
+use Rattle.handshake_expand.specs.Layout.{block_size, size_of, channel_from, var_from, root_request, body_from, nodes_of}
 use Rattle.handshake_expand.specs.Named.{node_names}
 use Rattle.cell_variable.specs.Variables.{high_first}
 use Rattle.function_blocks.specs.Expressions.{formula_result}
 use Rattle.chp_meaning.specs.Halves.{ReadsNoTarget}
-use Rattle.chp_meaning.specs.Halves.{hidden_of, hidden_vars, hidden_in_each, halved, halved_program, ReadsNoTarget, hidden_in_choices, halved_choices, ChoicesReadNoTarget}
-use Rattle.handshake_expand.specs.Answers.{guards_from, bodies_from, select_own, again_own}
+use Rattle.chp_meaning.specs.Halves.{hidden_of, hidden_vars, hidden_in_each, halved, halved_program, ReadsNoTarget, hidden_in_choices}
+use Rattle.handshake_expand.specs.Answers.{bodies_from, select_own, again_own}
 use Rattle.handshake_expand.specs.Sites.{in_body, sites_in, sites_in_turn, sites_in_branches, sites_in_bodies}
 use Rattle.net_compose.specs.Translation.{translation, composed, all_rules, hidden_high, vars_high, first_values, wires_from, rails_at, ack_at}
+use Rattle.net_compose.specs.WiresBelow.{AreBelow, WiresBelow}
 use Rattle.net_compose.proofs.Sizes.{Counted, all_length}
 use Rattle.net_compose.proofs.FlatTrees.{rules_at}
 use Rattle.net_compose.proofs.FlatWires.{wires_below}
@@ -35,7 +36,7 @@ use Rattle.net_compose.proofs.HalvedNodes.{Numbered, hidden, hidden_turn, hidden
 use Rattle.net_compose.proofs.NumberedOnce.{node_in, standing, one_place}
 use Rattle.net_compose.proofs.HalvedAlike.{Values, rules_in, values_left, values_right, values_at, declared_from, HiddenAt, hidden_at_left, hidden_at_right, hidden_long}
 use Rattle.net_compose.proofs.HalvedNet.{rules_in_at, values_from, order, order_all, all_long, order_long, renamed, nodes_there, where_hidden, below_root, in_hidden, order_alike}
-use Rattle.net_compose.proofs.Renamed.{AreBelow, WiresBelow, IsRenaming}
+use Rattle.net_compose.proofs.Renamed.{IsRenaming}
 
 -- the rails that are high at first of a block, where the block is numbered otherwise
 highs_renamed : (f : ℕ → ℕ) (n value from to : ℕ) → ((i : ℕ) → i < 5 * n → from + i ≡ f (to + i)) → map f (high_first n value to) ≡ high_first n value from
@@ -148,13 +149,13 @@ module _ (counted : Counted) (P : TypedProgram) (typed : IsProcess P.channels P.
       (r.place, omega (arith, w, o), r.is)
 
   -- the numbers themselves, in the order
-  numbers : Values (λ n. n) f 0 nodes
+  pub numbers : Values (λ n. n) f 0 nodes
   numbers = values_from (λ n. n) f 0 nodes (λ i l. ap f (let z : i ≡ 0 + i = omega arith in z))
 
   f_still : (n : ℕ) → n < root_request P → f n ≡ n
   f_still n l = sym (below_root counted P typed plain some (λ n. n) f numbers n l)
 
-  values_of : (v u : ℕ → Bool) → ((n : ℕ) → n < nodes_of P → v (f n) ≡ u n) → Values v u 0 nodes
+  pub values_of : (v u : ℕ → Bool) → ((n : ℕ) → n < nodes_of P → v (f n) ≡ u n) → Values v u 0 nodes
   values_of v u h = values_from v u 0 nodes
       (λ i l. let o = order_long counted P typed plain some in
       h i (omega (arith, l, o)) ∙ ap u (let z : i ≡ 0 + i = omega arith in z))

@@ -19,7 +19,11 @@ pub mod NetNames
 pub mod NetFilled
 pub mod NetHolds
 pub mod HalvedNumbers
+pub mod CircuitSizes
 pub mod HalvedCarried
+pub mod RunsOn
+pub mod RunsEnd
+pub mod ResetEnds
 pub mod HalvedNodes
 pub mod SameValues
 pub mod SameSelections
@@ -54,3 +58,7 @@ pub mod Composed
 pub mod BodyWritten
 pub mod RailsApart
 pub mod SelectionReady
+pub mod PartStands
+pub mod PartRuns
+pub mod PartHalves
+pub mod PartAllRuns

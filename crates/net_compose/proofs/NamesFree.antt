@@ -10,6 +10,7 @@ use Rattle.width_check.specs.declared.typed.Var.{Var}
 use Rattle.width_check.specs.Processes.{TypedProgram}
 use Rattle.handshake_expand.specs.Layout.{block_size, vars_from, root_request, size_of}
 use Rattle.handshake_expand.specs.Named.{numbered, numbered_from, wires_named, wire_names, bit_tails, bit_names, bits_named, block_names, node_names}
+use Rattle.net_compose.specs.NamesTo.{names_to}
 
 abbrev IsFree : List ℕ → Type 0
 IsFree name = name ≢ codes "reset"
@@ -88,12 +89,15 @@ blocks_free [] from = All-nil IsFree
 blocks_free (v ∷ vs) from = All-append IsFree (bits_named v) _ (bits_free v)
     (All-append IsFree (numbered_from (from + 5 * v.width) (v.width - 1)) _ (all_numbered _ _) (blocks_free vs (from + block_size v.width)))
 
-pub names_free : (p : TypedProgram) → All (λ name. name ≢ codes "reset") (node_names p)
-names_free p =
-    let body = numbered_from (root_request p) (2 + size_of p p.body) in
+pub some_names_free : (p : TypedProgram) (count : ℕ) → All (λ name. name ≢ codes "reset") (names_to p count)
+some_names_free p count =
+    let body = numbered_from (root_request p) count in
     let blocks = block_names p.vars (vars_from p) ++ body in
     let blocks_are = All-append IsFree (block_names p.vars (vars_from p)) body (blocks_free p.vars (vars_from p))
-    (all_numbered (root_request p) (2 + size_of p p.body)) in
+    (all_numbered (root_request p) count) in
     let wires_are = All-append IsFree (wire_names p.channels) blocks (all_flat wires_named p.channels wires_free) blocks_are in
     All-cons IsFree (codes "go") (codes "done" ∷ (wire_names p.channels ++ blocks)) (begins 103 (codes "o") refl)
     (All-cons IsFree (codes "done") (wire_names p.channels ++ blocks) (begins 100 (codes "one") refl) wires_are)
+
+pub names_free : (p : TypedProgram) → All (λ name. name ≢ codes "reset") (node_names p)
+names_free p = some_names_free p (2 + size_of p p.body)

@@ -38,7 +38,7 @@ abbrev pub full : List NodeRules → Bool
 full [] = true
 full (r ∷ rs) = list_all is_filled r.up && (list_all is_filled r.down && full rs)
 
-full-append : (rs ss : List NodeRules) → full rs ≡ true → full ss ≡ true → full (rs ++ ss) ≡ true
+pub full-append : (rs ss : List NodeRules) → full rs ≡ true → full ss ≡ true → full (rs ++ ss) ≡ true
 full-append [] ss h k = k
 full-append (r ∷ rs) ss h k =
     let a = and_parts (list_all is_filled r.up) (list_all is_filled r.down && full rs) h in
@@ -206,7 +206,7 @@ levels_full zero ls from = refl
 levels_full (suc n) ls from = full-append (level_rules ls) (levels_rules n (next_level ls from) (from + length ls / 2)) (level_full ls)
     (levels_full n (next_level ls from) (from + length ls / 2))
 
-tree_full : (leaves : List ℕ) (from : ℕ) → full (tree_rules leaves from) ≡ true
+pub tree_full : (leaves : List ℕ) (from : ℕ) → full (tree_rules leaves from) ≡ true
 tree_full leaves from = levels_full (length leaves) leaves from
 
 ports_full : (request : ℕ) (xs : List Pair) → full (port_rules request xs) ≡ true
@@ -217,7 +217,7 @@ singles_filled : (ns : List ℕ) → list_all is_filled (map (λ k. is_high k �
 singles_filled [] = refl
 singles_filled (n ∷ ns) = singles_filled ns
 
-or_full : (ns : List ℕ) (rest : List NodeRules) → full rest ≡ true → full (or_of ns ∷ rest) ≡ true
+pub or_full : (ns : List ℕ) (rest : List NodeRules) → full rest ≡ true → full (or_of ns ∷ rest) ≡ true
 or_full [] rest h = h
 or_full (n ∷ ns) rest h = full-cons (or_of (n ∷ ns)) rest (singles_filled ns) refl h
 
@@ -231,7 +231,7 @@ bits_full : (sites : List (List Pair)) (place : ℕ) (bs : List Bit) → full (b
 bits_full sites place [] = refl
 bits_full sites place (b ∷ bs) = merges_full sites place (bit_written b ∷ bits_rules sites (suc place) bs) (bits_full sites (suc place) bs)
 
-block_full : (width from : ℕ) (sites : List (List Pair)) → full (variable_rules width from sites) ≡ true
+pub block_full : (width from : ℕ) (sites : List (List Pair)) → full (variable_rules width from sites) ≡ true
 block_full width from sites = full-append (bits_rules sites 0 (bits_from width from)) (tree_rules (written_leaves width from) (from + 5 * width))
     (bits_full sites 0 (bits_from width from)) (tree_full (written_leaves width from) (from + 5 * width))
 
@@ -254,7 +254,7 @@ starts_full : (ls : List ℕ) (hs : List Pair) → full (starts ls hs) ≡ true
 starts_full [] hs = refl
 starts_full (l ∷ ls) hs = starts_full ls hs
 
-select_full : (c : Choosing) → full (select_rules c) ≡ true
+pub select_full : (c : Choosing) → full (select_rules c) ≡ true
 select_full c =
     let behind = latches c.request c.guards ++ starts c.latched c.guards in
     full-cons (joined_answer c.any c.answers) (evaluation c.request c.any ∷ or_of c.latched ∷ behind) (singles_filled c.answers) refl
@@ -262,7 +262,7 @@ select_full c =
     (starts_full c.latched c.guards)))
 
 -- it ends where all of at least one guard are false
-again_full : (r : Repeating) → 1 ≤ length r.turn.guards → full (again_rules r) ≡ true
+pub again_full : (r : Repeating) → 1 ≤ length r.turn.guards → full (again_rules r) ≡ true
 again_full r some =
     let behind = latches r.turn.request r.turn.guards ++ starts r.turn.latched r.turn.guards in
     full-cons (joined_answer r.turn.any r.turn.answers) (evaluation r.turn.request r.turn.any ∷ or_of (r.leave ∷ r.turn.latched)
@@ -279,7 +279,7 @@ again_full r some =
 
 module _ (p : TypedProgram) (pairs : (choices : Choices) (from : ℕ) → AreChoices p.channels p.vars choices →
     length (guard_pairs choices from) ≡ choice_count choices) where
-  guards_full : (choices : Choices) (request from : ℕ) → full (guards_rules p choices request from) ≡ true
+  pub guards_full : (choices : Choices) (request from : ℕ) → full (guards_rules p choices request from) ≡ true
   guards_full no_choices request from = refl
   guards_full (and_choice g s more) request from =
       full-append (formula_rules (bits_at p) g request from) (guards_rules p more request (from + formula_size g)) (formula_full (bits_at p) g request from)
@@ -302,7 +302,7 @@ module _ (p : TypedProgram) (pairs : (choices : Choices) (from : ℕ) → AreCho
       (reads_full (h.element + 2) (block_bits h.width h.block)))
 
   mutual
-    statement_full : (s : Process) (request from : ℕ) → IsProcess p.channels p.vars s → full (rules_of p s request from) ≡ true
+    pub statement_full : (s : Process) (request from : ℕ) → IsProcess p.channels p.vars s → full (rules_of p s request from) ≡ true
     statement_full skipping request from h = refl
     statement_full (assigning x at e) request from h =
         either_full (reads x e) (through_rules p x e request from) (write_answer request (written_at p x) ∷ formula_rules (bits_at p) e request (from + 1))
@@ -353,11 +353,11 @@ module _ (p : TypedProgram) (pairs : (choices : Choices) (from : ℕ) → AreCho
         full-append (rules_of p s start from) (bodies_rules p more (start + 1) (from + size_of p s)) (statement_full s start from h.1)
         (bodies_full more (start + 1) (from + size_of p s) h.2)
 
-  rails_full : (sites : List (List Pair)) (place width : ℕ) → full (rail_rules sites place width) ≡ true
+  pub rails_full : (sites : List (List Pair)) (place width : ℕ) → full (rail_rules sites place width) ≡ true
   rails_full sites place zero = refl
   rails_full sites place (suc n) = merges_full sites place (rail_rules sites (suc place) n) (rails_full sites (suc place) n)
 
-  silent_full : (n : ℕ) → full (replicate n no_rules) ≡ true
+  pub silent_full : (n : ℕ) → full (replicate n no_rules) ≡ true
   silent_full zero = refl
   silent_full (suc n) = silent_full n
 

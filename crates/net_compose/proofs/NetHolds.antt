@@ -1,5 +1,5 @@
 -- The net of a typed program is a net of a rule file.
-use Rattle.std.proofs.Common.{◌≡◌, ◌≢◌, ℕ, zero, suc, ◌+◌, ◌*◌, ◌/◌, ◌%◌, ◌≤◌, ◌<◌, ◌==◌, Bool, true, false, List, [], ◌∷◌, ◌++◌, map, length, get_or, refl, sym, ap, subst, ◌∙◌, arith, append_assoc, get_or-append-add}
+use Rattle.std.proofs.Common.{◌≡◌, ◌≢◌, ℕ, zero, suc, ◌+◌, ◌*◌, ◌/◌, ◌%◌, ◌≤◌, ◌<◌, ◌==◌, Bool, true, false, List, [], ◌∷◌, ◌++◌, map, length, get_or, None, refl, sym, ap, subst, ◌∙◌, arith, append_assoc, get_or-append-add}
 use Rattle.std.specs.Prelude.{◌||◌, if◌then◌else◌, replicate, All, AllPairs, codes}
 use Rattle.std.proofs.lemmas.Bool.{ne_eqb}
 use Rattle.std.proofs.lemmas.List.{length-map, length-replicate, get_or_append_left, get_or-map}
@@ -8,43 +8,44 @@ use Rattle.chp_base.specs.declared.channel.Channel.{Channel}
 use Rattle.chp_base.specs.declared.channel.Kind.{Kind}
 use Rattle.chp_base.specs.declared.channel.Kind.TheVariants.{In, Out, Chan}
 use Rattle.prs_core.specs.declared.wires.Wires.{Wires}
-use Rattle.prs_core.specs.Nets.{NetValue, NodeRules, IsBelow, IsRules, IsNet, IsChannel, IsUndriven, name_at, first_at, ack_name, wires_from_outside}
+use Rattle.prs_core.specs.Nets.{NetValue, net_of, RulesValue, IsFilled, literals_of, NodeRules, IsBelow, IsRules, IsNet, IsChannel, IsUndriven, name_at, first_at, ack_name, wires_from_outside}
 use Rattle.prs_core.specs.Pairs.{pairs_from, no_rules, rails_of}
 use Rattle.width_check.specs.declared.typed.Var.{Var}
 use Rattle.width_check.specs.Processes.{Process, skipping, assigning, sending, receiving, in_turn, side_by_side, choosing, repeating, Processes, no_members, and_member, Choices, no_choices, and_choice, TypedProgram}
 use Rattle.width_check.specs.Typing.{kind_at, channel_width, var_width, names_of, IsTyped, IsDeclaredChannel}
 use Rattle.width_check.specs.Reads.{reads}
-use Rattle.handshake_expand.specs.Layout.{wires_size, wires_before, channel_from, vars_from, var_from, body_from, size_of, nodes_of}
+use Rattle.handshake_expand.specs.Layout.{wires_size, wires_before, channel_from, vars_from, var_from, root_request, body_from, size_of, nodes_of}
 use Rattle.handshake_expand.specs.Answers.{bodies_from, select_own, again_own}
-use Rattle.handshake_expand.specs.Named.{node_names, wire_names}
+use Rattle.handshake_expand.specs.Named.{wire_names}
 use Rattle.cell_variable.specs.Variables.{high_first}
 use Rattle.handshake_expand.specs.Sites.{in_body, sites_in, sites_in_turn, sites_in_branches, sites_in_bodies}
 use Rattle.net_compose.specs.Translation.{rails_at, ack_at, hidden_high, send_site, rail_rules, channel_rules, channels_rules, vars_rules, vars_high, first_values, wires_from, all_rules, composed, translation}
+use Rattle.net_compose.specs.NamesTo.{names_to}
 use Rattle.net_compose.proofs.FlatCells.{rail_place, rail_place_lt}
 use Rattle.net_compose.proofs.FlatFirst.{member, raised_is, length-raised}
 use Rattle.net_compose.proofs.FlatWires.{wires_below}
 use Rattle.net_compose.proofs.Sizes.{Counted, all_counted, all_length, root_and_body, wires_length, rails_length, pairs_of_guards}
 use Rattle.net_compose.proofs.NetLiterals.{few_literals}
 use Rattle.net_compose.proofs.NetFilled.{all_filled, ups_filled, downs_filled}
-use Rattle.net_compose.proofs.NetNames.{channel_name, names_count, rails_named, rail_text, rail_named, ack_named, rail_text_is, blocks_and_body, each_is_name, all_differ}
+use Rattle.net_compose.proofs.NetNames.{channel_name, names_count, rails_named, rail_text, rail_named, ack_named, rail_text_is, blocks_and_body, count_of_names, each_is_name, all_differ}
 
 -- first values: the nodes before the variables' blocks are low
 
-abbrev AllFrom : ℕ → List ℕ → Type 0
+abbrev pub AllFrom : ℕ → List ℕ → Type 0
 AllFrom b [] = Unit {0}
 AllFrom b (x ∷ xs) = (b ≤ x) × AllFrom b xs
 
-not_among : (b m : ℕ) (xs : List ℕ) → AllFrom b xs → m < b → member m xs ≡ false
+pub not_among : (b m : ℕ) (xs : List ℕ) → AllFrom b xs → m < b → member m xs ≡ false
 not_among b m [] h lt = refl
 not_among b m (x ∷ xs) h lt =
     let first = h.0 in
     ap (λ c. c || member m xs) (ne_eqb x m (λ e. absurd (omega (arith, e, first, lt)))) ∙ not_among b m xs h.1 lt
 
-from_append : (b : ℕ) (xs ys : List ℕ) → AllFrom b xs → AllFrom b ys → AllFrom b (xs ++ ys)
+pub from_append : (b : ℕ) (xs ys : List ℕ) → AllFrom b xs → AllFrom b ys → AllFrom b (xs ++ ys)
 from_append b [] ys h k = k
 from_append b (x ∷ xs) ys h k = (h.0, from_append b xs ys h.1 k)
 
-from_lower : (b c : ℕ) (xs : List ℕ) → b ≤ c → AllFrom c xs → AllFrom b xs
+pub from_lower : (b c : ℕ) (xs : List ℕ) → b ≤ c → AllFrom c xs → AllFrom b xs
 from_lower b c [] le h = tt
 from_lower b c (x ∷ xs) le h = let first = h.0 in (omega (arith, le, first), from_lower b c xs le h.1)
 
@@ -57,7 +58,7 @@ high_from (suc n) v from = (rail (v % 2 == 1), from_lower from (from + 5) (high_
     rail false = omega arith
 
 module _ (p : TypedProgram) where
-  vars_high_from : (x : ℕ) (vs : List Var) → AllFrom (vars_from p) (vars_high p x vs)
+  pub vars_high_from : (x : ℕ) (vs : List Var) → AllFrom (vars_from p) (vars_high p x vs)
   vars_high_from x [] = tt
   vars_high_from x (v ∷ vs) =
       from_append (vars_from p) (high_first v.width v.first (var_from p x)) (vars_high p (suc x) vs)
@@ -69,7 +70,7 @@ module _ (p : TypedProgram) where
   hidden_if false w from = tt
 
   mutual
-    hidden_from : (s : Process) (from : ℕ) → AllFrom from (sites_in p (hidden_high p) s from)
+    pub hidden_from : (s : Process) (from : ℕ) → AllFrom from (sites_in p (hidden_high p) s from)
     hidden_from skipping from = tt
     hidden_from (assigning x at e) from = hidden_if (reads x e) (var_width p.vars x) from
     hidden_from (sending chan at e) from = tt
@@ -108,7 +109,7 @@ module _ (p : TypedProgram) where
         from_append from (sites_in p (hidden_high p) s from) (sites_in_bodies p (hidden_high p) more to) (hidden_from s from)
         (from_lower from to (sites_in_bodies p (hidden_high p) more to) (omega arith) (hidden_bodies more (from + size_of p s)))
 
-  all_low : (n m : ℕ) → get_or (replicate n false) m false ≡ false
+  pub all_low : (n m : ℕ) → get_or (replicate n false) m false ≡ false
   all_low zero m = refl
   all_low (suc n) zero = refl
   all_low (suc n) (suc m) = all_low n m
@@ -146,7 +147,7 @@ module _ (p : TypedProgram) where
       ∙ (channel_rules_at (suc k) cs tail j m (omega (arith, h)) lt
       ∙ ap (λ i. get_or (channel_rules p i (channel_width cs j) (kind_at cs j)) m no_rules) (let e : suc k + j ≡ k + suc j = omega arith in e))))
 
-  silent_at : (n i : ℕ) → get_or (replicate n no_rules) i no_rules ≡ no_rules
+  pub silent_at : (n i : ℕ) → get_or (replicate n no_rules) i no_rules ≡ no_rules
   silent_at zero i = refl
   silent_at (suc n) zero = refl
   silent_at (suc n) (suc i) = silent_at n i
@@ -164,7 +165,7 @@ module _ (p : TypedProgram) where
       ∙ get_or-append-add (rail_rules sites 0 w) (no_rules ∷ []) 0 no_rules
 
 -- what holds of the two rails of each bit holds of the rails
-rails_all : (P : ℕ → Type 0) (from w : ℕ) → ((i : ℕ) (one : Bool) → i < w → P (from + rail_place i one)) → All P (rails_of (pairs_from w from))
+pub rails_all : (P : ℕ → Type 0) (from w : ℕ) → ((i : ℕ) (one : Bool) → i < w → P (from + rail_place i one)) → All P (rails_of (pairs_from w from))
 rails_all P from zero h = All-nil P
 rails_all P from (suc n) h =
     let first : P from = subst P (let e : from + 0 ≡ from = omega arith in e) (h 0 true (omega arith)) in
@@ -211,9 +212,12 @@ each_wired P p k (c ∷ cs) h =
     (each_wired P p (suc k) cs (λ j d lt at. subst (λ i. P (wired p i d)) (let e : k + suc j ≡ suc k + j = omega arith in
     e) (h (suc j) d (omega (arith, lt)) at)))
 
-module _ (p : TypedProgram) (typed : IsTyped p.channels p.vars p.body) (small : nodes_of p ≤ 65536) where
-  abbrev the_net : NetValue
-  the_net = translation p
+-- a net with a program's wires and names, whose first values are low before the blocks of variables, and where nothing else
+-- drives what the environment does
+module _ (p : TypedProgram) (typed : IsTyped p.channels p.vars p.body) (count : ℕ) (small : root_request p + count ≤ 65536) (first : List Bool) (rules : RulesValue)
+    (long : length first ≡ root_request p + count) (lows : (m : ℕ) → m < vars_from p → get_or first m false ≡ false) where
+  abbrev pub some_net : NetValue
+  some_net = net_of (names_to p count) first rules (wires_from p 0 p.channels) None
 
   declared_at : (cs : List Channel) (j : ℕ) (c : Channel) → channel_at cs j c → All IsDeclaredChannel cs → IsDeclaredChannel c
   declared_at [] j c at h = absurd at
@@ -229,56 +233,15 @@ module _ (p : TypedProgram) (typed : IsTyped p.channels p.vars p.body) (small : 
   within : (k m : ℕ) → k < length p.channels → m < wires_size (channel_width p.channels k) → channel_from p k + m < vars_from p
   within k m h lt = let e = wires_below p.channels k h in omega (arith, e, lt)
 
-  first_count : length (first_values p) ≡ nodes_of p
-  first_count = length-raised (vars_high p 0 p.vars ++ in_body p (hidden_high p)) (replicate (nodes_of p) false) ∙ length-replicate (nodes_of p) false
+  in_net : (m : ℕ) → m < vars_from p → m < length first
+  in_net m lt = omega (arith, long, lt)
 
-  in_net : (m : ℕ) → m < vars_from p → m < length (first_values p)
-  in_net m lt = let e = first_count in omega (arith, e, lt)
+  module _ (outside : (k : ℕ) → k < length p.channels → All (IsUndriven some_net) (wires_from_outside (kind_at p.channels k) (rails_of (rails_at p k)) (ack_at p k))) where
+    named_at : (k m : ℕ) (name : List ℕ) → get_or (wire_names p.channels ++ blocks_and_body p typed count small) (wires_before p.channels k + m) [] ≡ name →
+        name_at some_net (channel_from p k + m) ≡ name
+    named_at k m name h = ap (λ i. get_or (names_to p count) i []) (let e : channel_from p k + m ≡ suc (suc (wires_before p.channels k + m)) = omega arith in e) ∙ h
 
-  rule_at : (k m : ℕ) → k < length p.channels → m < wires_size (channel_width p.channels k) →
-      get_or (all_rules p) (channel_from p k + m) no_rules ≡ get_or (channel_rules p k (channel_width p.channels k) (kind_at p.channels k)) m no_rules
-  rule_at k m h lt =
-      let tail = vars_rules p 0 p.vars ++ root_and_body p in
-      ap (λ i. get_or (all_rules p) i no_rules) (let e : channel_from p k + m ≡ suc (suc (wires_before p.channels k + m)) = omega arith in e)
-      ∙ (channel_rules_at p 0 p.channels tail k m h lt ∙ ap (λ i. get_or (channel_rules p i (channel_width p.channels k) (kind_at p.channels k)) m no_rules)
-      (let e : 0 + k ≡ k = omega arith in e))
-
-  silent : (n : ℕ) → n < length (all_rules p) → get_or (all_rules p) n no_rules ≡ no_rules → IsUndriven the_net n
-  silent n lt e = record {
-    up = get_or-map (λ (r : NodeRules). r.up) (all_rules p) n no_rules [] lt ∙ ap (λ (r : NodeRules). r.up) e;
-    down = get_or-map (λ (r : NodeRules). r.down) (all_rules p) n no_rules [] lt ∙ ap (λ (r : NodeRules). r.down) e;
-  }
-
-  module _ (counted : Counted) where
-    rules_count : length (all_rules p) ≡ nodes_of p
-    rules_count = all_length counted p typed.body_is
-
-    outside_of : (k : ℕ) → k < length p.channels → (kind : Kind) → kind_at p.channels k ≡ kind →
-        All (IsUndriven the_net) (wires_from_outside kind (rails_of (rails_at p k)) (ack_at p k))
-    outside_of k h In is =
-        rails_all (IsUndriven the_net) (channel_from p k) (channel_width p.channels k) (λ i one lt.
-        let below = rail_place_lt i (channel_width p.channels k) one lt in
-        let inside = within k (rail_place i one) h (omega (arith, below)) in
-        let n = rules_count in
-        silent (channel_from p k + rail_place i one) (omega (arith, inside, n))
-        (rule_at k (rail_place i one) h (omega (arith, below))
-        ∙ (ap (λ x. get_or (channel_rules p k (channel_width p.channels k) x) (rail_place i one) no_rules) is
-        ∙ in_rail p k (channel_width p.channels k) (rail_place i one) below)))
-    outside_of k h Out is =
-        let inside = within k (2 * channel_width p.channels k) h (omega arith) in
-        let n = rules_count in
-        All-cons (IsUndriven the_net) (ack_at p k) []
-        (silent (ack_at p k) (omega (arith, inside, n)) (rule_at k (2 * channel_width p.channels k) h (omega arith)
-        ∙ (ap (λ x. get_or (channel_rules p k (channel_width p.channels k) x) (2 * channel_width p.channels k) no_rules) is
-        ∙ out_ack p k (channel_width p.channels k))))
-        (All-nil (IsUndriven the_net))
-    outside_of k h Chan is = All-nil (IsUndriven the_net)
-
-    named_at : (k m : ℕ) (name : List ℕ) → get_or (wire_names p.channels ++ blocks_and_body p typed small) (wires_before p.channels k + m) [] ≡ name →
-        name_at the_net (channel_from p k + m) ≡ name
-    named_at k m name h = ap (λ i. get_or (node_names p) i []) (let e : channel_from p k + m ≡ suc (suc (wires_before p.channels k + m)) = omega arith in e) ∙ h
-
-    channel_is : (k : ℕ) (c : Channel) → k < length p.channels → channel_at p.channels k c → IsChannel the_net (wired p k c)
+    channel_is : (k : ℕ) (c : Channel) → k < length p.channels → channel_at p.channels k c → IsChannel some_net (wired p k c)
     channel_is k c h at =
         let d = declared_at p.channels k c at typed.each_channel in
         let t = told_of p.channels k c at in
@@ -292,19 +255,19 @@ module _ (p : TypedProgram) (typed : IsTyped p.channels p.vars p.body) (small : 
           most = d.most;
           count = rails_count (channel_from p k) w ∙ ap (λ n. 2 * n) t.1;
           rails =
-              rails_named_by (name_at the_net) name (channel_from p k) 0 w
-              (λ i one lt. named_at k (rail_place i one) (rail_text name (0 + i) one) (rail_named p typed small k i one h lt
-              ∙ sym (rail_text_is p typed small name i one)))
+              rails_named_by (name_at some_net) name (channel_from p k) 0 w
+              (λ i one lt. named_at k (rail_place i one) (rail_text name (0 + i) one) (rail_named p typed count small k i one h lt
+              ∙ sym (rail_text_is p typed count small name i one)))
               ∙ (ap (λ n. rails_named n 0 w) t.0 ∙ ap (rails_named c.name 0) t.1);
-          rails_within = rails_all (λ rail. rail < length (first_values p)) (channel_from p k) w (λ i one lt. let below = rail_place_lt i w one lt in
+          rails_within = rails_all (λ rail. rail < length first) (channel_from p k) w (λ i one lt. let below = rail_place_lt i w one lt in
               in_net (channel_from p k + rail_place i one) (within k (rail_place i one) h (omega (arith, below))));
-          rails_low = rails_all (λ rail. first_at the_net rail ≡ false) (channel_from p k) w (λ i one lt. let below = rail_place_lt i w one lt in
-              low_before p (channel_from p k + rail_place i one) (within k (rail_place i one) h (omega (arith, below))));
-          ack = named_at k (2 * w) (name ++ codes ".a") (ack_named p typed small k h) ∙ ap ack_name t.0;
+          rails_low = rails_all (λ rail. first_at some_net rail ≡ false) (channel_from p k) w (λ i one lt. let below = rail_place_lt i w one lt in
+              lows (channel_from p k + rail_place i one) (within k (rail_place i one) h (omega (arith, below))));
+          ack = named_at k (2 * w) (name ++ codes ".a") (ack_named p typed count small k h) ∙ ap ack_name t.0;
           ack_within = in_net (ack_at p k) whole;
-          ack_low = low_before p (ack_at p k) whole;
-          outside = subst (λ x. All (IsUndriven the_net) (wires_from_outside x (rails_of (rails_at p k)) (ack_at p k))) t.2
-              (outside_of k h (kind_at p.channels k) refl);
+          ack_low = lows (ack_at p k) whole;
+          outside = subst (λ x. All (IsUndriven some_net) (wires_from_outside x (rails_of (rails_at p k)) (ack_at p k))) t.2
+              (outside k h);
         }
 
     names_of_wires : (k : ℕ) (cs : List Channel) → map (λ (w : Wires). w.channel.name) (wires_from p k cs) ≡ map (λ (c : Channel). c.name) cs
@@ -331,36 +294,92 @@ module _ (p : TypedProgram) (typed : IsTyped p.channels p.vars p.body) (small : 
         let c = names_count p in
         typed.distinct i j [] less (omega (arith, lt, n, c)) (sym (wire_name i d (omega (arith, less, lt))) ∙ (same ∙ wire_name j d lt))
 
-    pub net_holds : IsRules (composed p) → IsNet (translation p)
-    net_holds rules =
-        let size = all_counted counted p typed in
-        let names = size.names in
-        let first = size.first in
-        let up = size.up in
-        let down = size.down in
-        let few = few_literals counted p typed in
-        let filled = all_filled p (λ choices from h. pairs_of_guards counted p choices from h) typed.body_is in
-        let same : length (composed p).up ≡ length (first_values p) = omega (arith, first, up) in
+    -- with rules over its own nodes, of no empty terms and of at most 64 literals for each node
+    pub net_is : length rules.up ≡ length first → IsRules rules → All IsFilled rules.up → All IsFilled rules.down → literals_of some_net ≤ 64 * length first
+        → IsUndriven some_net 0 → IsNet some_net
+    net_is same is ups downs few go =
+        let named = count_of_names p count in
+        let down = is.downs in
         record {
-          named = omega (arith, names, first);
+          named = omega (arith, named, long);
           ups = same;
-          downs = omega (arith, down, first);
-          some = omega (arith, first);
-          most = omega (arith, first, small);
-          names = each_is_name p typed small;
-          distinct = all_differ p typed small;
+          downs = omega (arith, down, same);
+          some = omega (arith, long);
+          most = omega (arith, long, small);
+          names = each_is_name p typed count small;
+          distinct = all_differ p typed count small;
           go = refl;
-          go_low = low_before p 0 (omega arith);
-          go_undriven = record { up = refl; down = refl };
+          go_low = lows 0 (omega arith);
+          go_undriven = go;
           done = refl;
-          done_low = low_before p 1 (omega arith);
-          up_within = subst (λ n. All (IsBelow n) (composed p).up) same rules.up_within;
-          down_within = subst (λ n. All (IsBelow n) (composed p).down) same rules.down_within;
-          up_filled = ups_filled (all_rules p) filled;
-          down_filled = downs_filled (all_rules p) filled;
-          literals = omega (arith, few, small);
-          channels = each_wired (IsChannel the_net) p 0 p.channels (λ j c lt at. subst (λ i. IsChannel the_net (wired p i c)) (let e : j ≡ 0 + j =
+          done_low = lows 1 (omega arith);
+          up_within = subst (λ n. All (IsBelow n) rules.up) same is.up_within;
+          down_within = subst (λ n. All (IsBelow n) rules.down) same is.down_within;
+          up_filled = ups;
+          down_filled = downs;
+          literals = omega (arith, few, long, small);
+          channels = each_wired (IsChannel some_net) p 0 p.channels (λ j c lt at. subst (λ i. IsChannel some_net (wired p i c)) (let e : j ≡ 0 + j =
               omega arith in e) (channel_is j c lt at));
           channels_distinct = channels_differ;
           reset = tt;
         }
+
+module _ (p : TypedProgram) (typed : IsTyped p.channels p.vars p.body) (small : nodes_of p ≤ 65536) where
+  abbrev the_net : NetValue
+  the_net = translation p
+
+  wire_within : (k m : ℕ) → k < length p.channels → m < wires_size (channel_width p.channels k) → channel_from p k + m < vars_from p
+  wire_within k m h lt = let e = wires_below p.channels k h in omega (arith, e, lt)
+
+  first_count : length (first_values p) ≡ nodes_of p
+  first_count = length-raised (vars_high p 0 p.vars ++ in_body p (hidden_high p)) (replicate (nodes_of p) false) ∙ length-replicate (nodes_of p) false
+
+  rule_at : (k m : ℕ) → k < length p.channels → m < wires_size (channel_width p.channels k) →
+      get_or (all_rules p) (channel_from p k + m) no_rules ≡ get_or (channel_rules p k (channel_width p.channels k) (kind_at p.channels k)) m no_rules
+  rule_at k m h lt =
+      let tail = vars_rules p 0 p.vars ++ root_and_body p in
+      ap (λ i. get_or (all_rules p) i no_rules) (let e : channel_from p k + m ≡ suc (suc (wires_before p.channels k + m)) = omega arith in e)
+      ∙ (channel_rules_at p 0 p.channels tail k m h lt ∙ ap (λ i. get_or (channel_rules p i (channel_width p.channels k) (kind_at p.channels k)) m no_rules)
+      (let e : 0 + k ≡ k = omega arith in e))
+
+  silent : (n : ℕ) → n < length (all_rules p) → get_or (all_rules p) n no_rules ≡ no_rules → IsUndriven the_net n
+  silent n lt e = record {
+    up = get_or-map (λ (r : NodeRules). r.up) (all_rules p) n no_rules [] lt ∙ ap (λ (r : NodeRules). r.up) e;
+    down = get_or-map (λ (r : NodeRules). r.down) (all_rules p) n no_rules [] lt ∙ ap (λ (r : NodeRules). r.down) e;
+  }
+
+  module _ (counted : Counted) where
+    rules_count : length (all_rules p) ≡ nodes_of p
+    rules_count = all_length counted p typed.body_is
+
+    outside_of : (k : ℕ) → k < length p.channels → (kind : Kind) → kind_at p.channels k ≡ kind →
+        All (IsUndriven the_net) (wires_from_outside kind (rails_of (rails_at p k)) (ack_at p k))
+    outside_of k h In is =
+        rails_all (IsUndriven the_net) (channel_from p k) (channel_width p.channels k) (λ i one lt.
+        let below = rail_place_lt i (channel_width p.channels k) one lt in
+        let inside = wire_within k (rail_place i one) h (omega (arith, below)) in
+        let n = rules_count in
+        silent (channel_from p k + rail_place i one) (omega (arith, inside, n))
+        (rule_at k (rail_place i one) h (omega (arith, below))
+        ∙ (ap (λ x. get_or (channel_rules p k (channel_width p.channels k) x) (rail_place i one) no_rules) is
+        ∙ in_rail p k (channel_width p.channels k) (rail_place i one) below)))
+    outside_of k h Out is =
+        let inside = wire_within k (2 * channel_width p.channels k) h (omega arith) in
+        let n = rules_count in
+        All-cons (IsUndriven the_net) (ack_at p k) []
+        (silent (ack_at p k) (omega (arith, inside, n)) (rule_at k (2 * channel_width p.channels k) h (omega arith)
+        ∙ (ap (λ x. get_or (channel_rules p k (channel_width p.channels k) x) (2 * channel_width p.channels k) no_rules) is
+        ∙ out_ack p k (channel_width p.channels k))))
+        (All-nil (IsUndriven the_net))
+    outside_of k h Chan is = All-nil (IsUndriven the_net)
+
+    pub net_holds : IsRules (composed p) → IsNet (translation p)
+    net_holds rules =
+        let size = all_counted counted p typed in
+        let first = size.first in
+        let up = size.up in
+        let few = few_literals counted p typed in
+        let filled = all_filled p (λ choices from h. pairs_of_guards counted p choices from h) typed.body_is in
+        net_is p typed (2 + size_of p p.body) (omega (arith, small)) (first_values p) (composed p) (omega (arith, first)) (low_before p)
+        (λ k h. outside_of k h (kind_at p.channels k) refl) (omega (arith, first, up)) rules (ups_filled (all_rules p) filled) (downs_filled (all_rules p) filled)
+        (omega (arith, few, first)) (record { up = refl; down = refl })

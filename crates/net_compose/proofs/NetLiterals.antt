@@ -30,7 +30,7 @@ use Rattle.circuit_places.proofs.LineNames.{self_number, same_number}
 use Rattle.cell_channel.specs.Ends.{port_rules}
 
 -- a product by adding up, as sites are counted bit by bit
-abbrev times : ℕ → ℕ → ℕ
+abbrev pub times : ℕ → ℕ → ℕ
 times zero n = 0
 times (suc k) n = n + times k n
 
@@ -47,11 +47,11 @@ times_one zero = refl
 times_one (suc k) = let e = times_one k in omega (arith, e)
 
 -- what the merges of all channels, and of all variables, cost where the sites of each are so many
-abbrev at_channels : (sends receives : ℕ → ℕ) → (k : ℕ) → List Channel → ℕ
+abbrev pub at_channels : (sends receives : ℕ → ℕ) → (k : ℕ) → List Channel → ℕ
 at_channels s r k [] = 0
 at_channels s r k (c ∷ cs) = 4 * times c.width (s k) + 2 * r k + at_channels s r (suc k) cs
 
-abbrev at_vars : (writes : ℕ → ℕ) → (x : ℕ) → List Var → ℕ
+abbrev pub at_vars : (writes : ℕ → ℕ) → (x : ℕ) → List Var → ℕ
 at_vars w x [] = 0
 at_vars w x (v ∷ vs) = 4 * times v.width (w x) + at_vars w (suc x) vs
 
@@ -173,7 +173,7 @@ merged_cost sites bit =
     let m : length (map (λ (site : List Pair). (pair_of site bit).f) sites) ≡ length sites = length-map sites _ in
     omega (arith, t, f, n, m)
 
-rails_cost : (sites : List (List Pair)) (place width : ℕ) → cost (rail_rules sites place width) ≡ 4 * times width (length sites)
+pub rails_cost : (sites : List (List Pair)) (place width : ℕ) → cost (rail_rules sites place width) ≡ 4 * times width (length sites)
 rails_cost sites place zero = refl
 rails_cost sites place (suc n) =
     let one = merged_cost sites place in
@@ -228,10 +228,10 @@ starts_cost (l ∷ ls) hs few =
 abbrev latches_and_starts : Choosing → List NodeRules
 latches_and_starts c = latches c.request c.guards ++ starts c.latched c.guards
 
-record OfCount (c : Choosing) (n : ℕ) : Type 0 where
-  latched : length c.latched ≡ n
-  guards : length c.guards ≡ n
-  answers : length c.answers ≡ n
+pub record OfCount (c : Choosing) (n : ℕ) : Type 0 where
+  pub latched : length c.latched ≡ n
+  pub guards : length c.guards ≡ n
+  pub answers : length c.answers ≡ n
 
 behind_cost : (c : Choosing) (n : ℕ) → OfCount c n → n ≤ 16 → cost (latches_and_starts c) ≤ 51 * n
 behind_cost c n is few =
@@ -242,7 +242,7 @@ behind_cost c n is few =
     let two = starts_cost c.latched c.guards (omega (arith, guards, few)) in
     omega (arith, parts, guards, latched, one, two)
 
-select_cost : (c : Choosing) (n : ℕ) → OfCount c n → n ≤ 16 → cost (select_rules c) ≤ 55 * n + 4
+pub select_cost : (c : Choosing) (n : ℕ) → OfCount c n → n ≤ 16 → cost (select_rules c) ≤ 55 * n + 4
 select_cost c n is few =
     let behind = behind_cost c n is few in
     let up = singles_cost c.answers in
@@ -252,7 +252,7 @@ select_cost c n is few =
     let latched = is.latched in
     omega (arith, behind, up, down, any, answers, latched)
 
-again_cost : (r : Repeating) (n : ℕ) → OfCount r.turn n → n ≤ 16 → cost (again_rules r) ≤ 58 * n + 15
+pub again_cost : (r : Repeating) (n : ℕ) → OfCount r.turn n → n ≤ 16 → cost (again_rules r) ≤ 58 * n + 15
 again_cost r n is few =
     let c = r.turn in
     let behind = behind_cost r.turn n is few in
@@ -269,10 +269,10 @@ again_cost r n is few =
 
 module _ (p : TypedProgram) where
   -- what the merges of all channels and variables cost where they have these sites
-  abbrev share : (sends : ℕ → List (List Pair)) (receives : ℕ → List ℕ) (writes : ℕ → List (List Pair)) → ℕ
+  abbrev pub share : (sends : ℕ → List (List Pair)) (receives : ℕ → List ℕ) (writes : ℕ → List (List Pair)) → ℕ
   share sends receives writes = at_channels (λ k. length (sends k)) (λ k. length (receives k)) 0 p.channels + at_vars (λ x. length (writes x)) 0 p.vars
 
-  share_both : (s t : ℕ → List (List Pair)) (r u : ℕ → List ℕ) (w z : ℕ → List (List Pair)) →
+  pub share_both : (s t : ℕ → List (List Pair)) (r u : ℕ → List ℕ) (w z : ℕ → List (List Pair)) →
       share (λ k. s k ++ t k) (λ k. r k ++ u k) (λ x. w x ++ z x) ≡ share s r w + share t u z
   share_both s t r u w z =
       let channels =
@@ -284,10 +284,10 @@ module _ (p : TypedProgram) where
       ∙ vars_sum (λ x. length (w x)) (λ x. length (z x)) 0 p.vars in
       omega (arith, channels, vars)
 
-  share_none : share (λ k. []) (λ k. []) (λ x. []) ≡ 0
+  pub share_none : share (λ k. []) (λ k. []) (λ x. []) ≡ 0
   share_none = let c = channels_none 0 p.channels in let v = vars_none 0 p.vars in omega (arith, c, v)
 
-  abbrev share_of : Process → (from : ℕ) → ℕ
+  abbrev pub share_of : Process → (from : ℕ) → ℕ
   share_of s from = share (λ k. sites_in p (send_site k) s from) (λ k. sites_in p (receive_site k) s from) (λ x. sites_in p (write_site p x) s from)
 
   abbrev share_of_turn : Processes → (from : ℕ) → ℕ
@@ -343,7 +343,7 @@ module _ (p : TypedProgram) where
   answers_length (and_choice g s more) from = let e = answers_length more (from + size_of p s) in omega (arith, e)
 
   module _ (k : Counted) where
-    block_cost : (width from : ℕ) (sites : List (List Pair)) → cost (variable_rules width from sites) ≤ 42 * width + 4 * times width (length sites)
+    pub block_cost : (width from : ℕ) (sites : List (List Pair)) → cost (variable_rules width from sites) ≤ 42 * width + 4 * times width (length sites)
     block_cost width from sites =
         let parts = cost-append (bits_rules sites 0 (bits_from width from)) (tree_rules (written_leaves width from) (from + 5 * width)) in
         let bits = bits_cost sites 0 width from in
@@ -359,7 +359,7 @@ module _ (p : TypedProgram) where
         let n = k.rules p.vars (bits_at p) (has_bits p) e request from formed reads in
         omega (arith, cheap, n)
 
-    guards_cost : (choices : Choices) (request from : ℕ) → AreChoices p.channels p.vars choices →
+    pub guards_cost : (choices : Choices) (request from : ℕ) → AreChoices p.channels p.vars choices →
         cost (guards_rules p choices request from) ≤ 30 * guards_size choices
     guards_cost no_choices request from h = omega arith
     guards_cost (and_choice g s more) request from h =
@@ -394,7 +394,7 @@ module _ (p : TypedProgram) where
         omega (arith, last, wide, middle, first, once, behind, whole)
 
     mutual
-      fits : (s : Process) (request from : ℕ) → IsProcess p.channels p.vars s → cost (rules_of p s request from) + share_of s from ≤ 64 * size_of p s
+      pub fits : (s : Process) (request from : ℕ) → IsProcess p.channels p.vars s → cost (rules_of p s request from) + share_of s from ≤ 64 * size_of p s
       fits skipping request from h = let e = share_none in omega (arith, e)
       fits (assigning x at e) request from h =
           let one = writes_one x from at e in

@@ -16,10 +16,11 @@ use Rattle.prs_core.specs.Nets.{true_rail, false_rail, rail_names, ack_name}
 use Rattle.width_check.specs.declared.typed.Var.{Var}
 use Rattle.width_check.specs.Processes.{TypedProgram}
 use Rattle.width_check.specs.Typing.{channel_width, var_width, names_of, IsTyped, IsDeclaredChannel, IsDeclaredVar}
-use Rattle.handshake_expand.specs.Layout.{wires_size, block_size, wires_before, blocks_before, channel_from, var_from, vars_from, root_request, size_of, nodes_of}
-use Rattle.handshake_expand.specs.Named.{numbered, numbered_from, wire_names, bit_names, block_names, node_names}
+use Rattle.handshake_expand.specs.Layout.{wires_size, block_size, wires_before, blocks_before, channel_from, var_from, vars_from, root_request}
+use Rattle.handshake_expand.specs.Named.{numbered, numbered_from, wire_names, bit_names, block_names}
 use Rattle.circuit_places.specs.Lines.{Line, of_channel, of_var}
 use Rattle.net_compose.specs.Translation.{ack_at}
+use Rattle.net_compose.specs.NamesTo.{names_to}
 use Rattle.net_compose.proofs.FlatCells.{rail_place, rail_place_is, rail_place_lt}
 use Rattle.net_compose.proofs.FlatWires.{Wire, a_rail, an_ack, wire_of}
 use Rattle.net_compose.proofs.FlatBlocks.{Owner, owner, Part, PartAt, part_of, IsPart, offset, blocks_below}
@@ -454,15 +455,24 @@ block_names_length (v ∷ vs) from =
 named_is : (name digits s : List ℕ) → name ++ codes "." ++ digits ++ 46 ∷ s ≡ name ++ 46 ∷ (digits ++ 46 ∷ s)
 named_is name digits s = append_assoc (name ++ codes ".") digits (46 ∷ s) ∙ append_assoc name (codes ".") (digits ++ 46 ∷ s)
 
-pub record Found (p : TypedProgram) (n : ℕ) : Type 0 where
+pub record Found (p : TypedProgram) (count n : ℕ) : Type 0 where
   pub key : Key
   pub fine : IsFineKey p key
-  pub text_is : get_or (node_names p) n [] ≡ text p key
+  pub text_is : get_or (names_to p count) n [] ≡ text p key
   pub node_is : node p key ≡ n
 
-module _ (p : TypedProgram) (typed : IsTyped p.channels p.vars p.body) (small : nodes_of p ≤ 65536) where
+pub count_of_names : (p : TypedProgram) (count : ℕ) → length (names_to p count) ≡ root_request p + count
+count_of_names p count =
+    let w = wire_names_length p.channels in
+    let b = block_names_length p.vars (vars_from p) in
+    let n = numbered_length (root_request p) count in
+    let e = length-append (block_names p.vars (vars_from p)) (numbered_from (root_request p) count) in
+    let f = length-append (wire_names p.channels) (block_names p.vars (vars_from p) ++ numbered_from (root_request p) count) in
+    omega (arith, w, b, n, e, f)
+
+module _ (p : TypedProgram) (typed : IsTyped p.channels p.vars p.body) (count : ℕ) (small : root_request p + count ≤ 65536) where
   abbrev pub blocks_and_body : List (List ℕ)
-  blocks_and_body = block_names p.vars (vars_from p) ++ numbered_from (root_request p) (2 + size_of p p.body)
+  blocks_and_body = block_names p.vars (vars_from p) ++ numbered_from (root_request p) count
 
   narrow_channel : (cs : List Channel) → All IsDeclaredChannel cs → (k : ℕ) → k < length cs → channel_width cs k ≤ 64
   narrow_channel [] h k lt = absurd (omega (arith, lt))
@@ -508,10 +518,10 @@ module _ (p : TypedProgram) (typed : IsTyped p.channels p.vars p.body) (small : 
       ∙ (ap (λ m. get_or (wires_named name w) m []) (let e : 2 * w ≡ length (rail_names name w) + 0 = omega (arith, n) in e)
       ∙ get_or-append-add (rail_names name w) (ack_name name ∷ []) 0 [])
 
-  found_wire : (m : ℕ) → m < wires_before p.channels (length p.channels) → Found p (suc (suc m))
+  found_wire : (m : ℕ) → m < wires_before p.channels (length p.channels) → Found p count (suc (suc m))
   found_wire m lt = by (wire_of p m lt)
     where
-      by : Wire p (2 + m) → Found p (suc (suc m))
+      by : Wire p (2 + m) → Found p count (suc (suc m))
       by (a_rail k i one h k_lt e) =
           let narrow = narrow_channel p.channels typed.each_channel k h in
           let place = rail_place_is i one in
@@ -582,8 +592,8 @@ module _ (p : TypedProgram) (typed : IsTyped p.channels p.vars p.body) (small : 
       ∙ (ap numbered (let e : from + k ≡ var_from p x + (5 * w + k) = omega arith in e) ∙ plain_text (var_from p x + (5 * w + k)) (omega arith))))
 
   found_part : (x m : ℕ) → x < length p.vars → m < block_size (var_width p.vars x)
-      → (n : ℕ) → n ≡ var_from p x + m → get_or (node_names p) n [] ≡
-      get_or (block_named (var_name p.vars x) (var_width p.vars x) (vars_from p + blocks_before p.vars x)) m [] → Found p n
+      → (n : ℕ) → n ≡ var_from p x + m → get_or (names_to p count) n [] ≡
+      get_or (block_named (var_name p.vars x) (var_width p.vars x) (vars_from p + blocks_before p.vars x)) m [] → Found p count n
   found_part x m h lt n is names = by (part_of (var_width p.vars x) m lt)
     where
       w : ℕ
@@ -592,7 +602,7 @@ module _ (p : TypedProgram) (typed : IsTyped p.channels p.vars p.body) (small : 
       narrow : var_width p.vars x ≤ 64
       narrow = narrow_var p.vars typed.each_var x h
 
-      bit : (i r : ℕ) → i < var_width p.vars x → r < 5 → 5 * i + r ≡ m → Found p n
+      bit : (i r : ℕ) → i < var_width p.vars x → r < 5 → 5 * i + r ≡ m → Found p count n
       bit i r k below e = record {
         key = dotted (of_var x) (a_bit i r);
         fine = (h, (omega (arith, narrow, k), below));
@@ -601,10 +611,10 @@ module _ (p : TypedProgram) (typed : IsTyped p.channels p.vars p.body) (small : 
         node_is = omega (arith, is, e);
       }
 
-      by : PartAt (var_width p.vars x) m → Found p n
+      by : PartAt (var_width p.vars x) m → Found p count n
       by r = part r.part r.fine r.is
         where
-          part : (q : Part) → IsPart (var_width p.vars x) q → offset (var_width p.vars x) q ≡ m → Found p n
+          part : (q : Part) → IsPart (var_width p.vars x) q → offset (var_width p.vars x) q ≡ m → Found p count n
           part (b.a_bit i true) k e = bit i 0 k (omega arith) e
           part (b.a_bit i false) k e = bit i 1 k (omega arith) e
           part (b.a_put i true) k e = bit i 2 k (omega arith) e
@@ -621,8 +631,8 @@ module _ (p : TypedProgram) (typed : IsTyped p.channels p.vars p.body) (small : 
                 node_is = omega (arith, is, e);
               }
 
-  found_number : (j : ℕ) → j < 2 + size_of p p.body → get_or (node_names p) (root_request p + j) [] ≡ numbered (root_request p + j) →
-      Found p (root_request p + j)
+  found_number : (j : ℕ) → j < count → get_or (names_to p count) (root_request p + j) [] ≡ numbered (root_request p + j) →
+      Found p count (root_request p + j)
   found_number j lt names = record {
     key = plain (root_request p + j);
     fine = omega (arith, small, lt);
@@ -636,14 +646,14 @@ module _ (p : TypedProgram) (typed : IsTyped p.channels p.vars p.body) (small : 
       let n = wire_names_length p.channels in
       ap (λ i. get_or (wire_names p.channels ++ blocks_and_body) (i + m) []) (sym n) ∙ get_or-append-add (wire_names p.channels) blocks_and_body m []
 
-  past_blocks : (m : ℕ) → get_or blocks_and_body (blocks_before p.vars (length p.vars) + m) [] ≡ get_or (numbered_from (root_request p) (2 + size_of p p.body))
+  past_blocks : (m : ℕ) → get_or blocks_and_body (blocks_before p.vars (length p.vars) + m) [] ≡ get_or (numbered_from (root_request p) count)
       m []
   past_blocks m =
       let n = block_names_length p.vars (vars_from p) in
       ap (λ i. get_or blocks_and_body (i + m) []) (sym n)
-      ∙ get_or-append-add (block_names p.vars (vars_from p)) (numbered_from (root_request p) (2 + size_of p p.body)) m []
+      ∙ get_or-append-add (block_names p.vars (vars_from p)) (numbered_from (root_request p) count) m []
 
-  found_at : (n : ℕ) → n < nodes_of p → Found p n
+  found_at : (n : ℕ) → n < root_request p + count → Found p count n
   found_at zero lt = record { key = plain 0; fine = lit< tt; text_is = refl; node_is = refl }
   found_at (suc zero) lt = record { key = plain 1; fine = lit< tt; text_is = refl; node_is = refl }
   found_at (suc (suc m)) lt =
@@ -652,51 +662,42 @@ module _ (p : TypedProgram) (typed : IsTyped p.channels p.vars p.body) (small : 
       (λ (le : wires_before p.channels (length p.channels) ≤ m). behind (m - wires_before p.channels (length p.channels)) (omega (arith, le)))
       (cases_lt m (wires_before p.channels (length p.channels)))
     where
-      at_body : (j : ℕ) → j < 2 + size_of p p.body → suc (suc m) ≡ root_request p + j →
-          m ≡ wires_before p.channels (length p.channels) + (blocks_before p.vars (length p.vars) + j) → Found p (suc (suc m))
+      at_body : (j : ℕ) → j < count → suc (suc m) ≡ root_request p + j →
+          m ≡ wires_before p.channels (length p.channels) + (blocks_before p.vars (length p.vars) + j) → Found p count (suc (suc m))
       at_body j less whole is =
-          let names : get_or (node_names p) (suc (suc m)) [] ≡ numbered (root_request p + j) =
+          let names : get_or (names_to p count) (suc (suc m)) [] ≡ numbered (root_request p + j) =
           ap (λ i. get_or (wire_names p.channels ++ blocks_and_body) i []) is
-          ∙ (past_wires (blocks_before p.vars (length p.vars) + j) ∙ (past_blocks j ∙ numbered_at (root_request p) (2 + size_of p p.body) j less)) in
-          subst (Found p) (sym whole) (found_number j less (ap (λ i. get_or (node_names p) i []) (sym whole) ∙ names))
+          ∙ (past_wires (blocks_before p.vars (length p.vars) + j) ∙ (past_blocks j ∙ numbered_at (root_request p) count j less)) in
+          subst (Found p count) (sym whole) (found_number j less (ap (λ i. get_or (names_to p count) i []) (sym whole) ∙ names))
 
-      behind : (j : ℕ) → m ≡ wires_before p.channels (length p.channels) + j → Found p (suc (suc m))
+      behind : (j : ℕ) → m ≡ wires_before p.channels (length p.channels) + j → Found p count (suc (suc m))
       behind j is =
           ⊎_elim
           (λ (block : j < blocks_before p.vars (length p.vars)).
           let o = owner p.vars j block in
-          let names : get_or (node_names p) (suc (suc m)) [] ≡
+          let names : get_or (names_to p count) (suc (suc m)) [] ≡
           get_or (block_named (var_name p.vars o.var) (var_width p.vars o.var) (vars_from p + blocks_before p.vars o.var)) o.place [] =
           ap (λ i. get_or (wire_names p.channels ++ blocks_and_body) i []) is
           ∙ (past_wires j
           ∙ (ap (λ i. get_or blocks_and_body i []) (sym o.is)
-          ∙ block_at p.vars (vars_from p) (numbered_from (root_request p) (2 + size_of p p.body)) o.var o.place o.some o.below)) in
+          ∙ block_at p.vars (vars_from p) (numbered_from (root_request p) count) o.var o.place o.some o.below)) in
           let place = o.is in
           found_part o.var o.place o.some o.below (suc (suc m)) (omega (arith, is, place)) names)
           (λ (le : blocks_before p.vars (length p.vars) ≤ j).
           at_body (j - blocks_before p.vars (length p.vars)) (omega (arith, is, le, lt)) (omega (arith, is, le)) (omega (arith, is, le)))
           (cases_lt j (blocks_before p.vars (length p.vars)))
 
-  pub count_of_names : length (node_names p) ≡ nodes_of p
-  count_of_names =
-      let w = wire_names_length p.channels in
-      let b = block_names_length p.vars (vars_from p) in
-      let n = numbered_length (root_request p) (2 + size_of p p.body) in
-      let e = length-append (block_names p.vars (vars_from p)) (numbered_from (root_request p) (2 + size_of p p.body)) in
-      let f = length-append (wire_names p.channels) blocks_and_body in
-      omega (arith, w, b, n, e, f)
-
-  pub each_is_name : All IsNodeName (node_names p)
-  each_is_name = All-from_get_or IsNodeName (node_names p) [] (λ i lt.
-      let r = found_at i (omega (arith, lt, count_of_names)) in
+  pub each_is_name : All IsNodeName (names_to p count)
+  each_is_name = All-from_get_or IsNodeName (names_to p count) [] (λ i lt.
+      let r = found_at i (omega (arith, lt, count_of_names p count)) in
       subst IsNodeName (sym r.text_is) (key_is_name p typed r.key r.fine))
 
-  pub all_differ : AllPairs (λ (a b : List ℕ). a ≢ b) (node_names p)
+  pub all_differ : AllPairs (λ (a b : List ℕ). a ≢ b) (names_to p count)
   all_differ i j d less within same =
-      let r = found_at i (omega (arith, less, within, count_of_names)) in
-      let s = found_at j (omega (arith, within, count_of_names)) in
-      let first : get_or (node_names p) i [] ≡ get_or (node_names p) i d = get_or_default (node_names p) i [] d (omega (arith, less, within)) in
-      let second : get_or (node_names p) j d ≡ get_or (node_names p) j [] = get_or_default (node_names p) j d [] within in
+      let r = found_at i (omega (arith, less, within, count_of_names p count)) in
+      let s = found_at j (omega (arith, within, count_of_names p count)) in
+      let first : get_or (names_to p count) i [] ≡ get_or (names_to p count) i d = get_or_default (names_to p count) i [] d (omega (arith, less, within)) in
+      let second : get_or (names_to p count) j d ≡ get_or (names_to p count) j [] = get_or_default (names_to p count) j d [] within in
       let texts : text p r.key ≡ text p s.key = sym r.text_is ∙ (first ∙ (same ∙ (second ∙ s.text_is))) in
       let keys = key_same p typed r.key s.key r.fine s.fine texts in
       let nodes : i ≡ j = sym r.node_is ∙ (ap (node p) keys ∙ s.node_is) in

@@ -1,6 +1,6 @@
 -- A net of which each state is told by a run of a program, of no more steps than the net has made moves, carries the program:
 -- the program's rounds make the same steps, and as many at least.
-use Rattle.std.proofs.Common.{◌≡◌, ◌≢◌, ℕ, zero, suc, ◌+◌, ◌-◌, ◌≤◌, Bool, true, false, List, [], ◌∷◌, ◌++◌, length, Option, Some, None, refl, sym, ap, ◌∙◌, subst, arith, append-nil, append_assoc}
+use Rattle.std.proofs.Common.{◌≡◌, ◌≢◌, ℕ, zero, suc, ◌+◌, ◌-◌, ◌*◌, ◌≤◌, Bool, true, false, List, [], ◌∷◌, ◌++◌, length, Option, Some, None, refl, sym, ap, ◌∙◌, subst, arith, append-nil, append_assoc}
 use Rattle.std.specs.Prelude.{if◌then◌else◌, is_some, fold, filter}
 use Rattle.prs_core.specs.Nets.{RulesValue, NetValue, net_of}
 use Rattle.prs_core.specs.declared.wires.Wires.{Wires}
@@ -42,6 +42,12 @@ pub record IsPassingRun (net : NetValue) (P : TypedProgram) (script : List Offer
 abbrev pub Passes : NetValue → TypedProgram → Type 0
 Passes net P = (script : List OfferValue) → IsScript P.channels script → (ns : List ℕ) → IsRun net script (begin_at net net.first) ns
     → IsPassingRun net P script ns
+
+-- each run has no more than so many moves for each step of some run of the program that has passed the same, and before the first
+abbrev pub IsPaid : NetValue → TypedProgram → (bound : ℕ) → Type 0
+IsPaid net P bound = (script : List OfferValue) → IsScript P.channels script → (ns : List ℕ) → IsRun net script (begin_at net net.first) ns
+    → (n : ℕ) × (d : Configuration) × Leads (start_of P script) n d × (d.histories ≡ (after net (begin_at net net.first) ns).histories)
+    × (length ns ≤ bound * suc n)
 
 -- what passes the program in halves passes the program
 pub halves_pass : HalvesFollow → (net : NetValue) (P : TypedProgram) → IsTyped P.channels P.vars P.body → MeetsSharing P.body
@@ -105,6 +111,16 @@ module _ (names more_names : List (List ℕ)) (firsts more_firsts : List Bool) (
               record { still = z.still; ended = λ h. z.ended (sym done ∙ h); going = λ h. z.going (sym done ∙ h) };
         };
       }
+
+  pub renamed_paid : IsRenaming A B f count low → (P : TypedProgram) (bound : ℕ) → IsPaid B P bound → IsPaid A P bound
+  renamed_paid is P bound paid script fits ns run =
+      let m = mirror names more_names firsts more_firsts rules more_rules ws f count low is script ns (begin_at A firsts) (begin_at B more_firsts)
+      (mirrors_first names more_names firsts more_firsts rules more_rules ws f count low is script) run in
+      let r = paid script fits m.moves m.run in
+      let few = r.4 in
+      let long = m.long in
+      let last = m.last in
+      (r.0, r.1, r.2, r.3 ∙ sym last.histories, omega (arith, few, long))
 
 -- rounds and runs of the program
 
@@ -200,3 +216,15 @@ module _ (steps_taken : (c d : Configuration) (at : Place) → step_at c at ≡ 
           rest = λ still. settled net P script meets (after net (begin_at net net.first) moves) (length moves) r.passing still;
         };
   }
+
+  -- rounds that go no further lead where a run goes no further
+  pub same_end : (P : TypedProgram) (script : List OfferValue) → MeetsSharing P.body → (m n : ℕ) (c : Configuration) → Leads (start_of P script) m c
+      → ((at : Place) (d : Configuration) → ¬ Step c at d) → ((at : Place) (d : Configuration) → ¬ Step (rounds P script n) at d) → rounds P script n ≡ c
+  same_end P script meets m n c l still there =
+      let on = one P script meets m c l in
+      let is : c ≡ rounds P script m = leads_nowhere c (rounds P script m) on.0 still on.1 in
+      let e : n + m ≡ m + n = omega arith in
+      sym (rounds_stay steps_taken (rounds P script n) there m)
+      ∙ (sym (rounds_on (start_of P script) n m)
+      ∙ (ap (rounds P script) e
+      ∙ (rounds_on (start_of P script) m n ∙ (ap (λ d. rounds_from d n) (sym is) ∙ rounds_stay steps_taken c still n))))

@@ -23,11 +23,13 @@ use Rattle.handshake_expand.specs.Layout.{wires_before, var_from, channel_from, 
 use Rattle.chp_meaning.specs.Halves.{IsPlain, ReadsNoTarget, EachReadsNoTarget, ChoicesReadNoTarget}
 use Rattle.circuit_places.specs.Circuit.{of_receive, heard, stored, taking, low, Spot, TurnSpot, BranchSpot, of_branch, joint, in_this, in_others, joint_count, child, latch, next, inner, of_skip, done, gate, of_assign, of_send, in_members, of_loop, ask, in_body, in_last, in_member, in_later, gate_count, stands, turn_stands, branch_stands, GuardSpot, this_gate, other_gate, ChoiceSpot, this_choice, other_choice, of_core, of_guard, of_choice, of_round, guard_stands, choice_stands}
 use Rattle.circuit_places.specs.Whole.{first_bits, Whole, Node, go_node, own_node, rail_node, ack_node, bit_node, wrote_node, joint_node, is_node, enabled, cells_moved, first_cells, neutral_on, Reaches, at_first, by_move}
+use Rattle.chp_meaning.specs.Steps.{Configuration, Leads, start_of}
+use Rattle.circuit_places.specs.Bounds.{circuit_most}
 use Rattle.circuit_places.specs.Carried.{CellsRest, IsCarried, CircuitsCarry}
 use Rattle.handshake_expand.specs.Sites.{sites_in, sites_in_turn, sites_in_branches, sites_in_bodies}
 use Rattle.net_compose.specs.Translation.{translation, hidden_high, vars_high, first_values, rails_at, ack_at, wires_from}
 use Rattle.cell_variable.specs.Variables.{high_first}
-use Rattle.net_compose.proofs.Passing.{IsPassing, IsPassingRun, Passes}
+use Rattle.net_compose.proofs.Passing.{IsPassing, IsPassingRun, Passes, IsPaid}
 use Rattle.net_compose.proofs.FlatCells.{length-bits, low_bits, IsFine, IsFineTurn, IsFineBranch, rail_place, IsFineGuard, IsFineChoice}
 use Rattle.net_compose.proofs.FlatWires.{rail_bounds, ack_bounds, value_is, neutral_is, rails_kept, position_none, length-wires_from, wires_are}
 use Rattle.net_compose.proofs.FlatNet.{part_bounds, same_var, same_part, part_value, Given, Shows, number_of, Fine, node_at, enabled_is, apart_is, past_apart, past_end, after_move}
@@ -145,7 +147,7 @@ mutual
       ap (λ l. l ++ sites_in_turn P (hidden_high P) (and_member q more) (from + 3 + size_of P p)) (none_hidden P p c.0 (from + 3))
       ∙ none_hidden_turn P (and_member q more) c.1 (from + 3 + size_of P p)
 
-all_low_at : (n i : ℕ) → get_or (replicate n false) i false ≡ false
+pub all_low_at : (n i : ℕ) → get_or (replicate n false) i false ≡ false
 all_low_at zero i = refl
 all_low_at (suc n) zero = refl
 all_low_at (suc n) (suc i) = all_low_at n i
@@ -236,18 +238,18 @@ module _ (P : TypedProgram) (given : Given P) where
 
   module _ (script : List OfferValue) (fits : IsScript P.channels script) where
     -- a state of the net, as one of the cells that as many moves lead to
-    record Reached (st : RunState) (moves : ℕ) : Type 0 where
-      cells : Whole P.body
-      reaches : Reaches P script moves cells
-      shows : Shows P given st cells
+    pub record Reached (st : RunState) (moves : ℕ) : Type 0 where
+      pub cells : Whole P.body
+      pub reaches : Reaches P script moves cells
+      pub shows : Shows P given st cells
 
-    record Moving (st : RunState) (moves : ℕ) (r : Reached st moves) (n : ℕ) : Type 0 where
-      node : Node P.body
-      fine : Fine P given node
-      is : number_of P given node ≡ n
-      may : enabled P script r.cells node ≡ true
+    pub record Moving (st : RunState) (moves : ℕ) (r : Reached st moves) (n : ℕ) : Type 0 where
+      pub node : Node P.body
+      pub fine : Fine P given node
+      pub is : number_of P given node ≡ n
+      pub may : enabled P script r.cells node ≡ true
 
-    moving : (st : RunState) (moves : ℕ) (r : Reached st moves) (n : ℕ) → move_enabled (translation P) script st n ≡ true → Moving st moves r n
+    pub moving : (st : RunState) (moves : ℕ) (r : Reached st moves) (n : ℕ) → move_enabled (translation P) script st n ≡ true → Moving st moves r n
     moving st moves r n on =
         ⊎_elim
         (λ (lt : n < nodes_of P).
@@ -262,7 +264,7 @@ module _ (P : TypedProgram) (given : Given P) where
         (λ (le : nodes_of P ≤ n). absurd (cc (past_end P given st r.cells r.shows script n le, on)))
         (cases_lt n (nodes_of P))
 
-    next_shows : (st : RunState) (moves : ℕ) (r : Reached st moves) (n : ℕ) (m : Moving st moves r n)
+    pub next_shows : (st : RunState) (moves : ℕ) (r : Reached st moves) (n : ℕ) (m : Moving st moves r n)
         → Shows P given (moved_flat (translation P) st n) (cells_moved P r.cells m.node)
     next_shows st moves r n m = subst (λ i. Shows P given (moved_flat (translation P) st i) (cells_moved P r.cells m.node)) m.is
         (after_move P given st r.cells r.shows m.node m.fine)
@@ -280,6 +282,15 @@ module _ (P : TypedProgram) (given : Given P) where
         let e : suc moves + length ns ≡ moves + suc (length ns) = omega arith in
         subst (λ k. Reached (after (translation P) (moved_flat (translation P) st n) ns) k) e
         (reach ns (moved_flat (translation P) st n) (suc moves) (one_more st moves r n run.0) run.1)
+
+    -- each run leads to such a state
+    pub arrived : (ns : List ℕ) → IsRun (translation P) script (begin_at (translation P) (translation P).first) ns
+        → Reached (after (translation P) (begin_at (translation P) (translation P).first) ns) (length ns)
+    arrived ns run =
+        let first : Reached (begin_at (translation P) (translation P).first) 0 = record { cells = first_cells P; reaches = at_first; shows = starts } in
+        let e : 0 + length ns ≡ length ns = omega arith in
+        subst (λ k. Reached (after (translation P) (begin_at (translation P) (translation P).first) ns) k) e
+        (reach ns (begin_at (translation P) (translation P).first) 0 first run)
 
     module _ (carried : (moves : ℕ) (x : Whole P.body) → Reaches P script moves x → IsCarried P script moves x) where
       apart : (st : RunState) (moves : ℕ) → Reached st moves → IsApart (translation P) st
@@ -403,15 +414,28 @@ module _ (P : TypedProgram) (given : Given P) where
       passing_run : (ns : List ℕ) → IsRun (translation P) script (begin_at (translation P) (translation P).first) ns → IsPassingRun (translation P) P script ns
       passing_run ns run =
           let first : Reached (begin_at (translation P) (translation P).first) 0 = record { cells = first_cells P; reaches = at_first; shows = starts } in
+          record {
+            safe = safe_run ns (begin_at (translation P) (translation P).first) 0 first run;
+            passing = passing (after (translation P) (begin_at (translation P) (translation P).first) ns) (length ns) (arrived ns run);
+          }
+
+      paid_run : (ns : List ℕ) → IsRun (translation P) script (begin_at (translation P) (translation P).first) ns
+          → (n : ℕ) × (d : Configuration) × Leads (start_of P script) n d
+          × (d.histories ≡ (after (translation P) (begin_at (translation P) (translation P).first) ns).histories) × (length ns ≤ circuit_most P * suc n)
+      paid_run ns run =
+          let first : Reached (begin_at (translation P) (translation P).first) 0 = record { cells = first_cells P; reaches = at_first; shows = starts } in
           let e : 0 + length ns ≡ length ns = omega arith in
           let last : Reached (after (translation P) (begin_at (translation P) (translation P).first) ns) (length ns) = subst
           (λ k. Reached (after (translation P) (begin_at (translation P) (translation P).first) ns) k) e
           (reach ns (begin_at (translation P) (translation P).first) 0 first run) in
-          record {
-            safe = safe_run ns (begin_at (translation P) (translation P).first) 0 first run;
-            passing = passing (after (translation P) (begin_at (translation P) (translation P).first) ns) (length ns) last;
-          }
+          let q = carried (length ns) last.cells last.reaches in
+          let shows = last.shows in
+          (q.steps, q.to, q.leads, q.passed ∙ sym shows.histories, q.paid)
 
 -- the net of a program whose assignments don't read their own target passes what the program does
 pub plain_passes : CircuitsCarry → (P : TypedProgram) → Given P → IsPlain P → Passes (translation P) P
 plain_passes circuits P given plain script fits ns run = passing_run P given script fits (λ k x r. circuits P plain script fits k x r) ns run
+
+-- and moves each node twice at most between two steps of it
+pub plain_paid : CircuitsCarry → (P : TypedProgram) → Given P → IsPlain P → IsPaid (translation P) P (circuit_most P)
+plain_paid circuits P given plain script fits ns run = paid_run P given script fits (λ k x r. circuits P plain script fits k x r) ns run

@@ -10,15 +10,7 @@ use Rattle.env_script.specs.Scripts.{OfferValue, gives, takes, nothing, offer_at
 use Rattle.env_script.specs.Environment.{env_enabled, raises_go, channels_move, offer_moves, lowers, raises_bit, raises_value, raises_next, valid, is_odd}
 use Rattle.env_script.specs.Phases.{rail_keeps, pair_keeps, rails_keep, ack_keeps, phases_keep}
 use Rattle.env_script.specs.Runs.{RunState, completed, move_enabled, completes, with_value, with_values, moved, IsRun, after, begin_at, IsAtRest, IsApart, IsSafeMove, IsSafeRun}
-
--- wires whose numbers are below a number
-abbrev pub AreBelow : ℕ → List ℕ → Type 0
-AreBelow k [] = Unit {0}
-AreBelow k (r ∷ rs) = (r < k) × AreBelow k rs
-
-abbrev pub WiresBelow : ℕ → List Wires → Type 0
-WiresBelow k [] = Unit {0}
-WiresBelow k (w ∷ ws) = (w.ack < k) × AreBelow k w.rails × WiresBelow k ws
+use Rattle.net_compose.specs.WiresBelow.{AreBelow, WiresBelow}
 
 -- the values of all wires are the same, and two nodes are the same one of them, or none
 module _ (v u : ℕ → Bool) (k n m : ℕ) (agree : (r : ℕ) → r < k → v r ≡ u r) (here : v n ≡ u m) (tests : (r : ℕ) → r < k → (n == r) ≡ (m == r)) where
@@ -74,14 +66,14 @@ module _ (v u : ℕ → Bool) (k n m : ℕ) (agree : (r : ℕ) → r < k → v r
       ∙ (ap (λ z. (m == w.ack) && (if u w.ack then z else valid v w.rails && is_over count done)) (neutral_same w.rails b)
       ∙ ap (λ z. (m == w.ack) && (if u w.ack then neutral u w.rails else is_some z && is_over count done)) (value_same w.rails b)))
 
-  channels_same : (offers : ℕ → OfferValue) (done : ℕ → ℕ) (c : ℕ) (ws : List Wires) → WiresBelow k ws
+  pub channels_same : (offers : ℕ → OfferValue) (done : ℕ → ℕ) (c : ℕ) (ws : List Wires) → WiresBelow k ws
       → channels_move v offers done c ws n ≡ channels_move u offers done c ws m
   channels_same offers done c [] b = refl
   channels_same offers done c (w ∷ ws) b =
       ap (λ z. z || channels_move v offers done (suc c) ws n) (offer_same w (offers c) (done c) b.0 b.1)
       ∙ ap (λ z. offer_moves u w (offers c) (done c) m || z) (channels_same offers done (suc c) ws b.2)
 
-  go_same : 0 < k → raises_go v n ≡ raises_go u m
+  pub go_same : 0 < k → raises_go v n ≡ raises_go u m
   go_same some = ap (λ z. z && not (v 0)) (tests 0 some) ∙ ap (λ z. (m == 0) && not z) (agree 0 some)
 
   -- the phases
@@ -118,7 +110,7 @@ module _ (v u : ℕ → Bool) (k n m : ℕ) (agree : (r : ℕ) → r < k → v r
       ap (λ z. cond (not (not z)) (1 + position_or_len (λ (w : Wires). not (phases_keep v w n)) ws) 0) (keeps_same w b.0 b.1)
       ∙ ap (λ z. cond (not (not (phases_keep u w m))) (1 + z) 0) (place_same ws b.2)
 
-  fault_same : (ws : List Wires) → WiresBelow k ws
+  pub fault_same : (ws : List Wires) → WiresBelow k ws
       → position (λ (w : Wires). not (phases_keep v w n)) ws ≡ position (λ (w : Wires). not (phases_keep u w m)) ws
   fault_same ws b = ap (λ z. cond (nat_lt z (length ws)) (Some z) None) (place_same ws b)
 
@@ -129,7 +121,7 @@ module _ (v u : ℕ → Bool) (k n m : ℕ) (agree : (r : ℕ) → r < k → v r
       ∙ (ap (λ z. if (m == w.ack) && not z then rail_value_of v w.rails else None) here
       ∙ ap (λ z. if (m == w.ack) && not (u m) then z else None) (value_same w.rails b))
 
-  values_same : (ws : List Wires) (hs : List (List ℕ)) → WiresBelow k ws → with_values v n ws hs ≡ with_values u m ws hs
+  pub values_same : (ws : List Wires) (hs : List (List ℕ)) → WiresBelow k ws → with_values v n ws hs ≡ with_values u m ws hs
   values_same [] hs b = refl
   values_same (w ∷ ws) [] b = refl
   values_same (w ∷ ws) (h ∷ hs) b =
@@ -165,10 +157,19 @@ module _ (v : ℕ → Bool) (k n : ℕ) (beyond : (r : ℕ) → r < k → (n == 
       by false None = refl
       by false (Some value) = unraised value w.rails b
 
-  quiet : (offers : ℕ → OfferValue) (done : ℕ → ℕ) (c : ℕ) (ws : List Wires) → WiresBelow k ws → channels_move v offers done c ws n ≡ false
+  pub quiet : (offers : ℕ → OfferValue) (done : ℕ → ℕ) (c : ℕ) (ws : List Wires) → WiresBelow k ws → channels_move v offers done c ws n ≡ false
   quiet offers done c [] b = refl
   quiet offers done c (w ∷ ws) b = ap (λ z. z || channels_move v offers done (suc c) ws n) (quiet_at w (offers c) (done c) b.0 b.1)
       ∙ quiet offers done (suc c) ws b.2
+
+  never_completes : (w : Wires) → w.ack < k → completes v w n ≡ None
+  never_completes w a = ap (λ z. if z && not (v n) then rail_value_of v w.rails else None) (beyond w.ack a)
+
+  pub values_stay : (ws : List Wires) (hs : List (List ℕ)) → WiresBelow k ws → with_values v n ws hs ≡ hs
+  values_stay [] hs b = refl
+  values_stay (w ∷ ws) [] b = refl
+  values_stay (w ∷ ws) (h ∷ hs) b =
+      ap (λ z. with_value z h ∷ with_values v n ws hs) (never_completes w b.0) ∙ ap (λ z. h ∷ z) (values_stay ws hs b.2)
 
 -- Node n of the second net is node f n of the first. Nodes with low numbers, among them go and all wires, keep these.
 pub record IsRenaming (A B : NetValue) (f : ℕ → ℕ) (count low : ℕ) : Type 0 where
@@ -234,7 +235,7 @@ module _ (names more_names : List (List ℕ)) (firsts more_firsts : List Bool) (
     agree : {st there : RunState} → Mirrors st there → (r : ℕ) → r < low → high st.values r ≡ high there.values r
     agree {st = st} m r h = let w = is.within in ap (high st.values) (sym (is.still r h)) ∙ m.same r (omega (arith, h, w))
 
-    enabled_same : (st there : RunState) → Mirrors st there → (i : ℕ) → i < count → move_enabled A script st (f i) ≡ move_enabled B script there i
+    pub enabled_same : (st there : RunState) → Mirrors st there → (i : ℕ) → i < count → move_enabled A script st (f i) ≡ move_enabled B script there i
     enabled_same st there m i l =
         let v = high st.values in
         let u = high there.values in
@@ -249,7 +250,7 @@ module _ (names more_names : List (List ℕ)) (firsts more_firsts : List Bool) (
         ∙ ap (λ z. rule_enabled B u i || (raises_go u i || z))
         (channels_same v u low (f i) i (agree m) (m.same i l) (tests i l) (offer_at script) (completed there.histories) 0 ws is.wires)))))
 
-    moved_same : (st there : RunState) → Mirrors st there → (i : ℕ) → i < count → Mirrors (moved A st (f i)) (moved B there i)
+    pub moved_same : (st there : RunState) → Mirrors st there → (i : ℕ) → i < count → Mirrors (moved A st (f i)) (moved B there i)
     moved_same st there m i l = record {
       long = length-set st.values (f i) (not (high st.values (f i))) ∙ m.long;
       long_there = length-set there.values i (not (high there.values i)) ∙ m.long_there;
@@ -268,7 +269,7 @@ module _ (names more_names : List (List ℕ)) (firsts more_firsts : List Bool) (
           ∙ values_same (high st.values) (high there.values) low (f i) i (agree m) (m.same i l) (tests i l) ws there.histories is.wires;
     }
 
-    past_here : (st : RunState) (n : ℕ) → count ≤ n → move_enabled A script st n ≡ false
+    pub past_here : (st : RunState) (n : ℕ) → count ≤ n → move_enabled A script st n ≡ false
     past_here st n le =
         let w = is.within in
         let p = is.past n le in
@@ -298,7 +299,7 @@ module _ (names more_names : List (List ℕ)) (firsts more_firsts : List Bool) (
             ∙ (ap (λ z. guard_holds (high there.values) (up_of B i) && z) r.1 ∙ apart i))
 
     -- a node that may move is that of a node of the other
-    found : (st : RunState) (n : ℕ) → move_enabled A script st n ≡ true → (i : ℕ) × (i < count) × (f i ≡ n)
+    pub found : (st : RunState) (n : ℕ) → move_enabled A script st n ≡ true → (i : ℕ) × (i < count) × (f i ≡ n)
     found st n on = ⊎_elim (λ (l : n < count). is.back n l) (λ (le : count ≤ n). absurd (cc (past_here st n le, on))) (cases_lt n count)
 
     safe_here : (st there : RunState) → Mirrors st there → (i : ℕ) → i < count → IsSafeMove B script there i → IsSafeMove A script st (f i)

@@ -15,7 +15,7 @@ use Rattle.chp_meaning.specs.Steps.{Configuration}
 use Rattle.chp_meaning.specs.Rounds.{rounds}
 use Rattle.net_compose.specs.Carries.{IsFollowing, IsSettled, IsCarrying, Carries, ResetCarries}
 
-no_history : (count k : ℕ) → history_at (replicate count []) k ≡ []
+pub no_history : (count k : ℕ) → history_at (replicate count []) k ≡ []
 no_history count k = by_place (cases_lt k count)
   where
     by_place : (k < count) ⊎ (count ≤ k) → history_at (replicate count []) k ≡ []

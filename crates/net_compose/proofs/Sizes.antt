@@ -26,7 +26,7 @@ use Rattle.cell_select.specs.Selections.{only_one_true, latches, starts, select_
 use Rattle.function_blocks.specs.Expressions.{HasBits, read_bits, formula_rules, formula_result}
 use Rattle.net_compose.specs.Sized.{IsOfSize}
 use Rattle.handshake_expand.specs.Sites.{in_body}
-use Rattle.net_compose.specs.Translation.{rails_at, bits_at, block_bits, written_at, q_rules, Through, through_at, through_rules, guard_pairs, guards_rules, choosing_at, repeating_at, branch_ends, branches_end, rules_of, turn_rules, branches_rules, bodies_rules, rail_rules, channel_rules, channels_rules, vars_rules, all_rules, translation, send_site, write_site, body_answer, vars_high, hidden_high}
+use Rattle.net_compose.specs.Translation.{rails_at, bits_at, block_bits, written_at, q_rules, Through, through_at, through_rules, guard_pairs, guards_rules, choosing_at, repeating_at, branch_ends, branches_end, rules_of, turn_rules, branches_rules, bodies_rules, rail_rules, channel_rules, channels_rules, vars_rules, all_rules, translation, send_site, write_site, body_answer, vars_high, hidden_high, first_values}
 
 -- what is known of expressions and of completion trees
 pub record Counted : Type 0 where
@@ -305,10 +305,13 @@ set_length : (highs : List ℕ) (values : List Bool) → length (fold (λ vs nod
 set_length [] values = refl
 set_length (n ∷ ns) values = set_length ns (slice_set values n true) ∙ length-set values n true
 
+pub first_length : (p : TypedProgram) → length (first_values p) ≡ nodes_of p
+first_length p = set_length (vars_high p 0 p.vars ++ in_body p (hidden_high p)) (replicate (nodes_of p) false) ∙ length-replicate (nodes_of p) false
+
 pub all_counted : Counted → (p : TypedProgram) → IsTyped p.channels p.vars p.body → IsOfSize (translation p) (nodes_of p)
 all_counted k p typed = record {
   names = names_length p;
-  first = set_length (vars_high p 0 p.vars ++ in_body p (hidden_high p)) (replicate (nodes_of p) false) ∙ length-replicate (nodes_of p) false;
+  first = first_length p;
   up = length-map (all_rules p) (λ (r : NodeRules). r.up) ∙ all_length k p typed.body_is;
   down = length-map (all_rules p) (λ (r : NodeRules). r.down) ∙ all_length k p typed.body_is;
 }

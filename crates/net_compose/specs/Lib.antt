@@ -2,11 +2,15 @@ pub mod Errors
 pub mod Translation
 pub mod Carries
 pub mod Points
+pub mod Bounded
 pub mod Sized
 pub mod Begins
 pub mod EverySite
 pub mod RailLists
 pub mod SiteLists
 pub mod SortedSites
+pub mod WiresBelow
+pub mod NamesTo
+pub mod PartNumbers
 pub use Rattle.chp_syntax.specs.View
 pub use Rattle.prs_core.specs.Nets

@@ -15,12 +15,15 @@ ghost use Rattle.net_compose.specs.Points.{
   CarriesPrefix,
   CarriesRest,
 };
+ghost use Rattle.net_compose.specs.Bounded.{ResetEnds, TranslationEnds};
 ghost use Rattle.net_compose.specs.Sized.{IsOfSize};
+ghost use Rattle.net_compose.specs.PartNumbers.{TranslationTakesTurns};
 
 use chp_meaning::laws::{
-    halves_are_plain, halves_follow, one_history, rounds_hold, runs_append, steps_taken,
+    halves_are_plain, halves_follow, halves_keep_pace, one_end, one_history, rounds_hold,
+    runs_append, steps_taken,
 };
-use circuit_places::laws::circuits_carry;
+use circuit_places::laws::{circuits_carry, parts_take_turns};
 use reset_runs::reset_runs;
 
 /// Law: the net of each typed program that meets the sharing rule carries it, whatever it is made of: skip, sends of
@@ -68,6 +71,25 @@ pub fn carries_rest()
     three_points();
 }
 
+/// Law: the net of each such program keeps pace with it. Each run of the net has passed what some run of the program has, and has
+/// no more than two moves for each node before the first step of that, between any two, and behind the last; an assignment that
+/// reads its own target counts as two steps, and where there is one, all are counted twice. So where the program goes no further
+/// under a script after m steps, each run of its net ends, without any fairness: no run has more moves than that, each goes on to
+/// one that rests, and that one has passed all that the program has, with `done` high exactly where the program has ended.
+pub fn runs_end()
+    ensures { TranslationEnds }
+{
+    steps_taken();
+    runs_append();
+    one_history();
+    rounds_hold();
+    one_end();
+    halves_are_plain();
+    halves_keep_pace();
+    circuits_carry();
+    carries();
+}
+
 /// Law: a net carries a program exactly where its channels are the program's and each of the three points holds in
 /// every run: it is free of hazards, it is behind the rounds, and at rest it is level with them.
 pub fn three_points()
@@ -93,6 +115,14 @@ pub fn carries_reset()
     reset_runs();
 }
 
+/// Law: where the runs of a net end with a program, so do those that it has with a reset node, from every power-up
+/// state, after reset has fallen.
+pub fn ends_reset()
+    ensures { (net : NetValue) (p : TypedProgram) → ResetEnds net p }
+{
+    reset_runs();
+}
+
 /// Law: the net of a typed program of at most 65,536 nodes, whose guards speak of its own nodes alone, is a net that a
 /// rule file can hold: each name is the name of a node and no two are alike, the wires of its channels stand where
 /// their names say and are low at first, those of the environment have no rules, no term is empty, and there are at
@@ -104,4 +134,15 @@ pub fn nets_hold()
     function_blocks::laws::bits_counted();
     function_blocks::laws::rules_counted();
     cell_parallel::laws::tree_counted();
+}
+
+/// Law: in each state of each run of the net of a typed program that meets the sharing rule, the statements in it take
+/// turns that hold no assignment which reads its own target: one that has answered moves no node of its own before its
+/// request falls, one whose request and answer are low has all its nodes low and moves none, of two that stand in one
+/// sequence or in one selection one rests at least, and each keeps the four phases of its handshake.
+pub fn parts_in_turns()
+    ensures { TranslationTakesTurns }
+{
+    halves_are_plain();
+    parts_take_turns();
 }

@@ -64,6 +64,7 @@ returns-clause-steady g c = λ s p told asks is writes.
     let carries = c.compiled_files_carry.ensures _ s.net p asks.holds in (
       e.0,
       e.2 writes,
-      steady_of _ _ _ _ _ _ _ s asks.is (c.simulated_right.ensures s _ _ told) (c.carried_runs_have_one_length.ensures s _ _ p carries) e.1
+      steady_of _ _ _ _ _ _ _ s asks.is (c.simulated_right.ensures s _ _ told) (c.carried_runs_have_one_length.ensures s _ _ p carries)
+          (λ p holds. c.compiled_runs_rest.ensures s _ _ p holds) e.1
           (sym c.status.ensures ∙ is),
     )

@@ -1,0 +1,5 @@
+pub mod Shared
+pub mod Carrying
+pub mod Calling
+pub mod CallsApart
+pub mod CallNet

@@ -1,0 +1,55 @@
+//! Nets in which all calls of a procedure share one body, beside nets in which each call has a copy of its own.
+#![tactic(auto)]
+
+ghost use Rattle.call_map.specs.Carrying.{SharedRuns, SharedCarries};
+ghost use Rattle.call_map.specs.CallNet.{SharedBodiesCarry, SharedBodiesCounted, SharedBodiesHold, SharedBodiesCarryReset};
+
+use chp_meaning::laws::{rounds_hold, steps_taken};
+use net_compose::laws::{carries, carries_reset, parts_in_turns};
+
+/// Law: let the one net be the other with one body for all calls of a procedure in place of a copy for each call, and let
+/// the other be free of hazards, and each copy keep its handshake there. Then each run of the one is a run of the other, of
+/// no more moves, that passes the same; it is free of hazards, and where it is at rest the other is.
+pub fn shared_runs()
+    ensures { SharedRuns }
+{}
+
+/// Law: where the net with copies carries a program, so does the net with shared bodies.
+pub fn shared_carries()
+    ensures { SharedCarries }
+{
+    steps_taken();
+    rounds_hold();
+}
+
+/// Law: a program with procedures, of which no two parallel branches call the same one, is carried by the net in which all
+/// calls of a procedure share one body: it carries the program in which each call is a copy of the body, if that is typed
+/// and meets the sharing rule.
+pub fn shared_bodies_carry()
+    ensures { SharedBodiesCarry }
+{
+    steps_taken();
+    rounds_hold();
+    carries();
+    parts_in_turns();
+}
+
+/// Law: that net has a name, a first value and two guards for each node that is counted.
+pub fn shared_bodies_counted()
+    ensures { SharedBodiesCounted }
+{}
+
+/// Law: that net, of at most 65,536 nodes and with guards that speak of its own nodes alone, is a net that a rule file can
+/// hold: its wires and variables are named as those of a program are, and its other nodes by their numbers.
+pub fn shared_bodies_hold()
+    ensures { SharedBodiesHold }
+{}
+
+/// Law: that net carries the program with a reset node too, from every power-up state.
+pub fn shared_bodies_carry_reset()
+    ensures { SharedBodiesCarryReset }
+{
+    carries_reset();
+    shared_bodies_carry();
+    shared_bodies_hold();
+}
