@@ -4,7 +4,7 @@ use Rattle.std.proofs.Common.{◌≡◌, ℕ, zero, suc, ◌+◌, ◌<◌, true,
 use Rattle.std.specs.Prelude.{slice_index_or}
 use Rattle.width_check.specs.Processes.{Formula, Process, skipping, in_turn, side_by_side, choosing, repeating, Processes, no_members, and_member, Choices, and_choice, choice_count, TypedProgram}
 use Rattle.handshake_expand.specs.Answers.{bodies_from, select_own, again_own}
-use Rattle.circuit_places.specs.Within.{Part, whole, of_member, of_side, of_body, of_arm, ArmPart, this_arm, other_arm, SidePart, this_side, other_side, TurnPart, last_part, first_part, later_part, InTurns, ArmsInTurns, SidesInTurns, MembersInTurns}
+use Rattle.circuit_places.specs.Within.{PartOf, whole, of_member, of_side, of_body, of_arm, ArmPart, this_arm, other_arm, SidePart, this_side, other_side, TurnPart, last_part, first_part, later_part, InTurns, ArmsInTurns, SidesInTurns, MembersInTurns}
 use Rattle.net_compose.specs.PartNumbers.{part_from, arm_part_from, side_part_from, turn_part_from, part_ask, arm_part_ask, side_part_ask, turn_part_ask}
 use Rattle.call_map.specs.Calling.{Called, calling, atom, turned, abreast, chosen, looped, Calleds, no_calleds, and_called, CalledChoices, no_called, or_called, inlined, inlined_each, inlined_choices, called_size}
 use Rattle.call_map.specs.CallsApart.{Calls, OneCalls, ChoiceCalls, CallsApart, MembersApart, BranchesApart, ChoicesApart}
@@ -76,7 +76,7 @@ module _ {A B : Type 0} (R : A → B → Type 0) (e : A) where
 -- a copy of a procedure's body in a statement
 pub record Copy (ps : List Process) (p : Process) : Type 0 where
   pub proc : ℕ
-  pub at : Part (slice_index_or ps proc skipping) p
+  pub at : PartOf (slice_index_or ps proc skipping) p
 
 pub record TurnCopy (ps : List Process) (members : Processes) : Type 0 where
   pub proc : ℕ

@@ -15,7 +15,7 @@ use Rattle.width_check.specs.Typing.{channel_width, IsProcess, AreProcesses}
 use Rattle.handshake_expand.specs.Layout.{formula_size, size_of, channel_from, root_request, go_node}
 use Rattle.handshake_expand.specs.Answers.{answer_of, turn_answer, second_answer}
 use Rattle.net_compose.specs.Translation.{translation, all_rules, rules_of, first_values, wires_from}
-use Rattle.net_compose.specs.WiresBelow.{AreBelow, WiresBelow}
+use Rattle.net_compose.specs.WiresBelow.{RailsBelow, WiresBelow}
 use Rattle.net_compose.proofs.Sizes.{statement_length}
 use Rattle.net_compose.proofs.FlatTrees.{RulesAlike, rules_at}
 use Rattle.net_compose.proofs.FlatRules.{counted, or_up, or_down, both_high, one_low}
@@ -108,7 +108,7 @@ module _ (v : ℕ → Bool) (q : ℕ) where
       by false e later = later
 
 -- the wires of channels
-rails_below : (k w from : ℕ) → from + 2 * w ≤ k → AreBelow k (rails_of (pairs_from w from))
+rails_below : (k w from : ℕ) → from + 2 * w ≤ k → RailsBelow k (rails_of (pairs_from w from))
 rails_below k zero from l = tt
 rails_below k (suc w) from l = (omega (arith, l), (omega (arith, l), rails_below k w (from + 2) (omega (arith, l))))
 

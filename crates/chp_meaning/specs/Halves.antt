@@ -145,6 +145,7 @@ HalvesArePlain = (p : TypedProgram) → IsTyped p.channels p.vars p.body → Mee
 
 -- and it has twice as many steps at most as some run of the program that has passed the same
 abbrev pub HalvesKeepPace : Type 0
-HalvesKeepPace = (p : TypedProgram) (script : List OfferValue) → IsTyped p.channels p.vars p.body → MeetsSharing p.body → (n : ℕ) (d : Configuration)
-    → Leads (start_of (halved_program p) script) n d
+HalvesKeepPace =
+    (p : TypedProgram) (script : List OfferValue) → IsTyped p.channels p.vars p.body → MeetsSharing p.body
+    → (n : ℕ) (d : Configuration) → Leads (start_of (halved_program p) script) n d
     → (m : ℕ) × (c : Configuration) × Leads (start_of p script) m c × (c.histories ≡ d.histories) × (n ≤ 2 * m)

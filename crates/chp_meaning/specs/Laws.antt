@@ -23,5 +23,6 @@ RoundsHold p script = (n : ℕ) → (m : ℕ) × Leads (start_of p script) m (ro
 
 -- where a run of m steps goes no further, no run has more than m
 abbrev pub OneEnd : TypedProgram → List OfferValue → Type 0
-OneEnd p script = (m n : ℕ) (c d : Configuration) → Leads (start_of p script) m c → ((at : Place) (e : Configuration) → ¬ Step c at e)
+OneEnd p script =
+    (m n : ℕ) (c d : Configuration) → Leads (start_of p script) m c → ((at : Place) (e : Configuration) → ¬ Step c at e)
     → Leads (start_of p script) n d → n ≤ m

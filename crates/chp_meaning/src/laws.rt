@@ -43,7 +43,8 @@ pub fn halves_follow()
     ensures { HalvesFollow }
 {}
 
-/// Law: to each run of such a program in halves there is one of its own of half as many steps at least, with the same histories.
+/// Law: to each run of such a program in halves there is one of its own of half as many steps at least, with the same
+/// histories.
 pub fn halves_keep_pace()
     ensures { HalvesKeepPace }
 {}

@@ -4,14 +4,14 @@ use Rattle.width_check.specs.Processes.{Process, Processes, and_member, TypedPro
 use Rattle.circuit_places.specs.Lines.{Seen}
 use Rattle.circuit_places.specs.Heads.{Bits, low_bits, hot}
 use Rattle.circuit_places.specs.Circuit.{Cells, ChoiceCells, BranchCells, TurnCells, low, low_choices, low_branches, low_turn, answer, Spot, one_rule_fires, rule, choice_rule, branch_rule, turn_rule}
-use Rattle.circuit_places.specs.Within.{Part, whole, of_member, of_side, of_body, of_arm, ArmPart, this_arm, other_arm, SidePart, this_side, other_side, TurnPart, last_part, first_part, later_part, part_cells, arm_part_cells, side_part_cells, turn_part_cells, part_request, arm_part_request, side_part_request, turn_part_request, part_spot, arm_part_spot, side_part_spot, turn_part_spot}
+use Rattle.circuit_places.specs.Within.{PartOf, whole, of_member, of_side, of_body, of_arm, ArmPart, this_arm, other_arm, SidePart, this_side, other_side, TurnPart, last_part, first_part, later_part, part_cells, arm_part_cells, side_part_cells, turn_part_cells, part_request, arm_part_request, side_part_request, turn_part_request, part_spot, arm_part_spot, side_part_spot, turn_part_spot}
 use Rattle.circuit_places.proofs.Places.{Mode, idle, running, answered, returning, asks, GuardedAt, At, TurnAt, BranchesAt, g_rests, g_in, g_past, g_back, rests, at_turn, at_side, at_body, and_at, turn_rests, at_last, at_member, at_later, guarded_cells, cells, turn_cells, branch_cells, GuardedFits, Fits, TurnFits, BranchesFit, at_choice, at_turning, at_closing, ChoiceAt, control_at, inside_at, ChosenAt, this_one, another, chosen_index, chosen_cells, choice_cells, ChoiceFits, ChosenFits, answer_is, next_is, link_next, not_running, can_is, low_quiet}
 use Rattle.circuit_places.proofs.Begin.{idle_is, answered_moves}
 use Rattle.circuit_places.proofs.Flow.{Clean}
 
 -- a part of what is low is low
 mutual
-  pub low_part : {q p : Process} (h : Part q p) → part_cells h (low p) ≡ low q
+  pub low_part : {q p : Process} (h : PartOf q p) → part_cells h (low p) ≡ low q
   low_part whole = refl
   low_part (of_member t) = low_turn_part t
   low_part (of_side s) = low_side_part s
@@ -34,7 +34,7 @@ mutual
 
 -- and isn't asked
 mutual
-  pub unasked : {q p : Process} (h : Part q p) → part_request h false (low p) ≡ false
+  pub unasked : {q p : Process} (h : PartOf q p) → part_request h false (low p) ≡ false
   unasked whole = refl
   unasked (of_member t) = turn_unasked t
   unasked (of_side s) = side_unasked s
@@ -68,7 +68,7 @@ at_rest : {q : Process} (r : Bool) (x : Cells q) (env : Seen) → x ≡ low q �
 at_rest r x env e f = record { mode = idle; place = rests; same = e; asked = f; fits = tt }
 
 -- the part of a member that is done
-past_part_at : {q p : Process} {k : Mode} (h : Part q p) (env : Seen) (g : GuardedAt p k) → (k ≡ running → ⊥)
+past_part_at : {q p : Process} {k : Mode} (h : PartOf q p) (env : Seen) (g : GuardedAt p k) → (k ≡ running → ⊥)
     → PartAt q (part_request h (guarded_cells g).child (guarded_cells g).inner) (part_cells h (guarded_cells g).inner) env
 past_part_at {p = p} h env g_rests out = at_rest (part_request h false (low p)) (part_cells h (low p)) env (low_part h) (unasked h)
 past_part_at h env (g_in u a e) out = absurd (out refl)
@@ -76,14 +76,14 @@ past_part_at {p = p} h env g_past out = at_rest (part_request h false (low p)) (
 past_part_at {p = p} h env (g_back u) out = at_rest (part_request h false (low p)) (part_cells h (low p)) env (low_part h) (unasked h)
 
 mutual
-  pub guarded_part_at : {q p : Process} {k : Mode} (h : Part q p) (env : Seen) (g : GuardedAt p k) → GuardedFits g env
+  pub guarded_part_at : {q p : Process} {k : Mode} (h : PartOf q p) (env : Seen) (g : GuardedAt p k) → GuardedFits g env
       → PartAt q (part_request h (guarded_cells g).child (guarded_cells g).inner) (part_cells h (guarded_cells g).inner) env
   guarded_part_at {p = p} h env g_rests f = at_rest (part_request h false (low p)) (part_cells h (low p)) env (low_part h) (unasked h)
   guarded_part_at h env (g_in u a e) f = part_at h env a f
   guarded_part_at {p = p} h env g_past f = at_rest (part_request h false (low p)) (part_cells h (low p)) env (low_part h) (unasked h)
   guarded_part_at {p = p} h env (g_back u) f = at_rest (part_request h false (low p)) (part_cells h (low p)) env (low_part h) (unasked h)
 
-  pub part_at : {q p : Process} {m : Mode} (h : Part q p) (env : Seen) (a : At p m) → Fits a env
+  pub part_at : {q p : Process} {m : Mode} (h : PartOf q p) (env : Seen) (a : At p m) → Fits a env
       → PartAt q (part_request h (asks m) (cells a)) (part_cells h (cells a)) env
   part_at {m = m} whole env a f = record { mode = m; place = a; same = refl; asked = refl; fits = f }
   part_at (of_member {members = members} t) env rests f =
@@ -174,7 +174,7 @@ part_rests {q = q} r x env e i s = ap (λ b. one_rule_fires (rule q env b x s)) 
 
 -- The rules of a part are those of the process.
 mutual
-  pub part_rule : {q p : Process} (h : Part q p) (env : Seen) (r : Bool) (x : Cells p) (s : Spot q)
+  pub part_rule : {q p : Process} (h : PartOf q p) (env : Seen) (r : Bool) (x : Cells p) (s : Spot q)
       → rule p env r x (part_spot h s) ≡ rule q env (part_request h r x) (part_cells h x) s
   part_rule whole env r x s = refl
   part_rule (of_member t) env r x s = turn_part_rule t env r x s

@@ -7,14 +7,14 @@ use Rattle.circuit_places.specs.Lines.{Seen}
 use Rattle.circuit_places.specs.Heads.{Index, top, under, Bits, low_bits, hot, bit_of, turned_bit}
 use Rattle.circuit_places.specs.Cores.{OwnSpot, of_joined, of_ask, of_any, of_latch, of_start, of_answer, of_turn, of_leave, turned_own}
 use Rattle.circuit_places.specs.Circuit.{Cells, ChoiceCells, TurnCells, low, low_choices, low_turn, answer, last_answer, choice_answers, Spot, GuardedSpot, TurnSpot, BranchSpot, ChoiceSpot, child, latch, next, inner, in_members, of_branch, joint, of_loop, ask, in_body, of_core, of_guard, of_choice, of_round, this_choice, other_choice, in_this, in_others, in_last, in_member, in_later, flipped, turned_guarded, turned_choice, turned_branches, turned_turn}
-use Rattle.circuit_places.specs.Within.{Part, whole, of_member, of_side, of_body, of_arm, ArmPart, this_arm, other_arm, SidePart, this_side, other_side, TurnPart, last_part, first_part, later_part, part_cells, arm_part_cells, side_part_cells, turn_part_cells, part_request, arm_part_request, side_part_request, turn_part_request, InTurns, ArmsInTurns, SidesInTurns, MembersInTurns, Phased}
+use Rattle.circuit_places.specs.Within.{PartOf, whole, of_member, of_side, of_body, of_arm, ArmPart, this_arm, other_arm, SidePart, this_side, other_side, TurnPart, last_part, first_part, later_part, part_cells, arm_part_cells, side_part_cells, turn_part_cells, part_request, arm_part_request, side_part_request, turn_part_request, InTurns, ArmsInTurns, SidesInTurns, MembersInTurns, Phased}
 use Rattle.circuit_places.proofs.HeadFacts.{hot_is}
 use Rattle.circuit_places.proofs.CoreControl.{works, worked, reported, letting, backs, isnt_running}
 use Rattle.circuit_places.proofs.Places.{Mode, idle, running, answered, returning, asks, acks, inner_may, GuardedAt, At, TurnAt, BranchesAt, g_rests, g_in, g_past, g_back, rests, at_turn, at_side, at_body, and_at, turn_rests, at_last, at_member, at_later, guarded_cells, cells, turn_cells, branch_cells, at_choice, at_turning, at_closing, ChoiceAt, control_at, inside_at, ChosenAt, this_one, another, chosen_index, chosen_cells, choice_cells, choice_own, choice_inner, guarded_moves, moves, chosen_moves, branch_moves, turn_moves, answer_is, turn_answer_is, chosen_answers, low_choice_answers, low_turn_answer, next_is, link, link_next, not_running}
 use Rattle.circuit_places.proofs.PartFacts.{low_part, low_arm_part, low_side_part, low_turn_part, unasked, arm_unasked, side_unasked, turn_unasked}
 
 -- the part of a member that is done rests
-past_rests : {q p : Process} {k : Mode} (h : Part q p) (g : GuardedAt p k) → (k ≡ running → ⊥)
+past_rests : {q p : Process} {k : Mode} (h : PartOf q p) (g : GuardedAt p k) → (k ≡ running → ⊥)
     → (part_request h (guarded_cells g).child (guarded_cells g).inner ≡ false) × (part_cells h (guarded_cells g).inner ≡ low q)
 past_rests h g_rests out = (unasked h, low_part h)
 past_rests h (g_in u a e) out = absurd (out refl)
@@ -28,7 +28,7 @@ later_rests {s = s} {more = more} t g = (ap (λ b. turn_part_request t b (low_tu
 
 -- Of two parts that take turns one rests at least.
 mutual
-  pub guarded_one_rests : {q s p : Process} {k : Mode} (h : Part q p) (j : Part s p) → InTurns h j → (g : GuardedAt p k)
+  pub guarded_one_rests : {q s p : Process} {k : Mode} (h : PartOf q p) (j : PartOf s p) → InTurns h j → (g : GuardedAt p k)
       → ((part_request h (guarded_cells g).child (guarded_cells g).inner ≡ false) × (part_cells h (guarded_cells g).inner ≡ low q))
       ⊎ ((part_request j (guarded_cells g).child (guarded_cells g).inner ≡ false) × (part_cells j (guarded_cells g).inner ≡ low s))
   guarded_one_rests h j i g_rests = inl (unasked h, low_part h)
@@ -36,7 +36,7 @@ mutual
   guarded_one_rests h j i g_past = inl (unasked h, low_part h)
   guarded_one_rests h j i (g_back u) = inl (unasked h, low_part h)
 
-  pub one_rests : {q s p : Process} {m : Mode} (h : Part q p) (j : Part s p) → InTurns h j → (a : At p m)
+  pub one_rests : {q s p : Process} {m : Mode} (h : PartOf q p) (j : PartOf s p) → InTurns h j → (a : At p m)
       → ((part_request h (asks m) (cells a) ≡ false) × (part_cells h (cells a) ≡ low q))
       ⊎ ((part_request j (asks m) (cells a) ≡ false) × (part_cells j (cells a) ≡ low s))
   one_rests whole j i a = absurd i
@@ -111,7 +111,7 @@ mutual
 
 -- where the request of a process moves towards what its answer isn't, so do those of its parts, or they stay
 mutual
-  pub handed : {q p : Process} (h : Part q p) (r now : Bool) (x : Cells p) → now ≡ not (answer p x)
+  pub handed : {q p : Process} (h : PartOf q p) (r now : Bool) (x : Cells p) → now ≡ not (answer p x)
       → Phased (part_request h now x) (part_request h r x) (answer q (part_cells h x))
   handed whole r now x e = inr e
   handed (of_member t) r now x e = turn_handed t r now x e
@@ -185,7 +185,7 @@ own_phase {choices = choices} c (inside_at {k = k} a (backs any h)) (of_start i)
 
 -- The request of a part moves only towards what its answer isn't.
 mutual
-  pub guarded_phase : {q p : Process} {k : Mode} (h : Part q p) (env : Seen) (g : GuardedAt p k) (s : GuardedSpot p) → guarded_moves env g s ≡ true
+  pub guarded_phase : {q p : Process} {k : Mode} (h : PartOf q p) (env : Seen) (g : GuardedAt p k) (s : GuardedSpot p) → guarded_moves env g s ≡ true
       → Phased (part_request h (turned_guarded p (guarded_cells g) s).child (turned_guarded p (guarded_cells g) s).inner)
       (part_request h (guarded_cells g).child (guarded_cells g).inner) (answer q (part_cells h (guarded_cells g).inner))
   guarded_phase h env g_rests s e = absurd (cc e)
@@ -200,7 +200,7 @@ mutual
   guarded_phase h env (g_back u) next e = inl refl
   guarded_phase h env (g_back u) (inner s) e = absurd (cc e)
 
-  pub phase : {q p : Process} {m : Mode} (h : Part q p) (env : Seen) (a : At p m) (s : Spot p) → moves env a s ≡ true
+  pub phase : {q p : Process} {m : Mode} (h : PartOf q p) (env : Seen) (a : At p m) (s : Spot p) → moves env a s ≡ true
       → Phased (part_request h (asks m) (flipped p (cells a) s)) (part_request h (asks m) (cells a)) (answer q (part_cells h (cells a)))
   phase whole env a s e = inl refl
   phase (of_member t) env rests s e = absurd (cc e)

@@ -7,7 +7,7 @@ use Rattle.circuit_places.specs.Lines.{Seen}
 use Rattle.circuit_places.specs.Cores.{Core, Turning, OwnSpot, RoundSpot, of_joined, of_ask, of_any, of_latch, of_start, of_answer, of_turn, of_leave, turned_own, turned_turning}
 use Rattle.circuit_places.specs.Circuit.{QElementCells, Cells, ChoiceCells, BranchCells, TurnCells, low, answer, Spot, TurnSpot, BranchSpot, ChoiceSpot, child, latch, next, inner, in_members, of_branch, joint, of_loop, ask, in_body, of_core, of_guard, of_choice, of_round, this_choice, other_choice, in_this, in_others, in_last, in_member, in_later, one_rule_fires, rule, flipped, turned_guarded, turned_choice, turned_branches, turned_turn}
 use Rattle.circuit_places.specs.Whole.{Whole, Node, go_node, own_node, rail_node, ack_node, bit_node, wrote_node, joint_node, wires_seen, enabled, cells_moved}
-use Rattle.circuit_places.specs.Within.{Part, whole, of_member, of_side, of_body, of_arm, ArmPart, this_arm, other_arm, SidePart, this_side, other_side, TurnPart, last_part, first_part, later_part, part_cells, arm_part_cells, side_part_cells, turn_part_cells, part_request, part_spot, arm_part_spot, side_part_spot, turn_part_spot, InTurns, Phased, cells_in, asked_in, answers_in, node_in, PartsTakeTurns, AllTakeTurns}
+use Rattle.circuit_places.specs.Within.{PartOf, whole, of_member, of_side, of_body, of_arm, ArmPart, this_arm, other_arm, SidePart, this_side, other_side, TurnPart, last_part, first_part, later_part, part_cells, arm_part_cells, side_part_cells, turn_part_cells, part_request, part_spot, arm_part_spot, side_part_spot, turn_part_spot, InTurns, Phased, cells_in, asked_in, answers_in, part_node, CellsTakeTurns, CircuitsTakeTurns}
 use Rattle.circuit_places.proofs.Places.{low_answer}
 use Rattle.circuit_places.proofs.Meets.{ExpressionsHold}
 use Rattle.circuit_places.proofs.Trees.{TreesSettle}
@@ -30,7 +30,7 @@ round_core x of_leave = refl
 
 -- A node of a process is one of the part's, or the part's cells don't see its move.
 mutual
-  pub inside : {q p : Process} (h : Part q p) (s : Spot p)
+  pub inside : {q p : Process} (h : PartOf q p) (s : Spot p)
       → ((n : Spot q) × (s ≡ part_spot h n)) ⊎ ((x : Cells p) → part_cells h (flipped p x s) ≡ part_cells h x)
   inside whole s = inl (s, refl)
   inside (of_member {members = members} t) (in_members s) = by (turn_inside t s)
@@ -146,26 +146,26 @@ module _ (P : TypedProgram) (script : List OfferValue) {moves : ℕ} {x : Whole 
   seen = wires_seen P x.wires
 
   -- where a part is
-  part_of : {q : Process} (h : Part q P.body) → PartAt q (asked_in h x) (cells_in h x) seen
+  part_of : {q : Process} (h : PartOf q P.body) → PartAt q (asked_in h x) (cells_in h x) seen
   part_of {q = q} h = subst (λ (g : QElementCells (Cells P.body)). PartAt q (part_request h g.child g.inner) (part_cells h g.inner) seen) (sym r.same)
       (guarded_part_at h seen r.place r.good.fits)
 
   -- which of its nodes may move
-  part_can : {q : Process} (h : Part q P.body) (s : Spot q)
-      → enabled P script x (node_in h s) ≡ one_rule_fires (rule q seen (asked_in h x) (cells_in h x) s)
+  part_can : {q : Process} (h : PartOf q P.body) (s : Spot q)
+      → enabled P script x (part_node h s) ≡ one_rule_fires (rule q seen (asked_in h x) (cells_in h x) s)
   part_can h s = or_false (one_rule_fires (rule P.body seen x.root.child x.root.inner (part_spot h s)))
       ∙ ap (λ z. one_rule_fires z) (part_rule h seen x.root.child x.root.inner s)
 
-  stands_still : {q : Process} (h : Part q P.body) → asked_in h x ≡ true → answers_in h x ≡ true → (s : Spot q) → enabled P script x (node_in h s) ≡ false
+  stands_still : {q : Process} (h : PartOf q P.body) → asked_in h x ≡ true → answers_in h x ≡ true → (s : Spot q) → enabled P script x (part_node h s) ≡ false
   stands_still h a d s = part_can h s ∙ part_still P (asked_in h x) (cells_in h x) seen (clean_of r.good) (part_of h) a d s
 
-  is_low : {q : Process} (h : Part q P.body) → asked_in h x ≡ false → answers_in h x ≡ false → cells_in h x ≡ low q
+  is_low : {q : Process} (h : PartOf q P.body) → asked_in h x ≡ false → answers_in h x ≡ false → cells_in h x ≡ low q
   is_low h a d = part_low (asked_in h x) (cells_in h x) seen (part_of h) a d
 
-  is_at_rest : {q : Process} (h : Part q P.body) → asked_in h x ≡ false → answers_in h x ≡ false → (s : Spot q) → enabled P script x (node_in h s) ≡ false
+  is_at_rest : {q : Process} (h : PartOf q P.body) → asked_in h x ≡ false → answers_in h x ≡ false → (s : Spot q) → enabled P script x (part_node h s) ≡ false
   is_at_rest h a d s = part_can h s ∙ part_rests (asked_in h x) (cells_in h x) seen a (is_low h a d) s
 
-  one_of : {q s : Process} (h : Part q P.body) (k : Part s P.body) → InTurns h k
+  one_of : {q s : Process} (h : PartOf q P.body) (k : PartOf s P.body) → InTurns h k
       → ((asked_in h x ≡ false) × (answers_in h x ≡ false)) ⊎ ((asked_in k x ≡ false) × (answers_in k x ≡ false))
   one_of {q = q} {s = s} h k i = by (subst (λ (g : QElementCells (Cells P.body)).
       ((part_request h g.child g.inner ≡ false) × (part_cells h g.inner ≡ low q)) ⊎ ((part_request k g.child g.inner ≡ false) × (part_cells k g.inner ≡ low s)))
@@ -176,7 +176,7 @@ module _ (P : TypedProgram) (script : List OfferValue) {moves : ℕ} {x : Whole 
       by (inl z) = inl (z.0, ap (λ y. answer q y) z.1 ∙ low_answer q)
       by (inr z) = inr (z.0, ap (λ y. answer s y) z.1 ∙ low_answer s)
 
-  goes_on : {q : Process} (h : Part q P.body) (n : Node P.body) → enabled P script x n ≡ true
+  goes_on : {q : Process} (h : PartOf q P.body) (n : Node P.body) → enabled P script x n ≡ true
       → Phased (asked_in h (cells_moved P x n)) (asked_in h x) (answers_in h x)
   goes_on h go_node e = inl refl
   goes_on {q = q} h (own_node s) e = subst (λ (g : QElementCells (Cells P.body)). Phased
@@ -188,7 +188,7 @@ module _ (P : TypedProgram) (script : List OfferValue) {moves : ℕ} {x : Whole 
   goes_on h (wrote_node v i) e = inl refl
   goes_on h (joint_node v k) e = inl refl
 
-  ends_as : {q : Process} (h : Part q P.body) (n : Node P.body) → enabled P script x n ≡ true
+  ends_as : {q : Process} (h : PartOf q P.body) (n : Node P.body) → enabled P script x n ≡ true
       → (answers_in h (cells_moved P x n) ≡ answers_in h x) ⊎ (answers_in h (cells_moved P x n) ≡ asked_in h x)
   ends_as h go_node e = inl refl
   ends_as h (own_node child) e = inl refl
@@ -196,7 +196,7 @@ module _ (P : TypedProgram) (script : List OfferValue) {moves : ℕ} {x : Whole 
   ends_as h (own_node next) e = inl refl
   ends_as {q = q} h (own_node (inner s)) e = by (inside h s)
     where
-      moves_in : (n : Spot q) → s ≡ part_spot h n → enabled P script x (node_in h n) ≡ true
+      moves_in : (n : Spot q) → s ≡ part_spot h n → enabled P script x (part_node h n) ≡ true
       moves_in n i = sym (ap (λ y. enabled P script x (own_node (inner y))) i) ∙ e
 
       here : (n : Spot q) → s ≡ part_spot h n → (a d now : Bool) → asked_in h x ≡ a → answers_in h x ≡ d → (now ≡ d) ⊎ (now ≡ a)
@@ -217,7 +217,7 @@ module _ (P : TypedProgram) (script : List OfferValue) {moves : ℕ} {x : Whole 
   ends_as h (wrote_node v i) e = inl refl
   ends_as h (joint_node v k) e = inl refl
 
-  pub taking_turns : PartsTakeTurns P script x
+  pub taking_turns : CellsTakeTurns P script x
   taking_turns = record {
     still = stands_still;
     low_at_rest = is_low;
@@ -227,5 +227,5 @@ module _ (P : TypedProgram) (script : List OfferValue) {moves : ℕ} {x : Whole 
     ends = ends_as;
   }
 
-pub all_take_turns : TreesSettle → ExpressionsHold → AllTakeTurns
+pub all_take_turns : TreesSettle → ExpressionsHold → CircuitsTakeTurns
 all_take_turns law hold P is script s moves x run = taking_turns P script (reached law hold P is script s moves x run)

@@ -24,8 +24,10 @@ abbrev mutual
   moves_most P (in_turn members) = turn_most P members
   moves_most P (side_by_side members) = 2 * joint_count (member_count members) + each_most P members
   moves_most P (repeating p) = 4 + moves_most P p
-  moves_most P (choosing false choices) = 6 + (4 * choice_count choices + (4 * gates_in choices + choice_most P choices))
-  moves_most P (choosing true choices) = 12 + (4 * choice_count choices + (4 * gates_in choices + choice_most P choices))
+  moves_most P (choosing false choices) =
+      6 + (4 * choice_count choices + (4 * gates_in choices + choice_most P choices))
+  moves_most P (choosing true choices) =
+      12 + (4 * choice_count choices + (4 * gates_in choices + choice_most P choices))
 
   pub turn_most : TypedProgram → Processes → ℕ
   turn_most P no_members = 0

@@ -9,29 +9,31 @@ use Rattle.circuit_places.specs.Whole.{Whole, Node, own_node, enabled, cells_mov
 
 -- where a statement q stands in a process
 mutual
-  pub data Part : Process → Process → Type 0 where
-    whole : {q : Process} → Part q q
-    of_member : {q : Process} {members : Processes} → TurnPart q members → Part q (in_turn members)
-    of_side : {q : Process} {members : Processes} → SidePart q members → Part q (side_by_side members)
-    of_body : {q p : Process} → Part q p → Part q (repeating p)
-    of_arm : {q : Process} {again : Bool} {choices : Choices} → ArmPart q choices → Part q (choosing again choices)
+  pub data PartOf : Process → Process → Type 0 where
+    whole : {q : Process} → PartOf q q
+    of_member : {q : Process} {members : Processes} → TurnPart q members → PartOf q (in_turn members)
+    of_side : {q : Process} {members : Processes} → SidePart q members → PartOf q (side_by_side members)
+    of_body : {q p : Process} → PartOf q p → PartOf q (repeating p)
+    of_arm : {q : Process} {again : Bool} {choices : Choices} → ArmPart q choices → PartOf q (choosing again choices)
 
   pub data ArmPart : Process → Choices → Type 0 where
-    this_arm : {q : Process} {g : Formula} {p : Process} {more : Choices} → Part q p → ArmPart q (and_choice g p more)
-    other_arm : {q : Process} {g : Formula} {p : Process} {more : Choices} → ArmPart q more → ArmPart q (and_choice g p more)
+    this_arm : {q : Process} {g : Formula} {p : Process} {more : Choices} → PartOf q p → ArmPart q (and_choice g p more)
+    other_arm : {q : Process} {g : Formula} {p : Process} {more : Choices} → ArmPart q more
+        → ArmPart q (and_choice g p more)
 
   pub data SidePart : Process → Processes → Type 0 where
-    this_side : {q p : Process} {more : Processes} → Part q p → SidePart q (and_member p more)
+    this_side : {q p : Process} {more : Processes} → PartOf q p → SidePart q (and_member p more)
     other_side : {q p : Process} {more : Processes} → SidePart q more → SidePart q (and_member p more)
 
   pub data TurnPart : Process → Processes → Type 0 where
-    last_part : {q p : Process} → Part q p → TurnPart q (and_member p no_members)
-    first_part : {q p s : Process} {more : Processes} → Part q p → TurnPart q (and_member p (and_member s more))
-    later_part : {q p s : Process} {more : Processes} → TurnPart q (and_member s more) → TurnPart q (and_member p (and_member s more))
+    last_part : {q p : Process} → PartOf q p → TurnPart q (and_member p no_members)
+    first_part : {q p s : Process} {more : Processes} → PartOf q p → TurnPart q (and_member p (and_member s more))
+    later_part : {q p s : Process} {more : Processes} → TurnPart q (and_member s more)
+        → TurnPart q (and_member p (and_member s more))
 
 -- its cells
 abbrev mutual
-  pub part_cells : {q p : Process} → Part q p → Cells p → Cells q
+  pub part_cells : {q p : Process} → PartOf q p → Cells p → Cells q
   part_cells whole x = x
   part_cells (of_member t) x = turn_part_cells t x
   part_cells (of_side s) x = side_part_cells s x.branches
@@ -54,7 +56,7 @@ abbrev mutual
 
 -- its request, where that of the process has this value
 abbrev mutual
-  pub part_request : {q p : Process} → Part q p → Bool → Cells p → Bool
+  pub part_request : {q p : Process} → PartOf q p → Bool → Cells p → Bool
   part_request whole r x = r
   part_request (of_member t) r x = turn_part_request t r x
   part_request (of_side s) r x = side_part_request s x.branches
@@ -62,7 +64,8 @@ abbrev mutual
   part_request (of_arm {again = false} c) r x = arm_part_request c x.started x.branches
   part_request (of_arm {again = true} c) r x = arm_part_request c x.core.started x.core.branches
 
-  pub arm_part_request : {q : Process} {choices : Choices} → ArmPart q choices → Bits (choice_count choices) → ChoiceCells choices → Bool
+  pub arm_part_request : {q : Process} {choices : Choices} → ArmPart q choices → Bits (choice_count choices)
+      → ChoiceCells choices → Bool
   arm_part_request (this_arm h) b x = part_request h b.0 x.0
   arm_part_request (other_arm c) b x = arm_part_request c b.1 x.1
 
@@ -77,7 +80,7 @@ abbrev mutual
 
 -- where its nodes stand
 abbrev mutual
-  pub part_spot : {q p : Process} → Part q p → Spot q → Spot p
+  pub part_spot : {q p : Process} → PartOf q p → Spot q → Spot p
   part_spot whole n = n
   part_spot (of_member t) n = in_members (turn_part_spot t n)
   part_spot (of_side s) n = of_branch (side_part_spot s n)
@@ -100,7 +103,7 @@ abbrev mutual
 -- Two different parts, neither inside the other, that aren't parallel: the smallest statement that holds both is a
 -- sequence or a selection.
 abbrev mutual
-  pub InTurns : {q s p : Process} → Part q p → Part s p → Type 0
+  pub InTurns : {q s p : Process} → PartOf q p → PartOf s p → Type 0
   InTurns (of_member t) (of_member u) = MembersInTurns t u
   InTurns (of_side a) (of_side b) = SidesInTurns a b
   InTurns (of_body h) (of_body k) = InTurns h k
@@ -130,37 +133,40 @@ abbrev pub Phased : (now request answer : Bool) → Type 0
 Phased now r d = (now ≡ r) ⊎ (now ≡ not d)
 
 -- a part in a state of the whole: its cells, its request and its answer
-abbrev pub cells_in : {q p : Process} → Part q p → Whole p → Cells q
+abbrev pub cells_in : {q p : Process} → PartOf q p → Whole p → Cells q
 cells_in h x = part_cells h x.root.inner
 
-abbrev pub asked_in : {q p : Process} → Part q p → Whole p → Bool
+abbrev pub asked_in : {q p : Process} → PartOf q p → Whole p → Bool
 asked_in h x = part_request h x.root.child x.root.inner
 
-abbrev pub answers_in : {q p : Process} → Part q p → Whole p → Bool
+abbrev pub answers_in : {q p : Process} → PartOf q p → Whole p → Bool
 answers_in {q = q} h x = answer q (cells_in h x)
 
-abbrev pub node_in : {q p : Process} → Part q p → Spot q → Node p
-node_in h s = own_node (inner (part_spot h s))
+abbrev pub part_node : {q p : Process} → PartOf q p → Spot q → Node p
+part_node h s = own_node (inner (part_spot h s))
 
 -- What holds of all parts in a state:
 --   where request and answer are high, no own node moves
 --   where both are low, all cells are low, and no own node moves
 --   of two parts that take turns one rests at least
---   where a node moves, a request stays or moves towards what the answer isn't, and an answer stays or moves towards the request
-pub record PartsTakeTurns (P : TypedProgram) (script : List OfferValue) (x : Whole P.body) : Type 0 where
-  pub still : {q : Process} (h : Part q P.body) → asked_in h x ≡ true → answers_in h x ≡ true → (s : Spot q)
-      → enabled P script x (node_in h s) ≡ false
-  pub low_at_rest : {q : Process} (h : Part q P.body) → asked_in h x ≡ false → answers_in h x ≡ false → cells_in h x ≡ low q
-  pub rests : {q : Process} (h : Part q P.body) → asked_in h x ≡ false → answers_in h x ≡ false → (s : Spot q)
-      → enabled P script x (node_in h s) ≡ false
-  pub one_rests : {q s : Process} (h : Part q P.body) (k : Part s P.body) → InTurns h k
+--   where a node moves, a request stays or moves towards what the answer isn't, and an answer stays or moves towards
+--   the request
+pub record CellsTakeTurns (P : TypedProgram) (script : List OfferValue) (x : Whole P.body) : Type 0 where
+  pub still : {q : Process} (h : PartOf q P.body) → asked_in h x ≡ true → answers_in h x ≡ true → (s : Spot q)
+      → enabled P script x (part_node h s) ≡ false
+  pub low_at_rest : {q : Process} (h : PartOf q P.body) → asked_in h x ≡ false → answers_in h x ≡ false
+      → cells_in h x ≡ low q
+  pub rests : {q : Process} (h : PartOf q P.body) → asked_in h x ≡ false → answers_in h x ≡ false → (s : Spot q)
+      → enabled P script x (part_node h s) ≡ false
+  pub one_rests : {q s : Process} (h : PartOf q P.body) (k : PartOf s P.body) → InTurns h k
       → ((asked_in h x ≡ false) × (answers_in h x ≡ false)) ⊎ ((asked_in k x ≡ false) × (answers_in k x ≡ false))
-  pub asks : {q : Process} (h : Part q P.body) (n : Node P.body) → enabled P script x n ≡ true
+  pub asks : {q : Process} (h : PartOf q P.body) (n : Node P.body) → enabled P script x n ≡ true
       → Phased (asked_in h (cells_moved P x n)) (asked_in h x) (answers_in h x)
-  pub ends : {q : Process} (h : Part q P.body) (n : Node P.body) → enabled P script x n ≡ true
+  pub ends : {q : Process} (h : PartOf q P.body) (n : Node P.body) → enabled P script x n ≡ true
       → (answers_in h (cells_moved P x n) ≡ answers_in h x) ⊎ (answers_in h (cells_moved P x n) ≡ asked_in h x)
 
 -- in each state that a program's circuit reaches
-abbrev pub AllTakeTurns : Type 0
-AllTakeTurns = (P : TypedProgram) → IsPlain P → (script : List OfferValue) → IsScript P.channels script → (moves : ℕ) (x : Whole P.body)
-    → Reaches P script moves x → PartsTakeTurns P script x
+abbrev pub CircuitsTakeTurns : Type 0
+CircuitsTakeTurns =
+    (P : TypedProgram) → IsPlain P → (script : List OfferValue) → IsScript P.channels script
+    → (moves : ℕ) (x : Whole P.body) → Reaches P script moves x → CellsTakeTurns P script x

@@ -1,7 +1,7 @@
 //! Laws of circuits.
 
 ghost use Rattle.circuit_places.specs.Carried.{CircuitsCarry};
-ghost use Rattle.circuit_places.specs.Within.{AllTakeTurns};
+ghost use Rattle.circuit_places.specs.Within.{CircuitsTakeTurns};
 
 use cell_parallel::laws::tree_settles;
 use function_blocks::laws::expressions_hold;
@@ -17,11 +17,12 @@ pub fn circuits_carry()
     expressions_hold();
 }
 
-/// Law: in each state that such a circuit reaches, its parts take turns: a statement that has answered moves no node of
-/// its own before its request falls, one whose request and answer are low has all its first values and moves nothing, of
-/// two that stand in one sequence or in one selection one rests at least, and each keeps the four phases of its handshake.
+/// Law: in each state that such a circuit reaches, its parts take turns. A statement that has answered moves no node of
+/// its own before its request falls; one whose request and answer are low has all its first values and moves nothing;
+/// of two that stand in one sequence or in one selection one rests at least; and each keeps the four phases of its
+/// handshake.
 pub fn parts_take_turns()
-    ensures { AllTakeTurns }
+    ensures { CircuitsTakeTurns }
 {
     tree_settles();
     expressions_hold();

@@ -9,7 +9,7 @@ use Rattle.prs_core.specs.Moves.{high}
 use Rattle.env_script.specs.Scripts.{OfferValue}
 use Rattle.env_script.specs.Runs.{RunState, IsRun, move_enabled, after}
 use Rattle.event_sim.proofs.Following.{after_more}
-use Rattle.event_sim.proofs.Ranges.{move_in}
+use Rattle.env_script.proofs.MovesWithin.{move_in}
 use Rattle.delay_script.specs.declared.due.Due.{Due}
 use Rattle.delay_script.specs.declared.due.Next.{Next}
 use Rattle.delay_script.specs.declared.noted.NotedMove.{NotedMove}

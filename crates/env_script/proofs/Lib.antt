@@ -10,3 +10,4 @@ pub mod Sayings
 pub mod Comments
 pub mod Commuting
 pub mod Fronts
+pub mod MovesWithin

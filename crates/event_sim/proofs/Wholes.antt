@@ -17,7 +17,7 @@ use Rattle.event_sim.specs.Following.{enabled_moves, follow, ArePicks, power_val
 use Rattle.event_sim.specs.Passing.{passed_in, completion, values_through, channel_histories}
 use Rattle.event_sim.proofs.Lists.{among_is, least_none}
 use Rattle.event_sim.proofs.Histories.{histories_more, histories_none}
-use Rattle.event_sim.proofs.Ranges.{move_in}
+use Rattle.env_script.proofs.MovesWithin.{move_in}
 
 -- a number in a list stands at some place of it
 placed : (xs : List ℕ) (n : ℕ) → list_any (λ k. k == n) xs ≡ true → (p : ℕ) × (p < length xs) × (get_or xs p 0 ≡ n)

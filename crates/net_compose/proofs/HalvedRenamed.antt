@@ -23,7 +23,7 @@ use Rattle.chp_meaning.specs.Halves.{hidden_of, hidden_vars, hidden_in_each, hal
 use Rattle.handshake_expand.specs.Answers.{bodies_from, select_own, again_own}
 use Rattle.handshake_expand.specs.Sites.{in_body, sites_in, sites_in_turn, sites_in_branches, sites_in_bodies}
 use Rattle.net_compose.specs.Translation.{translation, composed, all_rules, hidden_high, vars_high, first_values, wires_from, rails_at, ack_at}
-use Rattle.net_compose.specs.WiresBelow.{AreBelow, WiresBelow}
+use Rattle.net_compose.specs.WiresBelow.{RailsBelow, WiresBelow}
 use Rattle.net_compose.proofs.Sizes.{Counted, all_length}
 use Rattle.net_compose.proofs.FlatTrees.{rules_at}
 use Rattle.net_compose.proofs.FlatWires.{wires_below}
@@ -100,7 +100,7 @@ vars_high_append P n (x ∷ xs) ys =
     ∙ sym (append_assoc first (vars_high P (suc n) xs) (vars_high P (n + suc (length xs)) ys))
 
 -- the wires of channels
-rails_below : (k w from : ℕ) → from + 2 * w ≤ k → AreBelow k (rails_of (pairs_from w from))
+rails_below : (k w from : ℕ) → from + 2 * w ≤ k → RailsBelow k (rails_of (pairs_from w from))
 rails_below k zero from l = tt
 rails_below k (suc w) from l = (omega (arith, l), (omega (arith, l), rails_below k w (from + 2) (omega (arith, l))))
 

@@ -23,7 +23,8 @@ pub mod CircuitSizes
 pub mod HalvedCarried
 pub mod RunsOn
 pub mod RunsEnd
-pub mod ResetEnds
+pub mod OnceEach
+pub mod ResetProgress
 pub mod HalvedNodes
 pub mod SameValues
 pub mod SameSelections

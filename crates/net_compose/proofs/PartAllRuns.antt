@@ -11,7 +11,7 @@ use Rattle.width_check.specs.Typing.{var_width, IsProcess}
 use Rattle.handshake_expand.specs.Layout.{size_of, root_request, body_from, nodes_of}
 use Rattle.handshake_expand.specs.Named.{node_names}
 use Rattle.chp_meaning.specs.Halves.{halved, halved_program, ReadsNoTarget, HalvesArePlain}
-use Rattle.circuit_places.specs.Within.{Part, InTurns, Phased, AllTakeTurns}
+use Rattle.circuit_places.specs.Within.{PartOf, InTurns, Phased, CircuitsTakeTurns}
 use Rattle.net_compose.specs.Translation.{translation, composed, first_values, wires_from, rules_of}
 use Rattle.net_compose.specs.PartNumbers.{first_of_part, request_of_part, answer_of_part, PartsInTurns, TranslationTakesTurns}
 use Rattle.net_compose.proofs.Sizes.{statement_length}
@@ -46,14 +46,14 @@ module _ (P : TypedProgram) (typed : IsProcess P.channels P.vars P.body) (plain 
   Both script st other = Mirrors (node_names P) (node_names Q) (first_values P) (first_values Q) (composed P) (composed Q) (wires_from P 0 P.channels) f
       (nodes_of P) (root_request P) renaming script st other
 
-  abbrev part_of : {q : Process} (h : Part q P.body) → Part (halved (part_n (length P.vars) h) q) Q.body
+  abbrev part_of : {q : Process} (h : PartOf q P.body) → PartOf (halved (part_n (length P.vars) h) q) Q.body
   part_of h = there (length P.vars) h
 
-  plain_part : {q : Process} (h : Part q P.body) → ReadsNoTarget (halved (part_n (length P.vars) h) q)
+  plain_part : {q : Process} (h : PartOf q P.body) → ReadsNoTarget (halved (part_n (length P.vars) h) q)
   plain_part h = part_free Q (part_of h) plain
 
   -- a part's numbers in both nets
-  part_numbers : {q : Process} (h : Part q P.body)
+  part_numbers : {q : Process} (h : PartOf q P.body)
       → PartThere counted P (λ n. n) f q (request_of_part P h) (first_of_part P h) (request_of_part Q (part_of h)) (first_of_part Q (part_of h))
   part_numbers h =
       let z : root_request P ≡ root_request P + 0 = omega arith in
@@ -62,7 +62,7 @@ module _ (P : TypedProgram) (typed : IsProcess P.channels P.vars P.body) (plain 
       (z ∙ (in_root counted P typed plain some (λ n. n) f (numbers counted P typed plain some) 0 (omega arith) ∙ ap f y))
       (in_own counted P typed plain some (λ n. n) f (numbers counted P typed plain some))
 
-  same_number : {q : Process} (h : Part q P.body) → ReadsNoTarget q → (i : ℕ) → i < size_of P q → first_of_part P h + i ≡ f (first_of_part Q (part_of h) + i)
+  same_number : {q : Process} (h : PartOf q P.body) → ReadsNoTarget q → (i : ℕ) → i < size_of P q → first_of_part P h + i ≡ f (first_of_part Q (part_of h) + i)
   same_number {q = q} h c i less =
       let rules = rules_of P q (request_of_part P h) (first_of_part P h) in
       let t = part_typed P h typed in
@@ -71,12 +71,12 @@ module _ (P : TypedProgram) (typed : IsProcess P.channels P.vars P.body) (plain 
       (part_numbers h).nodes) i
       (let e = statement_length counted P q (request_of_part P h) (first_of_part P h) t in omega (arith, e, less))
 
-  below_there : {q : Process} (h : Part q P.body) → ReadsNoTarget q → (i : ℕ) → i < size_of P q → i < size_of Q (halved (part_n (length P.vars) h) q)
+  below_there : {q : Process} (h : PartOf q P.body) → ReadsNoTarget q → (i : ℕ) → i < size_of P q → i < size_of Q (halved (part_n (length P.vars) h) q)
   below_there {q = q} h c i less =
       let e = same_size counted P (part_n (length P.vars) h) q (part_typed P h typed) c (plain_part h) in
       omega (arith, e, less)
 
-  within : {q : Process} (h : Part q P.body) → ReadsNoTarget q → (i : ℕ) → i < size_of P q → first_of_part Q (part_of h) + i < nodes_of P
+  within : {q : Process} (h : PartOf q P.body) → ReadsNoTarget q → (i : ℕ) → i < size_of P q → first_of_part Q (part_of h) + i < nodes_of P
   within {q = q} h c i less =
       let s = spot_of Q (halved (part_n (length P.vars) h) q) (plain_part h) i (below_there h c i less) in
       let e = part_place Q (part_of h) (body_from Q) s.spot in
@@ -89,7 +89,7 @@ module _ (P : TypedProgram) (typed : IsProcess P.channels P.vars P.body) (plain 
     values : Values (high st.values) (high other.values) 0 (order counted P typed plain some)
     values = values_of counted P typed plain some (high st.values) (high other.values) m.same
 
-    part_values : {q : Process} (h : Part q P.body) → PartThere counted P (high st.values) (high other.values) q (request_of_part P h) (first_of_part P h)
+    part_values : {q : Process} (h : PartOf q P.body) → PartThere counted P (high st.values) (high other.values) q (request_of_part P h) (first_of_part P h)
         (request_of_part Q (part_of h)) (first_of_part Q (part_of h))
     part_values h =
         let z : root_request P ≡ root_request P + 0 = omega arith in
@@ -98,10 +98,10 @@ module _ (P : TypedProgram) (typed : IsProcess P.channels P.vars P.body) (plain 
         (ap (high st.values) z ∙ (in_root counted P typed plain some (high st.values) (high other.values) values 0 (omega arith) ∙ ap (high other.values) y))
         (in_own counted P typed plain some (high st.values) (high other.values) values)
 
-    asked : {q : Process} (h : Part q P.body) → high st.values (request_of_part P h) ≡ high other.values (request_of_part Q (part_of h))
+    asked : {q : Process} (h : PartOf q P.body) → high st.values (request_of_part P h) ≡ high other.values (request_of_part Q (part_of h))
     asked h = (part_values h).asked
 
-    answered : {q : Process} (h : Part q P.body) → ReadsNoTarget q → high st.values (answer_of_part P h) ≡ high other.values (answer_of_part Q (part_of h))
+    answered : {q : Process} (h : PartOf q P.body) → ReadsNoTarget q → high st.values (answer_of_part P h) ≡ high other.values (answer_of_part Q (part_of h))
     answered {q = q} h c = answers_same counted P (high st.values) (high other.values)
         (below_root counted P typed plain some (high st.values) (high other.values) values) some (part_n (length P.vars) h) q (part_typed P h typed)
         (plain_part h) (request_of_part P h) (first_of_part P h) (request_of_part Q (part_of h)) (first_of_part Q (part_of h)) 0
@@ -113,7 +113,7 @@ module _ (P : TypedProgram) (typed : IsProcess P.channels P.vars P.body) (plain 
         (root_request P) renaming script st other m n l
         ∙ sym (ap (λ net. move_enabled net script other n) (translation_there counted P typed plain some plain))
 
-    can_part : {q : Process} (h : Part q P.body) → ReadsNoTarget q → (i : ℕ) → i < size_of P q
+    can_part : {q : Process} (h : PartOf q P.body) → ReadsNoTarget q → (i : ℕ) → i < size_of P q
         → move_enabled (translation P) script st (first_of_part P h + i) ≡ move_enabled (translation Q) script other (first_of_part Q (part_of h) + i)
     can_part h c i less = ap (move_enabled (translation P) script st) (same_number h c i less) ∙ can (first_of_part Q (part_of h) + i) (within h c i less)
 
@@ -136,7 +136,7 @@ module _ (P : TypedProgram) (typed : IsProcess P.channels P.vars P.body) (plain 
               (root_request P) renaming script st other m b.0 b.1);
         }
 
-    asks_at : {q : Process} (h : Part q P.body) → ReadsNoTarget q → (n : ℕ) → move_enabled (translation P) script st n ≡ true
+    asks_at : {q : Process} (h : PartOf q P.body) → ReadsNoTarget q → (n : ℕ) → move_enabled (translation P) script st n ≡ true
         → Phased (high (moved (translation P) st n).values (request_of_part P h)) (high st.values (request_of_part P h)) (high st.values (answer_of_part P h))
     asks_at h c n on =
         let g = goes n on in
@@ -150,7 +150,7 @@ module _ (P : TypedProgram) (typed : IsProcess P.channels P.vars P.body) (plain 
         by k both (inl e) = inl (asked script (moved (translation P) st n) (moved B other k) both h ∙ (e ∙ sym (asked script st other m h)))
         by k both (inr e) = inr (asked script (moved (translation P) st n) (moved B other k) both h ∙ (e ∙ ap not (sym (answered script st other m h c))))
 
-    ends_at : {q : Process} (h : Part q P.body) → ReadsNoTarget q → (n : ℕ) → move_enabled (translation P) script st n ≡ true
+    ends_at : {q : Process} (h : PartOf q P.body) → ReadsNoTarget q → (n : ℕ) → move_enabled (translation P) script st n ≡ true
         → (high (moved (translation P) st n).values (answer_of_part P h) ≡ high st.values (answer_of_part P h))
         ⊎ (high (moved (translation P) st n).values (answer_of_part P h) ≡ high st.values (request_of_part P h))
     ends_at h c n on =
@@ -165,7 +165,7 @@ module _ (P : TypedProgram) (typed : IsProcess P.channels P.vars P.body) (plain 
         by k both (inl e) = inl (answered script (moved (translation P) st n) (moved B other k) both h c ∙ (e ∙ sym (answered script st other m h c)))
         by k both (inr e) = inr (answered script (moved (translation P) st n) (moved B other k) both h c ∙ (e ∙ sym (asked script st other m h)))
 
-    one_at : {q s : Process} (h : Part q P.body) (k : Part s P.body) → ReadsNoTarget q → ReadsNoTarget s → InTurns h k
+    one_at : {q s : Process} (h : PartOf q P.body) (k : PartOf s P.body) → ReadsNoTarget q → ReadsNoTarget s → InTurns h k
         → ((high st.values (request_of_part P h) ≡ false) × (high st.values (answer_of_part P h) ≡ false))
         ⊎ ((high st.values (request_of_part P k) ≡ false) × (high st.values (answer_of_part P k) ≡ false))
     one_at h k c d i = by (turns.one_rests (part_of h) (part_of k) (plain_part h) (plain_part k) (in_turns_there (length P.vars) h k i))
@@ -197,7 +197,7 @@ abbrev OnNet : TypedProgram → NetValue → Type 0
 OnNet Q net = (script : List OfferValue) → IsScript Q.channels script → (ns : List ℕ) → IsRun net script (begin_at net net.first) ns
     → PartsInTurns Q script (after net (begin_at net net.first) ns)
 
-pub all_parts : HalvesArePlain → AllTakeTurns → TranslationTakesTurns
+pub all_parts : HalvesArePlain → CircuitsTakeTurns → TranslationTakesTurns
 all_parts halves law P is script fits ns run =
     let Q = halved_program P in
     let h = halves P is.typed is.sharing in

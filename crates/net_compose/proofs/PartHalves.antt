@@ -13,7 +13,7 @@ use Rattle.cell_parallel.specs.Trees.{tree_rules}
 use Rattle.cell_variable.specs.Variables.{write_answer}
 use Rattle.function_blocks.specs.Expressions.{formula_rules}
 use Rattle.chp_meaning.specs.Halves.{hidden_of, hidden_vars, hidden_in_each, hidden_in_choices, halved_assign, halved, halved_each, halved_choices, halved_program, ReadsNoTarget, EachReadsNoTarget, ChoicesReadNoTarget}
-use Rattle.circuit_places.specs.Within.{Part, whole, of_member, of_side, of_body, of_arm, ArmPart, this_arm, other_arm, SidePart, this_side, other_side, TurnPart, last_part, first_part, later_part, InTurns, ArmsInTurns, SidesInTurns, MembersInTurns}
+use Rattle.circuit_places.specs.Within.{PartOf, whole, of_member, of_side, of_body, of_arm, ArmPart, this_arm, other_arm, SidePart, this_side, other_side, TurnPart, last_part, first_part, later_part, InTurns, ArmsInTurns, SidesInTurns, MembersInTurns}
 use Rattle.net_compose.specs.Translation.{bits_at, written_at, q_rules, through_rules, rules_of, turn_rules, branches_rules, bodies_rules, guards_rules, choosing_at, repeating_at, branch_ends, branches_end}
 use Rattle.net_compose.specs.PartNumbers.{part_from, arm_part_from, side_part_from, turn_part_from, part_ask, arm_part_ask, side_part_ask, turn_part_ask}
 use Rattle.net_compose.proofs.Sizes.{Counted, statement_length}
@@ -97,7 +97,7 @@ module _ (P : TypedProgram) where
 
 -- the part in halves, whose hidden variables are numbered from here on
 abbrev mutual
-  pub part_n : {q p : Process} → ℕ → Part q p → ℕ
+  pub part_n : {q p : Process} → ℕ → PartOf q p → ℕ
   part_n n whole = n
   part_n n (of_member t) = turn_part_n n t
   part_n n (of_side t) = side_part_n n t
@@ -118,7 +118,7 @@ abbrev mutual
   turn_part_n n (later_part {p = p} t) = turn_part_n (n + length (hidden_vars p)) t
 
 abbrev mutual
-  pub there : {q p : Process} (n : ℕ) (h : Part q p) → Part (halved (part_n n h) q) (halved n p)
+  pub there : {q p : Process} (n : ℕ) (h : PartOf q p) → PartOf (halved (part_n n h) q) (halved n p)
   there n whole = whole
   there n (of_member t) = of_member (turn_there n t)
   there n (of_side t) = of_side (side_there n t)
@@ -140,7 +140,7 @@ abbrev mutual
 
 -- parts that take turns do so in halves
 mutual
-  pub in_turns_there : {q s p : Process} (n : ℕ) (h : Part q p) (k : Part s p) → InTurns h k → InTurns (there n h) (there n k)
+  pub in_turns_there : {q s p : Process} (n : ℕ) (h : PartOf q p) (k : PartOf s p) → InTurns h k → InTurns (there n h) (there n k)
   in_turns_there n whole k i = absurd i
   in_turns_there n (of_member t) whole i = absurd i
   in_turns_there n (of_member t) (of_member u) i = members_there n t u i
@@ -286,7 +286,7 @@ module _ (counted : Counted) (P : TypedProgram) where
         (values_right v u to (o + 2 * choice_count choices + guards_size choices) (numbered from front) bodies (length-numbered from front ∙ long) nodes)
 
     mutual
-      pub walk : {q p : Process} (n : ℕ) (h : Part q p) → IsProcess P.channels P.vars p → ReadsNoTarget (halved n p) → (r from s to : ℕ) → v r ≡ u s
+      pub walk : {q p : Process} (n : ℕ) (h : PartOf q p) → IsProcess P.channels P.vars p → ReadsNoTarget (halved n p) → (r from s to : ℕ) → v r ≡ u s
           → Values v u to (own P p r from) → PartThere q (part_ask P h r from) (part_from P h from) (part_ask Q (there n h) s to) (part_from Q (there n h) to)
       walk n whole t plain r from s to asked nodes = record { asked = asked; nodes = nodes }
       walk n (of_member k) t plain r from s to asked nodes = turn_walk n k t.1 plain r from s to asked nodes

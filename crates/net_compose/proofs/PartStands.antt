@@ -8,7 +8,7 @@ use Rattle.handshake_expand.specs.Answers.{bodies_from, select_own, again_own}
 use Rattle.chp_meaning.specs.Halves.{ReadsNoTarget, EachReadsNoTarget, ChoicesReadNoTarget}
 use Rattle.circuit_places.specs.Heads.{Bits}
 use Rattle.circuit_places.specs.Circuit.{Cells, ChoiceCells, BranchCells, TurnCells, Spot}
-use Rattle.circuit_places.specs.Within.{Part, whole, of_member, of_side, of_body, of_arm, ArmPart, this_arm, other_arm, SidePart, this_side, other_side, TurnPart, last_part, first_part, later_part, part_cells, arm_part_cells, side_part_cells, turn_part_cells, part_request, arm_part_request, side_part_request, turn_part_request, part_spot, arm_part_spot, side_part_spot, turn_part_spot}
+use Rattle.circuit_places.specs.Within.{PartOf, whole, of_member, of_side, of_body, of_arm, ArmPart, this_arm, other_arm, SidePart, this_side, other_side, TurnPart, last_part, first_part, later_part, part_cells, arm_part_cells, side_part_cells, turn_part_cells, part_request, arm_part_request, side_part_request, turn_part_request, part_spot, arm_part_spot, side_part_spot, turn_part_spot}
 use Rattle.net_compose.specs.PartNumbers.{part_from, arm_part_from, side_part_from, turn_part_from, part_ask, arm_part_ask, side_part_ask, turn_part_ask}
 use Rattle.net_compose.proofs.Templates.{BitsAt}
 use Rattle.net_compose.proofs.FlatCells.{bits, turn_bits, branch_bits, choice_bits, place, turn_place, branch_place, choice_place, IsFine, IsFineTurn, IsFineBranch, IsFineChoice}
@@ -17,7 +17,7 @@ use Rattle.net_compose.proofs.FlatRules.{Stands, stands_head, stands_member, sta
 module _ (P : TypedProgram) where
   -- a part of what is typed and free of such assignments is so
   mutual
-    pub part_free : {q p : Process} (h : Part q p) → ReadsNoTarget p → ReadsNoTarget q
+    pub part_free : {q p : Process} (h : PartOf q p) → ReadsNoTarget p → ReadsNoTarget q
     part_free whole c = c
     part_free (of_member t) c = turn_part_free t c
     part_free (of_side t) c = side_part_free t c
@@ -38,7 +38,7 @@ module _ (P : TypedProgram) where
     turn_part_free (later_part t) c = turn_part_free t c.1
 
   mutual
-    pub part_typed : {q p : Process} (h : Part q p) → IsProcess P.channels P.vars p → IsProcess P.channels P.vars q
+    pub part_typed : {q p : Process} (h : PartOf q p) → IsProcess P.channels P.vars p → IsProcess P.channels P.vars q
     part_typed whole t = t
     part_typed (of_member u) t = turn_part_typed u t.1
     part_typed (of_side u) t = side_part_typed u t.1
@@ -60,7 +60,7 @@ module _ (P : TypedProgram) where
 
   -- where the part's nodes are among those of the process
   mutual
-    pub part_place : {q p : Process} (h : Part q p) (from : ℕ) (s : Spot q) → part_from P h from + place P q s ≡ from + place P p (part_spot h s)
+    pub part_place : {q p : Process} (h : PartOf q p) (from : ℕ) (s : Spot q) → part_from P h from + place P q s ≡ from + place P p (part_spot h s)
     part_place whole from s = refl
     part_place (of_member t) from s = turn_part_place t from s
     part_place (of_side t) from s = side_part_place t from s
@@ -85,7 +85,7 @@ module _ (P : TypedProgram) where
     turn_part_place (later_part {p = p} t) from s = let e = turn_part_place t (from + 3 + size_of P p) s in omega (arith, e)
 
   mutual
-    pub part_fine : {q p : Process} (h : Part q p) (s : Spot q) → IsFine P q s → IsFine P p (part_spot h s)
+    pub part_fine : {q p : Process} (h : PartOf q p) (s : Spot q) → IsFine P q s → IsFine P p (part_spot h s)
     part_fine whole s f = f
     part_fine (of_member t) s f = turn_part_fine t s f
     part_fine (of_side t) s f = side_part_fine t s f
@@ -112,7 +112,7 @@ module _ (P : TypedProgram) where
       pub stands : Stands v from (bits P q x)
 
     mutual
-      pub part_stands : {q p : Process} (h : Part q p) → ReadsNoTarget p → IsProcess P.channels P.vars p → (request from : ℕ) (r : Bool) (x : Cells p)
+      pub part_stands : {q p : Process} (h : PartOf q p) → ReadsNoTarget p → IsProcess P.channels P.vars p → (request from : ℕ) (r : Bool) (x : Cells p)
           → v request ≡ r → Stands v from (bits P p x) → StandsAt q (part_ask P h request from) (part_from P h from) (part_request h r x) (part_cells h x)
       part_stands whole c t request from r x e s = record { asked = e; stands = s }
       part_stands (of_member u) c t request from r x e s = turn_part_stands u c t.1 request from r x e s

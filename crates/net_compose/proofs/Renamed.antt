@@ -10,15 +10,15 @@ use Rattle.env_script.specs.Scripts.{OfferValue, gives, takes, nothing, offer_at
 use Rattle.env_script.specs.Environment.{env_enabled, raises_go, channels_move, offer_moves, lowers, raises_bit, raises_value, raises_next, valid, is_odd}
 use Rattle.env_script.specs.Phases.{rail_keeps, pair_keeps, rails_keep, ack_keeps, phases_keep}
 use Rattle.env_script.specs.Runs.{RunState, completed, move_enabled, completes, with_value, with_values, moved, IsRun, after, begin_at, IsAtRest, IsApart, IsSafeMove, IsSafeRun}
-use Rattle.net_compose.specs.WiresBelow.{AreBelow, WiresBelow}
+use Rattle.net_compose.specs.WiresBelow.{RailsBelow, WiresBelow}
 
 -- the values of all wires are the same, and two nodes are the same one of them, or none
 module _ (v u : ℕ → Bool) (k n m : ℕ) (agree : (r : ℕ) → r < k → v r ≡ u r) (here : v n ≡ u m) (tests : (r : ℕ) → r < k → (n == r) ≡ (m == r)) where
-  neutral_same : (rails : List ℕ) → AreBelow k rails → neutral v rails ≡ neutral u rails
+  neutral_same : (rails : List ℕ) → RailsBelow k rails → neutral v rails ≡ neutral u rails
   neutral_same [] b = refl
   neutral_same (r ∷ rs) b = ap (λ z. not z && neutral v rs) (agree r b.0) ∙ ap (λ z. not (u r) && z) (neutral_same rs b.1)
 
-  value_same : (rails : List ℕ) → AreBelow k rails → rail_value_of v rails ≡ rail_value_of u rails
+  value_same : (rails : List ℕ) → RailsBelow k rails → rail_value_of v rails ≡ rail_value_of u rails
   value_same [] b = refl
   value_same (t ∷ []) b = refl
   value_same (t ∷ f ∷ rs) b =
@@ -26,11 +26,11 @@ module _ (v u : ℕ → Bool) (k n m : ℕ) (agree : (r : ℕ) → r < k → v r
       ∙ (ap (λ z. with_bit (bit_value (u t) z) (rail_value_of v rs)) (agree f b.1.0)
       ∙ ap (λ z. with_bit (bit_value (u t) (u f)) z) (value_same rs b.1.1))
 
-  listed_same : (rails : List ℕ) → AreBelow k rails → list_any (λ rail. n == rail) rails ≡ list_any (λ rail. m == rail) rails
+  listed_same : (rails : List ℕ) → RailsBelow k rails → list_any (λ rail. n == rail) rails ≡ list_any (λ rail. m == rail) rails
   listed_same [] b = refl
   listed_same (r ∷ rs) b = ap (λ z. z || list_any (λ rail. n == rail) rs) (tests r b.0) ∙ ap (λ z. (m == r) || z) (listed_same rs b.1)
 
-  lowers_same : (rails : List ℕ) → AreBelow k rails → lowers v rails n ≡ lowers u rails m
+  lowers_same : (rails : List ℕ) → RailsBelow k rails → lowers v rails n ≡ lowers u rails m
   lowers_same rails b = ap (λ z. z && list_any (λ rail. n == rail) rails) here ∙ ap (λ z. u m && z) (listed_same rails b)
 
   raises_bit_same : (bit : Bool) (t f : ℕ) → t < k → f < k → raises_bit v bit t f n ≡ raises_bit u bit t f m
@@ -43,18 +43,18 @@ module _ (v u : ℕ → Bool) (k n m : ℕ) (agree : (r : ℕ) → r < k → v r
       side true = tests t bt
       side false = tests f bf
 
-  raises_same : (value : ℕ) (rails : List ℕ) → AreBelow k rails → raises_value v value rails n ≡ raises_value u value rails m
+  raises_same : (value : ℕ) (rails : List ℕ) → RailsBelow k rails → raises_value v value rails n ≡ raises_value u value rails m
   raises_same value [] b = refl
   raises_same value (t ∷ []) b = refl
   raises_same value (t ∷ f ∷ rs) b =
       ap (λ z. z || raises_value v (value / 2) rs n) (raises_bit_same (is_odd value) t f b.0 b.1.0)
       ∙ ap (λ z. raises_bit u (is_odd value) t f m || z) (raises_same (value / 2) rs b.1.1)
 
-  next_same : (next : Option ℕ) (rails : List ℕ) → AreBelow k rails → raises_next v next rails n ≡ raises_next u next rails m
+  next_same : (next : Option ℕ) (rails : List ℕ) → RailsBelow k rails → raises_next v next rails n ≡ raises_next u next rails m
   next_same None rails b = refl
   next_same (Some value) rails b = raises_same value rails b
 
-  offer_same : (w : Wires) (offer : OfferValue) (done : ℕ) → w.ack < k → AreBelow k w.rails → offer_moves v w offer done n ≡ offer_moves u w offer done m
+  offer_same : (w : Wires) (offer : OfferValue) (done : ℕ) → w.ack < k → RailsBelow k w.rails → offer_moves v w offer done n ≡ offer_moves u w offer done m
   offer_same w nothing done a b = refl
   offer_same w (gives values) done a b =
       ap (λ z. if z then lowers v w.rails n else raises_next v (slice_get values done) w.rails n) (agree w.ack a)
@@ -82,7 +82,7 @@ module _ (v u : ℕ → Bool) (k n m : ℕ) (agree : (r : ℕ) → r < k → v r
       ap (λ z. if z then v ack else not (v ack) && not (v s)) (agree r b)
       ∙ (ap (λ z. if u r then z else not z && not (v s)) (agree ack a) ∙ ap (λ z. if u r then u ack else not (u ack) && not z) (agree s c))
 
-  rails_same : (ack : ℕ) (rails : List ℕ) → ack < k → AreBelow k rails → rails_keep v ack rails n ≡ rails_keep u ack rails m
+  rails_same : (ack : ℕ) (rails : List ℕ) → ack < k → RailsBelow k rails → rails_keep v ack rails n ≡ rails_keep u ack rails m
   rails_same ack [] a b = refl
   rails_same ack (t ∷ []) a b = refl
   rails_same ack (t ∷ f ∷ rs) a b =
@@ -92,12 +92,12 @@ module _ (v u : ℕ → Bool) (k n m : ℕ) (agree : (r : ℕ) → r < k → v r
       ∙ (ap (λ z. ((not (m == t) || rail_keeps u ack t f) && (not (m == f) || z)) && rails_keep v ack rs n) (rail_same ack f t a b.1.0 b.0)
       ∙ ap (λ z. pair_keeps u ack t f m && z) (rails_same ack rs a b.1.1))))
 
-  ack_same : (ack : ℕ) (rails : List ℕ) → ack < k → AreBelow k rails → ack_keeps v ack rails ≡ ack_keeps u ack rails
+  ack_same : (ack : ℕ) (rails : List ℕ) → ack < k → RailsBelow k rails → ack_keeps v ack rails ≡ ack_keeps u ack rails
   ack_same ack rails a b =
       ap (λ z. if z then neutral v rails else valid v rails) (agree ack a)
       ∙ (ap (λ z. if u ack then z else valid v rails) (neutral_same rails b) ∙ ap (λ z. if u ack then neutral u rails else is_some z) (value_same rails b))
 
-  keeps_same : (w : Wires) → w.ack < k → AreBelow k w.rails → phases_keep v w n ≡ phases_keep u w m
+  keeps_same : (w : Wires) → w.ack < k → RailsBelow k w.rails → phases_keep v w n ≡ phases_keep u w m
   keeps_same w a b =
       ap (λ z. z && (not (n == w.ack) || ack_keeps v w.ack w.rails)) (rails_same w.ack w.rails a b)
       ∙ (ap (λ z. rails_keep u w.ack w.rails m && (not z || ack_keeps v w.ack w.rails)) (tests w.ack a)
@@ -115,7 +115,7 @@ module _ (v u : ℕ → Bool) (k n m : ℕ) (agree : (r : ℕ) → r < k → v r
   fault_same ws b = ap (λ z. cond (nat_lt z (length ws)) (Some z) None) (place_same ws b)
 
   -- what passes
-  completes_same : (w : Wires) → w.ack < k → AreBelow k w.rails → completes v w n ≡ completes u w m
+  completes_same : (w : Wires) → w.ack < k → RailsBelow k w.rails → completes v w n ≡ completes u w m
   completes_same w a b =
       ap (λ z. if z && not (v n) then rail_value_of v w.rails else None) (tests w.ack a)
       ∙ (ap (λ z. if (m == w.ack) && not z then rail_value_of v w.rails else None) here
@@ -129,11 +129,11 @@ module _ (v u : ℕ → Bool) (k n m : ℕ) (agree : (r : ℕ) → r < k → v r
 
 -- beyond all wires nothing moves
 module _ (v : ℕ → Bool) (k n : ℕ) (beyond : (r : ℕ) → r < k → (n == r) ≡ false) where
-  unlisted : (rails : List ℕ) → AreBelow k rails → list_any (λ rail. n == rail) rails ≡ false
+  unlisted : (rails : List ℕ) → RailsBelow k rails → list_any (λ rail. n == rail) rails ≡ false
   unlisted [] b = refl
   unlisted (r ∷ rs) b = ap (λ z. z || list_any (λ rail. n == rail) rs) (beyond r b.0) ∙ unlisted rs b.1
 
-  unraised : (value : ℕ) (rails : List ℕ) → AreBelow k rails → raises_value v value rails n ≡ false
+  unraised : (value : ℕ) (rails : List ℕ) → RailsBelow k rails → raises_value v value rails n ≡ false
   unraised value [] b = refl
   unraised value (t ∷ []) b = refl
   unraised value (t ∷ f ∷ rs) b = ap (λ z. (z && (not (v t) && not (v f))) || raises_value v (value / 2) rs n) (side (is_odd value))
@@ -143,7 +143,7 @@ module _ (v : ℕ → Bool) (k n : ℕ) (beyond : (r : ℕ) → r < k → (n == 
       side true = beyond t b.0
       side false = beyond f b.1.0
 
-  quiet_at : (w : Wires) (offer : OfferValue) (done : ℕ) → w.ack < k → AreBelow k w.rails → offer_moves v w offer done n ≡ false
+  quiet_at : (w : Wires) (offer : OfferValue) (done : ℕ) → w.ack < k → RailsBelow k w.rails → offer_moves v w offer done n ≡ false
   quiet_at w nothing done a b = refl
   quiet_at w (takes count) done a b = ap (λ z. z && (if v w.ack then neutral v w.rails else valid v w.rails && is_over count done)) (beyond w.ack a)
   quiet_at w (gives values) done a b = by (v w.ack) (slice_get values done)

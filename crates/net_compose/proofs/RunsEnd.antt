@@ -4,7 +4,6 @@ use Rattle.env_script.specs.Scripts.{OfferValue}
 use Rattle.env_script.specs.Runs.{history_at, begin_at, after}
 use Rattle.width_check.specs.Processes.{TypedProgram}
 use Rattle.width_check.specs.Sharing.{MeetsSharing}
-use Rattle.width_check.specs.Typing.{IsTyped}
 use Rattle.handshake_expand.specs.Layout.{nodes_of}
 use Rattle.chp_meaning.specs.Terms.{Place}
 use Rattle.chp_meaning.specs.Steps.{Configuration, Step, Leads}
@@ -14,7 +13,8 @@ use Rattle.chp_meaning.specs.Halves.{ReadsNoTarget, HalvesArePlain, HalvesKeepPa
 use Rattle.circuit_places.specs.Carried.{CircuitsCarry}
 use Rattle.net_compose.specs.Translation.{translation}
 use Rattle.net_compose.specs.Carries.{Carries}
-use Rattle.net_compose.specs.Bounded.{KeepsPace, IsBounded, IsLevel, Ends}
+use Rattle.net_compose.specs.Points.{IsTranslated}
+use Rattle.net_compose.specs.Progress.{IsLevel, KeepsPace, WhereItRests, ProgressesFrom, Progresses, most_moves, plain_most_moves}
 use Rattle.net_compose.proofs.Passing.{same_end}
 use Rattle.net_compose.proofs.HalvedCarried.{scaled, translation_paid, translation_past, plainly_paid}
 use Rattle.net_compose.proofs.RunsOn.{goes_on}
@@ -24,50 +24,55 @@ more_steps l b n k long few =
     let e : suc n * b ≤ suc k * b = scaled (suc n) (suc k) b (omega (arith, few)) in
     omega (arith, long, e)
 
--- what is assumed here are laws of steps and rounds, of programs in halves, and that of circuits as trees of cells; and that the
--- net carries the program
-pub translation_ends : ((c d : Configuration) (at : Place) → step_at c at ≡ Some d → Step c at d) →
-    ((c d : Configuration) (n : ℕ) → Leads c n d → IsBehind c d)
-    → ((p : TypedProgram) (script : List OfferValue) → MeetsSharing p.body → OneHistory p script)
-    → ((p : TypedProgram) (script : List OfferValue) → MeetsSharing p.body → RoundsHold p script)
-    → ((p : TypedProgram) (script : List OfferValue) → MeetsSharing p.body → OneEnd p script)
-    → HalvesArePlain → HalvesKeepPace → CircuitsCarry
-    → (P : TypedProgram) → IsTyped P.channels P.vars P.body → MeetsSharing P.body → Carries (translation P) P → Ends (translation P) P
-translation_ends steps_taken append one hold one_end halves keep circuits P typed meets carries = record {
-  pace = pace;
-  plain_pace = plain_pace;
-  bounded = bounded;
-  plain = λ plain script fits m c ends moves run.
-      let r = plain_pace plain script fits moves run in
-      more_steps (length moves) (2 * nodes_of P) r.0 m r.4 (one_end P script meets m r.0 c r.1 ends.leads ends.still r.2);
-  rests = λ script fits m c ends moves run.
-      goes_on (translation P) script (nodes_of P) (translation_past halves P typed meets script) (2 * nodes_of P * suc (2 * m)) (2 * nodes_of P * suc (2 * m))
-      (begin_at (translation P) (translation P).first) (bounded script fits m c ends) moves run (omega arith);
-  level = λ script fits m c ends moves run still.
-      let z = (carries.runs script fits moves run).rest still in
-      let same = same_end steps_taken append one hold P script meets m (length moves) c ends.leads ends.still z.still in
-      subst (λ d. IsLevel (after (translation P) (begin_at (translation P) (translation P).first) moves) d) same
-      (record { whole = z.whole; answer = z.answer });
-}
-  where
-    pace : KeepsPace (translation P) P (λ m. 2 * nodes_of P * suc (2 * m))
-    pace script fits moves run =
-        let r = translation_paid halves circuits P typed meets script fits moves run in
-        let s = keep P script typed meets r.0 r.1 r.2 in (
-          s.0,
-          s.1,
-          s.2,
-          (λ k. ap (λ hs. history_at hs k) (sym (s.3 ∙ r.3))),
-          more_steps (length moves) (2 * nodes_of P) r.0 (2 * s.0) r.4 s.4,
-        )
+-- what is assumed here are laws of steps and rounds, of programs in halves, and that of circuits as trees of cells
+module _ (steps_taken : (c d : Configuration) (at : Place) → step_at c at ≡ Some d → Step c at d)
+    (append : (c d : Configuration) (n : ℕ) → Leads c n d → IsBehind c d)
+    (one : (p : TypedProgram) (script : List OfferValue) → MeetsSharing p.body → OneHistory p script)
+    (hold : (p : TypedProgram) (script : List OfferValue) → MeetsSharing p.body → RoundsHold p script)
+    (one_end : (p : TypedProgram) (script : List OfferValue) → MeetsSharing p.body → OneEnd p script)
+    (halves : HalvesArePlain) (circuits : CircuitsCarry) (P : TypedProgram) (is : IsTranslated P) (carries : Carries (translation P) P) where
+  -- a net that keeps pace, and carries its program
+  keeping : (most : ℕ → ℕ) → ((n k : ℕ) → n ≤ k → most n ≤ most k) → KeepsPace (translation P) P most (translation P).first
+      → ProgressesFrom (translation P) P most (translation P).first
+  keeping most grows pace = record {
+    pace = pace;
+    bounded = bounded;
+    rests = λ script fits m c over moves run.
+        goes_on (translation P) script (nodes_of P) (translation_past halves P is.typed is.sharing script) (most m) (most m)
+        (begin_at (translation P) (translation P).first) (bounded script fits m c over) moves run (omega arith);
+    level = λ script fits m c over moves run still.
+        let z = (carries.runs script fits moves run).rest still in
+        let same = same_end steps_taken append one hold P script is.sharing m (length moves) c over.leads over.still z.still in
+        subst (λ d. IsLevel (after (translation P) (begin_at (translation P) (translation P).first) moves) d) same
+        (record { whole = z.whole; answer = z.answer });
+  }
+    where
+      bounded : WhereItRests (translation P) P (translation P).first (λ m c script moves. length moves ≤ most m)
+      bounded script fits m c over moves run =
+          let r = pace script fits moves run in
+          let few = r.4 in
+          let more = grows r.0 m (one_end P script is.sharing m r.0 c r.1 over.leads over.still r.2) in
+          omega (arith, few, more)
 
-    plain_pace : ReadsNoTarget P.body → KeepsPace (translation P) P (λ m. 2 * nodes_of P * suc m)
-    plain_pace plain script fits moves run =
-        let r = plainly_paid circuits P typed meets plain script fits moves run in
-        (r.0, r.1, r.2, (λ k. ap (λ hs. history_at hs k) (sym r.3)), r.4)
+  pub translation_progresses : HalvesKeepPace → Progresses (translation P) P
+  translation_progresses keep = keeping (most_moves P) (λ n k few. more_steps _ (2 * nodes_of P) (2 * n) (2 * k) (omega arith) (omega (arith, few))) pace
+    where
+      pace : KeepsPace (translation P) P (most_moves P) (translation P).first
+      pace script fits moves run =
+          let r = translation_paid halves circuits P is.typed is.sharing script fits moves run in
+          let s = keep P script is.typed is.sharing r.0 r.1 r.2 in (
+            s.0,
+            s.1,
+            s.2,
+            (λ k. ap (λ hs. history_at hs k) (sym (s.3 ∙ r.3))),
+            more_steps (length moves) (2 * nodes_of P) r.0 (2 * s.0) r.4 s.4,
+          )
 
-    bounded : IsBounded (translation P) P (λ m. 2 * nodes_of P * suc (2 * m))
-    bounded script fits m c ends moves run =
-        let r = pace script fits moves run in
-        let few = one_end P script meets m r.0 c r.1 ends.leads ends.still r.2 in
-        more_steps (length moves) (2 * nodes_of P) (2 * r.0) (2 * m) r.4 (omega (arith, few))
+  pub plain_translation_progresses : ReadsNoTarget P.body → ProgressesFrom (translation P) P (plain_most_moves P) (translation P).first
+  plain_translation_progresses plain =
+      keeping (plain_most_moves P) (λ n k few. more_steps _ (2 * nodes_of P) n k (omega arith) few) pace
+    where
+      pace : KeepsPace (translation P) P (plain_most_moves P) (translation P).first
+      pace script fits moves run =
+          let r = plainly_paid circuits P is.typed is.sharing plain script fits moves run in
+          (r.0, r.1, r.2, (λ k. ap (λ hs. history_at hs k) (sym r.3)), r.4)

@@ -2,7 +2,7 @@ pub mod Errors
 pub mod Translation
 pub mod Carries
 pub mod Points
-pub mod Bounded
+pub mod Progress
 pub mod Sized
 pub mod Begins
 pub mod EverySite

@@ -2,10 +2,10 @@
 use Rattle.std.specs.Prelude.{ℕ, ◌<◌, List, [], ◌∷◌}
 use Rattle.prs_core.specs.declared.wires.Wires.{Wires}
 
-abbrev pub AreBelow : ℕ → List ℕ → Type 0
-AreBelow k [] = Unit {0}
-AreBelow k (r ∷ rs) = (r < k) × AreBelow k rs
+abbrev pub RailsBelow : ℕ → List ℕ → Type 0
+RailsBelow k [] = Unit {0}
+RailsBelow k (r ∷ rs) = (r < k) × RailsBelow k rs
 
 abbrev pub WiresBelow : ℕ → List Wires → Type 0
 WiresBelow k [] = Unit {0}
-WiresBelow k (w ∷ ws) = (w.ack < k) × AreBelow k w.rails × WiresBelow k ws
+WiresBelow k (w ∷ ws) = (w.ack < k) × RailsBelow k w.rails × WiresBelow k ws

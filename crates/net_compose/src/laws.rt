@@ -15,7 +15,11 @@ ghost use Rattle.net_compose.specs.Points.{
   CarriesPrefix,
   CarriesRest,
 };
-ghost use Rattle.net_compose.specs.Bounded.{ResetEnds, TranslationEnds};
+ghost use Rattle.net_compose.specs.Progress.{
+  PlainTranslationProgresses,
+  ResetProgresses,
+  TranslationProgresses,
+};
 ghost use Rattle.net_compose.specs.Sized.{IsOfSize};
 ghost use Rattle.net_compose.specs.PartNumbers.{TranslationTakesTurns};
 
@@ -71,13 +75,15 @@ pub fn carries_rest()
     three_points();
 }
 
-/// Law: the net of each such program keeps pace with it. Each run of the net has passed what some run of the program has, and has
-/// no more than two moves for each node before the first step of that, between any two, and behind the last; an assignment that
-/// reads its own target counts as two steps, and where there is one, all are counted twice. So where the program goes no further
-/// under a script after m steps, each run of its net ends, without any fairness: no run has more moves than that, each goes on to
-/// one that rests, and that one has passed all that the program has, with `done` high exactly where the program has ended.
+/// Law: the net of each such program keeps pace with it, in every run. What a run of the net has passed, some run of
+/// the program has passed, and between two steps of that, before the first and after the last each node moves twice at
+/// most; an assignment that reads its own target counts as two steps, and where there is one, every step is counted
+/// twice (`plain`: else none is). So where the program goes no further under a script after m steps, each run of its
+/// net ends, without any fairness: no run has more moves than that, each goes on to one at rest, and that one has
+/// passed all that the program has, with `done` high exactly where the program has ended.
 pub fn runs_end()
-    ensures { TranslationEnds }
+    ensures every { TranslationProgresses }
+    ensures plain { PlainTranslationProgresses }
 {
     steps_taken();
     runs_append();
@@ -115,10 +121,10 @@ pub fn carries_reset()
     reset_runs();
 }
 
-/// Law: where the runs of a net end with a program, so do those that it has with a reset node, from every power-up
-/// state, after reset has fallen.
-pub fn ends_reset()
-    ensures { (net : NetValue) (p : TypedProgram) → ResetEnds net p }
+/// Law: where a net that a rule file can hold makes progress with a program, so it does with a reset node, from every
+/// power-up state: only moves after the fall of reset count.
+pub fn runs_end_reset()
+    ensures { (net : NetValue) (p : TypedProgram) → ResetProgresses net p }
 {
     reset_runs();
 }
@@ -137,9 +143,9 @@ pub fn nets_hold()
 }
 
 /// Law: in each state of each run of the net of a typed program that meets the sharing rule, the statements in it take
-/// turns that hold no assignment which reads its own target: one that has answered moves no node of its own before its
-/// request falls, one whose request and answer are low has all its nodes low and moves none, of two that stand in one
-/// sequence or in one selection one rests at least, and each keeps the four phases of its handshake.
+/// turns, those that hold no assignment which reads its own target. One that has answered moves no node of its own
+/// before its request falls; one whose request and answer are low has all its nodes low and moves none; of two that
+/// stand in one sequence or in one selection one rests at least; and each keeps the four phases of its handshake.
 pub fn parts_in_turns()
     ensures { TranslationTakesTurns }
 {

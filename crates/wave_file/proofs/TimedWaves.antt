@@ -12,7 +12,7 @@ use Rattle.env_script.specs.Scripts.{OfferValue}
 use Rattle.env_script.specs.Runs.{RunState, IsRun, move_enabled, moved, after}
 use Rattle.event_sim.specs.Following.{power_value, power_of}
 use Rattle.event_sim.specs.Simulating.{RanValue}
-use Rattle.event_sim.proofs.Ranges.{move_in}
+use Rattle.env_script.proofs.MovesWithin.{move_in}
 use Rattle.delay_script.specs.declared.noted.NotedMove.{NotedMove}
 use Rattle.delay_script.specs.DelayTables.{DelayTable, next_delay}
 use Rattle.delay_script.specs.Causes.{IsEnabledSince}

@@ -1,4 +1,4 @@
-use Rattle.event_sim.proofs.Ranges.{move_in}
+use Rattle.env_script.proofs.MovesWithin.{move_in}
 use Rattle.event_sim.proofs.laws.moves_are_in_range.Goals as goal
 
 pub returns : goal.returns

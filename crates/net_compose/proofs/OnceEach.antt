@@ -1,4 +1,4 @@
--- Moves of which no node makes two are no more than there are nodes.
+-- Moves of which no node makes two are no more than there are nodes; so are those of a run before reset falls.
 use Rattle.std.proofs.Common.{◌≡◌, ◌≢◌, ℕ, zero, suc, ◌+◌, ◌<◌, ◌≤◌, ◌==◌, Bool, true, false, Some, List, [], ◌∷◌, length, refl, sym, ap, ◌∙◌, subst, arith}
 use Rattle.std.specs.Prelude.{All, Option, if◌then◌else◌}
 use Rattle.std.proofs.lemmas.Bool.{eqb-true}
@@ -7,7 +7,7 @@ use Rattle.prs_core.specs.Nets.{NetValue, IsNet}
 use Rattle.env_script.specs.Environment.{is_reset}
 use Rattle.env_script.specs.Scripts.{OfferValue}
 use Rattle.env_script.specs.Runs.{RunState, IsRun, moved, until_reset, moves_since_reset, IsOnceEach}
-use Rattle.event_sim.proofs.Ranges.{move_in}
+use Rattle.env_script.proofs.MovesWithin.{move_in}
 
 abbrev Each : (ℕ → Type 0) → List ℕ → Type 0
 Each P [] = Unit {0}
