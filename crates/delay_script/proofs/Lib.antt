@@ -8,3 +8,4 @@ pub mod DueLists
 pub mod Queued
 pub mod OnTheWay
 pub mod OneTimed
+pub mod InTime

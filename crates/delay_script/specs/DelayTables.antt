@@ -25,3 +25,8 @@ pub record IsDelayTable (nodes : ℕ) (d : DelayTable) : Type 0 where
   pub falls : length d.down ≡ nodes
   pub rises_few : All (λ delay. delay ≤ 1000000) d.up
   pub falls_few : All (λ delay. delay ≤ 1000000) d.down
+
+-- no rise and no fall takes longer
+pub record TakesAtMost (most : ℕ) (d : DelayTable) : Type 0 where
+  pub rises : All (λ delay. delay ≤ most) d.up
+  pub falls : All (λ delay. delay ≤ most) d.down

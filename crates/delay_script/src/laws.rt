@@ -1,11 +1,11 @@
 //! Laws of delay files and of timed runs.
 
-ghost use Rattle.std.specs.Prelude.{◌≡◌, true, List, ℕ};
+ghost use Rattle.std.specs.Prelude.{◌≡◌, ◌*◌, ◌≤◌, true, List, ℕ, length};
 ghost use Rattle.prs_core.specs.Nets.{NetValue};
 ghost use Rattle.env_script.specs.Scripts.{OfferValue};
 ghost use Rattle.env_script.specs.Runs.{RunState, move_enabled, after};
 ghost use Rattle.delay_script.specs.declared.fault.DelayFault.{DelayFault};
-ghost use Rattle.delay_script.specs.DelayTables.{DelayTable};
+ghost use Rattle.delay_script.specs.DelayTables.{DelayTable, TakesAtMost};
 ghost use Rattle.event_sim.specs.Simulating.{RanValue};
 ghost use Rattle.delay_script.specs.declared.noted.NotedMove.{NotedMove};
 ghost use Rattle.delay_script.specs.DelayText.{IsDelayText, IsDelayRefused};
@@ -59,4 +59,12 @@ pub fn one_timed_run()
         → IsTimedRan t ms r u
         → IsTimedRan t ns q v
         → u ≡ v }
+{}
+
+/// Law: where no rise and no fall takes longer than some time, a timed run ends by that time for each of its moves.
+pub fn timed_runs_end_in_time()
+    ensures { (most : ℕ) (t : TimedValue) (ms : List NotedMove) (r : RanValue) (end_time : ℕ)
+        → TakesAtMost most t.delays
+        → IsTimedRan t ms r end_time
+        → end_time ≤ most * length ms }
 {}

@@ -2,7 +2,7 @@
 -- and it is the program's own net with its nodes numbered otherwise.
 use Rattle.std.proofs.Common.{◌≡◌, ℕ, zero, suc, ◌*◌, ◌<◌, ◌≤◌, false, List, [], ◌∷◌, map, length, Some, refl, sym, ap, ◌∙◌, subst, arith}
 use Rattle.std.specs.Prelude.{All}
-use Rattle.std.proofs.lemmas.List.Elements.{All-head, All-tail, All-nil, All-cons}
+use Rattle.std.proofs.lemmas.List.Elements.{All-head, All-tail}
 use Rattle.chp_base.specs.declared.channel.Channel.{Channel}
 use Rattle.prs_core.specs.declared.wires.Wires.{Wires}
 use Rattle.env_script.specs.Scripts.{OfferValue}
@@ -18,7 +18,8 @@ use Rattle.chp_meaning.specs.Terms.{Place}
 use Rattle.chp_meaning.specs.Steps.{Configuration, Step, Leads}
 use Rattle.chp_meaning.specs.Rounds.{step_at}
 use Rattle.chp_meaning.specs.Laws.{IsBehind, OneHistory, RoundsHold}
-use Rattle.chp_meaning.specs.Halves.{halved_program, IsSizedVar, IsSized, ReadsNoTarget, HalvesFollow, HalvesArePlain}
+use Rattle.chp_meaning.specs.Halves.{halved_program, IsSizedVar, ReadsNoTarget, HalvesFollow, HalvesArePlain}
+use Rattle.chp_meaning.proofs.HalvedTyping.{typed_sized}
 use Rattle.circuit_places.specs.Carried.{CircuitsCarry}
 use Rattle.net_compose.specs.Translation.{translation, composed, first_values, wires_from}
 use Rattle.circuit_places.specs.Bounds.{circuit_most}
@@ -109,20 +110,10 @@ translation_past halves P typed meets script st n far =
     (wires_from P 0 P.channels) (renamed counted P typed.body_is h.plain some) (nodes_of P) (root_request P) renaming script st n far
 
 -- of a program no assignment of which reads its own target, the same counts its own steps
-all_sized : (vs : List Var) → All IsDeclaredVar vs → All IsSizedVar vs
-all_sized [] each = All-nil IsSizedVar
-all_sized (v ∷ vs) each =
-    let d = All-head IsDeclaredVar v vs each in
-    All-cons IsSizedVar v vs (record { some = d.some; most = d.most; first = d.first }) (all_sized vs (All-tail IsDeclaredVar v vs each))
-
 pub plainly_paid : CircuitsCarry → (P : TypedProgram) → IsTyped P.channels P.vars P.body → MeetsSharing P.body → ReadsNoTarget P.body
     → IsPaid (translation P) P (2 * nodes_of P)
 plainly_paid circuits P typed meets plain script fits moves run =
-    let sized : IsSized P.channels P.vars P.body = record {
-      each_channel = typed.each_channel;
-      each_var = all_sized P.vars typed.each_var;
-      body_is = typed.body_is;
-    } in
+    let sized = typed_sized P.channels P.vars P.body typed in
     let given : Given P = record { typed = typed.body_is; covered = plain; some = declared_bits P.vars typed.each_var } in
     let r = plain_paid circuits P given (record { sized = sized; unshared = meets; plain = plain }) script fits moves run in
     let two = two_each P in

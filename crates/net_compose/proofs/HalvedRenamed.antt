@@ -100,7 +100,7 @@ vars_high_append P n (x ∷ xs) ys =
     ∙ sym (append_assoc first (vars_high P (suc n) xs) (vars_high P (n + suc (length xs)) ys))
 
 -- the wires of channels
-rails_below : (k w from : ℕ) → from + 2 * w ≤ k → RailsBelow k (rails_of (pairs_from w from))
+pub rails_below : (k w from : ℕ) → from + 2 * w ≤ k → RailsBelow k (rails_of (pairs_from w from))
 rails_below k zero from l = tt
 rails_below k (suc w) from l = (omega (arith, l), (omega (arith, l), rails_below k w (from + 2) (omega (arith, l))))
 

@@ -124,7 +124,7 @@ module _ (names more_names : List (List ℕ)) (firsts more_firsts : List Bool) (
 
 -- rounds and runs of the program
 
-rounds_on : (c : Configuration) (n m : ℕ) → rounds_from c (n + m) ≡ rounds_from (rounds_from c n) m
+pub rounds_on : (c : Configuration) (n m : ℕ) → rounds_from c (n + m) ≡ rounds_from (rounds_from c n) m
 rounds_on c zero m = let e : 0 + m ≡ m = omega arith in ap (rounds_from c) e
 rounds_on c (suc n) m = let e : suc n + m ≡ suc (n + m) = omega arith in ap (rounds_from c) e ∙ rounds_on (round c) n m
 
@@ -146,7 +146,7 @@ module _ (steps_taken : (c d : Configuration) (at : Place) → step_at c at ≡ 
   round_stays : (c : Configuration) → ((at : Place) (d : Configuration) → ¬ Step c at d) → round c ≡ c
   round_stays c still = ap (λ l. fold taken c l) (filter_none (is_enabled c) (places c.term) (not_enabled c still))
 
-  rounds_stay : (c : Configuration) → ((at : Place) (d : Configuration) → ¬ Step c at d) → (n : ℕ) → rounds_from c n ≡ c
+  pub rounds_stay : (c : Configuration) → ((at : Place) (d : Configuration) → ¬ Step c at d) → (n : ℕ) → rounds_from c n ≡ c
   rounds_stay c still zero = refl
   rounds_stay c still (suc n) = ap (λ d. rounds_from d n) (round_stays c still) ∙ rounds_stay c still n
 
@@ -154,16 +154,16 @@ leads_nowhere : (c d : Configuration) (n : ℕ) → ((at : Place) (e : Configura
 leads_nowhere c d zero still no_step = refl
 leads_nowhere c d (suc n) still (one_step {d = e} {at = at} s l) = absurd (still at e s)
 
-behind_same : (c : Configuration) → IsBehind c c
+pub behind_same : (c : Configuration) → IsBehind c c
 behind_same c k = ([], sym (append-nil (history_at c.histories k)))
 
-behind_on : (c d e : Configuration) → IsBehind c d → IsBehind d e → IsBehind c e
+pub behind_on : (c d e : Configuration) → IsBehind c d → IsBehind d e → IsBehind c e
 behind_on c d e f g k =
     let a = f k in
     let b = g k in
     (a.0 ++ b.0, b.1 ∙ (ap (λ h. h ++ b.0) a.1 ∙ append_assoc (history_at c.histories k) a.0 b.0))
 
-rounds_behind : (P : TypedProgram) (script : List OfferValue) → RoundsHold P script → (n m : ℕ) → IsBehind (rounds P script n) (rounds P script (n + m))
+pub rounds_behind : (P : TypedProgram) (script : List OfferValue) → RoundsHold P script → (n m : ℕ) → IsBehind (rounds P script n) (rounds P script (n + m))
 rounds_behind P script hold n zero = let e : n ≡ n + 0 = omega arith in subst (λ j. IsBehind (rounds P script n) (rounds P script j)) e
     (behind_same (rounds P script n))
 rounds_behind P script hold n (suc m) =

@@ -10,3 +10,9 @@ returns-in-Ok-clause-carries c = c.carries.ensures (program_of c.args.program.no
   typed = subst (λ (t : TypedValue). IsTyped t.channels t.vars (process_of t.body)) c.typed-typed.ensures.program c.body-kept.ensures.typed;
   sharing = c.typed-typed.ensures.meets;
 })
+
+pub returns-in-Ok-clause-progresses : goal.returns-in-Ok-clause-progresses
+returns-in-Ok-clause-progresses c = c.runs_end.ensures.every (program_of c.args.program.now) (record {
+  typed = subst (λ (t : TypedValue). IsTyped t.channels t.vars (process_of t.body)) c.typed-typed.ensures.program c.body-kept.ensures.typed;
+  sharing = c.typed-typed.ensures.meets;
+})
