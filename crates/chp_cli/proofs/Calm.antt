@@ -1,6 +1,5 @@
 -- How a call ends that simulates a rule file which `compile` wrote.
 use Rattle.std.proofs.Common.{◌≡◌, ◌≢◌, ℕ, List, Option, Some, refl, subst}
-use Rattle.width_check.specs.Processes.{TypedProgram}
 use Rattle.chp_cli.specs.declared.answer.Ending.{Ending}
 use Rattle.chp_cli.specs.declared.answer.Ending.TheVariants as ending
 use Rattle.chp_cli.specs.declared.status.Status.{Status}
@@ -9,8 +8,6 @@ use Rattle.chp_cli.specs.Answers.{Given, Answer, writes, status_with}
 use Rattle.chp_cli.specs.Commands.{Asked, IsAnswer, simulates}
 use Rattle.chp_cli.specs.Ends.{AnswersTo, Ends, formless, whole, cut_off, refused, unread, no_memory}
 use Rattle.chp_cli.specs.Orders.{Played}
-use Rattle.chp_cli.specs.Simulated.{EndsAllAtRest, HoldsCompiled, IsCalm, IsFileSimulated, RestsInTime}
-use Rattle.chp_cli.specs.Simulating.{AskedRun, Simulates}
 use Rattle.chp_cli.proofs.Ending.{no_refusal}
 
 ending_hazard : (end : Ending) → status_with end ≡ Hazard → end ≡ ending.Hazard
@@ -51,19 +48,13 @@ module _ (asked : Option Asked) (given : Given) (played : Played) (rb ra pb pa :
     agreed_of (unread name own fault missed) e = cc e
     agreed_of no_memory e = cc e
 
-module _ (asked : Option Asked) (given : Given) (played : Played) (rb ra pb pa : ℕ) (s : AskedRun) (is : asked ≡ Some (simulates s))
-    (right : (end : Ending) (text : List ℕ) → Simulates s given played (writes end text) → IsFileSimulated s given played (writes end text))
-    (ends : (answer : Answer) (run : IsFileSimulated s given played answer) → EndsAllAtRest s given played answer run)
-    (rests : (p : TypedProgram) (holds : HoldsCompiled given s.net p) (answer : Answer) (run : IsFileSimulated s given played answer) →
-    RestsInTime s given played p holds answer run) where
-  pub steady_of : {status : Status} {appended line : List ℕ} → Ends asked given played rb ra pb pa status appended line → status ≡ Done →
-      IsCalm s given played appended
-  steady_of (formless none) e = absurd (cc e)
-  steady_of (whole end text are) e =
-      let run = right end text (subst (λ o. AnswersTo o given played (writes end text)) is are) in
-      let done = subst (λ x. IsFileSimulated s given played (writes x text)) (ending_done end e) run in
-      record { run = done; one_length = ends (writes ending.Done text) done; rests = λ p holds. rests p holds (writes ending.Done text) done }
-  steady_of (cut_off end text k are rose) e = absurd (cc e)
-  steady_of (refused status line r are) e = absurd (no_refusal status Done r refl e)
-  steady_of (unread name own fault missed) e = absurd (cc e)
-  steady_of no_memory e = absurd (cc e)
+  -- where it ends with 0, its answer was written whole
+  pub done_of : {status : Status} {appended line : List ℕ} → Ends asked given played rb ra pb pa status appended line → status ≡ Done →
+      IsAnswer command given played (writes ending.Done appended)
+  done_of (formless none) e = absurd (cc e)
+  done_of (whole end text are) e =
+      subst (λ x. IsAnswer command given played (writes x text)) (ending_done end e) (answer_of (writes end text) are)
+  done_of (cut_off end text k are rose) e = absurd (cc e)
+  done_of (refused status line r are) e = absurd (no_refusal status Done r refl e)
+  done_of (unread name own fault missed) e = absurd (cc e)
+  done_of no_memory e = absurd (cc e)

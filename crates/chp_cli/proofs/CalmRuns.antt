@@ -31,7 +31,7 @@ use Rattle.chp_cli.specs.RunReporting.{IsReported, alone, hazardous, compared, e
 use Rattle.chp_cli.specs.RunSteps.{an_order, has_power, a_script}
 use Rattle.chp_cli.specs.Simulated.{IsFileSimulated, HoldsCarrying, EndsAllAtRest}
 use Rattle.chp_cli.specs.Simulating.{AskedRun, Simulates, simulation_for}
-use Rattle.chp_cli.specs.Steps.{a_file, a_net}
+use Rattle.chp_cli.specs.Steps.{IsFileOf, a_file, a_net}
 use Rattle.chp_cli.proofs.OneAnswers.{same_text}
 use Rattle.chp_cli.proofs.Referring.{reference_read}
 
@@ -109,6 +109,13 @@ rest_empties (Some h) (x ∷ xs) spent ended = absurd (by_hazard h ended)
 
 -- ---- all runs of a net that carries a program are safe
 
+-- the net of a file is the one that it holds
+pub file_carries : {given : Given} {file rules : List ℕ} {net : NetValue} {p : TypedProgram} → HoldsCarrying given file p → given.files file ≡ Some rules →
+    IsFileOf rules net → ((net.reset ≡ None) × Carries net p) ⊎ CarriesReset net p
+file_carries {p = p} holds held is =
+    subst (λ n. ((n.reset ≡ None) × Carries n p) ⊎ CarriesReset n p)
+    (is.only holds.net holds.kept (subst (λ x. NetText x holds.net) (same_text holds.held held) holds.spelled)) holds.carries
+
 module _ (powered : (net : NetValue) (high : Bool) → IsNet net → IsSome net.reset → IsPowered net (power_of net high)) where
   pub all_safe : (n : NetValue) (p : TypedProgram) (script : List OfferValue) (high : Bool) → IsNet n → IsScript (net_channels n) script →
       ((n.reset ≡ None) × Carries n p) ⊎ CarriesReset n p → AllSafe n script (begin_at n (power_of n high))
@@ -136,9 +143,7 @@ module _ (powered : (net : NetValue) (high : Bool) → IsNet net → IsSome net.
 
     module _ (s : AskedRun) (given : Given) (played : Played) (p : TypedProgram) (holds : HoldsCarrying given s.net p) where
       pub carried_safe : (a : Answer) (f : IsFileSimulated s given played a) → AllSafe f.net f.script (start_at (simulation_for f.net f.script s.steps s.power))
-      carried_safe a f =
-          let same : holds.net ≡ f.net = f.file.only holds.net holds.kept (subst (λ x. NetText x holds.net) (same_text holds.held f.held) holds.spelled) in
-          all_safe f.net p f.script _ f.file.kept f.told_is.kept (subst (λ n. ((n.reset ≡ None) × Carries n p) ⊎ CarriesReset n p) same holds.carries)
+      carried_safe a f = all_safe f.net p f.script _ f.file.kept f.told_is.kept (file_carries holds f.held f.file)
 
       pub carried_calm : (a : Answer) (f : IsFileSimulated s given played a) → ending_for f.plays.end ≡ Done
       carried_calm a f =

@@ -1,34 +1,43 @@
--- The simulation of a compiled rule file ends at rest where its program comes to rest and the limit is high enough.
-use Rattle.std.proofs.Common.{◌≡◌, ◌∙◌, ◌↔◌, ℕ, suc, ◌+◌, ◌*◌, ◌<◌, ◌≤◌, ◌==◌, Bool, true, false, List, [], ◌∷◌, length, Option, Some, None, length-append, refl, sym, ap, subst, arith}
+-- What is simulated of a compiled rule file ends at rest where its program comes to rest and the limit is high enough.
+use Rattle.std.proofs.Common.{◌≡◌, ◌∙◌, ◌↔◌, ℕ, suc, ◌*◌, ◌<◌, ◌≤◌, ◌==◌, Bool, true, false, List, [], ◌∷◌, length, Some, None, refl, sym, ap, subst, arith}
 use Rattle.std.specs.Prelude.{IsSome}
 use Rattle.std.proofs.lemmas.Bool.Decides.{nat_tests}
+use Rattle.std.proofs.lemmas.List.{length-append, length-map}
 use Rattle.prs_core.specs.Nets.{NetValue, IsNet}
 use Rattle.env_script.specs.Environment.{net_channels}
 use Rattle.env_script.specs.Scripts.{OfferValue, IsScript}
 use Rattle.env_script.specs.Runs.{RunState, IsRun, IsAtRest, IsApart, IsSafeMove, IsPowered, after, begin_at, moved}
 use Rattle.env_script.specs.Hazards.{hazard_of}
-use Rattle.env_script.specs.OneLength.{AllSafe}
 use Rattle.event_sim.specs.declared.ran.End.{End}
 use Rattle.event_sim.specs.declared.ran.End.TheVariants.{AtRest}
 use Rattle.event_sim.specs.Ends.{calm_end, end_with, last_hazard, EndsSo}
 use Rattle.event_sim.specs.Following.{enabled_moves, power_of}
-use Rattle.event_sim.specs.Simulating.{picked_moves, start_at}
+use Rattle.event_sim.specs.Simulating.{RanValue, picked_moves, start_at}
 use Rattle.event_sim.proofs.Following.{picked_run}
 use Rattle.event_sim.proofs.Ranges.{rests}
-use Rattle.handshake_expand.specs.Layout.{nodes_of}
+use Rattle.delay_script.specs.declared.noted.NotedMove.{NotedMove}
+use Rattle.delay_script.specs.DelayTables.{DelayTable, TakesAtMost}
+use Rattle.delay_script.specs.TimedRuns.{TimedValue, IsTimedRan, moved_nodes, timed_value}
 use Rattle.width_check.specs.Processes.{TypedProgram}
 use Rattle.chp_meaning.specs.Steps.{Configuration}
 use Rattle.prs_file.specs.Spelling.{NetText}
-use Rattle.net_compose.specs.Bounded.{EndsAfter, IsLevel}
+use Rattle.net_compose.specs.Progress.{RestsAfter, IsLevel}
 use Rattle.net_compose.specs.Translation.{translation}
+use Rattle.net_compose.proofs.HalvedCarried.{scaled}
+use Rattle.net_compose.proofs.OnceEach.{run_length}
 use Rattle.net_compose.proofs.Sizes.{first_length}
 use Rattle.chp_cli.specs.Answers.{Given, Answer}
-use Rattle.chp_cli.specs.Compiling.{NetCarries, NetEnds, net_for}
+use Rattle.chp_cli.specs.Compiling.{NetCarries, NetProgresses, net_for}
 use Rattle.chp_cli.specs.Orders.{Played}
-use Rattle.chp_cli.specs.Simulated.{IsFileSimulated, HoldsCarrying, HoldsCompiled, RestsInTime, most_moves}
-use Rattle.chp_cli.specs.Simulating.{AskedRun, simulation_for}
-use Rattle.chp_cli.proofs.CalmRuns.{safe_calm, carried_safe}
-use Rattle.chp_cli.proofs.OnceEach.{run_length}
+use Rattle.chp_cli.specs.Resting.{RestsInTime, TimedRests, most_in_run}
+use Rattle.chp_cli.specs.Simulated.{IsFileSimulated, HoldsCarrying, HoldsCompiled, SimulatedRests}
+use Rattle.chp_cli.specs.Simulating.{AskedRun, power_or_low, simulation_for}
+use Rattle.chp_cli.specs.Steps.{IsFileOf}
+use Rattle.chp_cli.specs.TimedFiles.{IsFileTimed, TimedRunRests}
+use Rattle.chp_cli.specs.Timing.{AskedTiming}
+use Rattle.chp_cli.specs.TracedFiles.{IsFileTraced, TracedRests}
+use Rattle.chp_cli.specs.Tracing.{AskedWaves}
+use Rattle.chp_cli.proofs.CalmRuns.{all_safe, file_carries, safe_calm}
 use Rattle.chp_cli.proofs.OneAnswers.{same_text}
 
 -- a run that isn't so long as allowed, and ends without a hazard, rests
@@ -43,53 +52,110 @@ same_channels : (reset : Bool) (p : TypedProgram) → NetCarries reset p → net
 same_channels false p carries = carries.channels
 same_channels true p carries = carries.channels
 
-module _ (powered : (net : NetValue) (high : Bool) → IsNet net → IsSome net.reset → IsPowered net (power_of net high))
-    (law : (net : NetValue) (script : List OfferValue) (st : RunState) (n : ℕ) → IsNet net →
-    ((IsSafeMove net script st n × IsApart net (moved net st n)) ↔ (hazard_of net script st n ≡ None))) where
-  short_rests : (n : NetValue) (script : List OfferValue) (st : RunState) (steps : ℕ) (ns : List ℕ) (end : End) (c : Configuration) → IsNet n
-      → AllSafe n script st → IsRun n script st ns → EndsSo n script steps st ns end → length ns < steps
-      → (IsAtRest n script (after n st ns) → IsLevel (after n st ns) c) → (end ≡ AtRest) × IsLevel (after n st ns) c
-  short_rests n script st steps ns end c net safe run ended short level =
-      let calm : last_hazard n script st ns ≡ None = safe_calm n script (λ st m is. (law n script st m net).0 is) st ns (safe ns run) in
-      let is : calm_end (enabled_moves n script (after n st ns)) (length ns == steps) ≡ Some end =
-      sym (ap (λ h. end_with h (enabled_moves n script (after n st ns)) (length ns == steps)) calm) ∙ ended.ended in
-      let r = calm_rest (enabled_moves n script (after n st ns)) (length ns) steps end short is in
-      (r.0, level (rests n script (after n st ns) net r.1))
+abbrev Powered : Type 0
+Powered = (net : NetValue) (high : Bool) → IsNet net → IsSome net.reset → IsPowered net (power_of net high)
 
-  abbrev RunsRest : Bool → TypedProgram → NetValue → Type 0
-  RunsRest reset p n =
-      (script : List OfferValue) (high : Bool) (steps : ℕ) (ns : List ℕ) (end : End) → IsNet n → IsScript p.channels script
-      → AllSafe n script (begin_at n (power_of n high)) → IsRun n script (begin_at n (power_of n high)) ns
-      → EndsSo n script steps (begin_at n (power_of n high)) ns end
-      → (m : ℕ) (c : Configuration) → EndsAfter p script m c → most_moves reset p m < steps
-      → (end ≡ AtRest) × IsLevel (after n (begin_at n (power_of n high)) ns) c
+-- ---- a run of a program's net
 
-  runs_rest : (reset : Bool) (p : TypedProgram) → NetCarries reset p → NetEnds reset p → RunsRest reset p (net_for reset p)
-  runs_rest false p carries ends script high steps ns end net fits safe run ended m c over few =
-      let n = translation p in
-      let most = ends.bounded script fits m c over ns run in
-      short_rests n script (begin_at n n.first) steps ns end c net safe run ended (omega (arith, most, few)) (ends.level script fits m c over ns run)
-  runs_rest true p carries ends script high steps ns end net fits safe run ended m c over few =
-      let n = net_for true p in
-      let values = power_of n high in
-      let up : IsPowered n values = powered n high net refl in
-      let long : length n.first ≡ suc (length (translation p).first) = length-append (translation p).first (true ∷ []) ∙ omega arith in
-      let count = first_length p in
-      let all = run_length n script (length (translation p).first) long net (begin_at n values) ns run (carries.runs script fits values up ns run).1 in
-      let most = ends.bounded script fits m c over values up ns run in
-      short_rests n script (begin_at n values) steps ns end c net safe run ended (omega (arith, all, count, most, few))
-      (ends.level script fits m c over values up ns run)
+abbrev RunsWithin : Bool → TypedProgram → NetValue → Type 0
+RunsWithin reset p n =
+    (script : List OfferValue) (high : Bool) (ns : List ℕ) → IsNet n → IsScript p.channels script → IsRun n script (begin_at n (power_of n high)) ns
+    → (m : ℕ) (c : Configuration) → RestsAfter p script m c → length ns ≤ most_in_run reset p m
 
-  pub rests_in_time : ((given : Given) (file : List ℕ) (p : TypedProgram) → HoldsCompiled given file p → HoldsCarrying given file p)
-      → (s : AskedRun) (given : Given) (played : Played) (p : TypedProgram) (holds : HoldsCompiled given s.net p)
-      → (answer : Answer) (f : IsFileSimulated s given played answer) → RestsInTime s given played p holds answer f
-  rests_in_time carry s given played p holds answer f m c over few =
-      let reset = holds.reset in
-      let is = holds.compiled in
-      let same : net_for reset p ≡ f.net = f.file.only (net_for reset p) is.kept (subst (λ x. NetText x (net_for reset p)) (same_text holds.held f.held) is.spells) in
-      let suits : IsScript (net_channels (net_for reset p)) f.script = subst (λ n. IsScript (net_channels n) f.script) (sym same) f.told_is.kept in
-      let fits : IsScript p.channels f.script = subst (λ cs. IsScript cs f.script) (same_channels reset p is.carries) suits in
+runs_within : Powered → (reset : Bool) (p : TypedProgram) → NetCarries reset p → NetProgresses reset p → RunsWithin reset p (net_for reset p)
+runs_within powered false p carries progresses script high ns net fits run m c over = progresses.bounded script fits m c over ns run
+runs_within powered true p carries progresses script high ns net fits run m c over =
+    let n = net_for true p in
+    let values = power_of n high in
+    let up : IsPowered n values = powered n high net refl in
+    let long : length n.first ≡ suc (length (translation p).first) = length-append (translation p).first (true ∷ []) ∙ omega arith in
+    let count = first_length p in
+    let all = run_length n script (length (translation p).first) long net (begin_at n values) ns run (carries.runs script fits values up ns run).1 in
+    let most = (progresses values up).bounded script fits m c over ns run in
+    omega (arith, all, count, most)
+
+abbrev RestsLevel : Bool → TypedProgram → NetValue → Type 0
+RestsLevel reset p n =
+    (script : List OfferValue) (high : Bool) (ns : List ℕ) → IsNet n → IsScript p.channels script → IsRun n script (begin_at n (power_of n high)) ns
+    → (m : ℕ) (c : Configuration) → RestsAfter p script m c → IsAtRest n script (after n (begin_at n (power_of n high)) ns)
+    → IsLevel (after n (begin_at n (power_of n high)) ns) c
+
+rests_level : Powered → (reset : Bool) (p : TypedProgram) → NetProgresses reset p → RestsLevel reset p (net_for reset p)
+rests_level powered false p progresses script high ns net fits run m c over = progresses.level script fits m c over ns run
+rests_level powered true p progresses script high ns net fits run m c over =
+    (progresses (power_of (net_for true p) high) (powered (net_for true p) high net refl)).level script fits m c over ns run
+
+-- ---- a run of the net of a file that `compile` wrote
+
+module _ (powered : Powered) (law : (net : NetValue) (script : List OfferValue) (st : RunState) (n : ℕ) → IsNet net →
+    ((IsSafeMove net script st n × IsApart net (moved net st n)) ↔ (hazard_of net script st n ≡ None)))
+    (carry : (given : Given) (file : List ℕ) (p : TypedProgram) → HoldsCompiled given file p → HoldsCarrying given file p) where
+  module _ (given : Given) (file : List ℕ) (p : TypedProgram) (holds : HoldsCompiled given file p) (rules : List ℕ) (net : NetValue)
+      (held : given.files file ≡ Some rules) (is : IsFileOf rules net) (script : List OfferValue) (suits : IsScript (net_channels net) script) (high : Bool)
+      (ns : List ℕ) (run : IsRun net script (begin_at net (power_of net high)) ns) where
+    same : net_for holds.reset p ≡ net
+    same =
+        is.only (net_for holds.reset p) holds.compiled.kept
+        (subst (λ x. NetText x (net_for holds.reset p)) (same_text holds.held held) holds.compiled.spells)
+
+    fits : IsScript p.channels script
+    fits =
+        subst (λ cs. IsScript cs script) (same_channels holds.reset p holds.compiled.carries)
+        (subst (λ n. IsScript (net_channels n) script) (sym same) suits)
+
+    file_within : (m : ℕ) (c : Configuration) → RestsAfter p script m c → length ns ≤ most_in_run holds.reset p m
+    file_within =
+        subst (RunsWithin holds.reset p) same (runs_within powered holds.reset p holds.compiled.carries holds.compiled.progresses) script high ns is.kept fits run
+
+    file_rests : (steps : ℕ) (end : End) → EndsSo net script steps (begin_at net (power_of net high)) ns end
+        → RestsInTime holds.reset p net script steps (begin_at net (power_of net high)) ns end
+    file_rests steps end ended m c over few =
+        let st = begin_at net (power_of net high) in
+        let safe = all_safe powered net p script high is.kept suits (file_carries (carry given file p holds) held is) in
+        let calm : last_hazard net script st ns ≡ None = safe_calm net script (λ st m is_safe. (law net script st m is.kept).0 is_safe) st ns (safe ns run) in
+        let so : calm_end (enabled_moves net script (after net st ns)) (length ns == steps) ≡ Some end =
+        sym (ap (λ h. end_with h (enabled_moves net script (after net st ns)) (length ns == steps)) calm) ∙ ended.ended in
+        let within = file_within m c over in
+        let r = calm_rest (enabled_moves net script (after net st ns)) (length ns) steps end (omega (arith, within, few)) so in (
+          r.0,
+          subst (RestsLevel holds.reset p) same (rests_level powered holds.reset p holds.compiled.progresses) script high ns is.kept fits run m c over
+              (rests net script (after net st ns) is.kept r.1),
+        )
+
+  pub simulated_rests : (s : AskedRun) (given : Given) (played : Played) (p : TypedProgram) (holds : HoldsCompiled given s.net p)
+      → (answer : Answer) (f : IsFileSimulated s given played answer) → SimulatedRests s given played p holds f
+  simulated_rests s given played p holds answer f =
       let sim = simulation_for f.net f.script s.steps s.power in
-      subst (RunsRest reset p) same (runs_rest reset p is.carries is.ends) f.script sim.high s.steps (picked_moves sim f.was.log f.is.log) f.plays.end f.file.kept
-      fits (carried_safe powered law s given played p (carry given s.net p holds) answer f) (picked_run f.net f.script (start_at sim) _ f.plays.run.picks)
-      f.plays.run.ends m c over few
+      file_rests given s.net p holds f.rules f.net f.held f.file f.script f.told_is.kept sim.high (picked_moves sim f.was.log f.is.log)
+      (picked_run f.net f.script (start_at sim) _ f.plays.run.picks) s.steps f.plays.end f.plays.run.ends
+
+  -- ---- timed
+
+  module _ (in_time : (longest : ℕ) (t : TimedValue) (ms : List NotedMove) (r : RanValue) (time : ℕ) → TakesAtMost longest t.delays → IsTimedRan t ms r time →
+      time ≤ longest * length ms) where
+    file_timed : (given : Given) (file : List ℕ) (p : TypedProgram) (holds : HoldsCompiled given file p) (rules : List ℕ) (net : NetValue)
+        → given.files file ≡ Some rules → IsFileOf rules net → (script : List OfferValue) → IsScript (net_channels net) script
+        → (high : Bool) (steps : ℕ) (delays : DelayTable) (ms : List NotedMove) (r : RanValue) (time : ℕ)
+        → IsTimedRan (timed_value net script steps delays high) ms r time
+        → TimedRests holds.reset p (timed_value net script steps delays high) ms r.end time
+    file_timed given file p holds rules net held is script suits high steps delays ms r time ran = record {
+      rests = file_rests given file p holds rules net held is script suits high (moved_nodes ms) ran.run steps r.end ran.ends;
+      in_time = λ longest m c few over.
+          let within = file_within given file p holds rules net held is script suits high (moved_nodes ms) ran.run m c over in
+          let count = length-map ms (λ (x : NotedMove). x.node) in
+          let soon = in_time longest (timed_value net script steps delays high) ms r time few ran in
+          let most = scaled (length ms) (most_in_run holds.reset p m) longest (omega (arith, within, count)) in
+          omega (arith, soon, most);
+    }
+
+    pub timed_rests : (t : AskedTiming) (given : Given) (p : TypedProgram) (holds : HoldsCompiled given t.net p) (answer : Answer)
+        → (f : IsFileTimed t given answer) → TimedRunRests t given p holds f
+    timed_rests t given p holds answer f =
+        file_timed given t.net p holds f.rules f.net f.held f.file f.script f.told_is.kept (power_or_low t.power) t.steps f.delays f.timed.moves f.timed.ran
+        f.timed.time f.timed.run
+
+    pub traced_rests : (w : AskedWaves) (given : Given) (p : TypedProgram) (holds : HoldsCompiled given w.net p) (answer : Answer)
+        → (f : IsFileTraced w given answer) → TracedRests w given p holds f
+    traced_rests w given p holds answer f =
+        file_timed given w.net p holds f.rules f.net f.held f.file f.script f.told_is.kept false w.steps f.delays f.traced.moves f.traced.ran f.traced.time
+        f.traced.run

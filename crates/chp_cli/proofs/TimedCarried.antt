@@ -1,18 +1,16 @@
 -- The timed run of a net that carries a program.
-use Rattle.std.proofs.Common.{◌≡◌, ◌≢◌, ◌∙◌, ◌↔◌, ℕ, ◌<◌, Bool, true, List, length, None, ◌⊎◌, sym, subst}
+use Rattle.std.proofs.Common.{◌≡◌, ◌≢◌, ◌∙◌, ◌↔◌, ℕ, ◌<◌, Bool, true, List, length, None, sym, subst}
 use Rattle.std.proofs.lemmas.List.{length-map}
 use Rattle.std.specs.Prelude.{IsSome}
 use Rattle.delay_script.specs.declared.noted.NotedMove.{NotedMove}
 use Rattle.delay_script.specs.TimedRuns.{moved_nodes, timed_start}
 use Rattle.prs_core.specs.Nets.{NetValue, IsNet}
-use Rattle.prs_file.specs.Spelling.{NetText}
 use Rattle.env_script.specs.Scripts.{OfferValue}
 use Rattle.env_script.specs.Runs.{RunState, IsApart, IsPowered, IsSafeMove, after, begin_at, history_at, moved}
 use Rattle.env_script.specs.Hazards.{hazard_of}
 use Rattle.event_sim.specs.Following.{power_of}
 use Rattle.event_sim.specs.Passing.{passed_in, values_through}
 use Rattle.event_sim.specs.Simulating.{RanValue}
-use Rattle.net_compose.specs.Carries.{Carries, CarriesReset}
 use Rattle.chp_meaning.specs.Laws.{RoundsHold}
 use Rattle.history_report.specs.declared.comparison.Against.{Against}
 use Rattle.history_report.specs.declared.comparison.Against.TheVariants.{Agrees}
@@ -31,8 +29,7 @@ use Rattle.chp_cli.specs.Steps.{a_file, a_net}
 use Rattle.chp_cli.specs.TimedFiles.{IsFileTimed}
 use Rattle.chp_cli.specs.Timing.{AskedTiming, SimulatesTimed, delays_read, timing_for}
 use Rattle.chp_cli.proofs.AgreeingRuns.{agrees, reported_done, same_reference}
-use Rattle.chp_cli.proofs.CalmRuns.{all_safe, reported_calm, run_calm}
-use Rattle.chp_cli.proofs.OneAnswers.{same_text}
+use Rattle.chp_cli.proofs.CalmRuns.{all_safe, file_carries, reported_calm, run_calm}
 use Rattle.chp_cli.proofs.Referring.{reference_read}
 
 -- ---- what is reported
@@ -64,16 +61,11 @@ module _ (powered : (net : NetValue) (high : Bool) → IsNet net → IsSome net.
     (law : (net : NetValue) (script : List OfferValue) (st : RunState) (n : ℕ) → IsNet net →
     ((IsSafeMove net script st n × IsApart net (moved net st n)) ↔ (hazard_of net script st n ≡ None))) where
   module _ (t : AskedTiming) (given : Given) (p : TypedProgram) (holds : HoldsCarrying given t.net p) where
-    carries_in : (a : Answer) (f : IsFileTimed t given a) → ((f.net.reset ≡ None) × Carries f.net p) ⊎ CarriesReset f.net p
-    carries_in a f =
-        let same : holds.net ≡ f.net = f.file.only holds.net holds.kept (subst (λ x. NetText x holds.net) (same_text holds.held f.held) holds.spelled) in
-        subst (λ n. ((n.reset ≡ None) × Carries n p) ⊎ CarriesReset n p) same holds.carries
-
     timed_calm : (a : Answer) (f : IsFileTimed t given a) → ending_for f.timed.ran.end ≡ Done
     timed_calm a f =
         let value = timing_for t f.net f.script f.delays in
         run_calm powered law f.net f.script (timed_start value) t.steps (moved_nodes f.timed.moves) f.timed.ran.end f.file.kept
-        (all_safe powered f.net p f.script (power_or_low t.power) f.file.kept f.told_is.kept (carries_in a f)) f.timed.run.run f.timed.run.ends
+        (all_safe powered f.net p f.script (power_or_low t.power) f.file.kept f.told_is.kept (file_carries holds f.held f.file)) f.timed.run.run f.timed.run.ends
 
     pub timed_no_hazard : (end : Ending) (text : List ℕ) → IsFileTimed t given (writes end text) → end ≢ Hazard
     timed_no_hazard end text f = reported_calm f.script _ f.timed.ran f.program end text f.timed.written (timed_calm _ f)
@@ -91,5 +83,5 @@ module _ (powered : (net : NetValue) (high : Bool) → IsNet net → IsSome net.
           reported_done hold powered passed one f.script _ f.timed.ran f.program end text f.timed.written (timed_calm _ f)
           (λ q is. let own = same_reference hold powered passed one given told t.against p f.program refers f.referred q is in
           subst (λ x. IsAgainst f.timed.ran x f.script Agrees) (sym own.0)
-          (agrees hold powered passed f.net p f.script (power_or_low t.power) f.file.kept own.1 f.told_is.kept (carries_in _ f) ns run.run f.timed.ran
+          (agrees hold powered passed f.net p f.script (power_or_low t.power) f.file.kept own.1 f.told_is.kept (file_carries holds f.held f.file) ns run.run f.timed.ran
           run.net count run.passed))

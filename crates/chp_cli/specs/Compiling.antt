@@ -3,8 +3,8 @@ use Rattle.std.specs.Prelude.{◌≡◌, ℕ, ◌≤◌, Bool, true, false, List
 use Rattle.chp_syntax.specs.Reading.{Reads}
 use Rattle.chp_syntax.specs.Trees.{ProgramTree}
 use Rattle.handshake_expand.specs.Layout.{node_count}
-use Rattle.net_compose.specs.Bounded.{Ends, EndsReset}
 use Rattle.net_compose.specs.Carries.{Carries, CarriesReset}
+use Rattle.net_compose.specs.Progress.{Progresses, ProgressesReset}
 use Rattle.net_compose.specs.Translation.{translation}
 use Rattle.prs_core.specs.Nets.{NetValue, IsNet}
 use Rattle.prs_file.specs.Spelling.{NetText}
@@ -28,19 +28,19 @@ abbrev pub NetCarries : (reset : Bool) → TypedProgram → Type 0
 NetCarries false p = Carries (net_for false p) p
 NetCarries true p = CarriesReset (net_for true p) p
 
--- and where the program comes to rest, so do the runs of that net
-abbrev pub NetEnds : (reset : Bool) → TypedProgram → Type 0
-NetEnds false p = Ends (net_for false p) p
-NetEnds true p = EndsReset (net_for true p) p
+-- and keeps pace with it: where the program comes to rest, so do its runs
+abbrev pub NetProgresses : (reset : Bool) → TypedProgram → Type 0
+NetProgresses false p = Progresses (net_for false p) p
+NetProgresses true p = ProgressesReset (net_for true p) p
 
 -- this is the one text of the net of the program, which is a net that a rule file can hold, as it also is without a
--- reset node; and that net carries it, and comes to rest where the program does
+-- reset node; and that net carries the program, and keeps pace with it
 pub record IsCompiled (reset : Bool) (p : TypedProgram) (file : List ℕ) : Type 0 where
   pub plain : IsNet (translation p)
   pub kept : IsNet (net_for reset p)
   pub spells : NetText file (net_for reset p)
   pub carries : NetCarries reset p
-  pub ends : NetEnds reset p
+  pub progresses : NetProgresses reset p
 
 pub data CompilesNet (reset : Bool) (p : TypedProgram) : Answer → Type 0 where
   compiled : {file : List ℕ} → IsCompiled reset p file → CompilesNet reset p (writes Done file)

@@ -17,6 +17,7 @@ pub mod WavesWords
 pub mod HeldBuffered
 pub mod RoundsWords
 pub mod RoundsReporting
+pub mod Resting
 pub mod Simulated
 pub mod CompileWords
 pub mod Compiling
@@ -31,6 +32,7 @@ pub mod Summing
 pub mod Growing
 pub mod Commands
 pub mod TimedFiles
+pub mod TracedFiles
 pub mod Replies
 pub mod RepliesTold
 pub mod Ends

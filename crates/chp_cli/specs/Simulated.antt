@@ -9,7 +9,6 @@ use Rattle.event_sim.specs.declared.ran.End.TheVariants.{AtRest}
 use Rattle.event_sim.specs.Simulating.{picked_moves, start_at}
 use Rattle.handshake_expand.specs.Layout.{nodes_of}
 use Rattle.chp_meaning.specs.Steps.{Configuration}
-use Rattle.net_compose.specs.Bounded.{EndsAfter, IsLevel}
 use Rattle.net_compose.specs.Carries.{Carries, CarriesReset}
 use Rattle.prs_core.specs.Nets.{NetValue, IsNet}
 use Rattle.prs_file.specs.Spelling.{NetText}
@@ -19,6 +18,7 @@ use Rattle.chp_cli.specs.Answers.{Given, Answer, writes}
 use Rattle.chp_cli.specs.Commands.{Asked, simulates}
 use Rattle.chp_cli.specs.Compiling.{IsCompiled, net_for}
 use Rattle.chp_cli.specs.Orders.{OrderState, Played, place_named}
+use Rattle.chp_cli.specs.Resting.{RestsInTime}
 use Rattle.chp_cli.specs.References.{HoldsReference, IsToReferTo}
 use Rattle.chp_cli.specs.RunReporting.{IsReported}
 use Rattle.chp_cli.specs.RunSteps.{IsScriptOf, lacks_reset, most_of_script}
@@ -108,29 +108,21 @@ EndsAllAtRest s given played answer f = f.plays.end ≡ AtRest →
     let sim = simulation_for f.net f.script s.steps s.power in
     EndsAll f.net f.script (start_at sim) (picked_moves sim f.was.log f.is.log)
 
--- The most moves of a compiled net whose program makes m steps: each node moves twice at most before each of twice as many, and
--- behind the last; with a reset node, each moves once at most before reset falls.
-abbrev pub most_moves : (reset : Bool) → TypedProgram → (m : ℕ) → ℕ
-most_moves false p m = 2 * nodes_of p * suc (2 * m)
-most_moves true p m = suc (nodes_of p) + 2 * nodes_of p * suc (2 * m)
-
--- Where the program goes no further after m steps under the script, and more moves are allowed than its net can make till then,
--- the run ends at rest: it has passed what the program has, and `done` is high exactly where that has ended.
-abbrev pub RestsInTime : (s : AskedRun) (given : Given) (played : Played) (p : TypedProgram) → HoldsCompiled given s.net p →
-    (answer : Answer) → IsFileSimulated s given played answer → Type 0
-RestsInTime s given played p holds answer f =
-    (m : ℕ) (c : Configuration) → EndsAfter p f.script m c → most_moves holds.reset p m < s.steps →
+-- where the program comes to rest for which `compile` writes the rule file, the run does, if its limit is high enough
+abbrev pub SimulatedRests : (s : AskedRun) (given : Given) (played : Played) (p : TypedProgram) →
+    HoldsCompiled given s.net p → {answer : Answer} → IsFileSimulated s given played answer → Type 0
+SimulatedRests s given played p holds f =
     let sim = simulation_for f.net f.script s.steps s.power in
-    (f.plays.end ≡ AtRest) × IsLevel (after f.net (start_at sim) (picked_moves sim f.was.log f.is.log)) c
+    RestsInTime holds.reset p f.net f.script s.steps (start_at sim) (picked_moves sim f.was.log f.is.log) f.plays.end
 
 -- it is asked to simulate the rule file that `compile` writes for the program
 pub record AsksForCompiled (asked : Option Asked) (given : Given) (s : AskedRun) (p : TypedProgram) : Type 0 where
   pub is : asked ≡ Some (simulates s)
   pub holds : HoldsCompiled given s.net p
 
--- the report is that of a run without a hazard; where it says rest, no order makes more moves; and where a program of which this
--- is the rule file comes to rest, it says so, if the limit is high enough
+-- The report is that of a run without a hazard; where it says rest, no order makes more moves; and where a program comes
+-- to rest for which `compile` writes this rule file, so does the run, if its limit is high enough.
 pub record IsCalm (s : AskedRun) (given : Given) (played : Played) (report : List ℕ) : Type 0 where
   pub run : IsFileSimulated s given played (writes Done report)
   pub one_length : EndsAllAtRest s given played (writes Done report) run
-  pub rests : (p : TypedProgram) (holds : HoldsCompiled given s.net p) → RestsInTime s given played p holds (writes Done report) run
+  pub rests : (p : TypedProgram) (holds : HoldsCompiled given s.net p) → SimulatedRests s given played p holds run

@@ -5,9 +5,11 @@ use Rattle.env_script.specs.Environment.{net_channels}
 use Rattle.env_script.specs.Scripts.{OfferValue}
 use Rattle.prs_core.specs.Nets.{NetValue}
 use Rattle.width_check.specs.Processes.{TypedProgram}
-use Rattle.chp_cli.specs.Answers.{Given, Answer}
+use Rattle.chp_cli.specs.declared.answer.Ending.TheVariants.{Done}
+use Rattle.chp_cli.specs.Answers.{Given, Answer, writes}
 use Rattle.chp_cli.specs.Commands.{Asked, times}
 use Rattle.chp_cli.specs.References.{HoldsReference}
+use Rattle.chp_cli.specs.Resting.{TimedRests}
 use Rattle.chp_cli.specs.RunSteps.{IsScriptOf, lacks_reset}
 use Rattle.chp_cli.specs.Simulated.{HoldsCompiled}
 use Rattle.chp_cli.specs.Steps.{IsFileOf}
@@ -33,7 +35,19 @@ pub record IsFileTimed (t : AskedTiming) (given : Given) (answer : Answer) : Typ
   pub referred : HoldsReference given t.against program
   pub timed : TimesNet (timing_for t net script delays) program answer
 
+-- where the program comes to rest for which `compile` writes the rule file, the timed run does
+abbrev pub TimedRunRests : (t : AskedTiming) (given : Given) (p : TypedProgram) → HoldsCompiled given t.net p →
+    {answer : Answer} → IsFileTimed t given answer → Type 0
+TimedRunRests t given p holds f =
+    TimedRests holds.reset p (timing_for t f.net f.script f.delays) f.timed.moves f.timed.ran.end f.timed.time
+
 -- it is asked to simulate with delays the rule file that `compile` writes for the program
 pub record AsksForTimed (asked : Option Asked) (given : Given) (t : AskedTiming) (p : TypedProgram) : Type 0 where
   pub is : asked ≡ Some (times t)
   pub holds : HoldsCompiled given t.net p
+
+-- the report is that of a timed run, which comes to rest in time where a program does for which `compile` writes this
+-- rule file
+pub record IsTimedCalm (t : AskedTiming) (given : Given) (report : List ℕ) : Type 0 where
+  pub run : IsFileTimed t given (writes Done report)
+  pub rests : (p : TypedProgram) (holds : HoldsCompiled given t.net p) → TimedRunRests t given p holds run

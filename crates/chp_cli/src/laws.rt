@@ -12,13 +12,16 @@ ghost use Rattle.chp_cli.specs.Commands.{Asked, IsAnswer};
 ghost use Rattle.chp_cli.specs.Orders.{Played};
 ghost use Rattle.chp_cli.specs.References.{IsReferredTo};
 ghost use Rattle.chp_cli.specs.Simulated.{EndsAllAtRest, HoldsCarrying, HoldsCompiled, IsCompiledToSimulate};
-ghost use Rattle.chp_cli.specs.Simulated.{IsFileSimulated, IsToSimulate, RestsInTime};
+ghost use Rattle.chp_cli.specs.Simulated.{IsFileSimulated, IsToSimulate, SimulatedRests};
 ghost use Rattle.chp_cli.specs.Simulating.{AskedRun, Simulates};
 ghost use Rattle.chp_cli.specs.Statuses.{is_whole};
-ghost use Rattle.chp_cli.specs.TimedFiles.{IsFileTimed};
+ghost use Rattle.chp_cli.specs.TimedFiles.{IsFileTimed, TimedRunRests};
 ghost use Rattle.chp_cli.specs.Timing.{AskedTiming, SimulatesTimed};
+ghost use Rattle.chp_cli.specs.TracedFiles.{IsFileTraced, TracedRests};
+ghost use Rattle.chp_cli.specs.Tracing.{AskedWaves, Traces};
 ghost use Rattle.width_check.specs.Processes.{TypedProgram};
 
+use delay_script::laws::timed_runs_end_in_time;
 use event_sim::laws::{passed_are_histories, power_is_powered, safe_moves_bring_no_hazard};
 
 /// Law: to the same files, where the shelf tells them, and by the same orders a command has at most one answer.
@@ -117,19 +120,6 @@ pub fn compiled_files_carry()
         HoldsCarrying given file p }
 {}
 
-/// Law: where a program goes no further after m steps under the script, the simulation of the rule file that `compile` wrote for
-/// it ends at rest, in whatever order, if its limit is above the most moves that its net makes till then: it has passed what the
-/// program has, and `done` is high exactly where that has ended.
-pub fn compiled_runs_rest()
-    ensures { (s : AskedRun) (given : Given) (played : Played) (p : TypedProgram) →
-        (holds : HoldsCompiled given s.net p) (answer : Answer) (f : IsFileSimulated s given played answer) →
-        RestsInTime s given played p holds answer f }
-{
-    power_is_powered();
-    safe_moves_bring_no_hazard();
-    compiled_files_carry();
-}
-
 /// Law: each rule file that `compile` wrote is within the limit of rule files. So under each script of the program's
 /// channels within its own limit, with any power if it has a reset node, it can be simulated: the only answers of
 /// `simulate` are to write.
@@ -166,4 +156,39 @@ pub fn timed_runs_agree()
     passed_are_histories();
     power_is_powered();
     safe_moves_bring_no_hazard();
+}
+
+/// Law: what `waves` writes tells the timed run of the net under the script by the delays that its files hold, all of
+/// which are 1 where no delay file is named.
+pub fn traced_right()
+    ensures { (w : AskedWaves) (given : Given) → given.tells ≡ true → (end : Ending) (text : List ℕ) →
+        Traces w given (writes end text) → IsFileTraced w given (writes end text) }
+{}
+
+/// Law: the wave of a rule file whose net carries a program ends in no hazard, whatever the delays are.
+pub fn traced_runs_are_safe()
+    ensures { (w : AskedWaves) (given : Given) (p : TypedProgram) → HoldsCarrying given w.net p →
+        (end : Ending) (text : List ℕ) → IsFileTraced w given (writes end text) → end ≢ ending.Hazard }
+{
+    power_is_powered();
+    safe_moves_bring_no_hazard();
+}
+
+/// Law: where a program goes no further after m steps under the script, a run of the rule file that `compile` wrote for
+/// it ends at rest, if its limit is above the most moves that its net makes till then: by whatever order it is made, or
+/// by whatever delays. It has passed what the program has, and `done` is high exactly where that has ended. Where no
+/// move takes longer than some time, the last one comes by that time for each of so many moves.
+pub fn compiled_runs_rest()
+    ensures simulated { (s : AskedRun) (given : Given) (played : Played) (p : TypedProgram)
+        (holds : HoldsCompiled given s.net p) (answer : Answer) (f : IsFileSimulated s given played answer) →
+        SimulatedRests s given played p holds f }
+    ensures timed { (t : AskedTiming) (given : Given) (p : TypedProgram) (holds : HoldsCompiled given t.net p)
+        (answer : Answer) (f : IsFileTimed t given answer) → TimedRunRests t given p holds f }
+    ensures traced { (w : AskedWaves) (given : Given) (p : TypedProgram) (holds : HoldsCompiled given w.net p)
+        (answer : Answer) (f : IsFileTraced w given answer) → TracedRests w given p holds f }
+{
+    power_is_powered();
+    safe_moves_bring_no_hazard();
+    compiled_files_carry();
+    timed_runs_end_in_time();
 }

@@ -12,8 +12,10 @@ ghost use Rattle.chp_cli.specs.RepliesTold.{told_reply};
 ghost use Rattle.chp_cli.specs.Simulated.{AsksForCompiled, IsCalm};
 ghost use Rattle.chp_cli.specs.Simulating.{AskedRun};
 ghost use Rattle.chp_cli.specs.Statuses.{is_whole};
-ghost use Rattle.chp_cli.specs.TimedFiles.{AsksForTimed};
+ghost use Rattle.chp_cli.specs.TimedFiles.{AsksForTimed, IsTimedCalm};
 ghost use Rattle.chp_cli.specs.Timing.{AskedTiming};
+ghost use Rattle.chp_cli.specs.TracedFiles.{AsksForTrace, IsCalmTrace};
+ghost use Rattle.chp_cli.specs.Tracing.{AskedWaves};
 ghost use Rattle.width_check.specs.Processes.{TypedProgram};
 
 use crate::answer::{End, Stop};
@@ -25,7 +27,7 @@ use crate::grow::grow;
 use crate::laws::{
     carried_runs_agree, carried_runs_are_safe, carried_runs_have_one_length, compiled_files_carry,
     compiled_runs_rest, one_answer, simulated_right, timed_right, timed_runs_agree,
-    timed_runs_are_safe,
+    timed_runs_are_safe, traced_right, traced_runs_are_safe,
 };
 use crate::migrate::migrate;
 use crate::players::Players;
@@ -130,9 +132,10 @@ fn run<'a, S: Shelf, K: Sink>(
 /// fails, and a front of what the command writes was written (`Write`), or memory runs out (`NoMemory`), which may be
 /// at any point and is merged with no other answer.
 ///
-/// The simulation of a rule file that `compile` wrote finds no hazard, under whatever script and by whatever order, and
-/// where it reports rest no order makes more moves. Where its program comes to rest under the script, it does so, if the
-/// limit is high enough.
+/// The simulation of a rule file that `compile` wrote finds no hazard, under whatever script and by whatever order or
+/// delays, and where it reports rest no order makes more moves. Where its program comes to rest under the script, so
+/// does the run, if the limit is high enough; with delays of at most some time by that time for each of so many moves.
+/// The same holds of the run that `waves` tells.
 ///
 /// Of the handed-in orders only the one that the command asks for is used, if it asks for one: all others are as they
 /// were, and all have their names and their places still.
@@ -187,6 +190,19 @@ pub fn chp_main<S: Shelf, K: Sink, W: Sink>(
         × IsCalm s (given_by (S.tells shelf.old) (S.holds shelf.old)) (played_by
         (map (λ order. order_state (name order) (log order) (seeded order)) players.old.orders.items)
         (map (λ order. order_state (name order) (log order) (seeded order)) players.new.orders.items)) report }
+    ensures timed_steady { (t : AskedTiming) (p : TypedProgram) → S.tells shelf.old ≡ true →
+        AsksForTimed (asked_by words.now) (given_by (S.tells shelf.old) (S.holds shelf.old)) t p →
+        result ≡ Status.Done → K.tells out.old ≡ true → (report : List ℕ)
+        × (K.written out.new ≡ K.written out.old ++ report)
+        × IsTimedCalm t (given_by (S.tells shelf.old) (S.holds shelf.old)) report }
+    ensures wave_calm { (w : AskedWaves) (p : TypedProgram) → S.tells shelf.old ≡ true →
+        AsksForTrace (asked_by words.now) (given_by (S.tells shelf.old) (S.holds shelf.old)) w p →
+        result ≢ Status.Hazard }
+    ensures wave_steady { (w : AskedWaves) (p : TypedProgram) → S.tells shelf.old ≡ true →
+        AsksForTrace (asked_by words.now) (given_by (S.tells shelf.old) (S.holds shelf.old)) w p →
+        result ≡ Status.Done → K.tells out.old ≡ true → (text : List ℕ)
+        × (K.written out.new ≡ K.written out.old ++ text)
+        × IsCalmTrace w (given_by (S.tells shelf.old) (S.holds shelf.old)) text }
     ensures shelf_same { S.tells shelf.new ≡ S.tells shelf.old }
     ensures shelf_kept { S.holds shelf.new ≡ S.holds shelf.old }
     ensures shelf_faults { S.faults shelf.old ≤ S.faults shelf.new }
@@ -204,6 +220,8 @@ pub fn chp_main<S: Shelf, K: Sink, W: Sink>(
     timed_runs_are_safe();
     timed_runs_agree();
     carried_runs_have_one_length();
+    traced_right();
+    traced_runs_are_safe();
     compiled_runs_rest();
     let end = run(alloc, words, shelf, out, players);
     tell(say, &end);

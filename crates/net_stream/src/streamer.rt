@@ -6,9 +6,9 @@ ghost use Rattle.prs_file.specs.Spelling.{NetText};
 ghost use Rattle.reset_net.specs.Resets.{reset_of};
 ghost use Rattle.width_check.specs.Typed.{program_of};
 ghost use Rattle.handshake_expand.specs.Layout.{node_count, nodes_of};
-ghost use Rattle.net_compose.specs.Bounded.{Ends, EndsReset};
 ghost use Rattle.net_compose.specs.Carries.{Carries, CarriesReset};
 ghost use Rattle.net_compose.specs.Errors.{IfTooMany};
+ghost use Rattle.net_compose.specs.Progress.{Progresses, ProgressesReset};
 ghost use Rattle.net_compose.specs.Translation.{translation};
 
 use crate::buffer::line_buffer;
@@ -18,7 +18,7 @@ use crate::laws::whole_nets;
 use crate::place::Place;
 use handshake_expand::count_nodes;
 use net_compose::NetError;
-use net_compose::laws::{carries, carries_reset, ends_reset, runs_end};
+use net_compose::laws::{carries, carries_reset, runs_end, runs_end_reset};
 use sharing_check::Disjoint;
 use std::alloc::{AllocError, Global};
 use std::marker::Model;
@@ -64,7 +64,7 @@ fn stream_program(alloc: Global, program: &Disjoint, reset: bool) -> Result<Stre
     ensures text { IfOk result (λ s. NetText s (if reset then reset_of (translation (program_of program.now))
         else translation (program_of program.now))) }
     ensures carries { OnOk result (Carries (translation (program_of program.now)) (program_of program.now)) }
-    ensures ends { OnOk result (Ends (translation (program_of program.now)) (program_of program.now)) }
+    ensures progresses { OnOk result (Progresses (translation (program_of program.now)) (program_of program.now)) }
     ensures net { OnOk result (IsNet (translation (program_of program.now))) }
     ensures fits { OnOk result (nodes_of (program_of program.now) ≤ 65536) }
     ensures count { IfErr result (IfTooMany (λ count. count ≡ node_count (program_of program.now))) }
@@ -96,7 +96,7 @@ impl Streamer {
     pub fn new(alloc: Global, program: &Disjoint) -> Result<Streamer, NetError>
         ensures text { IfOk result (λ s. NetText s (translation (program_of program.now))) }
         ensures carries { OnOk result (Carries (translation (program_of program.now)) (program_of program.now)) }
-        ensures ends { OnOk result (Ends (translation (program_of program.now)) (program_of program.now)) }
+        ensures progresses { OnOk result (Progresses (translation (program_of program.now)) (program_of program.now)) }
         ensures net { OnOk result (IsNet (translation (program_of program.now))) }
         ensures fits { OnOk result (nodes_of (program_of program.now) ≤ 65536) }
         ensures count { IfErr result (IfTooMany (λ count. count ≡ node_count (program_of program.now))) }
@@ -110,15 +110,15 @@ impl Streamer {
         ensures text { IfOk result (λ s. NetText s (reset_of (translation (program_of program.now)))) }
         ensures carries { OnOk result
             (CarriesReset (reset_of (translation (program_of program.now))) (program_of program.now)) }
-        ensures ends { OnOk result
-            (EndsReset (reset_of (translation (program_of program.now))) (program_of program.now)) }
+        ensures progresses { OnOk result
+            (ProgressesReset (reset_of (translation (program_of program.now))) (program_of program.now)) }
         ensures net { OnOk result (IsNet (translation (program_of program.now))) }
         ensures fits { OnOk result (nodes_of (program_of program.now) ≤ 65536) }
         ensures count { IfErr result (IfTooMany (λ count. count ≡ node_count (program_of program.now))) }
         ensures too_many { IfErr result (IfTooMany (λ _. 65536 < nodes_of (program_of program.now))) }
     {
         carries_reset();
-        ends_reset();
+        runs_end_reset();
         stream_program(alloc, program, true)
     }
 

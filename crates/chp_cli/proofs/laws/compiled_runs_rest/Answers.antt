@@ -1,5 +1,14 @@
-use Rattle.chp_cli.proofs.RestingRuns.{rests_in_time}
+use Rattle.chp_cli.proofs.RestingRuns.{simulated_rests, timed_rests, traced_rests}
 use Rattle.chp_cli.proofs.laws.compiled_runs_rest.Goals as goal
 
-pub returns : goal.returns
-returns c = rests_in_time c.power_is_powered.ensures c.safe_moves_bring_no_hazard.ensures c.compiled_files_carry.ensures
+pub returns-clause-simulated : goal.returns-clause-simulated
+returns-clause-simulated c =
+    simulated_rests c.power_is_powered.ensures c.safe_moves_bring_no_hazard.ensures c.compiled_files_carry.ensures
+
+pub returns-clause-timed : goal.returns-clause-timed
+returns-clause-timed c =
+    timed_rests c.power_is_powered.ensures c.safe_moves_bring_no_hazard.ensures c.compiled_files_carry.ensures c.timed_runs_end_in_time.ensures
+
+pub returns-clause-traced : goal.returns-clause-traced
+returns-clause-traced c =
+    traced_rests c.power_is_powered.ensures c.safe_moves_bring_no_hazard.ensures c.compiled_files_carry.ensures c.timed_runs_end_in_time.ensures

@@ -1,9 +1,9 @@
 use Rattle.std.proofs.Common.{◌∙◌, ◌++◌, ap, sym, append-nil}
-use Rattle.chp_cli.specs.Commands.{simulates, times}
+use Rattle.chp_cli.specs.Commands.{simulates, times, traces}
 use Rattle.chp_cli.specs.Replies.{end_line}
 use Rattle.chp_cli.specs.Statuses.{is_whole}
 use Rattle.chp_cli.proofs.Ending.{complete_of, read_of, silent_of, usage_of, write_of}
-use Rattle.chp_cli.proofs.Calm.{agreed_of, calm_of, steady_of}
+use Rattle.chp_cli.proofs.Calm.{agreed_of, calm_of, done_of}
 use Rattle.chp_cli.proofs.main_call.chp_main.Goals as goal
 
 pub returns-clause-ended : goal.returns-clause-ended
@@ -61,10 +61,32 @@ returns-clause-timed_agreed g c = λ t p told asks refers is.
 pub returns-clause-steady : goal.returns-clause-steady
 returns-clause-steady g c = λ s p told asks is writes.
     let e = c.run-end.ensures.ended in
-    let carries = c.compiled_files_carry.ensures _ s.net p asks.holds in (
+    let carries = c.compiled_files_carry.ensures _ s.net p asks.holds in
+    let run = c.simulated_right.ensures s _ _ told _ _ (done_of _ _ _ _ _ _ _ (simulates s) asks.is e.1 (sym c.status.ensures ∙ is)) in (
       e.0,
       e.2 writes,
-      steady_of _ _ _ _ _ _ _ s asks.is (c.simulated_right.ensures s _ _ told) (c.carried_runs_have_one_length.ensures s _ _ p carries)
-          (λ p holds. c.compiled_runs_rest.ensures s _ _ p holds) e.1
-          (sym c.status.ensures ∙ is),
+      record {
+        run = run;
+        one_length = c.carried_runs_have_one_length.ensures s _ _ p carries _ run;
+        rests = λ q holds. c.compiled_runs_rest.ensures.simulated s _ _ q holds _ run;
+      },
     )
+
+pub returns-clause-timed_steady : goal.returns-clause-timed_steady
+returns-clause-timed_steady g c = λ t p told asks is writes.
+    let e = c.run-end.ensures.ended in
+    let run = c.timed_right.ensures t _ told _ _ (done_of _ _ _ _ _ _ _ (times t) asks.is e.1 (sym c.status.ensures ∙ is)) in
+    (e.0, e.2 writes, record { run = run; rests = λ q holds. c.compiled_runs_rest.ensures.timed t _ q holds _ run })
+
+pub returns-clause-wave_calm : goal.returns-clause-wave_calm
+returns-clause-wave_calm g c = λ w p told asks is.
+    let carries = c.compiled_files_carry.ensures _ w.net p asks.holds in
+    calm_of _ _ _ _ _ _ _ (traces w) asks.is
+    (λ end text are. c.traced_runs_are_safe.ensures w _ p carries end text (c.traced_right.ensures w _ told end text are)) c.run-end.ensures.ended.1
+    (sym c.status.ensures ∙ is)
+
+pub returns-clause-wave_steady : goal.returns-clause-wave_steady
+returns-clause-wave_steady g c = λ w p told asks is writes.
+    let e = c.run-end.ensures.ended in
+    let run = c.traced_right.ensures w _ told _ _ (done_of _ _ _ _ _ _ _ (traces w) asks.is e.1 (sym c.status.ensures ∙ is)) in
+    (e.0, e.2 writes, record { run = run; rests = λ q holds. c.compiled_runs_rest.ensures.traced w _ q holds _ run })

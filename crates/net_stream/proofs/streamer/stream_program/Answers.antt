@@ -26,8 +26,8 @@ returns-in-Ok-stream-clause-net c =
     let same = ap (λ v. nodes_of (program_of v)) is in
     c.whole_nets.ensures (program_of c.args.program.now) typed (omega (arith, same, c.count_nodes-count.ensures))
 
-pub returns-in-Ok-stream-clause-ends : goal.returns-in-Ok-stream-clause-ends
-returns-in-Ok-stream-clause-ends c =
+pub returns-in-Ok-stream-clause-progresses : goal.returns-in-Ok-stream-clause-progresses
+returns-in-Ok-stream-clause-progresses c =
     let is = c.typed-typed.ensures.program in
     let typed = subst (λ v. IsTyped (program_of v).channels (program_of v).vars (program_of v).body) is c.body-kept.ensures.typed in
-    c.runs_end.ensures (program_of c.args.program.now) (record { typed = typed; sharing = c.typed-typed.ensures.meets })
+    c.runs_end.ensures.every (program_of c.args.program.now) (record { typed = typed; sharing = c.typed-typed.ensures.meets })

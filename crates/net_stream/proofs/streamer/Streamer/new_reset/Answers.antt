@@ -15,8 +15,8 @@ returns-clause-carries c =
     on_both c.stream_program.result (λ carried whole. c.carries_reset.ensures (translation p) p carried whole refl whole.most (names_free p))
     c.stream_program.ensures.carries c.stream_program.ensures.net
 
-pub returns-clause-ends : goal.returns-clause-ends
-returns-clause-ends c =
+pub returns-clause-progresses : goal.returns-clause-progresses
+returns-clause-progresses c =
     let p = program_of c.args.program.now in
-    on_both c.stream_program.result (λ ends whole. c.ends_reset.ensures (translation p) p ends whole refl) c.stream_program.ensures.ends
-    c.stream_program.ensures.net
+    on_both c.stream_program.result (λ progresses whole. c.runs_end_reset.ensures (translation p) p progresses whole refl (names_free p))
+    c.stream_program.ensures.progresses c.stream_program.ensures.net

@@ -1,0 +1,36 @@
+-- What is simulated of a rule file that `compile` wrote comes to rest where its program does.
+use Rattle.std.specs.Prelude.{◌≡◌, ℕ, suc, ◌+◌, ◌*◌, ◌<◌, ◌≤◌, Bool, true, false, List}
+use Rattle.delay_script.specs.declared.noted.NotedMove.{NotedMove}
+use Rattle.delay_script.specs.DelayTables.{TakesAtMost}
+use Rattle.delay_script.specs.TimedRuns.{TimedValue, moved_nodes, timed_start}
+use Rattle.env_script.specs.Runs.{RunState, after}
+use Rattle.env_script.specs.Scripts.{OfferValue}
+use Rattle.event_sim.specs.declared.ran.End.{End}
+use Rattle.event_sim.specs.declared.ran.End.TheVariants.{AtRest}
+use Rattle.handshake_expand.specs.Layout.{nodes_of}
+use Rattle.chp_meaning.specs.Steps.{Configuration}
+use Rattle.net_compose.specs.Progress.{RestsAfter, IsLevel, most_moves}
+use Rattle.prs_core.specs.Nets.{NetValue}
+use Rattle.width_check.specs.Processes.{TypedProgram}
+
+-- the most moves of a run of the net that is written for a program, where that makes m steps: with a reset node each node
+-- moves once at most before reset has fallen
+abbrev pub most_in_run : (reset : Bool) → TypedProgram → (m : ℕ) → ℕ
+most_in_run false p m = most_moves p m
+most_in_run true p m = suc (nodes_of p) + most_moves p m
+
+-- Where the program goes no further after m steps under the script, and more moves are allowed than its net can make till
+-- then, the run ends at rest: it has passed what the program has, and `done` is high exactly where that has ended.
+abbrev pub RestsInTime : (reset : Bool) → TypedProgram → NetValue → List OfferValue → (steps : ℕ)
+    → (start : RunState) → (moves : List ℕ) → End → Type 0
+RestsInTime reset p net script steps start moves end =
+    (m : ℕ) (c : Configuration) → RestsAfter p script m c → most_in_run reset p m < steps →
+    (end ≡ AtRest) × IsLevel (after net start moves) c
+
+-- So does a timed run, and where no move takes longer than some time, its last move comes by that time for each of so
+-- many moves.
+pub record TimedRests (reset : Bool) (p : TypedProgram) (t : TimedValue) (moves : List NotedMove) (end : End)
+    (time : ℕ) : Type 0 where
+  pub rests : RestsInTime reset p t.net t.script t.steps (timed_start t) (moved_nodes moves) end
+  pub in_time : (longest m : ℕ) (c : Configuration) → TakesAtMost longest t.delays → RestsAfter p t.script m c →
+      time ≤ longest * most_in_run reset p m

@@ -1,0 +1,46 @@
+-- What follows from what `waves` answers.
+use Rattle.std.specs.Prelude.{◌≡◌, ℕ, List, Option, Some}
+use Rattle.delay_script.specs.DelayTables.{DelayTable}
+use Rattle.env_script.specs.Environment.{net_channels}
+use Rattle.env_script.specs.Scripts.{OfferValue}
+use Rattle.prs_core.specs.Nets.{NetValue}
+use Rattle.width_check.specs.Processes.{TypedProgram}
+use Rattle.chp_cli.specs.declared.answer.Ending.TheVariants.{Done}
+use Rattle.chp_cli.specs.Answers.{Given, Answer, writes}
+use Rattle.chp_cli.specs.Commands.{Asked, traces}
+use Rattle.chp_cli.specs.Resting.{TimedRests}
+use Rattle.chp_cli.specs.RunSteps.{IsScriptOf}
+use Rattle.chp_cli.specs.Simulated.{HoldsCompiled}
+use Rattle.chp_cli.specs.Steps.{IsFileOf}
+use Rattle.chp_cli.specs.Tracing.{AskedWaves, HoldsDelayFile, TracesNet, trace_for}
+
+-- The files hold the rule file of a net, a script of its channels, and delays of its nodes, if such a file is named;
+-- and the moves of the timed run of this net under this script by these delays are written.
+pub record IsFileTraced (w : AskedWaves) (given : Given) (answer : Answer) : Type 0 where
+  pub rules : List ℕ
+  pub net : NetValue
+  pub told : List ℕ
+  pub script : List OfferValue
+  pub delays : DelayTable
+  pub held : given.files w.net ≡ Some rules
+  pub file : IsFileOf rules net
+  pub held_script : given.files w.script ≡ Some told
+  pub told_is : IsScriptOf (net_channels net) told script
+  pub said_are : HoldsDelayFile given w.delays net.names delays
+  pub traced : TracesNet (trace_for w net script delays) w.causes answer
+
+-- where the program comes to rest for which `compile` writes the rule file, the timed run does
+abbrev pub TracedRests : (w : AskedWaves) (given : Given) (p : TypedProgram) → HoldsCompiled given w.net p →
+    {answer : Answer} → IsFileTraced w given answer → Type 0
+TracedRests w given p holds f =
+    TimedRests holds.reset p (trace_for w f.net f.script f.delays) f.traced.moves f.traced.ran.end f.traced.time
+
+-- it is asked for the wave, or the causes, of a rule file that `compile` writes for the program
+pub record AsksForTrace (asked : Option Asked) (given : Given) (w : AskedWaves) (p : TypedProgram) : Type 0 where
+  pub is : asked ≡ Some (traces w)
+  pub holds : HoldsCompiled given w.net p
+
+-- the text tells a timed run, which comes to rest in time where a program does for which `compile` writes this rule file
+pub record IsCalmTrace (w : AskedWaves) (given : Given) (text : List ℕ) : Type 0 where
+  pub run : IsFileTraced w given (writes Done text)
+  pub rests : (p : TypedProgram) (holds : HoldsCompiled given w.net p) → TracedRests w given p holds run
