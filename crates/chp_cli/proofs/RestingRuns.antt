@@ -105,7 +105,8 @@ module _ (powered : Powered) (law : (net : NetValue) (script : List OfferValue) 
 
     file_within : (m : ℕ) (c : Configuration) → RestsAfter p script m c → length ns ≤ most_in_run holds.reset p m
     file_within =
-        subst (RunsWithin holds.reset p) same (runs_within powered holds.reset p holds.compiled.carries holds.compiled.progresses) script high ns is.kept fits run
+        subst (RunsWithin holds.reset p) same (runs_within powered holds.reset p holds.compiled.carries holds.compiled.progresses) script high ns is.kept fits
+        run
 
     file_rests : (steps : ℕ) (end : End) → EndsSo net script steps (begin_at net (power_of net high)) ns end
         → RestsInTime holds.reset p net script steps (begin_at net (power_of net high)) ns end

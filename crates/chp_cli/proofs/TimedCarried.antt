@@ -65,7 +65,8 @@ module _ (powered : (net : NetValue) (high : Bool) → IsNet net → IsSome net.
     timed_calm a f =
         let value = timing_for t f.net f.script f.delays in
         run_calm powered law f.net f.script (timed_start value) t.steps (moved_nodes f.timed.moves) f.timed.ran.end f.file.kept
-        (all_safe powered f.net p f.script (power_or_low t.power) f.file.kept f.told_is.kept (file_carries holds f.held f.file)) f.timed.run.run f.timed.run.ends
+        (all_safe powered f.net p f.script (power_or_low t.power) f.file.kept f.told_is.kept (file_carries holds f.held f.file)) f.timed.run.run
+        f.timed.run.ends
 
     pub timed_no_hazard : (end : Ending) (text : List ℕ) → IsFileTimed t given (writes end text) → end ≢ Hazard
     timed_no_hazard end text f = reported_calm f.script _ f.timed.ran f.program end text f.timed.written (timed_calm _ f)
@@ -83,5 +84,6 @@ module _ (powered : (net : NetValue) (high : Bool) → IsNet net → IsSome net.
           reported_done hold powered passed one f.script _ f.timed.ran f.program end text f.timed.written (timed_calm _ f)
           (λ q is. let own = same_reference hold powered passed one given told t.against p f.program refers f.referred q is in
           subst (λ x. IsAgainst f.timed.ran x f.script Agrees) (sym own.0)
-          (agrees hold powered passed f.net p f.script (power_or_low t.power) f.file.kept own.1 f.told_is.kept (file_carries holds f.held f.file) ns run.run f.timed.ran
+          (agrees hold powered passed f.net p f.script (power_or_low t.power) f.file.kept own.1 f.told_is.kept
+          (file_carries holds f.held f.file) ns run.run f.timed.ran
           run.net count run.passed))

@@ -13,14 +13,14 @@ use Rattle.net_compose.specs.Progress.{RestsAfter, IsLevel, most_moves}
 use Rattle.prs_core.specs.Nets.{NetValue}
 use Rattle.width_check.specs.Processes.{TypedProgram}
 
--- the most moves of a run of the net that is written for a program, where that makes m steps: with a reset node each node
--- moves once at most before reset has fallen
+-- the most moves of a run of the net that is written for a program, where that makes m steps: with a reset node each
+-- node moves once at most before reset has fallen
 abbrev pub most_in_run : (reset : Bool) → TypedProgram → (m : ℕ) → ℕ
 most_in_run false p m = most_moves p m
 most_in_run true p m = suc (nodes_of p) + most_moves p m
 
--- Where the program goes no further after m steps under the script, and more moves are allowed than its net can make till
--- then, the run ends at rest: it has passed what the program has, and `done` is high exactly where that has ended.
+-- Where the program goes no further after m steps under the script, and more moves are allowed than its net can make
+-- till then, the run ends at rest: it has passed what the program has, and `done` is high exactly where that has ended.
 abbrev pub RestsInTime : (reset : Bool) → TypedProgram → NetValue → List OfferValue → (steps : ℕ)
     → (start : RunState) → (moves : List ℕ) → End → Type 0
 RestsInTime reset p net script steps start moves end =

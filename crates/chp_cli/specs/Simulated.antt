@@ -120,8 +120,8 @@ pub record AsksForCompiled (asked : Option Asked) (given : Given) (s : AskedRun)
   pub is : asked ≡ Some (simulates s)
   pub holds : HoldsCompiled given s.net p
 
--- The report is that of a run without a hazard; where it says rest, no order makes more moves; and where a program comes
--- to rest for which `compile` writes this rule file, so does the run, if its limit is high enough.
+-- The report is that of a run without a hazard; where it says rest, no order makes more moves; and where a program
+-- comes to rest for which `compile` writes this rule file, so does the run, if its limit is high enough.
 pub record IsCalm (s : AskedRun) (given : Given) (played : Played) (report : List ℕ) : Type 0 where
   pub run : IsFileSimulated s given played (writes Done report)
   pub one_length : EndsAllAtRest s given played (writes Done report) run

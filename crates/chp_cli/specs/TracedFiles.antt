@@ -40,7 +40,8 @@ pub record AsksForTrace (asked : Option Asked) (given : Given) (w : AskedWaves) 
   pub is : asked ≡ Some (traces w)
   pub holds : HoldsCompiled given w.net p
 
--- the text tells a timed run, which comes to rest in time where a program does for which `compile` writes this rule file
+-- the text tells a timed run, which comes to rest in time where a program does for which `compile` writes this rule
+-- file
 pub record IsCalmTrace (w : AskedWaves) (given : Given) (text : List ℕ) : Type 0 where
   pub run : IsFileTraced w given (writes Done text)
   pub rests : (p : TypedProgram) (holds : HoldsCompiled given w.net p) → TracedRests w given p holds run

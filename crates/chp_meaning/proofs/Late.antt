@@ -1,4 +1,7 @@
 -- A run of a program in halves has twice as many steps at most as some run of the program that has passed the same.
+--
+-- N: how many variables the program has, M: with the hidden ones; t, u: a term of it and of its halves; c, d: configurations; n, m, k: numbers of
+-- steps; b: a place; x, h: a variable and a hidden one; s, e: a span and an expression; l: that a run leads there.
 use Rattle.std.proofs.Common.{◌≡◌, ℕ, zero, suc, ◌+◌, ◌*◌, ◌<◌, ◌≤◌, Bool, true, false, List, ◌++◌, length, refl, ap, subst, inl, arith}
 use Rattle.std.specs.Prelude.{not, nat_lt, if◌then◌else◌, Some}
 use Rattle.std.proofs.lemmas.Bool.Decides.{nat_tests}
@@ -86,18 +89,21 @@ step_late : (N : ℕ) {c d : Configuration} {at : Place} → Step c at d → lat
 step_late N (a_skip {c = c} {at = at} h) = let z = left_late N c.term at skipping finished h in omega (arith, z)
 step_late N (an_assignment {c = c} {at = at} {x = x} {s = s} {e = e} h) =
     let z = left_late N c.term at (assigning x s e) finished h in let y = one_most (late N (assigning x s e)) in omega (arith, z, y)
-step_late N (a_selection {c = c} {at = at} {choices = options} {p = p} h o) = let z = left_late N c.term at (choosing false options) (opened p) h in omega (arith, z)
+step_late N (a_selection {c = c} {at = at} {choices = options} {p = p} h o) = let z = left_late N c.term at (choosing false options) (opened p) h in
+    omega (arith, z)
 step_late N (a_turn {c = c} {at = at} {choices = options} {p = p} h o) =
     let z = left_late N c.term at (choosing true options) (followed (opened p) (and_member (choosing true options) no_members)) h in omega (arith, z)
 step_late N (an_end {c = c} {at = at} {choices = options} h o) = let z = left_late N c.term at (choosing true options) finished h in omega (arith, z)
-step_late N (a_repetition {c = c} {at = at} {p = p} h) = let z = left_late N c.term at (repeating p) (followed (opened p) (and_member (repeating p) no_members)) h in omega (arith, z)
+step_late N (a_repetition {c = c} {at = at} {p = p} h) = let z =
+    left_late N c.term at (repeating p) (followed (opened p) (and_member (repeating p) no_members)) h in omega (arith, z)
 step_late N (a_communication {c = c} {at = at} other {k = k} {x = x} {s = s} {t = t} {u = u} {e = e} h there inside) =
     let z = left_late N c.term at (sending k s e) finished h in
     let y = left_late N (with_left c.term at finished) other (receiving k t x u) finished
     (still c.term at other finished (receiving k t x u) (own_apart (a_communication {c = c} other h there inside) other refl) there) in
     omega (arith, z, y)
 step_late N (a_delivery {c = c} {at = at} {k = k} {s = s} {e = e} h o m) = let z = left_late N c.term at (sending k s e) finished h in omega (arith, z)
-step_late N (an_arrival {c = c} {at = at} {k = k} {x = x} {s = s} {t = t} h o) = let z = left_late N c.term at (receiving k s x t) finished h in omega (arith, z)
+step_late N (an_arrival {c = c} {at = at} {k = k} {x = x} {s = s} {t = t} h o) = let z = left_late N c.term at (receiving k s x t) finished h in
+    omega (arith, z)
 
 -- behind a first half comes a second one
 below_not : (h N : ℕ) → N ≤ h → not (nat_lt h N) ≡ true

@@ -279,7 +279,17 @@ module _ {n : ℕ} {G Q B C S T : Type 0} (W : Guards n G Q) (K : Branches n B C
 
   -- it falls back: the turn's request, the latch, that a latch is up, the answer
   close_turn : AgainAfter (closing lets_turn) (round of_turn)
-  close_turn = record { mode = returning; to = closing lets_leave; same = refl; way = refl; fits = tt; flow = K.flow_same K.none; term = stays refl; keeps = keeps }
+  close_turn = record {
+    mode = returning;
+    to = closing lets_leave;
+    same = refl;
+    way = refl;
+    fits = tt;
+    flow = K.flow_same K.none;
+    term = stays refl;
+    keeps =
+        keeps;
+  }
     where
       keeps : Kept (closing lets_turn) (closing lets_leave) (round of_turn)
       keeps (round of_turn) ne e = absurd (ne refl)
@@ -294,7 +304,17 @@ module _ {n : ℕ} {G Q B C S T : Type 0} (W : Guards n G Q) (K : Branches n B C
       keeps (in_core (branch c)) ne e = absurd (cc e)
 
   close_leave : AgainAfter (closing lets_leave) (round of_leave)
-  close_leave = record { mode = returning; to = closing lets_any; same = refl; way = refl; fits = tt; flow = K.flow_same K.none; term = stays refl; keeps = keeps }
+  close_leave = record {
+    mode = returning;
+    to = closing lets_any;
+    same = refl;
+    way = refl;
+    fits = tt;
+    flow = K.flow_same K.none;
+    term = stays refl;
+    keeps =
+        keeps;
+  }
     where
       keeps : Kept (closing lets_leave) (closing lets_any) (round of_leave)
       keeps (round of_turn) ne e = absurd (cc e)
@@ -309,7 +329,17 @@ module _ {n : ℕ} {G Q B C S T : Type 0} (W : Guards n G Q) (K : Branches n B C
       keeps (in_core (branch c)) ne e = absurd (cc e)
 
   close_any : AgainAfter (closing lets_any) (in_core (own of_any))
-  close_any = record { mode = returning; to = closing lets_answer; same = refl; way = refl; fits = tt; flow = K.flow_same K.none; term = stays refl; keeps = keeps }
+  close_any = record {
+    mode = returning;
+    to = closing lets_answer;
+    same = refl;
+    way = refl;
+    fits = tt;
+    flow = K.flow_same K.none;
+    term = stays refl;
+    keeps =
+        keeps;
+  }
     where
       keeps : Kept (closing lets_any) (closing lets_answer) (in_core (own of_any))
       keeps (round of_turn) ne e = absurd (cc e)

@@ -1,4 +1,7 @@
 -- How many moves the wires of a channel and the block of a variable make at most before the program's next step.
+--
+-- n: the width, or the nodes of a bit now: its rails w.t, w.f that are written, its value x.t, x.f, and its acknowledge; o: that nothing is under
+-- way; r: a rail that moves; b, v: a node's value.
 use Rattle.std.proofs.Common.{◌≡◌, ◌≢◌, ℕ, zero, suc, ◌+◌, ◌*◌, ◌<◌, ◌≤◌, ◌==◌, Bool, true, false, refl, sym, ap, ◌∙◌, subst, arith}
 use Rattle.std.specs.Prelude.{not, nat_lt, ◌&&◌, ◌||◌}
 use Rattle.std.proofs.lemmas.Bool.Decides.{nat_tests}
@@ -116,8 +119,10 @@ bit_falls written n l m = less_by _ _ (implies_both (legal n) (may written n) _ 
 -- a bit that has been written whose rails are still up doesn't move, nor does the node that says so
 pub full_still : (n : Now) → legal n ≡ true → n.va ≡ true → (n.wt || n.wf) ≡ true → (may written n ≡ false) × (n.wa ≡ true)
 full_still n l a h = (
-  by_not (may written n) (implies_both (legal n) (n.va && (n.wt || n.wf)) _ (at_now (λ n. implies (legal n) (implies (n.va && (n.wt || n.wf)) (not (may written n)))) refl n) l (both n.va (n.wt || n.wf) a h)),
-  implies_both (legal n) (n.va && (n.wt || n.wf)) _ (at_now (λ n. implies (legal n) (implies (n.va && (n.wt || n.wf)) n.wa)) refl n) l (both n.va (n.wt || n.wf) a h),
+  by_not (may written n) (implies_both (legal n) (n.va && (n.wt || n.wf)) _
+      (at_now (λ n. implies (legal n) (implies (n.va && (n.wt || n.wf)) (not (may written n)))) refl n) l (both n.va (n.wt || n.wf) a h)),
+  implies_both (legal n) (n.va && (n.wt || n.wf)) _ (at_now (λ n. implies (legal n) (implies (n.va && (n.wt || n.wf)) n.wa)) refl n) l
+      (both n.va (n.wt || n.wf) a h),
 )
   where
     by_not : (b : Bool) → not b ≡ true → b ≡ false
@@ -141,7 +146,8 @@ var_most n over x w wrote node = omega (arith, here n, bits_twice (phase over) (
 
 pub var_eases : (n : ℕ) (x w : Rails) (wrote node : ℕ → Bool) → var_due n false x w wrote node ≤ var_due n true x w wrote node
 var_eases n x w wrote node =
-    let d = sum_below n (λ i. bit_due true (now_at x w wrote true i)) (λ i. bit_due false (now_at x w wrote false i)) (λ j less. bit_eases (now_at x w wrote true j)) in
+    let d = sum_below n (λ i. bit_due true (now_at x w wrote true i)) (λ i. bit_due false (now_at x w wrote false i))
+    (λ j less. bit_eases (now_at x w wrote true j)) in
     let e = bits_below (phase false) (phase true) phase_eases (joint_count n) node in
     omega (arith, d, e)
 

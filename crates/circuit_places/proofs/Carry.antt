@@ -461,7 +461,8 @@ first_reached law P script fitted meets = record {
     heard_sited = λ c h u. absurd (cc h);
   };
   brought = none_arrives P script (first_cells P).histories (first_cells P).wires (λ k i one. refl);
-  followed = started P script fitted (circuit_due P {m = idle} g_rests (first_cells P).wires) (let z = due_fits P {m = idle} g_rests (first_cells P).wires in omega (arith, z));
+  followed = started P script fitted (circuit_due P {m = idle} g_rests (first_cells P).wires)
+      (let z = due_fits P {m = idle} g_rests (first_cells P).wires in omega (arith, z));
 }
 
 reach : TreesSettle → (P : TypedProgram) (script : List OfferValue) → Fitted P script → Meets P P.body → (moves : ℕ) (x : Whole P.body)

@@ -128,7 +128,8 @@ module _ (P : TypedProgram) (env : Seen) (clean : Clean P env) (choices : Choice
         → number_on (var_width P.vars x) (env.bit x) ≡ store x
     agreed store agree x h = ap (λ n. number_on n (env.bit x)) (sym (clean.wide (of_var x))) ∙ agree x (within x h)
 
-  step_follows : (again : Bool) (z : Told) (b : Bool) (x y : Term) → CoreStep again Waves Kids (story again choices) z b x y → Follows (ToldBy env z.0.read) b x y
+  step_follows : (again : Bool) (z : Told) (b : Bool) (x y : Term) → CoreStep again Waves Kids (story again choices) z b x y
+      → Follows (ToldBy env z.0.read) b x y
   step_follows again z b x _ (stays e) = inl (e, refl)
   step_follows again z b _ _ (chooses e i g f a) = here_follows b (choosing again choices) (branch_term again choices (opened (body_at choices i)))
       (it_chooses i (λ store agree. open_alone P env.bit clean.single store choices laws

@@ -1,4 +1,7 @@
 -- What is due of a circuit falls with each move that is no step of the program.
+--
+-- P: the program; g: where its body is, guarded by the root; w: what its wires show; hs: what has passed; c, x: a channel, a variable; i, k: a bit,
+-- a joint of a completion tree; o, p: of which variables nothing is under way; e: that the node may move.
 use Rattle.std.proofs.Common.{◌≡◌, ◌≢◌, ◌⊎◌, ℕ, zero, suc, ◌+◌, ◌<◌, ◌≤◌, ◌==◌, Bool, true, false, List, ◌∷◌, [], length, refl, sym, ap, ◌∙◌, subst, inl, inr, arith}
 use Rattle.std.specs.Prelude.{not, ◌&&◌, ◌||◌, nat_lt, if◌then◌else◌}
 use Rattle.std.proofs.lemmas.Bool.Decides.{nat_tests}
@@ -23,7 +26,8 @@ use Rattle.circuit_places.proofs.Stepping.{guarded_steps}
 use Rattle.circuit_places.specs.Bounds.{moves_most}
 use Rattle.circuit_places.proofs.Dues.{bits_below, guarded_of_due, due}
 use Rattle.circuit_places.proofs.DuesBound.{guarded_most, due_within}
-use Rattle.circuit_places.proofs.DuesFall.{guarded_falls, rails_fall}
+use Rattle.circuit_places.proofs.DuesFall.{guarded_falls}
+use Rattle.circuit_places.proofs.LeafDues.{rails_fall}
 use Rattle.circuit_places.proofs.Stored.{guarded_stored}
 use Rattle.circuit_places.proofs.BlockDues.{sum_below, sum_falls, phase, phase_falls, phase_eases, var_due, var_eases, touch_falls, tree_falls, held_still, some_leaves}
 use Rattle.circuit_places.proofs.System.{Others, Good, clean_of, can, sent_turns, node_steps, Next, Rises, Arrival, up_low, down_high}
@@ -125,7 +129,8 @@ module _ (P : TypedProgram) (script : List OfferValue) {m : Mode} (g : GuardedAt
       let b = block_of x i less in
       let m : may (rail_role one) (now_at (w.bit x) (w.rail (of_var x)) (w.wrote x) (va x) i) ≡ true =
       sym (bit_can (w.bit x) (w.rail (of_var x)) (w.wrote x) (va x) i one) ∙ e in
-      let low : va x ≡ false = not_true (va x) (fst_true (not (va x)) _ (moves_written one (now_at (w.bit x) (w.rail (of_var x)) (w.wrote x) (va x) i) (b.bits i less) m)) in
+      let low : va x ≡ false = not_true (va x) (fst_true (not (va x)) _
+      (moves_written one (now_at (w.bit x) (w.rail (of_var x)) (w.wrote x) (va x) i) (b.bits i less) m)) in
       let same : over P g w x ≡ va x = ap (λ z. z && not (busy x)) low ∙ sym low in
       let r = rail_touch (w.bit x) (w.rail (of_var x)) (w.wrote x) (va x) i one in
       let z = touch_falls (width x) (va x) (rail_role one) i (now_at (w.bit x) (w.rail (of_var x)) (w.wrote x) (va x))
@@ -171,14 +176,16 @@ module _ (P : TypedProgram) (script : List OfferValue) {m : Mode} (g : GuardedAt
           single : w.rail (of_var x) i true ≡ true → w.rail (of_var x) i false ≡ true → ⊥
           single p q =
               let l = (block_of x i less).bits i less in
-              let k : not (w.rail (of_var x) i true && w.rail (of_var x) i false) ≡ true = fst_true _ _ (snd_true (not (w.bit x i true && w.bit x i false)) _ l) in
+              let k : not (w.rail (of_var x) i true && w.rail (of_var x) i false) ≡ true =
+              fst_true _ _ (snd_true (not (w.bit x i true && w.bit x i false)) _ l) in
               cc (ap (λ b. not (b && w.rail (of_var x) i false)) p, ap (λ b. not (true && b)) q, k)
       lone false true p q ne = single q p
         where
           single : w.rail (of_var x) i true ≡ true → w.rail (of_var x) i false ≡ true → ⊥
           single p q =
               let l = (block_of x i less).bits i less in
-              let k : not (w.rail (of_var x) i true && w.rail (of_var x) i false) ≡ true = fst_true _ _ (snd_true (not (w.bit x i true && w.bit x i false)) _ l) in
+              let k : not (w.rail (of_var x) i true && w.rail (of_var x) i false) ≡ true =
+              fst_true _ _ (snd_true (not (w.bit x i true && w.bit x i false)) _ l) in
               cc (ap (λ b. not (b && w.rail (of_var x) i false)) p, ap (λ b. not (true && b)) q, k)
 
       by : (r o : Bool) → w.rail (of_var x) i one ≡ r → (guarded_shown g).offer (of_var x) i one ≡ o
@@ -193,8 +200,10 @@ module _ (P : TypedProgram) (script : List OfferValue) {m : Mode} (g : GuardedAt
           as_acked x (λ same. write_block x i one less same (write_falls (w.bit x) (w.rail (of_var x)) (w.wrote x) (va x) i one hr high))
           (λ h b. let o = held x h b i less in
           absurd (lone o.0 one (good.falling (of_var x) i o.0 h o.1) hr (λ same. both o.0 same hr ho o.1)))
-      by true true hr ho e = absurd (not_both (ap (λ r. turns r ((guarded_shown g).offer (of_var x) i one) (not ((guarded_shown g).offer (of_var x) i one))) hr ∙ ap not ho) e)
-      by false false hr ho e = absurd (not_both (ap (λ r. turns r ((guarded_shown g).offer (of_var x) i one) (not ((guarded_shown g).offer (of_var x) i one))) hr ∙ ho) e)
+      by true true hr ho e = absurd (not_both (ap (λ r. turns r ((guarded_shown g).offer (of_var x) i one) (not ((guarded_shown g).offer (of_var x) i one))) hr
+          ∙ ap not ho) e)
+      by false false hr ho e = absurd (not_both (ap (λ r. turns r ((guarded_shown g).offer (of_var x) i one) (not ((guarded_shown g).offer (of_var x) i one)))
+          hr ∙ ho) e)
 
   -- a node that says that a bit is written
   wrote_moves : (x i : ℕ) → i < width x → one_rule_fires (wrote_rule (w.rail (of_var x)) (w.bit x) (w.wrote x) i) ≡ true
@@ -321,7 +330,8 @@ module _ (P : TypedProgram) (script : List OfferValue) {m : Mode} (g : GuardedAt
         by was (inr (inl r)) = absurd (not_both r.low was)
         by was (inr (inr a)) = absurd (no_arrival n (guarded_writing (line_ack P now) y.to) (node_steps g n) stays a)
 
-    root_stays : root_after P.body (guarded_cells g) n ≡ guarded_cells g → go_after (asks m) n ≡ asks m → root_due P y.mode (guarded_cells y.to) ≡ root_due P m (guarded_cells g)
+    root_stays : root_after P.body (guarded_cells g) n ≡ guarded_cells g → go_after (asks m) n ≡ asks m
+        → root_due P y.mode (guarded_cells y.to) ≡ root_due P m (guarded_cells g)
     root_stays cells go = ap (root_due P y.mode) (y.same ∙ cells) ∙ by m y.mode ne (y.way ne) (y.go ∙ go)
       where
         by : (m d : Mode) → m ≢ returning → d ≢ returning → asks d ≡ asks m → root_due P d (guarded_cells g) ≡ root_due P m (guarded_cells g)

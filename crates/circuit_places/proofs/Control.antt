@@ -232,7 +232,8 @@ module _ (P : TypedProgram) {p q : Process} {more : Processes} (env : Seen) wher
       hands_on to b keeps (in_later x) ne z = absurd (cc z)
 
       by_mode : (m : Mode) (to : GuardedAt p m) → guarded_cells to ≡ turned_guarded p (guarded_cells g) s → goes running m ≡ true → GuardedFits to env
-          → Flow env (guarded_shown g) (guarded_shown to) → Follows (ToldBy env (guarded_shown g).read) (guarded_steps g s) (guarded_left env.ack g) (guarded_left env.ack to)
+          → Flow env (guarded_shown g) (guarded_shown to)
+          → Follows (ToldBy env (guarded_shown g).read) (guarded_steps g s) (guarded_left env.ack g) (guarded_left env.ack to)
           → ((x : ℕ) → guarded_writing env.ack to x ≡ false → guarded_writing env.ack g x ≡ false)
           → ((x : GuardedSpot p) → x ≢ s → guarded_moves env g x ≡ true → guarded_moves env to x ≡ true)
           → TurnAfter (and_member p (and_member q more)) running env (at_member {q = q} {more = more} g) (in_member s)
@@ -244,7 +245,8 @@ module _ (P : TypedProgram) {p q : Process} {more : Processes} (env : Seen) wher
         fits = fits;
         flow = flow;
         frees = frees;
-        term = followed_follows (ToldBy env (guarded_shown g).read) (and_member q more) (guarded_steps g s) (guarded_left env.ack g) (guarded_left env.ack to) term;
+        term = followed_follows (ToldBy env (guarded_shown g).read) (and_member q more) (guarded_steps g s) (guarded_left env.ack g)
+            (guarded_left env.ack to) term;
         keeps = stays to keeps;
       }
       by_mode answered to same way fits flow term frees keeps =
@@ -264,11 +266,13 @@ module _ (P : TypedProgram) {p q : Process} {more : Processes} (env : Seen) wher
             fits = b.fits;
             flow = flow_then env (guarded_shown g) (guarded_shown to) (turn_shown b.place) gone b.offer b.take flow;
             frees = λ x i. frees x (guarded_writing_done env.ack to (λ e. cc e) x);
-            term = subst (λ (z : Term). Follows (ToldBy env (guarded_shown g).read) (guarded_steps g s) (followed (guarded_left env.ack g) (and_member q more)) z) (sym b.term)
+            term = subst (λ (z : Term). Follows (ToldBy env (guarded_shown g).read) (guarded_steps g s)
+                (followed (guarded_left env.ack g) (and_member q more)) z) (sym b.term)
                 (subst (λ (z : Term). Follows (ToldBy env (guarded_shown g).read) (guarded_steps g s) (followed (guarded_left env.ack g) (and_member q more))
                 (followed z (and_member q more)))
                 (guarded_left_past env.ack to)
-                (followed_follows (ToldBy env (guarded_shown g).read) (and_member q more) (guarded_steps g s) (guarded_left env.ack g) (guarded_left env.ack to) term));
+                (followed_follows (ToldBy env (guarded_shown g).read) (and_member q more) (guarded_steps g s) (guarded_left env.ack g)
+                (guarded_left env.ack to) term));
             keeps = hands_on to b.place keeps;
           }
       by_mode idle to same way fits flow term frees keeps = absurd (cc way)

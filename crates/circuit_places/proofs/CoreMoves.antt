@@ -226,7 +226,8 @@ module _ {again : Bool} {n : ℕ} {G Q B C S T : Type 0} (W : Guards n G Q) (K :
 
 -- How the statement goes on, where z is shown: not at all; it chooses the branch whose guard is true alone, or ends since all are false, both as
 -- the guards are found full under their request; or its branch goes on.
-pub data CoreStep (again : Bool) {n : ℕ} {G Q B C S T : Type 0} (W : Guards n G Q) (K : Branches n B C S T) (y : Story T) (z : S) (step : Bool) : T → T → Type 0 where
+pub data CoreStep (again : Bool) {n : ℕ} {G Q B C S T : Type 0} (W : Guards n G Q) (K : Branches n B C S T) (y : Story T) (z : S) (step : Bool) : T → T
+    → Type 0 where
   stays : {s : T} → step ≡ false → CoreStep again W K y z step s s
   chooses : z ≡ K.reading true → (i : Index n) (g : G) → W.good true g ≡ true → alone i (W.heads g) ≡ true
       → CoreStep again W K y z step y.whole (y.wrap (K.opened i))
@@ -573,7 +574,8 @@ module _ {again : Bool} {n : ℕ} {G Q B C S T : Type 0} (W : Guards n G Q) (K :
   runs a c r = by_mode r.mode r.to r.which r.same r.way r.fits r.flow r.term r.keeps
     where
       by_mode : (d : Mode) (to : K.At d) → K.index to ≡ K.index a → K.cells to ≡ K.turned (K.cells a) c → goes running d ≡ true → K.Fits to
-          → K.Flow (K.shown a) (K.shown to) → K.Follows (K.steps a c) (K.shown a) (K.left a) (K.left to) → ((b : C) → b ≢ c → K.moves a b ≡ true → K.moves to b ≡ true)
+          → K.Flow (K.shown a) (K.shown to) → K.Follows (K.steps a c) (K.shown a) (K.left a) (K.left to)
+          → ((b : C) → b ≢ c → K.moves a b ≡ true → K.moves to b ≡ true)
           → CoreAfter (in_branch a works) (branch c)
       by_mode running to which same way fits flow term kept = record {
         mode = running;
@@ -722,7 +724,8 @@ module _ {again : Bool} {n : ℕ} {G Q B C S T : Type 0} (W : Guards n G Q) (K :
     leave = refl;
     fits = b.fits;
     flow = subst (λ (x : S). K.Flow (K.shown a) x) (sym b.shows) (K.flow_same (K.shown a));
-    term = subst (λ (t : T). CoreStep again W K y (K.shown a) false (y.wrap (K.left a)) (y.wrap t)) (K.left_done a refl ∙ sym (K.left_done b.place refl)) (stays refl);
+    term = subst (λ (t : T). CoreStep again W K y (K.shown a) false (y.wrap (K.left a)) (y.wrap t)) (K.left_done a refl ∙ sym (K.left_done b.place refl))
+        (stays refl);
     keeps = keeps;
     turns = λ t e. absurd (cc e);
   }

@@ -1,4 +1,7 @@
 -- What is due of a statement is two moves for each node at most, and without its request no more than with it.
+--
+-- r: the request; c, u, b: the nodes of a Q-element; all, inner: what is due in full and now; w, q: the width and the rails of a receive; e, m, l, s, d:
+-- as in the core (whether guards are asked for, any guard has a rail, a latch, a start and the answer are high); n: how many branches.
 use Rattle.std.proofs.Common.{◌≡◌, ℕ, zero, suc, ◌+◌, ◌*◌, ◌≤◌, Bool, true, false, refl, arith}
 use Rattle.std.specs.Prelude.{◌||◌}
 use Rattle.width_check.specs.Processes.{Process, skipping, assigning, sending, receiving, in_turn, side_by_side, choosing, repeating, Processes, no_members, and_member, member_count, Choices, no_choices, and_choice, choice_count, TypedProgram}
@@ -113,12 +116,14 @@ mutual
   due_within P (choosing false choices) r x =
       select_most (choice_count choices) r x.ask x.any (some_bit (choice_count choices) x.latched) (some_bit (choice_count choices) x.started) x.answer
       (guards_sum mark choices x.guards) (guards_sum lack choices x.guards) (choice_most P choices) (choice_due P choices x.started x.branches)
-      (gates_in choices) (some_high (choice_count choices) x.latched) (guards_most mark mark_most choices x.guards) (guards_most lack lack_most choices x.guards)
+      (gates_in choices) (some_high (choice_count choices) x.latched) (guards_most mark mark_most choices x.guards)
+      (guards_most lack lack_most choices x.guards)
       (choice_within P choices x.started x.branches)
   due_within P (choosing true choices) r x =
       again_most (choice_count choices) r x.answer x.turn x.leave x.core.ask x.core.any (some_bit (choice_count choices) x.core.latched)
       (some_bit (choice_count choices) x.core.started) x.core.answer
-      (guards_sum mark choices x.core.guards) (guards_sum lack choices x.core.guards) (choice_most P choices) (choice_due P choices x.core.started x.core.branches)
+      (guards_sum mark choices x.core.guards) (guards_sum lack choices x.core.guards) (choice_most P choices)
+      (choice_due P choices x.core.started x.core.branches)
       (gates_in choices) (guards_most mark mark_most choices x.core.guards) (guards_most lack lack_most choices x.core.guards)
       (choice_within P choices x.core.started x.core.branches)
 

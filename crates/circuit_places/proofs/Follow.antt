@@ -142,7 +142,8 @@ module _ {P : TypedProgram} {script : List OfferValue} {most : ℕ} {hs : List (
   }
 
   -- a step that no channel sees
-  leaves : suc left_due ≤ circuit_most P → (s : Process) (left y : Term) (a : Act t s left y) → Step r.to a.at (leaving r.to a.at left) → Followed P script (suc most) hs y now after left_due
+  leaves : suc left_due ≤ circuit_most P → (s : Process) (left y : Term) (a : Act t s left y) → Step r.to a.at (leaving r.to a.at left)
+      → Followed P script (suc most) hs y now after left_due
   leaves few s left y a step = record {
     to = leaving r.to a.at left;
     steps = suc r.steps;
@@ -197,7 +198,8 @@ one_longer [] v = refl
 one_longer (x ∷ xs) v = ap (λ k. suc k) (one_longer xs v)
 
 module _ {P : TypedProgram} {script : List OfferValue} {most : ℕ} {hs : List (List ℕ)} {t : Term} (w : Wires) {busy : ℕ → Bool} {due : ℕ}
-    (fitted : Fitted P script) (r : Followed P script most hs t w.bit busy due) (left_due : ℕ) (few : suc left_due ≤ circuit_most P) (now : ℕ → Rails) (after : ℕ → Bool) (free : (x : ℕ) → after x ≡ false → (now x ≡ w.bit x) × (busy x ≡ false))
+    (fitted : Fitted P script) (r : Followed P script most hs t w.bit busy due) (left_due : ℕ) (few : suc left_due ≤ circuit_most P) (now : ℕ → Rails)
+    (after : ℕ → Bool) (free : (x : ℕ) → after x ≡ false → (now x ≡ w.bit x) × (busy x ≡ false))
     (k : ℕ) where
   -- a value passes
   module _ (y : Term) (count : Count) (offered : offer_at script k ≡ takes count) (more : is_over count (completed hs k) ≡ true)
@@ -255,7 +257,8 @@ module _ {P : TypedProgram} {script : List OfferValue} {most : ℕ} {hs : List (
       stored = kept_so r left_due now after free;
     })
 
-  acknowledged : (w.ack k ≡ true → suc left_due ≤ due) → (y : Term) → answers (channel_width P.channels k) w k (completed hs k) (offer_at script k) ≡ true → (b : Bool) → w.ack k ≡ b
+  acknowledged : (w.ack k ≡ true → suc left_due ≤ due) → (y : Term) → answers (channel_width P.channels k) w k (completed hs k) (offer_at script k) ≡ true
+      → (b : Bool) → w.ack k ≡ b
       → Passing P (wires_seen P w) busy (of_channel k) b t y
       → Followed P script (suc most) (if b then hs else cells_passed hs k (value_on (channel_width P.channels k) (w.rail (of_channel k)))) y now after
       left_due
@@ -265,7 +268,8 @@ module _ {P : TypedProgram} {script : List OfferValue} {most : ℕ} {hs : List (
       passes_on y o.count o.is (may_low (channel_width P.channels k) w k (is_over o.count (completed hs k)) h o.may).1 move
 
 module _ {P : TypedProgram} {script : List OfferValue} {most : ℕ} {hs : List (List ℕ)} {t : Term} (w : Wires) {busy : ℕ → Bool} {due : ℕ}
-    (fitted : Fitted P script) (r : Followed P script most hs t w.bit busy due) (left_due : ℕ) (few : suc left_due ≤ circuit_most P) (now : ℕ → Rails) (after : ℕ → Bool) (k : ℕ) where
+    (fitted : Fitted P script) (r : Followed P script most hs t w.bit busy due) (left_due : ℕ) (few : suc left_due ≤ circuit_most P) (now : ℕ → Rails)
+    (after : ℕ → Bool) (k : ℕ) where
   -- a value lands in a variable
   landed : (var v : ℕ) → Lands P busy after k var w → value_on (channel_width P.channels k) (w.rail (of_channel k)) ≡ Some v
       → ((x : ℕ) → after x ≡ false → now x ≡ w.bit x) → (z : ℕ) → z < length P.vars → after z ≡ false
@@ -467,7 +471,8 @@ acks w busy after fitted r left_due few y k less e brought (taken_out out move f
     (w.ack k) refl move
 acks {P = P} {script = script} {most = most} {hs = hs} w busy after fitted r left_due few y k less e brought (released heard high same free) =
     subst (λ (b : Bool). Followed P script (suc most) (if b then hs else cells_passed hs k
-    (value_on (channel_width P.channels k) (w.rail (of_channel k)))) y w.bit after left_due) (sym high) (stays r left_due w.bit after (λ x f. (refl, free x f)) (less high) y same)
+    (value_on (channel_width P.channels k) (w.rail (of_channel k)))) y w.bit after left_due) (sym high)
+    (stays r left_due w.bit after (λ x f. (refl, free x f)) (less high) y same)
 acks {P = P} {script = script} {most = most} {hs = hs} w busy after fitted r left_due few y k less e brought (taken_in heard alone a) =
     let o = fitted.hears k a.lands.within alone heard in
     let v = next_value (channel_width P.channels k) (completed hs k) (w.rail (of_channel k)) o.0 (fitted.wide k a.lands.within) (fitted.bounded k o.0 o.1)
@@ -494,7 +499,8 @@ follows w busy after fitted r brought y (own_node s) e frees left_due few step l
     silent r left_due w.bit after (calm w w busy after (λ x. refl) frees) step few less y move
 follows w busy after fitted r brought y (rail_node k i one) e frees left_due few step less move =
     silent r left_due w.bit after (calm w (rail_turned w k i one) busy after (λ x. refl) frees) step few less y move
-follows w busy after fitted r brought y (ack_node k) e frees left_due few step less move = acks w busy after fitted r left_due few y k less (e k refl) brought move
+follows w busy after fitted r brought y (ack_node k) e frees left_due few step less move =
+    acks w busy after fitted r left_due few y k less (e k refl) brought move
 follows w busy after fitted r brought y (bit_node x i one) e frees left_due few step less move =
     silent r left_due (bit_turned w x i one).bit after (calm w (bit_turned w x i one) busy after (λ x. refl) frees) step few less y move
 follows w busy after fitted r brought y (wrote_node x i) e frees left_due few step less move =

@@ -203,7 +203,18 @@ send_after P c at e env clean m u h s f z = by (site_after P (of_channel c) e en
   where
     by : SiteAfter (of_channel c) e env m u s → After (sending c at e) m env (at_send m u h) (of_send s)
     by (site_goes n x may same way fits flow left writes keeps) =
-        record { mode = n; to = at_send n x may; same = same; way = way; fits = fits; flow = flow; term = inl (refl, left _); frees = λ y i. refl; keeps = kept }
+        record {
+          mode = n;
+          to = at_send n x may;
+          same = same;
+          way = way;
+          fits = fits;
+          flow = flow;
+          term = inl (refl, left _);
+          frees = λ y i. refl;
+          keeps =
+              kept;
+        }
       where
         kept : (q : Spot (sending c at e)) → q ≢ of_send s → moves env (at_send {c = c} {at = at} {e = e} m u h) q ≡ true
             → moves env (at_send {c = c} {at = at} {e = e} n x may) q ≡ true

@@ -136,7 +136,8 @@ wider T U f _ _ goes_on = goes_on
 wider T U f _ _ (chooses {choices = choices} i t) = chooses i (f choices (body_at choices i ∷ []) t)
 wider T U f _ _ (ends {choices = choices} t) = ends (f choices [] t)
 
-pub follows_wider : (T U : Choices → List Process → Type 0) → ((choices : Choices) (ps : List Process) → T choices ps → U choices ps) → (step : Bool) (x y : Term)
+pub follows_wider : (T U : Choices → List Process → Type 0) → ((choices : Choices) (ps : List Process) → T choices ps → U choices ps)
+    → (step : Bool) (x y : Term)
     → Follows T step x y → Follows U step x y
 follows_wider T U f step x y (inl e) = inl e
 follows_wider T U f step x y (inr s) = inr (record { statement = s.statement; rest = s.rest; goes = wider T U f s.statement s.rest s.goes; act = s.act })

@@ -26,6 +26,8 @@ pub mod ChoiceMoves
 pub mod Control
 pub mod Dues
 pub mod DuesBound
+pub mod LeafDues
+pub mod ChoiceDues
 pub mod DuesFall
 pub mod Stored
 pub mod Change

@@ -183,7 +183,8 @@ mutual
   part_rule (of_arm {again = false} c) env r x s = arm_part_rule c env x.started x.branches s
   part_rule (of_arm {again = true} c) env r x s = arm_part_rule c env x.core.started x.core.branches s
 
-  arm_part_rule : {q : Process} {choices : Choices} (c : ArmPart q choices) (env : Seen) (b : Bits (choice_count choices)) (x : ChoiceCells choices) (s : Spot q)
+  arm_part_rule : {q : Process} {choices : Choices} (c : ArmPart q choices) (env : Seen) (b : Bits (choice_count choices)) (x : ChoiceCells choices)
+      (s : Spot q)
       → choice_rule choices env b x (arm_part_spot c s) ≡ rule q env (arm_part_request c b x) (arm_part_cells c x) s
   arm_part_rule (this_arm h) env b x s = part_rule h env b.0 x.0 s
   arm_part_rule (other_arm c) env b x s = arm_part_rule c env b.1 x.1 s

@@ -1,5 +1,8 @@
 -- How a part's handshake goes: of two parts that take turns one rests, its request moves only towards what the answer isn't,
 -- and its answer only towards the request.
+--
+-- p, q, s: statements; h, k: where parts stand; t, u, c, d: the same in a sequence or a selection; m, n: modes; r: the request; a, g, b: where a
+-- statement, a guarded member, branches are.
 use Rattle.std.proofs.Common.{◌≡◌, ◌⊎◌, inl, inr, ℕ, Bool, true, false, List, refl, sym, ap, ◌∙◌, subst}
 use Rattle.std.specs.Prelude.{not, if◌then◌else◌}
 use Rattle.width_check.specs.Processes.{Process, Processes, and_member, Choices, choice_count}
@@ -159,13 +162,15 @@ back_answered returning running h = absurd (cc h)
 back_answered returning returning h = absurd (cc h)
 
 -- a start that falls had its branch answer
-start_falls : (k : Mode) {n : ℕ} (i j : Index n) → isnt_running k ≡ true → bit_of i (hot j (asks k)) ≡ true → bit_of i (hot j (asks k)) ≡ bit_of i (hot j (acks k))
+start_falls : (k : Mode) {n : ℕ} (i j : Index n) → isnt_running k ≡ true → bit_of i (hot j (asks k)) ≡ true
+    → bit_of i (hot j (asks k)) ≡ bit_of i (hot j (acks k))
 start_falls idle i j h e = refl
 start_falls running i j h e = absurd (cc h)
 start_falls answered i j h e = refl
 start_falls returning i j h e = absurd (cc (hot_is j i false e).1)
 
-own_phase : {q : Process} {again : Bool} {choices : Choices} {m : Mode} (c : ArmPart q choices) (x : ChoiceAt again choices m) (s : OwnSpot (choice_count choices))
+own_phase : {q : Process} {again : Bool} {choices : Choices} {m : Mode} (c : ArmPart q choices) (x : ChoiceAt again choices m)
+    (s : OwnSpot (choice_count choices))
     → choice_own x s ≡ true
     → Phased (arm_part_request c (turned_own (choice_cells x) s).started (turned_own (choice_cells x) s).branches)
     (arm_part_request c (choice_cells x).started (choice_cells x).branches) (answer q (arm_part_cells c (choice_cells x).branches))
@@ -234,7 +239,8 @@ mutual
   phase (of_arm {again = true} c) env (at_closing y) (of_round of_turn) e = inl refl
   phase (of_arm {again = true} c) env (at_closing y) (of_round of_leave) e = inl refl
 
-  arm_phase : {q : Process} {again : Bool} {choices : Choices} {m : Mode} (c : ArmPart q choices) (env : Seen) (x : ChoiceAt again choices m) (s : ChoiceSpot choices)
+  arm_phase : {q : Process} {again : Bool} {choices : Choices} {m : Mode} (c : ArmPart q choices) (env : Seen) (x : ChoiceAt again choices m)
+      (s : ChoiceSpot choices)
       → choice_inner env x s ≡ true
       → Phased (arm_part_request c (choice_cells x).started (turned_choice choices (choice_cells x).branches s))
       (arm_part_request c (choice_cells x).started (choice_cells x).branches) (answer q (arm_part_cells c (choice_cells x).branches))
@@ -254,7 +260,8 @@ mutual
 
   side_phase : {q : Process} {members : Processes} {ks : List Mode} (t : SidePart q members) (env : Seen) (b : BranchesAt members ks) (s : BranchSpot members)
       → branch_moves env b s ≡ true
-      → Phased (side_part_request t (turned_branches members (branch_cells b) s)) (side_part_request t (branch_cells b)) (answer q (side_part_cells t (branch_cells b)))
+      → Phased (side_part_request t (turned_branches members (branch_cells b) s)) (side_part_request t (branch_cells b))
+      (answer q (side_part_cells t (branch_cells b)))
   side_phase (this_side h) env (and_at g b) (in_this s) e = guarded_phase h env g s e
   side_phase (this_side h) env (and_at g b) (in_others s) e = inl refl
   side_phase (other_side t) env (and_at g b) (in_this s) e = inl refl

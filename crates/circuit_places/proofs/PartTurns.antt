@@ -1,4 +1,7 @@
 -- In each state that is reached the parts of the program take turns.
+--
+-- P: the program; q, p, s: statements, where s may be a spot; h, k, t, c: where a part stands, in a sequence t, in a selection c; n: a spot or a node;
+-- x: cells.
 use Rattle.std.proofs.Common.{◌≡◌, ◌⊎◌, inl, inr, ℕ, Bool, true, false, List, refl, sym, ap, ◌∙◌, subst}
 use Rattle.std.specs.Prelude.{◌||◌}
 use Rattle.env_script.specs.Scripts.{OfferValue}
@@ -36,13 +39,15 @@ mutual
   inside (of_member {members = members} t) (in_members s) = by (turn_inside t s)
     where
       by : ((n : Spot _) × (s ≡ turn_part_spot t n)) ⊎ ((x : TurnCells members) → turn_part_cells t (turned_turn members x s) ≡ turn_part_cells t x)
-          → ((n : Spot _) × (in_members s ≡ part_spot (of_member t) n)) ⊎ ((x : Cells (in_turn members)) → part_cells (of_member t) (flipped (in_turn members) x (in_members s)) ≡ part_cells (of_member t) x)
+          → ((n : Spot _) × (in_members s ≡ part_spot (of_member t) n))
+          ⊎ ((x : Cells (in_turn members)) → part_cells (of_member t) (flipped (in_turn members) x (in_members s)) ≡ part_cells (of_member t) x)
       by (inl z) = inl (z.0, ap (λ y. in_members y) z.1)
       by (inr f) = inr f
   inside (of_side {members = members} t) (of_branch s) = by (side_inside t s)
     where
       by : ((n : Spot _) × (s ≡ side_part_spot t n)) ⊎ ((x : BranchCells members) → side_part_cells t (turned_branches members x s) ≡ side_part_cells t x)
-          → ((n : Spot _) × (of_branch s ≡ part_spot (of_side t) n)) ⊎ ((x : Cells (side_by_side members)) → part_cells (of_side t) (flipped (side_by_side members) x (of_branch s)) ≡ part_cells (of_side t) x)
+          → ((n : Spot _) × (of_branch s ≡ part_spot (of_side t) n))
+          ⊎ ((x : Cells (side_by_side members)) → part_cells (of_side t) (flipped (side_by_side members) x (of_branch s)) ≡ part_cells (of_side t) x)
       by (inl z) = inl (z.0, ap (λ y. of_branch y) z.1)
       by (inr f) = inr (λ x. f x.branches)
   inside (of_side t) (joint k) = inr (λ x. refl)
@@ -51,7 +56,8 @@ mutual
   inside (of_body {p = p} h) (in_body s) = by (inside h s)
     where
       by : ((n : Spot _) × (s ≡ part_spot h n)) ⊎ ((x : Cells p) → part_cells h (flipped p x s) ≡ part_cells h x)
-          → ((n : Spot _) × (in_body s ≡ part_spot (of_body h) n)) ⊎ ((x : Cells (repeating p)) → part_cells (of_body h) (flipped (repeating p) x (in_body s)) ≡ part_cells (of_body h) x)
+          → ((n : Spot _) × (in_body s ≡ part_spot (of_body h) n))
+          ⊎ ((x : Cells (repeating p)) → part_cells (of_body h) (flipped (repeating p) x (in_body s)) ≡ part_cells (of_body h) x)
       by (inl z) = inl (z.0, ap (λ y. in_body y) z.1)
       by (inr f) = inr (λ x. f x.inner)
   inside (of_arm {again = false} c) (of_core s) = inr (λ x. ap (λ b. arm_part_cells c b) (own_branches x s))
@@ -59,7 +65,9 @@ mutual
   inside (of_arm {again = false} {choices = choices} c) (of_choice s) = by (arm_inside c s)
     where
       by : ((n : Spot _) × (s ≡ arm_part_spot c n)) ⊎ ((x : ChoiceCells choices) → arm_part_cells c (turned_choice choices x s) ≡ arm_part_cells c x)
-          → ((n : Spot _) × (of_choice {again = false} s ≡ part_spot (of_arm {again = false} c) n)) ⊎ ((x : Cells (choosing false choices)) → part_cells (of_arm {again = false} c) (flipped (choosing false choices) x (of_choice s)) ≡ part_cells (of_arm {again = false} c) x)
+          → ((n : Spot _) × (of_choice {again = false} s ≡ part_spot (of_arm {again = false} c) n))
+          ⊎ ((x : Cells (choosing false choices)) → part_cells (of_arm {again = false} c) (flipped (choosing false choices) x (of_choice s)) ≡ part_cells
+          (of_arm {again = false} c) x)
       by (inl z) = inl (z.0, ap (λ y. of_choice {again = false} y) z.1)
       by (inr f) = inr (λ x. f x.branches)
   inside (of_arm {again = true} c) (of_core s) = inr (λ x. ap (λ b. arm_part_cells c b) (own_branches x.core s))
@@ -68,7 +76,9 @@ mutual
   inside (of_arm {again = true} {choices = choices} c) (of_choice s) = by (arm_inside c s)
     where
       by : ((n : Spot _) × (s ≡ arm_part_spot c n)) ⊎ ((x : ChoiceCells choices) → arm_part_cells c (turned_choice choices x s) ≡ arm_part_cells c x)
-          → ((n : Spot _) × (of_choice {again = true} s ≡ part_spot (of_arm {again = true} c) n)) ⊎ ((x : Cells (choosing true choices)) → part_cells (of_arm {again = true} c) (flipped (choosing true choices) x (of_choice s)) ≡ part_cells (of_arm {again = true} c) x)
+          → ((n : Spot _) × (of_choice {again = true} s ≡ part_spot (of_arm {again = true} c) n))
+          ⊎ ((x : Cells (choosing true choices)) → part_cells (of_arm {again = true} c) (flipped (choosing true choices) x (of_choice s)) ≡ part_cells
+          (of_arm {again = true} c) x)
       by (inl z) = inl (z.0, ap (λ y. of_choice {again = true} y) z.1)
       by (inr f) = inr (λ x. f x.core.branches)
 
@@ -77,7 +87,8 @@ mutual
   arm_inside (this_arm {g = g} {p = p} {more = more} h) (this_choice s) = by (inside h s)
     where
       by : ((n : Spot _) × (s ≡ part_spot h n)) ⊎ ((x : Cells p) → part_cells h (flipped p x s) ≡ part_cells h x)
-          → ((n : Spot _) × (this_choice {g = g} {more = more} s ≡ arm_part_spot (this_arm {g = g} {more = more} h) n)) ⊎ ((x : ChoiceCells (and_choice g p more)) → part_cells h (flipped p x.0 s) ≡ part_cells h x.0)
+          → ((n : Spot _) × (this_choice {g = g} {more = more} s ≡ arm_part_spot (this_arm {g = g} {more = more} h) n))
+          ⊎ ((x : ChoiceCells (and_choice g p more)) → part_cells h (flipped p x.0 s) ≡ part_cells h x.0)
       by (inl z) = inl (z.0, ap (λ y. this_choice {g = g} {more = more} y) z.1)
       by (inr f) = inr (λ x. f x.0)
   arm_inside (this_arm h) (other_choice s) = inr (λ x. refl)
@@ -85,7 +96,8 @@ mutual
   arm_inside (other_arm {g = g} {p = p} {more = more} c) (other_choice s) = by (arm_inside c s)
     where
       by : ((n : Spot _) × (s ≡ arm_part_spot c n)) ⊎ ((x : ChoiceCells more) → arm_part_cells c (turned_choice more x s) ≡ arm_part_cells c x)
-          → ((n : Spot _) × (other_choice {g = g} {p = p} s ≡ arm_part_spot (other_arm {g = g} {p = p} c) n)) ⊎ ((x : ChoiceCells (and_choice g p more)) → arm_part_cells c (turned_choice more x.1 s) ≡ arm_part_cells c x.1)
+          → ((n : Spot _) × (other_choice {g = g} {p = p} s ≡ arm_part_spot (other_arm {g = g} {p = p} c) n))
+          ⊎ ((x : ChoiceCells (and_choice g p more)) → arm_part_cells c (turned_choice more x.1 s) ≡ arm_part_cells c x.1)
       by (inl z) = inl (z.0, ap (λ y. other_choice {g = g} {p = p} y) z.1)
       by (inr f) = inr (λ x. f x.1)
 
@@ -97,7 +109,8 @@ mutual
   side_inside (this_side {p = p} {more = more} h) (in_this (inner s)) = by (inside h s)
     where
       by : ((n : Spot _) × (s ≡ part_spot h n)) ⊎ ((x : Cells p) → part_cells h (flipped p x s) ≡ part_cells h x)
-          → ((n : Spot _) × (in_this {more = more} (inner s) ≡ side_part_spot (this_side {more = more} h) n)) ⊎ ((x : BranchCells (and_member p more)) → part_cells h (flipped p x.0.inner s) ≡ part_cells h x.0.inner)
+          → ((n : Spot _) × (in_this {more = more} (inner s) ≡ side_part_spot (this_side {more = more} h) n))
+          ⊎ ((x : BranchCells (and_member p more)) → part_cells h (flipped p x.0.inner s) ≡ part_cells h x.0.inner)
       by (inl z) = inl (z.0, ap (λ y. in_this {more = more} (inner y)) z.1)
       by (inr f) = inr (λ x. f x.0.inner)
   side_inside (this_side h) (in_others s) = inr (λ x. refl)
@@ -105,7 +118,8 @@ mutual
   side_inside (other_side {p = p} {more = more} t) (in_others s) = by (side_inside t s)
     where
       by : ((n : Spot _) × (s ≡ side_part_spot t n)) ⊎ ((x : BranchCells more) → side_part_cells t (turned_branches more x s) ≡ side_part_cells t x)
-          → ((n : Spot _) × (in_others {p = p} s ≡ side_part_spot (other_side {p = p} t) n)) ⊎ ((x : BranchCells (and_member p more)) → side_part_cells t (turned_branches more x.1 s) ≡ side_part_cells t x.1)
+          → ((n : Spot _) × (in_others {p = p} s ≡ side_part_spot (other_side {p = p} t) n))
+          ⊎ ((x : BranchCells (and_member p more)) → side_part_cells t (turned_branches more x.1 s) ≡ side_part_cells t x.1)
       by (inl z) = inl (z.0, ap (λ y. in_others {p = p} y) z.1)
       by (inr f) = inr (λ x. f x.1)
 
@@ -131,7 +145,8 @@ mutual
   turn_inside (later_part t) (in_member s) = inr (λ x. refl)
   turn_inside (later_part {p = p} {s = b} {more = more} t) (in_later s) = by (turn_inside t s)
     where
-      by : ((n : Spot _) × (s ≡ turn_part_spot t n)) ⊎ ((x : TurnCells (and_member b more)) → turn_part_cells t (turned_turn (and_member b more) x s) ≡ turn_part_cells t x)
+      by : ((n : Spot _) × (s ≡ turn_part_spot t n)) ⊎ ((x : TurnCells (and_member b more))
+          → turn_part_cells t (turned_turn (and_member b more) x s) ≡ turn_part_cells t x)
           → ((n : Spot _) × (in_later {p = p} s ≡ turn_part_spot (later_part {p = p} t) n))
           ⊎ ((x : TurnCells (and_member p (and_member b more))) → turn_part_cells t (turned_turn (and_member b more) x.later s) ≡ turn_part_cells t x.later)
       by (inl z) = inl (z.0, ap (λ y. in_later {p = p} y) z.1)

@@ -25,11 +25,13 @@ this_after {p = p} {more = more} {ks = ks} env g b s f r = record {
   way = this_goes r.way;
   fits = (r.fits, f);
   flow = flow_both env (guarded_shown g) (guarded_shown r.to) (branches_shown b) (branches_shown b) r.flow (flow_same env (branches_shown b));
-  term = this_follows (ToldBy env (λ x. (guarded_shown g).read x || (branches_shown b).read x)) (branches_left env.ack b) (guarded_steps g s) (guarded_left env.ack g)
+  term = this_follows (ToldBy env (λ x. (guarded_shown g).read x || (branches_shown b).read x)) (branches_left env.ack b) (guarded_steps g s)
+      (guarded_left env.ack g)
       (guarded_left env.ack r.to)
       (follows_wider (ToldBy env (guarded_shown g).read) (ToldBy env (λ x. (guarded_shown g).read x || (branches_shown b).read x))
       (told_wider env (guarded_shown g).read (λ x. (guarded_shown g).read x || (branches_shown b).read x)
-      (λ x h. or_left ((guarded_shown g).read x) ((branches_shown b).read x) h)) (guarded_steps g s) (guarded_left env.ack g) (guarded_left env.ack r.to) r.term);
+      (λ x h. or_left ((guarded_shown g).read x) ((branches_shown b).read x) h)) (guarded_steps g s) (guarded_left env.ack g)
+      (guarded_left env.ack r.to) r.term);
   frees = λ x e. or_free (guarded_writing env.ack g x) (branches_writing env.ack b x) (guarded_writing env.ack r.to x) (branches_writing env.ack b x)
       (r.frees x) (λ i. i) e;
   keeps = here;
@@ -48,11 +50,13 @@ others_after {p = p} {more = more} {k = k} env g b s f r = record {
   way = other_goes r.way;
   fits = (f, r.fits);
   flow = flow_both env (guarded_shown g) (guarded_shown g) (branches_shown b) (branches_shown r.to) (flow_same env (guarded_shown g)) r.flow;
-  term = other_follows (ToldBy env (λ x. (guarded_shown g).read x || (branches_shown b).read x)) (guarded_left env.ack g) (branch_steps b s) (branches_left env.ack b)
+  term = other_follows (ToldBy env (λ x. (guarded_shown g).read x || (branches_shown b).read x)) (guarded_left env.ack g) (branch_steps b s)
+      (branches_left env.ack b)
       (branches_left env.ack r.to)
       (inside_wider (ToldBy env (branches_shown b).read) (ToldBy env (λ x. (guarded_shown g).read x || (branches_shown b).read x))
       (told_wider env (branches_shown b).read (λ x. (guarded_shown g).read x || (branches_shown b).read x)
-      (λ x h. or_right ((guarded_shown g).read x) ((branches_shown b).read x) h)) (branch_steps b s) (branches_left env.ack b) (branches_left env.ack r.to) r.term);
+      (λ x h. or_right ((guarded_shown g).read x) ((branches_shown b).read x) h)) (branch_steps b s) (branches_left env.ack b)
+      (branches_left env.ack r.to) r.term);
   frees = λ x e. or_free (guarded_writing env.ack g x) (branches_writing env.ack b x) (guarded_writing env.ack g x) (branches_writing env.ack r.to x) (λ i. i)
       (r.frees x) e;
   keeps = here;

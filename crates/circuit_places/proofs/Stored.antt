@@ -1,4 +1,7 @@
 -- Where a variable is being written while its own acknowledge is high, a receive has stored into it, and holds a rail of each bit.
+--
+-- env: what the environment shows; c, x, y: a channel and variables; k, q: the answer and the rails of a receive; f, g: who holds a rail, or that
+-- the cells fit; a, b, t: where a statement, branches, a sequence are.
 use Rattle.std.proofs.Common.{◌≡◌, ℕ, ◌<◌, ◌==◌, Bool, true, false, List, refl, sym, ap, ◌∙◌, subst}
 use Rattle.std.specs.Prelude.{◌&&◌, ◌||◌, is_some}
 use Rattle.prs_core.specs.Deciding.{implies}
@@ -36,7 +39,8 @@ right_held env {x = x} f g h i less = let r = h i less in (r.0, or_right (f (of_
 port_stored : (env : Seen) (c y : ℕ) (k : Bool) (q : Rails) → (env.ack (of_var y) ≡ true → is_some (value_on (env.width (of_var y)) q) ≡ true) → (x : ℕ) → y ≡ x
     → env.ack (of_var x) ≡ true → Held env x (port_shown c y k q).offer
 port_stored env c y k q all x same high i less =
-    let r = each_bit (env.width (of_var y)) q (all (ap (λ v. env.ack (of_var v)) same ∙ high)) i (subst (λ (v : ℕ). i < env.width (of_var v)) (sym same) less) in
+    let r = each_bit (env.width (of_var y)) q (all (ap (λ v. env.ack (of_var v)) same ∙ high)) i
+    (subst (λ (v : ℕ). i < env.width (of_var v)) (sym same) less) in
     (r.0, both_true (y == x) (q i r.0) (ap (λ v. y == v) (sym same) ∙ self_number y) r.1)
 
 mutual
@@ -84,7 +88,8 @@ mutual
   branches_stored env (and_at g b) f x high e = cases (guarded_writing env.ack g x)
       (λ (z : guarded_writing env.ack g x ≡ true). left_held env (guarded_shown g).offer (branches_shown b).offer (guarded_stored env g f.0 x high z))
       (λ (z : guarded_writing env.ack g x ≡ false).
-      right_held env (guarded_shown g).offer (branches_shown b).offer (branches_stored env b f.1 x high (sym (ap (λ c. c || branches_writing env.ack b x) z) ∙ e)))
+      right_held env (guarded_shown g).offer (branches_shown b).offer
+      (branches_stored env b f.1 x high (sym (ap (λ c. c || branches_writing env.ack b x) z) ∙ e)))
 
   turn_stored : {members : Processes} {m : Mode} (env : Seen) (t : TurnAt members m) → TurnFits t env → (x : ℕ) → env.ack (of_var x) ≡ true
       → turn_writing env.ack t x ≡ true → Held env x (turn_shown t).offer

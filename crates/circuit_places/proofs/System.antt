@@ -199,7 +199,8 @@ pub record Next (P : TypedProgram) (script : List OfferValue) (m : Mode) (g : Gu
   pub go : asks mode ≡ go_after (asks m) n
   pub way : m ≢ returning → mode ≢ returning
   pub good : Good P mode to (wires_after w n)
-  pub term : m ≢ returning → Moves P w (guarded_writing (line_ack P w) g) (guarded_writing (line_ack P (wires_after w n)) to) (node_steps g n) (root_left (line_ack P w) g)
+  pub term : m ≢ returning → Moves P w (guarded_writing (line_ack P w) g) (guarded_writing (line_ack P (wires_after w n)) to) (node_steps g n)
+      (root_left (line_ack P w) g)
       (root_left (line_ack P (wires_after w n)) to) n
   pub frees : (x : ℕ) → Freed P w (wires_after w n) (guarded_writing (line_ack P w) g x) (guarded_writing (line_ack P (wires_after w n)) to x) x (Arrival P w n)
   pub keeps : (k : Node P.body) → k ≢ n → can P script g w hs k ≡ true → can P script to (wires_after w n) (passed_after P.channels w hs n) k ≡ true
@@ -318,7 +319,8 @@ module _ (P : TypedProgram) (script : List OfferValue) {m : Mode} {g : GuardedAt
             (λ (e : guarded_writing (line_ack P w) g x ≡ true). absurd (cc (guarded_writing_unread P (line_ack P w) g good.meets x e, read)))
             (λ (e : guarded_writing (line_ack P w) g x ≡ false). e)
 
-    own_term : m ≢ returning → Follows (Decided P w.bit (guarded_writing (line_ack P w) g)) (guarded_steps g s) (root_left (line_ack P w) g) (root_left (line_ack P w) r.to)
+    own_term : m ≢ returning → Follows (Decided P w.bit (guarded_writing (line_ack P w) g)) (guarded_steps g s) (root_left (line_ack P w) g)
+        (root_left (line_ack P w) r.to)
     own_term ne = here m r.mode g r.to r.way ne
         (follows_wider (ToldBy (wires_seen P w) (guarded_shown g).read) (Decided P w.bit (guarded_writing (line_ack P w) g))
         told (guarded_steps g s) (guarded_left (line_ack P w) g) (guarded_left (line_ack P w) r.to) r.term)

@@ -214,7 +214,8 @@ each_wired P p k (c ∷ cs) h =
 
 -- a net with a program's wires and names, whose first values are low before the blocks of variables, and where nothing else
 -- drives what the environment does
-module _ (p : TypedProgram) (typed : IsTyped p.channels p.vars p.body) (count : ℕ) (small : root_request p + count ≤ 65536) (first : List Bool) (rules : RulesValue)
+module _ (p : TypedProgram) (typed : IsTyped p.channels p.vars p.body) (count : ℕ) (small : root_request p + count ≤ 65536) (first : List Bool)
+    (rules : RulesValue)
     (long : length first ≡ root_request p + count) (lows : (m : ℕ) → m < vars_from p → get_or first m false ≡ false) where
   abbrev pub some_net : NetValue
   some_net = net_of (names_to p count) first rules (wires_from p 0 p.channels) None
@@ -236,10 +237,12 @@ module _ (p : TypedProgram) (typed : IsTyped p.channels p.vars p.body) (count : 
   in_net : (m : ℕ) → m < vars_from p → m < length first
   in_net m lt = omega (arith, long, lt)
 
-  module _ (outside : (k : ℕ) → k < length p.channels → All (IsUndriven some_net) (wires_from_outside (kind_at p.channels k) (rails_of (rails_at p k)) (ack_at p k))) where
+  module _ (outside : (k : ℕ) → k < length p.channels → All (IsUndriven some_net)
+      (wires_from_outside (kind_at p.channels k) (rails_of (rails_at p k)) (ack_at p k))) where
     named_at : (k m : ℕ) (name : List ℕ) → get_or (wire_names p.channels ++ blocks_and_body p typed count small) (wires_before p.channels k + m) [] ≡ name →
         name_at some_net (channel_from p k + m) ≡ name
-    named_at k m name h = ap (λ i. get_or (names_to p count) i []) (let e : channel_from p k + m ≡ suc (suc (wires_before p.channels k + m)) = omega arith in e) ∙ h
+    named_at k m name h = ap (λ i. get_or (names_to p count) i []) (let e : channel_from p k + m ≡ suc (suc (wires_before p.channels k + m)) = omega arith in e)
+        ∙ h
 
     channel_is : (k : ℕ) (c : Channel) → k < length p.channels → channel_at p.channels k c → IsChannel some_net (wired p k c)
     channel_is k c h at =
@@ -381,5 +384,6 @@ module _ (p : TypedProgram) (typed : IsTyped p.channels p.vars p.body) (small : 
         let few = few_literals counted p typed in
         let filled = all_filled p (λ choices from h. pairs_of_guards counted p choices from h) typed.body_is in
         net_is p typed (2 + size_of p p.body) (omega (arith, small)) (first_values p) (composed p) (omega (arith, first)) (low_before p)
-        (λ k h. outside_of k h (kind_at p.channels k) refl) (omega (arith, first, up)) rules (ups_filled (all_rules p) filled) (downs_filled (all_rules p) filled)
+        (λ k h. outside_of k h (kind_at p.channels k) refl) (omega (arith, first, up)) rules (ups_filled (all_rules p) filled)
+        (downs_filled (all_rules p) filled)
         (omega (arith, few, first)) (record { up = refl; down = refl })

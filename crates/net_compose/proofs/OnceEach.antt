@@ -92,7 +92,8 @@ split : (reset : Option ℕ) (ns : List ℕ) → length ns ≤ suc (length (unti
 split reset [] = omega arith
 split reset (n ∷ ns) = by_test (is_reset reset n) (split reset ns)
   where
-    by_test : (b : Bool) → length ns ≤ suc (length (until_reset reset ns) + moves_since_reset reset ns) → suc (length ns) ≤ suc (length (if b then [] else n ∷ until_reset reset ns) + (if b then length ns else moves_since_reset reset ns))
+    by_test : (b : Bool) → length ns ≤ suc (length (until_reset reset ns) + moves_since_reset reset ns)
+        → suc (length ns) ≤ suc (length (if b then [] else n ∷ until_reset reset ns) + (if b then length ns else moves_since_reset reset ns))
     by_test true later = omega arith
     by_test false later = omega (arith, later)
 
@@ -101,7 +102,8 @@ module _ (net : NetValue) (script : List OfferValue) (node : ℕ) (long : length
   until_below st [] run = tt
   until_below st (n ∷ ns) run = by_test (n == node) refl (until_below (moved net st n) ns run.1)
     where
-      by_test : (b : Bool) → (n == node) ≡ b → Each (λ n. n < node) (until_reset (Some node) ns) → Each (λ n. n < node) (if b then [] else n ∷ until_reset (Some node) ns)
+      by_test : (b : Bool) → (n == node) ≡ b → Each (λ n. n < node) (until_reset (Some node) ns)
+          → Each (λ n. n < node) (if b then [] else n ∷ until_reset (Some node) ns)
       by_test true same later = tt
       by_test false other later =
           let within = move_in net script st n is run.0 in

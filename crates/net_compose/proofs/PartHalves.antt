@@ -302,14 +302,16 @@ module _ (counted : Counted) (P : TypedProgram) where
       walk n (of_arm {again = false} {choices = choices} d) t plain r from s to asked nodes =
           let bodies = own_bodies P choices (from + select_own + choice_count choices) (bodies_from choices select_own from) in
           let long = select_long counted P choices t r from in
-          arm_walk n d t.2 plain (from + select_own + choice_count choices) (bodies_from choices select_own from) (to + select_own + choice_count (halved_choices n choices))
+          arm_walk n d t.2 plain (from + select_own + choice_count choices) (bodies_from choices select_own from)
+          (to + select_own + choice_count (halved_choices n choices))
           (bodies_from (halved_choices n choices) select_own to)
           (arm_starts n choices select_own from to (select_front P choices r from) bodies long nodes)
           (arm_nodes n choices select_own from to (select_front P choices r from) bodies long nodes)
       walk n (of_arm {again = true} {choices = choices} d) t plain r from s to asked nodes =
           let bodies = own_bodies P choices (from + again_own + choice_count choices) (bodies_from choices again_own from) in
           let long = again_long counted P choices t r from in
-          arm_walk n d t.2 plain (from + again_own + choice_count choices) (bodies_from choices again_own from) (to + again_own + choice_count (halved_choices n choices))
+          arm_walk n d t.2 plain (from + again_own + choice_count choices) (bodies_from choices again_own from)
+          (to + again_own + choice_count (halved_choices n choices))
           (bodies_from (halved_choices n choices) again_own to)
           (arm_starts n choices again_own from to (again_front P choices r from) bodies long nodes)
           (arm_nodes n choices again_own from to (again_front P choices r from) bodies long nodes)

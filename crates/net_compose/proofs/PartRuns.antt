@@ -59,7 +59,8 @@ module _ (P : TypedProgram) (given : Given P) where
         → (i : ℕ) → i < size_of P q → move_enabled (translation P) script st (first_of_part P h + i) ≡ false
     still_at h c a d i less = let n = at_number h i less in n.can ∙ turns.still h (sym (seen h).asked ∙ a) (sym (seen h).answered ∙ d) n.spot
 
-    rests_at : {q : Process} (h : PartOf q P.body) → ReadsNoTarget q → high st.values (request_of_part P h) ≡ false → high st.values (answer_of_part P h) ≡ false
+    rests_at : {q : Process} (h : PartOf q P.body) → ReadsNoTarget q → high st.values (request_of_part P h) ≡ false
+        → high st.values (answer_of_part P h) ≡ false
         → (i : ℕ) → i < size_of P q → move_enabled (translation P) script st (first_of_part P h + i) ≡ false
     rests_at h c a d i less = let n = at_number h i less in n.can ∙ turns.rests h (sym (seen h).asked ∙ a) (sym (seen h).answered ∙ d) n.spot
 

@@ -79,7 +79,8 @@ module _ (net : NetValue) (p : TypedProgram) (most : ℕ → ℕ) (from_first : 
       by false e = refl
       by true e = let within = move_in (reset_of net) script st n whole e in absurd (omega (arith, within, far))
 
-  level : WhereItRests (reset_of net) p values (λ m c script moves. IsAtRest (reset_of net) script (after (reset_of net) (begin_at (reset_of net) values) moves) →
+  level : WhereItRests (reset_of net) p values (λ m c script moves. IsAtRest (reset_of net) script
+      (after (reset_of net) (begin_at (reset_of net) values) moves) →
       IsLevel (after (reset_of net) (begin_at (reset_of net) values) moves) c)
   level script fits m c over moves run still = by (each script values powered moves run).course
     where

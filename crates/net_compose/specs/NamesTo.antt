@@ -1,4 +1,4 @@
--- The names of the nodes of a net whose wires and variables are those of a program, where so many nodes come after these.
+-- The names of the nodes of a net whose wires and variables are those of a program, where so many more come after.
 use Rattle.std.specs.Prelude.{ℕ, List, ◌∷◌, ◌++◌, codes}
 use Rattle.width_check.specs.Processes.{TypedProgram}
 use Rattle.handshake_expand.specs.Layout.{vars_from, root_request}

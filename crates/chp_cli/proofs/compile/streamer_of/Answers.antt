@@ -9,4 +9,5 @@ returns-then-reset-clause-compiled c =
 
 pub returns-else-reset-clause-compiled : goal.returns-else-reset-clause-compiled
 returns-else-reset-clause-compiled c =
-    rw c.if-reset.false (plain_compiled (typed_of c.args.program.now) c.new.result c.new.ensures.text c.new.ensures.net c.new.ensures.carries c.new.ensures.progresses)
+    rw c.if-reset.false (plain_compiled (typed_of c.args.program.now) c.new.result c.new.ensures.text c.new.ensures.net c.new.ensures.carries
+    c.new.ensures.progresses)
