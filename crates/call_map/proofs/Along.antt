@@ -1,16 +1,20 @@
 -- Each run of a net with shared bodies, from its first values.
+--
+-- A: the net with shared bodies; B: the net with copies; S: how they are numbered; st: a state of a net; ns: a run.
 use Rattle.std.proofs.Common.{◌≡◌, ℕ, Bool, true, List, [], ◌∷◌, ◌++◌, None, refl, sym, ap, ◌∙◌, subst}
 use Rattle.prs_core.specs.declared.wires.Wires.{Wires}
 use Rattle.prs_core.specs.Nets.{RulesValue, NetValue, net_of}
 use Rattle.prs_core.specs.Moves.{high}
 use Rattle.env_script.specs.Scripts.{OfferValue}
 use Rattle.env_script.specs.Runs.{RunState, move_enabled, moved, IsRun, after, begin_at, IsApart, IsSafeMove, IsSafeRun}
-use Rattle.call_map.specs.Shared.{plainly, Sharing, IsShared, CopiesKeep, IsSafeAt}
+use Rattle.call_map.specs.Shared.{plainly, Sharing, SharesBodies, CopiesKeep, IsSafeAt}
 use Rattle.call_map.specs.Carrying.{CopiesKeepAlong, SafeAlong, IsMirrored, SharedRuns}
-use Rattle.call_map.proofs.Mapped.{mirror, tells_first, rest_there}
+use Rattle.call_map.proofs.MapStates.{Mapping}
+use Rattle.call_map.proofs.MapRuns.{mirror, tells_first, rest_there}
 
 module _ (net : NetValue) (script : List OfferValue) where
-  run_on : (ns : List ℕ) (st : RunState) (n : ℕ) → IsRun net script st ns → move_enabled net script (after net st ns) n ≡ true → IsRun net script st (ns ++ n ∷ [])
+  run_on : (ns : List ℕ) (st : RunState) (n : ℕ) → IsRun net script st ns → move_enabled net script (after net st ns) n ≡ true
+      → IsRun net script st (ns ++ n ∷ [])
   run_on [] st n run on = (on, tt)
   run_on (m ∷ ns) st n run on = (run.0, run_on ns (moved net st m) n run.1 on)
 
@@ -53,15 +57,27 @@ module _ (names more_names : List (List ℕ)) (first more_first : List Bool) (ru
   abbrev B : NetValue
   B = net_of more_names more_first more_rules ws None
 
-  pub mirrored : IsShared A B S → (script : List OfferValue) → SafeAlong B script → CopiesKeepAlong B S script
+  pub mirrored : SharesBodies A B S → (script : List OfferValue) → SafeAlong B script → CopiesKeepAlong B S script
       → (ns : List ℕ) → IsRun A script (begin_at A first) ns → IsMirrored A B S script ns
   mirrored is script safe keep ns run =
-      let next = reached_next B script in
-      let safe_at = reached_safe B script safe in
-      let keeps = reached_keeps B script S keep in
-      let begins = tells_first names more_names first more_first rules more_rules ws S is script (Reached B script) next safe_at keeps ([], tt, refl) in
-      let r = mirror names more_names first more_first rules more_rules ws S is script (Reached B script) next safe_at keeps ns S.one_call (begin_at A first)
-      (begin_at B more_first) begins run in
+      let M : Mapping = record {
+        names = names;
+        more_names = more_names;
+        firsts = first;
+        more_firsts = more_first;
+        rules = rules;
+        more_rules = more_rules;
+        ws = ws;
+        S = S;
+        is = is;
+        script = script;
+        Reached = Reached B script;
+        next = reached_next B script;
+        safe = reached_safe B script safe;
+        keeps = reached_keeps B script S keep;
+      } in
+      let begins = tells_first M ([], tt, refl) in
+      let r = mirror M ns S.one_call (begin_at A first) (begin_at B more_first) begins run in
       let last = r.last in
       record {
         moves = r.moves;
@@ -72,8 +88,7 @@ module _ (names more_names : List (List ℕ)) (first more_first : List Bool) (ru
             let z = is.low_plain k h in
             ap (high (after A (begin_at A first) ns).values) (sym z.1)
             ∙ (sym (last.shows (plainly k) z.0 tt) ∙ ap (high (after B (begin_at B more_first) r.moves).values) z.2);
-        rest = rest_there names more_names first more_first rules more_rules ws S is script (Reached B script) next safe_at keeps r.cur
-            (after A (begin_at A first) ns) (after B (begin_at B more_first) r.moves) last;
+        rest = rest_there M r.cur (after A (begin_at A first) ns) (after B (begin_at B more_first) r.moves) last;
         safe = r.is_safe;
       }
 

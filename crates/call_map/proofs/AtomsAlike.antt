@@ -1,5 +1,8 @@
 -- A statement that is made of no others, and whose nodes stand in one net from one number on and in another from another:
 -- where its nodes have the same values in both, its rules say the same.
+--
+-- P: the program with copies; v, u: values of the nodes of the one net and of the other; r, s: the request of a statement in
+-- either; from, to: its first node; x, e: a variable, and what is assigned to it.
 use Rattle.std.proofs.Common.{◌≡◌, ℕ, ◌+◌, ◌*◌, ◌<◌, ◌≤◌, Bool, true, false, [], ◌∷◌, ◌++◌, length, refl, sym, ap, ◌∙◌, subst, arith}
 use Rattle.std.specs.Prelude.{if◌then◌else◌}
 use Rattle.prs_core.specs.Pairs.{pair_of, pairs_from}
@@ -42,14 +45,16 @@ module _ (P : TypedProgram) (some : (y : ℕ) → y < length P.vars → 1 ≤ va
       → v (channel_from P k + rail_place i one) ≡ u (channel_from P k + rail_place i one)
   same_rail k i one l h = let b = rail_bounds P k i one l h in low (channel_from P k + rail_place i one) (omega (arith, b.1))
 
-  pub expression_alike : (w : ℕ) (e : Formula) → IsOfWidth P.vars w e → (r from s to : ℕ) → v r ≡ u s → ((i : ℕ) → i < formula_size e → v (from + i) ≡ u (to + i))
+  pub expression_alike : (w : ℕ) (e : Formula) → IsOfWidth P.vars w e → (r from s to : ℕ) → v r ≡ u s
+      → ((i : ℕ) → i < formula_size e → v (from + i) ≡ u (to + i))
       → RulesAlike v u (formula_rules (bits_at P) e r from) (formula_rules (bits_at P) e s to)
   expression_alike w e t r from s to asked same =
       formulas_alike v u P e t.formed t.reads from to same (bits_at P) (bits_at P) (has_bits P) (has_bits P) same_bits r s asked
 
   pub shifted : (from to k n : ℕ) → ((i : ℕ) → i < k + n → v (from + i) ≡ u (to + i)) → (i : ℕ) → i < n → v (from + k + i) ≡ u (to + k + i)
   shifted from to k n same i l =
-      ap v (let z : from + k + i ≡ from + (k + i) = omega arith in z) ∙ (same (k + i) (omega (arith, l)) ∙ ap u (let z : to + (k + i) ≡ to + k + i = omega arith in z))
+      ap v (let z : from + k + i ≡ from + (k + i) = omega arith in z)
+      ∙ (same (k + i) (omega (arith, l)) ∙ ap u (let z : to + (k + i) ≡ to + k + i = omega arith in z))
 
   pub at_start : (from to n : ℕ) → 0 < n → ((i : ℕ) → i < n → v (from + i) ≡ u (to + i)) → v from ≡ u to
   at_start from to n l same = ap v (let z : from ≡ from + 0 = omega arith in z) ∙ (same 0 l ∙ ap u (let z : to + 0 ≡ to = omega arith in z))
@@ -102,7 +107,8 @@ module _ (P : TypedProgram) (some : (y : ℕ) → y < length P.vars → 1 ≤ va
         let rest_there = write_answer (there + 2) (written_at P x) ∷ read_bits (there + 2) (block_bits w to) in
         let first = answers_alike v u here (all_written w from) there (all_written w to) (formula_rules (bits_at P) e here (here + 3 + 1) ++ rest_here)
         (formula_rules (bits_at P) e there (there + 3 + 1) ++ rest_there) starts (same_written v u w from to in_block (some x declared))
-        (rules_append v u (formula_rules (bits_at P) e here (here + 3 + 1)) (formula_rules (bits_at P) e there (there + 3 + 1)) rest_here rest_there value second) in
+        (rules_append v u (formula_rules (bits_at P) e here (here + 3 + 1))
+        (formula_rules (bits_at P) e there (there + 3 + 1)) rest_here rest_there value second) in
         rules_append v u (variable_rules w from (formula_result e (here + 3 + 1) ∷ [])) (variable_rules w to (formula_result e (there + 3 + 1) ∷ []))
         (q_rules r (here + 3) here ++ (write_answer here (all_written w from) ∷ (formula_rules (bits_at P) e here (here + 3 + 1) ++ rest_here)))
         (q_rules s (there + 3) there ++ (write_answer there (all_written w to) ∷ (formula_rules (bits_at P) e there (there + 3 + 1) ++ rest_there)))
@@ -115,9 +121,11 @@ module _ (P : TypedProgram) (some : (y : ℕ) → y < length P.vars → 1 ≤ va
     through_answer : v (second_answer P x from (formula_size e)) ≡ u (second_answer P x to (formula_size e))
     through_answer =
         ap v (let z : second_answer P x from (formula_size e) ≡ here + (3 + (1 + formula_size e)) = omega arith in z)
-        ∙ (behind (3 + (1 + formula_size e)) (omega arith) ∙ ap u (let z : there + (3 + (1 + formula_size e)) ≡ second_answer P x to (formula_size e) = omega arith in z))
+        ∙ (behind (3 + (1 + formula_size e)) (omega arith)
+        ∙ ap u (let z : there + (3 + (1 + formula_size e)) ≡ second_answer P x to (formula_size e) = omega arith in z))
 
-  assign_alike : (x : ℕ) (at : Span) (e : Formula) (b : Bool) → reads x e ≡ b → x < length P.vars → IsOfWidth P.vars (var_width P.vars x) e → (r from s to : ℕ) → v r ≡ u s
+  assign_alike : (x : ℕ) (at : Span) (e : Formula) (b : Bool) → reads x e ≡ b → x < length P.vars → IsOfWidth P.vars (var_width P.vars x) e → (r from s to : ℕ)
+      → v r ≡ u s
       → ((i : ℕ) → i < (if b then through_size (var_width P.vars x) e else 1 + formula_size e) → v (from + i) ≡ u (to + i))
       → RulesAlike v u (rules_of P (assigning x at e) r from) (rules_of P (assigning x at e) s to)
   assign_alike x at e false is declared typed r from s to asked same =

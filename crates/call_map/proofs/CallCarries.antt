@@ -1,4 +1,7 @@
 -- The net with shared bodies carries the program with copies, if the copies keep their handshakes in the net of that.
+--
+-- C: the program with calls; P: that with copies; is: what is asked of C; st: a state of the net of P; c, j: calls; y: a node
+-- of a copy.
 use Rattle.std.proofs.Common.{◌≡◌, ℕ, ◌+◌, ◌<◌, List, Bool, true, false, Some, length, get_or, sym, ap, ◌∙◌, arith}
 use Rattle.std.specs.Prelude.{◌||◌}
 use Rattle.prs_core.specs.Moves.{high}
@@ -24,7 +27,8 @@ use Rattle.call_map.proofs.Picks.{answer_range}
 use Rattle.call_map.proofs.Merged.{nowhere}
 use Rattle.call_map.proofs.CallPlaces.{point}
 use Rattle.call_map.proofs.CallOrder.{CallFacts}
-use Rattle.call_map.proofs.CallShared.{answer_shift, node_asked, node_copied, sharing, is_shared}
+use Rattle.call_map.proofs.CallStands.{node_asked, node_copied, sharing}
+use Rattle.call_map.proofs.CallShared.{answer_shift, is_shared}
 use Rattle.call_map.proofs.CallFirsts.{firsts_fit}
 
 -- What copies keep, by their numbers in the net of the program with copies: for each call the request, the nodes from the
@@ -74,7 +78,8 @@ module _ (C : CallProgram) (is : CallFacts C) (script : List OfferValue) (st : R
   pub points_keep : PointsKeep C script st → CopiesKeep (translation P) (sharing C is) script st
   points_keep k = record {
     turn = λ c l on.
-        ap value (node_asked C is c l) ∙ (k.turn c l (ap (move_enabled (translation P) script st) (sym (node_asked C is c l)) ∙ on) ∙ ap value (sym (answer_node c l)));
+        ap value (node_asked C is c l)
+        ∙ (k.turn c l (ap (move_enabled (translation P) script st) (sym (node_asked C is c l)) ∙ on) ∙ ap value (sym (answer_node c l)));
     quiet = λ c y l h e.
         ap (move_enabled (translation P) script st) (node_copied C is c y l h)
         ∙ k.quiet c y l h (ap value (sym (node_asked C is c l)) ∙ (e ∙ ap value (answer_node c l)));
@@ -96,10 +101,13 @@ module _ (steps_taken : (c d : Configuration) (at : Place) → step_at c at ≡ 
   whole = inlined_program C
 
   pub call_net_carries : (names : List (List ℕ)) → MeetsSharing whole.body
-      → ((script : List OfferValue) → IsScript C.channels script → (ns : List ℕ) → IsRun (translation whole) script (begin_at (translation whole) (translation whole).first) ns
+      → ((script : List OfferValue) → IsScript C.channels script → (ns : List ℕ)
+      → IsRun (translation whole) script (begin_at (translation whole) (translation whole).first) ns
       → PointsKeep C script (after (translation whole) (begin_at (translation whole) (translation whole).first) ns))
       → Carries (translation whole) whole → Carries (call_net C names) whole
   call_net_carries names meets keep carries =
-      shared_carries steps_taken hold names (node_names whole) (call_firsts C) (first_values whole) (call_composed C) (composed whole) (wires_from whole 0 C.channels)
+      shared_carries steps_taken hold names (node_names whole) (call_firsts C) (first_values whole) (call_composed C) (composed whole)
+      (wires_from whole 0 C.channels)
       (sharing C is) (is_shared C is names (call_firsts C) (firsts_fit C is unread)) (omega arith) whole meets
-      (λ script fits ns run. points_keep C is script (after (translation whole) (begin_at (translation whole) (translation whole).first) ns) (keep script fits ns run)) carries
+      (λ script fits ns run. points_keep C is script (after (translation whole) (begin_at (translation whole) (translation whole).first) ns)
+      (keep script fits ns run)) carries

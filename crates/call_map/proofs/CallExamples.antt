@@ -1,61 +1,210 @@
--- The net of a small program, computed: `out X : 1; proc p = X!1; begin call p; call p; call p end` has 20 nodes, and these rules,
--- which an independent model of the compiler made.
-use Rattle.std.proofs.Common.{◌≡◌, ℕ, zero, suc, ◌<◌, true, false, List, [], ◌∷◌, inl, inr, refl, arith}
+-- The nets of two small programs, computed, beside the rules that an independent model of the compiler made; and that the
+-- laws speak of the first of them.
+use Rattle.std.proofs.Common.{◌≡◌, ℕ, zero, suc, ◌<◌, false, List, [], ◌∷◌, inl, inr, refl, arith}
 use Rattle.std.specs.Prelude.{replicate, codes}
 use Rattle.std.proofs.lemmas.List.Elements.{All-nil, All-cons}
 use Rattle.chp_base.specs.declared.channel.Kind.TheVariants.{Out}
-use Rattle.prs_core.specs.Nets.{NodeRules, is_high, is_low}
+use Rattle.prs_core.specs.Nets.{NodeRules}
 use Rattle.chp_syntax.specs.declared.tree.Op.TheVariants.{Add, Eq, Ne}
-use Rattle.width_check.specs.Processes.{Formula, constant, reading, chained, compared, no_operations, and_operation, skipping, assigning, sending, in_turn, no_members, and_member}
+use Rattle.width_check.specs.Processes.{Formula, Process, constant, reading, chained, compared, no_operations, and_operation, skipping, assigning, sending, in_turn, no_members, and_member}
 use Rattle.width_check.specs.Typing.{IsProcess, IsDeclaredChannel, IsDeclaredVar}
 use Rattle.width_check.specs.Sharing.{Occurrence, Parallel}
 use Rattle.net_compose.specs.Carries.{Carries}
 use Rattle.net_compose.specs.Points.{IsTranslated}
-use Rattle.call_map.specs.Calling.{calling, turned, abreast, chosen, looped, no_calleds, and_called, no_called, or_called}
+use Rattle.net_compose.proofs.Examples.{at, channel, var, hi, lo, all, turns, no_rules, high_first}
+use Rattle.call_map.specs.Calling.{Called, calling, turned, abreast, chosen, looped, no_calleds, and_called, no_called, or_called}
 use Rattle.chp_meaning.specs.Halves.{ReadsNoTarget}
 use Rattle.call_map.specs.CallsApart.{Calls}
 use Rattle.call_map.specs.CallNet.{CallProgram, inlined_program, body_at, call_rules, call_firsts, call_net, IsCallProgram, SharedBodiesCarry}
 
+-- `out X : 1; proc p = X!1; begin call p; call p; call p end`
 abbrev thrice : CallProgram
 thrice = record {
   channels = record { name = codes "X"; kind = Out; width = 1 } ∷ [];
   vars = [];
-  procs = sending 0 (record { from = 0; to = 1 }) (constant 1 1) ∷ [];
+  procs = sending 0 at (constant 1 1) ∷ [];
   body = turned (and_called (calling 0) (and_called (calling 0) (and_called (calling 0) no_calleds)));
 }
 
-abbrev rules : List NodeRules
-rules = record { up = []; down = [] } ∷ record { up = (is_high 10 ∷ is_low 19 ∷ []) ∷ []; down = (is_low 10 ∷ []) ∷ [] } ∷ record { up = (is_high 7 ∷ []) ∷ []; down = (is_low 7 ∷ []) ∷ [] } ∷ record { up = (is_high 8 ∷ []) ∷ []; down = (is_low 8 ∷ []) ∷ [] } ∷ record { up = []; down = [] } ∷ record { up = (is_high 11 ∷ []) ∷ (is_high 15 ∷ []) ∷ (is_high 17 ∷ []) ∷ []; down = (is_low 11 ∷ is_low 15 ∷ is_low 17 ∷ []) ∷ [] } ∷ record { up = (is_high 5 ∷ is_high 4 ∷ []) ∷ []; down = (is_low 4 ∷ []) ∷ [] } ∷ record { up = (is_high 5 ∷ []) ∷ []; down = (is_low 5 ∷ []) ∷ [] } ∷ record { up = []; down = [] } ∷ record { up = (is_high 0 ∷ is_low 10 ∷ []) ∷ []; down = (is_high 10 ∷ []) ∷ [] } ∷ record { up = (is_high 19 ∷ []) ∷ []; down = (is_low 0 ∷ []) ∷ [] } ∷ record { up = (is_high 9 ∷ is_low 12 ∷ []) ∷ []; down = (is_high 12 ∷ []) ∷ [] } ∷ record { up = (is_high 14 ∷ []) ∷ []; down = (is_low 9 ∷ []) ∷ [] } ∷ record { up = (is_high 12 ∷ is_low 14 ∷ []) ∷ []; down = (is_low 12 ∷ []) ∷ [] } ∷ record { up = (is_high 11 ∷ is_high 6 ∷ []) ∷ []; down = (is_low 6 ∷ []) ∷ [] } ∷ record { up = (is_high 13 ∷ is_low 16 ∷ []) ∷ []; down = (is_high 16 ∷ []) ∷ [] } ∷ record { up = (is_high 18 ∷ []) ∷ []; down = (is_low 13 ∷ []) ∷ [] } ∷ record { up = (is_high 16 ∷ is_low 18 ∷ []) ∷ []; down = (is_low 16 ∷ []) ∷ [] } ∷ record { up = (is_high 15 ∷ is_high 6 ∷ []) ∷ []; down = (is_low 6 ∷ []) ∷ [] } ∷ record { up = (is_high 17 ∷ is_high 6 ∷ []) ∷ []; down = (is_low 6 ∷ []) ∷ [] } ∷ []
+abbrev thrice_rows : List NodeRules
+thrice_rows =
+    no_rules
+    ∷ turns (all (hi 10 ∷ lo 19 ∷ [])) (all (lo 10 ∷ []))
+    ∷ turns (all (hi 7 ∷ [])) (all (lo 7 ∷ []))
+    ∷ turns (all (hi 8 ∷ [])) (all (lo 8 ∷ []))
+    ∷ no_rules
+    ∷ turns ((hi 11 ∷ []) ∷ (hi 15 ∷ []) ∷ (hi 17 ∷ []) ∷ []) (all (lo 11 ∷ lo 15 ∷ lo 17 ∷ []))
+    ∷ turns (all (hi 5 ∷ hi 4 ∷ [])) (all (lo 4 ∷ []))
+    ∷ turns (all (hi 5 ∷ [])) (all (lo 5 ∷ []))
+    ∷ no_rules
+    ∷ turns (all (hi 0 ∷ lo 10 ∷ [])) (all (hi 10 ∷ []))
+    ∷ turns (all (hi 19 ∷ [])) (all (lo 0 ∷ []))
+    ∷ turns (all (hi 9 ∷ lo 12 ∷ [])) (all (hi 12 ∷ []))
+    ∷ turns (all (hi 14 ∷ [])) (all (lo 9 ∷ []))
+    ∷ turns (all (hi 12 ∷ lo 14 ∷ [])) (all (lo 12 ∷ []))
+    ∷ turns (all (hi 11 ∷ hi 6 ∷ [])) (all (lo 6 ∷ []))
+    ∷ turns (all (hi 13 ∷ lo 16 ∷ [])) (all (hi 16 ∷ []))
+    ∷ turns (all (hi 18 ∷ [])) (all (lo 13 ∷ []))
+    ∷ turns (all (hi 16 ∷ lo 18 ∷ [])) (all (lo 16 ∷ []))
+    ∷ turns (all (hi 15 ∷ hi 6 ∷ [])) (all (lo 6 ∷ []))
+    ∷ turns (all (hi 17 ∷ hi 6 ∷ [])) (all (lo 6 ∷ []))
+    ∷ []
 
-thrice_rules : call_rules thrice ≡ rules
+thrice_rules : call_rules thrice ≡ thrice_rows
 thrice_rules = refl
 
 thrice_firsts : call_firsts thrice ≡ replicate 20 false
 thrice_firsts = refl
 
--- Two procedures, one of which writes a variable that it reads, through a hidden one; calls in a sequence, in branches, in a
--- selection and in a loop: `out X : 2; var x : 2; proc p = (x := x + 1; X!x); proc s = skip;
+-- Two procedures, one of which writes a variable that it reads, through a hidden one; calls in a sequence, in branches, in
+-- a selection and in a loop: `out X : 2; var x : 2; proc p = (x := x + 1; X!x); proc s = skip;
 -- begin call p; (call s || [x = 1 -> call p [] x != 1 -> *[call p]]) end`.
 abbrev bits : Formula
-bits = reading 0 1 0 (record { from = 0; to = 1 })
+bits = reading 0 1 0 at
+
+-- x := x + 1, in two halves
+abbrev increment : Process
+increment = in_turn (and_member (assigning 1 at (chained bits (and_operation Add (constant 2 1) no_operations)))
+    (and_member (assigning 0 at (reading 1 1 0 at)) no_members))
+
+abbrev choice : Called
+choice = chosen false (or_called (compared Eq bits (constant 2 1)) (calling 0)
+    (or_called (compared Ne bits (constant 2 1)) (looped (calling 0)) no_called))
 
 abbrev twice : CallProgram
 twice = record {
-  channels = record { name = []; kind = Out; width = 2 } ∷ [];
-  vars = record { name = []; width = 2; first = 0 } ∷ record { name = []; width = 2; first = 0 } ∷ [];
-  procs = in_turn (and_member (in_turn (and_member (assigning 1 (record { from = 0; to = 1 }) (chained bits (and_operation Add (constant 2 1) no_operations)))
-      (and_member (assigning 0 (record { from = 0; to = 1 }) (reading 1 1 0 (record { from = 0; to = 1 }))) no_members))) (and_member (sending 0 (record { from = 0; to = 1 }) bits) no_members)) ∷ skipping ∷ [];
-  body = turned (and_called (calling 0) (and_called (abreast (and_called (calling 1) (and_called (chosen false
-      (or_called (compared Eq bits (constant 2 1)) (calling 0) (or_called (compared Ne bits (constant 2 1)) (looped (calling 0)) no_called))) no_calleds))) no_calleds));
+  channels = channel Out 2 ∷ [];
+  vars = var 2 0 ∷ var 2 0 ∷ [];
+  procs = in_turn (and_member increment (and_member (sending 0 at bits) no_members)) ∷ skipping ∷ [];
+  body = turned (and_called (calling 0) (and_called (abreast (and_called (calling 1) (and_called choice no_calleds))) no_calleds));
 }
 
-abbrev more_rules : List NodeRules
-more_rules = record { up = []; down = [] } ∷ record { up = (is_high 64 ∷ is_low 115 ∷ []) ∷ []; down = (is_low 64 ∷ []) ∷ [] } ∷ record { up = (is_high 57 ∷ []) ∷ []; down = (is_low 57 ∷ []) ∷ [] } ∷ record { up = (is_high 58 ∷ []) ∷ []; down = (is_low 58 ∷ []) ∷ [] } ∷ record { up = (is_high 59 ∷ []) ∷ []; down = (is_low 59 ∷ []) ∷ [] } ∷ record { up = (is_high 60 ∷ []) ∷ []; down = (is_low 60 ∷ []) ∷ [] } ∷ record { up = []; down = [] } ∷ record { up = (is_high 9 ∷ is_low 8 ∷ []) ∷ []; down = (is_high 10 ∷ []) ∷ [] } ∷ record { up = (is_high 10 ∷ is_low 7 ∷ []) ∷ []; down = (is_high 9 ∷ []) ∷ [] } ∷ record { up = (is_high 52 ∷ []) ∷ []; down = (is_low 52 ∷ []) ∷ [] } ∷ record { up = (is_high 53 ∷ []) ∷ []; down = (is_low 53 ∷ []) ∷ [] } ∷ record { up = (is_high 9 ∷ is_high 7 ∷ []) ∷ (is_high 10 ∷ is_high 8 ∷ []) ∷ []; down = (is_low 9 ∷ is_low 10 ∷ []) ∷ [] } ∷ record { up = (is_high 14 ∷ is_low 13 ∷ []) ∷ []; down = (is_high 15 ∷ []) ∷ [] } ∷ record { up = (is_high 15 ∷ is_low 12 ∷ []) ∷ []; down = (is_high 14 ∷ []) ∷ [] } ∷ record { up = (is_high 54 ∷ []) ∷ []; down = (is_low 54 ∷ []) ∷ [] } ∷ record { up = (is_high 55 ∷ []) ∷ []; down = (is_low 55 ∷ []) ∷ [] } ∷ record { up = (is_high 14 ∷ is_high 12 ∷ []) ∷ (is_high 15 ∷ is_high 13 ∷ []) ∷ []; down = (is_low 14 ∷ is_low 15 ∷ []) ∷ [] } ∷ record { up = (is_high 11 ∷ is_high 16 ∷ []) ∷ []; down = (is_low 11 ∷ is_low 16 ∷ []) ∷ [] } ∷ record { up = (is_high 20 ∷ is_low 19 ∷ []) ∷ []; down = (is_high 21 ∷ []) ∷ [] } ∷ record { up = (is_high 21 ∷ is_low 18 ∷ []) ∷ []; down = (is_high 20 ∷ []) ∷ [] } ∷ record { up = (is_high 45 ∷ []) ∷ []; down = (is_low 45 ∷ []) ∷ [] } ∷ record { up = (is_high 46 ∷ []) ∷ []; down = (is_low 46 ∷ []) ∷ [] } ∷ record { up = (is_high 20 ∷ is_high 18 ∷ []) ∷ (is_high 21 ∷ is_high 19 ∷ []) ∷ []; down = (is_low 20 ∷ is_low 21 ∷ []) ∷ [] } ∷ record { up = (is_high 25 ∷ is_low 24 ∷ []) ∷ []; down = (is_high 26 ∷ []) ∷ [] } ∷ record { up = (is_high 26 ∷ is_low 23 ∷ []) ∷ []; down = (is_high 25 ∷ []) ∷ [] } ∷ record { up = (is_high 49 ∷ []) ∷ []; down = (is_low 49 ∷ []) ∷ [] } ∷ record { up = (is_high 50 ∷ []) ∷ []; down = (is_low 50 ∷ []) ∷ [] } ∷ record { up = (is_high 25 ∷ is_high 23 ∷ []) ∷ (is_high 26 ∷ is_high 24 ∷ []) ∷ []; down = (is_low 25 ∷ is_low 26 ∷ []) ∷ [] } ∷ record { up = (is_high 22 ∷ is_high 27 ∷ []) ∷ []; down = (is_low 22 ∷ is_low 27 ∷ []) ∷ [] } ∷ record { up = (is_high 65 ∷ []) ∷ (is_high 81 ∷ []) ∷ (is_high 113 ∷ []) ∷ []; down = (is_low 65 ∷ is_low 81 ∷ is_low 113 ∷ []) ∷ [] } ∷ record { up = (is_high 29 ∷ is_low 31 ∷ []) ∷ []; down = (is_high 31 ∷ []) ∷ [] } ∷ record { up = (is_high 51 ∷ []) ∷ []; down = (is_low 29 ∷ []) ∷ [] } ∷ record { up = (is_high 31 ∷ is_low 51 ∷ []) ∷ []; down = (is_low 31 ∷ []) ∷ [] } ∷ record { up = (is_high 30 ∷ is_low 34 ∷ []) ∷ []; down = (is_high 34 ∷ []) ∷ [] } ∷ record { up = (is_high 36 ∷ []) ∷ []; down = (is_low 30 ∷ []) ∷ [] } ∷ record { up = (is_high 34 ∷ is_low 36 ∷ []) ∷ []; down = (is_low 34 ∷ []) ∷ [] } ∷ record { up = (is_high 33 ∷ is_high 28 ∷ []) ∷ []; down = (is_low 28 ∷ []) ∷ [] } ∷ record { up = (is_high 33 ∷ is_high 7 ∷ []) ∷ []; down = (is_low 33 ∷ []) ∷ [] } ∷ record { up = (is_high 33 ∷ is_high 8 ∷ []) ∷ []; down = (is_low 33 ∷ []) ∷ [] } ∷ record { up = (is_high 33 ∷ is_high 12 ∷ []) ∷ []; down = (is_low 33 ∷ []) ∷ [] } ∷ record { up = (is_high 33 ∷ is_high 13 ∷ []) ∷ []; down = (is_low 33 ∷ []) ∷ [] } ∷ record { up = (is_high 33 ∷ []) ∷ []; down = (is_low 33 ∷ []) ∷ [] } ∷ record { up = []; down = [] } ∷ record { up = []; down = [] } ∷ record { up = (is_high 33 ∷ []) ∷ []; down = (is_low 33 ∷ []) ∷ [] } ∷ record { up = (is_high 37 ∷ is_high 42 ∷ []) ∷ (is_high 38 ∷ is_high 41 ∷ []) ∷ []; down = (is_low 37 ∷ is_low 38 ∷ is_low 41 ∷ is_low 42 ∷ []) ∷ [] } ∷ record { up = (is_high 38 ∷ is_high 42 ∷ []) ∷ (is_high 37 ∷ is_high 41 ∷ []) ∷ []; down = (is_low 37 ∷ is_low 38 ∷ is_low 41 ∷ is_low 42 ∷ []) ∷ [] } ∷ record { up = (is_high 37 ∷ is_high 41 ∷ []) ∷ []; down = (is_low 37 ∷ is_low 38 ∷ is_low 41 ∷ is_low 42 ∷ []) ∷ [] } ∷ record { up = (is_high 38 ∷ is_high 42 ∷ []) ∷ (is_high 37 ∷ is_high 42 ∷ []) ∷ (is_high 38 ∷ is_high 41 ∷ []) ∷ []; down = (is_low 37 ∷ is_low 38 ∷ is_low 41 ∷ is_low 42 ∷ []) ∷ [] } ∷ record { up = (is_high 39 ∷ is_high 44 ∷ is_high 48 ∷ []) ∷ (is_high 40 ∷ is_high 43 ∷ is_high 48 ∷ []) ∷ (is_high 40 ∷ is_high 44 ∷ is_high 47 ∷ []) ∷ (is_high 39 ∷ is_high 43 ∷ is_high 47 ∷ []) ∷ []; down = (is_low 39 ∷ is_low 40 ∷ is_low 43 ∷ is_low 44 ∷ is_low 47 ∷ is_low 48 ∷ []) ∷ [] } ∷ record { up = (is_high 40 ∷ is_high 44 ∷ is_high 48 ∷ []) ∷ (is_high 39 ∷ is_high 43 ∷ is_high 48 ∷ []) ∷ (is_high 39 ∷ is_high 44 ∷ is_high 47 ∷ []) ∷ (is_high 40 ∷ is_high 43 ∷ is_high 47 ∷ []) ∷ []; down = (is_low 39 ∷ is_low 40 ∷ is_low 43 ∷ is_low 44 ∷ is_low 47 ∷ is_low 48 ∷ []) ∷ [] } ∷ record { up = (is_high 35 ∷ is_high 17 ∷ []) ∷ []; down = (is_low 17 ∷ []) ∷ [] } ∷ record { up = (is_high 35 ∷ is_high 18 ∷ []) ∷ []; down = (is_low 35 ∷ []) ∷ [] } ∷ record { up = (is_high 35 ∷ is_high 19 ∷ []) ∷ []; down = (is_low 35 ∷ []) ∷ [] } ∷ record { up = (is_high 35 ∷ is_high 23 ∷ []) ∷ []; down = (is_low 35 ∷ []) ∷ [] } ∷ record { up = (is_high 35 ∷ is_high 24 ∷ []) ∷ []; down = (is_low 35 ∷ []) ∷ [] } ∷ record { up = (is_high 32 ∷ is_high 6 ∷ []) ∷ []; down = (is_low 6 ∷ []) ∷ [] } ∷ record { up = (is_high 32 ∷ is_high 7 ∷ []) ∷ []; down = (is_low 32 ∷ []) ∷ [] } ∷ record { up = (is_high 32 ∷ is_high 8 ∷ []) ∷ []; down = (is_low 32 ∷ []) ∷ [] } ∷ record { up = (is_high 32 ∷ is_high 12 ∷ []) ∷ []; down = (is_low 32 ∷ []) ∷ [] } ∷ record { up = (is_high 32 ∷ is_high 13 ∷ []) ∷ []; down = (is_low 32 ∷ []) ∷ [] } ∷ record { up = (is_high 69 ∷ []) ∷ []; down = (is_low 69 ∷ []) ∷ [] } ∷ record { up = (is_high 61 ∷ []) ∷ []; down = (is_low 61 ∷ []) ∷ [] } ∷ record { up = (is_high 0 ∷ is_low 64 ∷ []) ∷ []; down = (is_high 64 ∷ []) ∷ [] } ∷ record { up = (is_high 115 ∷ []) ∷ []; down = (is_low 0 ∷ []) ∷ [] } ∷ record { up = (is_high 63 ∷ is_low 66 ∷ []) ∷ []; down = (is_high 66 ∷ []) ∷ [] } ∷ record { up = (is_high 68 ∷ []) ∷ []; down = (is_low 63 ∷ []) ∷ [] } ∷ record { up = (is_high 66 ∷ is_low 68 ∷ []) ∷ []; down = (is_low 66 ∷ []) ∷ [] } ∷ record { up = (is_high 65 ∷ is_high 56 ∷ []) ∷ []; down = (is_low 56 ∷ []) ∷ [] } ∷ record { up = (is_high 67 ∷ is_low 70 ∷ []) ∷ []; down = (is_high 70 ∷ []) ∷ [] } ∷ record { up = (is_high 72 ∷ []) ∷ []; down = (is_low 67 ∷ []) ∷ [] } ∷ record { up = (is_high 70 ∷ is_low 72 ∷ []) ∷ []; down = (is_low 70 ∷ []) ∷ [] } ∷ record { up = (is_high 69 ∷ is_high 62 ∷ []) ∷ []; down = (is_low 62 ∷ []) ∷ [] } ∷ record { up = (is_high 67 ∷ is_low 74 ∷ []) ∷ []; down = (is_high 74 ∷ []) ∷ [] } ∷ record { up = (is_high 76 ∷ []) ∷ []; down = (is_low 67 ∷ []) ∷ [] } ∷ record { up = (is_high 74 ∷ is_low 76 ∷ []) ∷ []; down = (is_low 74 ∷ []) ∷ [] } ∷ record { up = (is_high 111 ∷ []) ∷ (is_high 112 ∷ []) ∷ []; down = (is_low 78 ∷ is_low 111 ∷ is_low 112 ∷ []) ∷ [] } ∷ record { up = (is_high 73 ∷ is_low 78 ∷ []) ∷ []; down = (is_high 78 ∷ []) ∷ [] } ∷ record { up = (is_high 79 ∷ []) ∷ (is_high 80 ∷ []) ∷ []; down = (is_low 79 ∷ is_low 80 ∷ []) ∷ [] } ∷ record { up = (is_high 95 ∷ is_high 109 ∷ []) ∷ []; down = (is_low 73 ∷ []) ∷ [] } ∷ record { up = (is_high 96 ∷ is_high 110 ∷ []) ∷ []; down = (is_low 73 ∷ []) ∷ [] } ∷ record { up = (is_high 79 ∷ is_low 95 ∷ is_low 96 ∷ is_low 110 ∷ is_low 109 ∷ []) ∷ []; down = (is_low 79 ∷ []) ∷ [] } ∷ record { up = (is_high 80 ∷ is_low 95 ∷ is_low 96 ∷ is_low 110 ∷ is_low 109 ∷ []) ∷ []; down = (is_low 80 ∷ []) ∷ [] } ∷ record { up = (is_high 77 ∷ is_high 7 ∷ []) ∷ []; down = (is_low 77 ∷ []) ∷ [] } ∷ record { up = (is_high 77 ∷ is_high 8 ∷ []) ∷ []; down = (is_low 77 ∷ []) ∷ [] } ∷ record { up = (is_high 77 ∷ is_high 12 ∷ []) ∷ []; down = (is_low 77 ∷ []) ∷ [] } ∷ record { up = (is_high 77 ∷ is_high 13 ∷ []) ∷ []; down = (is_low 77 ∷ []) ∷ [] } ∷ record { up = (is_high 77 ∷ []) ∷ []; down = (is_low 77 ∷ []) ∷ [] } ∷ record { up = []; down = [] } ∷ record { up = []; down = [] } ∷ record { up = (is_high 77 ∷ []) ∷ []; down = (is_low 77 ∷ []) ∷ [] } ∷ record { up = (is_high 84 ∷ is_high 88 ∷ []) ∷ (is_high 83 ∷ is_high 87 ∷ []) ∷ []; down = (is_low 83 ∷ is_low 84 ∷ is_low 87 ∷ is_low 88 ∷ []) ∷ [] } ∷ record { up = (is_high 83 ∷ is_high 88 ∷ []) ∷ (is_high 84 ∷ is_high 87 ∷ []) ∷ []; down = (is_low 83 ∷ is_low 84 ∷ is_low 87 ∷ is_low 88 ∷ []) ∷ [] } ∷ record { up = (is_high 86 ∷ is_high 90 ∷ []) ∷ (is_high 85 ∷ is_high 89 ∷ []) ∷ []; down = (is_low 85 ∷ is_low 86 ∷ is_low 89 ∷ is_low 90 ∷ []) ∷ [] } ∷ record { up = (is_high 85 ∷ is_high 90 ∷ []) ∷ (is_high 86 ∷ is_high 89 ∷ []) ∷ []; down = (is_low 85 ∷ is_low 86 ∷ is_low 89 ∷ is_low 90 ∷ []) ∷ [] } ∷ record { up = (is_high 91 ∷ is_high 93 ∷ []) ∷ []; down = (is_low 91 ∷ is_low 92 ∷ is_low 93 ∷ is_low 94 ∷ []) ∷ [] } ∷ record { up = (is_high 92 ∷ is_high 94 ∷ []) ∷ (is_high 91 ∷ is_high 94 ∷ []) ∷ (is_high 92 ∷ is_high 93 ∷ []) ∷ []; down = (is_low 91 ∷ is_low 92 ∷ is_low 93 ∷ is_low 94 ∷ []) ∷ [] } ∷ record { up = (is_high 77 ∷ is_high 7 ∷ []) ∷ []; down = (is_low 77 ∷ []) ∷ [] } ∷ record { up = (is_high 77 ∷ is_high 8 ∷ []) ∷ []; down = (is_low 77 ∷ []) ∷ [] } ∷ record { up = (is_high 77 ∷ is_high 12 ∷ []) ∷ []; down = (is_low 77 ∷ []) ∷ [] } ∷ record { up = (is_high 77 ∷ is_high 13 ∷ []) ∷ []; down = (is_low 77 ∷ []) ∷ [] } ∷ record { up = (is_high 77 ∷ []) ∷ []; down = (is_low 77 ∷ []) ∷ [] } ∷ record { up = []; down = [] } ∷ record { up = []; down = [] } ∷ record { up = (is_high 77 ∷ []) ∷ []; down = (is_low 77 ∷ []) ∷ [] } ∷ record { up = (is_high 98 ∷ is_high 102 ∷ []) ∷ (is_high 97 ∷ is_high 101 ∷ []) ∷ []; down = (is_low 97 ∷ is_low 98 ∷ is_low 101 ∷ is_low 102 ∷ []) ∷ [] } ∷ record { up = (is_high 97 ∷ is_high 102 ∷ []) ∷ (is_high 98 ∷ is_high 101 ∷ []) ∷ []; down = (is_low 97 ∷ is_low 98 ∷ is_low 101 ∷ is_low 102 ∷ []) ∷ [] } ∷ record { up = (is_high 100 ∷ is_high 104 ∷ []) ∷ (is_high 99 ∷ is_high 103 ∷ []) ∷ []; down = (is_low 99 ∷ is_low 100 ∷ is_low 103 ∷ is_low 104 ∷ []) ∷ [] } ∷ record { up = (is_high 99 ∷ is_high 104 ∷ []) ∷ (is_high 100 ∷ is_high 103 ∷ []) ∷ []; down = (is_low 99 ∷ is_low 100 ∷ is_low 103 ∷ is_low 104 ∷ []) ∷ [] } ∷ record { up = (is_high 105 ∷ is_high 107 ∷ []) ∷ []; down = (is_low 105 ∷ is_low 106 ∷ is_low 107 ∷ is_low 108 ∷ []) ∷ [] } ∷ record { up = (is_high 106 ∷ is_high 108 ∷ []) ∷ (is_high 105 ∷ is_high 108 ∷ []) ∷ (is_high 106 ∷ is_high 107 ∷ []) ∷ []; down = (is_low 105 ∷ is_low 106 ∷ is_low 107 ∷ is_low 108 ∷ []) ∷ [] } ∷ record { up = (is_high 81 ∷ is_high 56 ∷ []) ∷ []; down = (is_low 56 ∷ []) ∷ [] } ∷ record { up = []; down = [] } ∷ record { up = (is_high 82 ∷ is_low 114 ∷ []) ∷ []; down = (is_high 114 ∷ []) ∷ [] } ∷ record { up = (is_high 113 ∷ is_high 56 ∷ []) ∷ []; down = (is_low 56 ∷ []) ∷ [] } ∷ record { up = (is_high 71 ∷ is_high 75 ∷ []) ∷ []; down = (is_low 71 ∷ is_low 75 ∷ []) ∷ [] } ∷ []
+abbrev twice_rows : List NodeRules
+twice_rows =
+    no_rules
+    ∷ turns (all (hi 64 ∷ lo 115 ∷ [])) (all (lo 64 ∷ []))
+    ∷ turns (all (hi 57 ∷ [])) (all (lo 57 ∷ []))
+    ∷ turns (all (hi 58 ∷ [])) (all (lo 58 ∷ []))
+    ∷ turns (all (hi 59 ∷ [])) (all (lo 59 ∷ []))
+    ∷ turns (all (hi 60 ∷ [])) (all (lo 60 ∷ []))
+    ∷ no_rules
+    ∷ turns (all (hi 9 ∷ lo 8 ∷ [])) (all (hi 10 ∷ []))
+    ∷ turns (all (hi 10 ∷ lo 7 ∷ [])) (all (hi 9 ∷ []))
+    ∷ turns (all (hi 52 ∷ [])) (all (lo 52 ∷ []))
+    ∷ turns (all (hi 53 ∷ [])) (all (lo 53 ∷ []))
+    ∷ turns ((hi 9 ∷ hi 7 ∷ []) ∷ (hi 10 ∷ hi 8 ∷ []) ∷ []) (all (lo 9 ∷ lo 10 ∷ []))
+    ∷ turns (all (hi 14 ∷ lo 13 ∷ [])) (all (hi 15 ∷ []))
+    ∷ turns (all (hi 15 ∷ lo 12 ∷ [])) (all (hi 14 ∷ []))
+    ∷ turns (all (hi 54 ∷ [])) (all (lo 54 ∷ []))
+    ∷ turns (all (hi 55 ∷ [])) (all (lo 55 ∷ []))
+    ∷ turns ((hi 14 ∷ hi 12 ∷ []) ∷ (hi 15 ∷ hi 13 ∷ []) ∷ []) (all (lo 14 ∷ lo 15 ∷ []))
+    ∷ turns (all (hi 11 ∷ hi 16 ∷ [])) (all (lo 11 ∷ lo 16 ∷ []))
+    ∷ turns (all (hi 20 ∷ lo 19 ∷ [])) (all (hi 21 ∷ []))
+    ∷ turns (all (hi 21 ∷ lo 18 ∷ [])) (all (hi 20 ∷ []))
+    ∷ turns (all (hi 45 ∷ [])) (all (lo 45 ∷ []))
+    ∷ turns (all (hi 46 ∷ [])) (all (lo 46 ∷ []))
+    ∷ turns ((hi 20 ∷ hi 18 ∷ []) ∷ (hi 21 ∷ hi 19 ∷ []) ∷ []) (all (lo 20 ∷ lo 21 ∷ []))
+    ∷ turns (all (hi 25 ∷ lo 24 ∷ [])) (all (hi 26 ∷ []))
+    ∷ turns (all (hi 26 ∷ lo 23 ∷ [])) (all (hi 25 ∷ []))
+    ∷ turns (all (hi 49 ∷ [])) (all (lo 49 ∷ []))
+    ∷ turns (all (hi 50 ∷ [])) (all (lo 50 ∷ []))
+    ∷ turns ((hi 25 ∷ hi 23 ∷ []) ∷ (hi 26 ∷ hi 24 ∷ []) ∷ []) (all (lo 25 ∷ lo 26 ∷ []))
+    ∷ turns (all (hi 22 ∷ hi 27 ∷ [])) (all (lo 22 ∷ lo 27 ∷ []))
+    ∷ turns ((hi 65 ∷ []) ∷ (hi 81 ∷ []) ∷ (hi 113 ∷ []) ∷ []) (all (lo 65 ∷ lo 81 ∷ lo 113 ∷ []))
+    ∷ turns (all (hi 29 ∷ lo 31 ∷ [])) (all (hi 31 ∷ []))
+    ∷ turns (all (hi 51 ∷ [])) (all (lo 29 ∷ []))
+    ∷ turns (all (hi 31 ∷ lo 51 ∷ [])) (all (lo 31 ∷ []))
+    ∷ turns (all (hi 30 ∷ lo 34 ∷ [])) (all (hi 34 ∷ []))
+    ∷ turns (all (hi 36 ∷ [])) (all (lo 30 ∷ []))
+    ∷ turns (all (hi 34 ∷ lo 36 ∷ [])) (all (lo 34 ∷ []))
+    ∷ turns (all (hi 33 ∷ hi 28 ∷ [])) (all (lo 28 ∷ []))
+    ∷ turns (all (hi 33 ∷ hi 7 ∷ [])) (all (lo 33 ∷ []))
+    ∷ turns (all (hi 33 ∷ hi 8 ∷ [])) (all (lo 33 ∷ []))
+    ∷ turns (all (hi 33 ∷ hi 12 ∷ [])) (all (lo 33 ∷ []))
+    ∷ turns (all (hi 33 ∷ hi 13 ∷ [])) (all (lo 33 ∷ []))
+    ∷ turns (all (hi 33 ∷ [])) (all (lo 33 ∷ []))
+    ∷ no_rules
+    ∷ no_rules
+    ∷ turns (all (hi 33 ∷ [])) (all (lo 33 ∷ []))
+    ∷ turns ((hi 37 ∷ hi 42 ∷ []) ∷ (hi 38 ∷ hi 41 ∷ []) ∷ []) (all (lo 37 ∷ lo 38 ∷ lo 41 ∷ lo 42 ∷ []))
+    ∷ turns ((hi 38 ∷ hi 42 ∷ []) ∷ (hi 37 ∷ hi 41 ∷ []) ∷ []) (all (lo 37 ∷ lo 38 ∷ lo 41 ∷ lo 42 ∷ []))
+    ∷ turns (all (hi 37 ∷ hi 41 ∷ [])) (all (lo 37 ∷ lo 38 ∷ lo 41 ∷ lo 42 ∷ []))
+    ∷ turns ((hi 38 ∷ hi 42 ∷ []) ∷ (hi 37 ∷ hi 42 ∷ []) ∷ (hi 38 ∷ hi 41 ∷ []) ∷ []) (all (lo 37 ∷ lo 38 ∷ lo 41 ∷ lo 42 ∷ []))
+    ∷ turns ((hi 39 ∷ hi 44 ∷ hi 48 ∷ []) ∷ (hi 40 ∷ hi 43 ∷ hi 48 ∷ []) ∷ (hi 40 ∷ hi 44 ∷ hi 47 ∷ []) ∷ (hi 39 ∷ hi 43 ∷ hi 47 ∷ []) ∷ [])
+    (all (lo 39 ∷ lo 40 ∷ lo 43 ∷ lo 44 ∷ lo 47 ∷ lo 48 ∷ []))
+    ∷ turns ((hi 40 ∷ hi 44 ∷ hi 48 ∷ []) ∷ (hi 39 ∷ hi 43 ∷ hi 48 ∷ []) ∷ (hi 39 ∷ hi 44 ∷ hi 47 ∷ []) ∷ (hi 40 ∷ hi 43 ∷ hi 47 ∷ []) ∷ [])
+    (all (lo 39 ∷ lo 40 ∷ lo 43 ∷ lo 44 ∷ lo 47 ∷ lo 48 ∷ []))
+    ∷ turns (all (hi 35 ∷ hi 17 ∷ [])) (all (lo 17 ∷ []))
+    ∷ turns (all (hi 35 ∷ hi 18 ∷ [])) (all (lo 35 ∷ []))
+    ∷ turns (all (hi 35 ∷ hi 19 ∷ [])) (all (lo 35 ∷ []))
+    ∷ turns (all (hi 35 ∷ hi 23 ∷ [])) (all (lo 35 ∷ []))
+    ∷ turns (all (hi 35 ∷ hi 24 ∷ [])) (all (lo 35 ∷ []))
+    ∷ turns (all (hi 32 ∷ hi 6 ∷ [])) (all (lo 6 ∷ []))
+    ∷ turns (all (hi 32 ∷ hi 7 ∷ [])) (all (lo 32 ∷ []))
+    ∷ turns (all (hi 32 ∷ hi 8 ∷ [])) (all (lo 32 ∷ []))
+    ∷ turns (all (hi 32 ∷ hi 12 ∷ [])) (all (lo 32 ∷ []))
+    ∷ turns (all (hi 32 ∷ hi 13 ∷ [])) (all (lo 32 ∷ []))
+    ∷ turns (all (hi 69 ∷ [])) (all (lo 69 ∷ []))
+    ∷ turns (all (hi 61 ∷ [])) (all (lo 61 ∷ []))
+    ∷ turns (all (hi 0 ∷ lo 64 ∷ [])) (all (hi 64 ∷ []))
+    ∷ turns (all (hi 115 ∷ [])) (all (lo 0 ∷ []))
+    ∷ turns (all (hi 63 ∷ lo 66 ∷ [])) (all (hi 66 ∷ []))
+    ∷ turns (all (hi 68 ∷ [])) (all (lo 63 ∷ []))
+    ∷ turns (all (hi 66 ∷ lo 68 ∷ [])) (all (lo 66 ∷ []))
+    ∷ turns (all (hi 65 ∷ hi 56 ∷ [])) (all (lo 56 ∷ []))
+    ∷ turns (all (hi 67 ∷ lo 70 ∷ [])) (all (hi 70 ∷ []))
+    ∷ turns (all (hi 72 ∷ [])) (all (lo 67 ∷ []))
+    ∷ turns (all (hi 70 ∷ lo 72 ∷ [])) (all (lo 70 ∷ []))
+    ∷ turns (all (hi 69 ∷ hi 62 ∷ [])) (all (lo 62 ∷ []))
+    ∷ turns (all (hi 67 ∷ lo 74 ∷ [])) (all (hi 74 ∷ []))
+    ∷ turns (all (hi 76 ∷ [])) (all (lo 67 ∷ []))
+    ∷ turns (all (hi 74 ∷ lo 76 ∷ [])) (all (lo 74 ∷ []))
+    ∷ turns ((hi 111 ∷ []) ∷ (hi 112 ∷ []) ∷ []) (all (lo 78 ∷ lo 111 ∷ lo 112 ∷ []))
+    ∷ turns (all (hi 73 ∷ lo 78 ∷ [])) (all (hi 78 ∷ []))
+    ∷ turns ((hi 79 ∷ []) ∷ (hi 80 ∷ []) ∷ []) (all (lo 79 ∷ lo 80 ∷ []))
+    ∷ turns (all (hi 95 ∷ hi 109 ∷ [])) (all (lo 73 ∷ []))
+    ∷ turns (all (hi 96 ∷ hi 110 ∷ [])) (all (lo 73 ∷ []))
+    ∷ turns (all (hi 79 ∷ lo 95 ∷ lo 96 ∷ lo 110 ∷ lo 109 ∷ [])) (all (lo 79 ∷ []))
+    ∷ turns (all (hi 80 ∷ lo 95 ∷ lo 96 ∷ lo 110 ∷ lo 109 ∷ [])) (all (lo 80 ∷ []))
+    ∷ turns (all (hi 77 ∷ hi 7 ∷ [])) (all (lo 77 ∷ []))
+    ∷ turns (all (hi 77 ∷ hi 8 ∷ [])) (all (lo 77 ∷ []))
+    ∷ turns (all (hi 77 ∷ hi 12 ∷ [])) (all (lo 77 ∷ []))
+    ∷ turns (all (hi 77 ∷ hi 13 ∷ [])) (all (lo 77 ∷ []))
+    ∷ turns (all (hi 77 ∷ [])) (all (lo 77 ∷ []))
+    ∷ no_rules
+    ∷ no_rules
+    ∷ turns (all (hi 77 ∷ [])) (all (lo 77 ∷ []))
+    ∷ turns ((hi 84 ∷ hi 88 ∷ []) ∷ (hi 83 ∷ hi 87 ∷ []) ∷ []) (all (lo 83 ∷ lo 84 ∷ lo 87 ∷ lo 88 ∷ []))
+    ∷ turns ((hi 83 ∷ hi 88 ∷ []) ∷ (hi 84 ∷ hi 87 ∷ []) ∷ []) (all (lo 83 ∷ lo 84 ∷ lo 87 ∷ lo 88 ∷ []))
+    ∷ turns ((hi 86 ∷ hi 90 ∷ []) ∷ (hi 85 ∷ hi 89 ∷ []) ∷ []) (all (lo 85 ∷ lo 86 ∷ lo 89 ∷ lo 90 ∷ []))
+    ∷ turns ((hi 85 ∷ hi 90 ∷ []) ∷ (hi 86 ∷ hi 89 ∷ []) ∷ []) (all (lo 85 ∷ lo 86 ∷ lo 89 ∷ lo 90 ∷ []))
+    ∷ turns (all (hi 91 ∷ hi 93 ∷ [])) (all (lo 91 ∷ lo 92 ∷ lo 93 ∷ lo 94 ∷ []))
+    ∷ turns ((hi 92 ∷ hi 94 ∷ []) ∷ (hi 91 ∷ hi 94 ∷ []) ∷ (hi 92 ∷ hi 93 ∷ []) ∷ []) (all (lo 91 ∷ lo 92 ∷ lo 93 ∷ lo 94 ∷ []))
+    ∷ turns (all (hi 77 ∷ hi 7 ∷ [])) (all (lo 77 ∷ []))
+    ∷ turns (all (hi 77 ∷ hi 8 ∷ [])) (all (lo 77 ∷ []))
+    ∷ turns (all (hi 77 ∷ hi 12 ∷ [])) (all (lo 77 ∷ []))
+    ∷ turns (all (hi 77 ∷ hi 13 ∷ [])) (all (lo 77 ∷ []))
+    ∷ turns (all (hi 77 ∷ [])) (all (lo 77 ∷ []))
+    ∷ no_rules
+    ∷ no_rules
+    ∷ turns (all (hi 77 ∷ [])) (all (lo 77 ∷ []))
+    ∷ turns ((hi 98 ∷ hi 102 ∷ []) ∷ (hi 97 ∷ hi 101 ∷ []) ∷ []) (all (lo 97 ∷ lo 98 ∷ lo 101 ∷ lo 102 ∷ []))
+    ∷ turns ((hi 97 ∷ hi 102 ∷ []) ∷ (hi 98 ∷ hi 101 ∷ []) ∷ []) (all (lo 97 ∷ lo 98 ∷ lo 101 ∷ lo 102 ∷ []))
+    ∷ turns ((hi 100 ∷ hi 104 ∷ []) ∷ (hi 99 ∷ hi 103 ∷ []) ∷ []) (all (lo 99 ∷ lo 100 ∷ lo 103 ∷ lo 104 ∷ []))
+    ∷ turns ((hi 99 ∷ hi 104 ∷ []) ∷ (hi 100 ∷ hi 103 ∷ []) ∷ []) (all (lo 99 ∷ lo 100 ∷ lo 103 ∷ lo 104 ∷ []))
+    ∷ turns (all (hi 105 ∷ hi 107 ∷ [])) (all (lo 105 ∷ lo 106 ∷ lo 107 ∷ lo 108 ∷ []))
+    ∷ turns ((hi 106 ∷ hi 108 ∷ []) ∷ (hi 105 ∷ hi 108 ∷ []) ∷ (hi 106 ∷ hi 107 ∷ []) ∷ []) (all (lo 105 ∷ lo 106 ∷ lo 107 ∷ lo 108 ∷ []))
+    ∷ turns (all (hi 81 ∷ hi 56 ∷ [])) (all (lo 56 ∷ []))
+    ∷ no_rules
+    ∷ turns (all (hi 82 ∷ lo 114 ∷ [])) (all (hi 114 ∷ []))
+    ∷ turns (all (hi 113 ∷ hi 56 ∷ [])) (all (lo 56 ∷ []))
+    ∷ turns (all (hi 71 ∷ hi 75 ∷ [])) (all (lo 71 ∷ lo 75 ∷ []))
+    ∷ []
 
-twice_rules : call_rules twice ≡ more_rules
+twice_rules : call_rules twice ≡ twice_rows
 twice_rules = refl
 
-twice_firsts : call_firsts twice ≡ false ∷ false ∷ false ∷ false ∷ false ∷ false ∷ false ∷ false ∷ true ∷ false ∷ false ∷ false ∷ false ∷ true ∷ false ∷ false ∷ false ∷ false ∷ false ∷ true ∷ false ∷ false ∷ false ∷ false ∷ true ∷ false ∷ false ∷ false ∷ false ∷ false ∷ false ∷ false ∷ false ∷ false ∷ false ∷ false ∷ false ∷ false ∷ false ∷ false ∷ false ∷ false ∷ false ∷ false ∷ false ∷ false ∷ false ∷ false ∷ false ∷ false ∷ false ∷ false ∷ false ∷ false ∷ false ∷ false ∷ false ∷ false ∷ false ∷ false ∷ false ∷ false ∷ false ∷ false ∷ false ∷ false ∷ false ∷ false ∷ false ∷ false ∷ false ∷ false ∷ false ∷ false ∷ false ∷ false ∷ false ∷ false ∷ false ∷ false ∷ false ∷ false ∷ false ∷ false ∷ false ∷ false ∷ false ∷ false ∷ false ∷ false ∷ false ∷ false ∷ false ∷ false ∷ false ∷ false ∷ false ∷ false ∷ false ∷ false ∷ false ∷ false ∷ false ∷ false ∷ false ∷ false ∷ false ∷ false ∷ false ∷ false ∷ false ∷ false ∷ false ∷ false ∷ false ∷ false ∷ []
+twice_firsts : call_firsts twice ≡ high_first 116 (8 ∷ 13 ∷ 19 ∷ 24 ∷ [])
 twice_firsts = refl
 
 -- the first of them is a program of which the laws speak
@@ -82,7 +231,7 @@ thrice_is = record {
   unread = thrice_unread;
 }
 
-send_typed : IsProcess thrice.channels thrice.vars (sending 0 (record { from = 0; to = 1 }) (constant 1 1))
+send_typed : IsProcess thrice.channels thrice.vars (sending 0 at (constant 1 1))
 send_typed = record {
   within = omega arith;
   direction = λ e. cc;
@@ -99,7 +248,8 @@ thrice_translated : IsTranslated (inlined_program thrice)
 thrice_translated = record {
   typed = record {
     each_channel = All-cons IsDeclaredChannel (record { name = codes "X"; kind = Out; width = 1 }) []
-        (record { name = record { short = omega arith; first = refl; parts = refl; free = refl }; some = omega arith; most = omega arith }) (All-nil IsDeclaredChannel);
+        (record { name = record { short = omega arith; first = refl; parts = refl; free = refl }; some = omega arith; most = omega arith })
+        (All-nil IsDeclaredChannel);
     each_var = All-nil IsDeclaredVar;
     distinct = λ i j d less within. absurd (omega (arith, less, within));
     body_is = (omega arith, (send_typed, (send_typed, (send_typed, tt))));

@@ -1,4 +1,7 @@
 -- No guard of the net with shared bodies has an empty term.
+--
+-- P: the program with copies; ps: the bodies of the procedures; d: the answer of each body in the net with shared bodies;
+-- x, y: statements with calls; r, from: a statement's request and first node.
 use Rattle.std.proofs.Common.{◌≡◌, ℕ, suc, ◌+◌, ◌*◌, ◌<◌, true, false, List, [], ◌∷◌, ◌++◌, length, refl, arith}
 use Rattle.std.specs.Prelude.{replicate, slice_index_or}
 use Rattle.chp_base.specs.declared.channel.Channel.{Channel}
@@ -19,7 +22,7 @@ use Rattle.net_compose.proofs.Sizes.{pairs_of_guards}
 use Rattle.net_compose.proofs.FlatRules.{counted}
 use Rattle.net_compose.proofs.NetFilled.{full, full-append, tree_full, or_full, block_full, select_full, again_full, guards_full, statement_full, rails_full, silent_full}
 use Rattle.call_map.specs.Calling.{Called, calling, atom, turned, abreast, chosen, looped, Calleds, no_calleds, and_called, CalledChoices, no_called, or_called, inlined, inlined_each, inlined_choices, called_size, called_branches_size, called_rules, called_turn_rules, called_branches_rules, called_bodies_rules, called_choosing, called_repeating, called_ends}
-use Rattle.call_map.specs.CallNet.{CallProgram, inlined_program, procs_from, call_root, body_answer, asks_of, proc_rules, all_sites, call_channel_rules, call_channels_rules, call_vars_rules, call_answer, call_rules}
+use Rattle.call_map.specs.CallNet.{CallProgram, inlined_program, procs_from, call_root, proc_answer, asks_of, proc_rules, all_sites, call_channel_rules, call_channels_rules, call_vars_rules, call_answer, call_rules}
 
 module _ (P : TypedProgram) (ps : List Process) (d : ℕ → ℕ) where
   mutual
@@ -50,7 +53,8 @@ module _ (P : TypedProgram) (ps : List Process) (d : ℕ → ℕ) where
         (called_bodies_full choices (from + again_own + choice_count cs) (bodies_from cs again_own from) t.2))
     called_full (looped x) r from t = called_full x (from + 1) (from + 2) t
 
-    called_turn_full : (members : Calleds) (r from : ℕ) → AreProcesses P.channels P.vars (inlined_each ps members) → full (called_turn_rules ps P d members r from) ≡ true
+    called_turn_full : (members : Calleds) (r from : ℕ) → AreProcesses P.channels P.vars (inlined_each ps members)
+        → full (called_turn_rules ps P d members r from) ≡ true
     called_turn_full no_calleds r from t = refl
     called_turn_full (and_called x no_calleds) r from t = called_full x r from t.0
     called_turn_full (and_called x (and_called y more)) r from t =
@@ -85,11 +89,13 @@ module _ (C : CallProgram) (typed : IsProcess C.channels C.vars (inlined C.procs
   procs_full q (b ∷ bs) from t =
       let next = from + 1 + size_of P b in
       or_full (asks_of C q) (rules_of P b from (from + 1) ++ proc_rules C (suc q) bs next)
-      (full-append (rules_of P b from (from + 1)) (proc_rules C (suc q) bs next) (statement_full P (pairs_of_guards counted P) b from (from + 1) (t 0 (omega arith)))
+      (full-append (rules_of P b from (from + 1)) (proc_rules C (suc q) bs next)
+      (statement_full P (pairs_of_guards counted P) b from (from + 1) (t 0 (omega arith)))
       (procs_full (suc q) bs next (λ j l. t (suc j) (omega (arith, l)))))
 
   wires_full : (k width : ℕ) (kind : Kind) → full (call_channel_rules C k width kind) ≡ true
-  wires_full k width In = full-append (replicate (2 * width) no_rules) (or_of (all_sites C (receive_site k)) ∷ []) (silent_full P (pairs_of_guards counted P) (2 * width))
+  wires_full k width In =
+      full-append (replicate (2 * width) no_rules) (or_of (all_sites C (receive_site k)) ∷ []) (silent_full P (pairs_of_guards counted P) (2 * width))
       (or_full (all_sites C (receive_site k)) [] refl)
   wires_full k width Out = full-append (rail_rules (all_sites C (send_site k)) 0 width) (no_rules ∷ [])
       (rails_full P (pairs_of_guards counted P) (all_sites C (send_site k)) 0 width) refl
@@ -98,7 +104,8 @@ module _ (C : CallProgram) (typed : IsProcess C.channels C.vars (inlined C.procs
 
   channels_full : (k : ℕ) (cs : List Channel) → full (call_channels_rules C k cs) ≡ true
   channels_full k [] = refl
-  channels_full k (c ∷ cs) = full-append (call_channel_rules C k c.width c.kind) (call_channels_rules C (suc k) cs) (wires_full k c.width c.kind) (channels_full (suc k) cs)
+  channels_full k (c ∷ cs) =
+      full-append (call_channel_rules C k c.width c.kind) (call_channels_rules C (suc k) cs) (wires_full k c.width c.kind) (channels_full (suc k) cs)
 
   vars_full : (x : ℕ) (vs : List Var) → full (call_vars_rules C x vs) ≡ true
   vars_full x [] = refl
@@ -107,8 +114,9 @@ module _ (C : CallProgram) (typed : IsProcess C.channels C.vars (inlined C.procs
 
   pub all_full : full (call_rules C) ≡ true
   all_full =
-      let own = q_child 0 (call_root C + 1) ∷ q_latch 0 (call_answer C) ∷ called_rules C.procs P (body_answer C) C.body (call_root C) (call_root C + 2) in
-      full-append (call_channels_rules C 0 C.channels) (call_vars_rules C 0 C.vars ++ (proc_rules C 0 C.procs (procs_from C) ++ own)) (channels_full 0 C.channels)
+      let own = q_child 0 (call_root C + 1) ∷ q_latch 0 (call_answer C) ∷ called_rules C.procs P (proc_answer C) C.body (call_root C) (call_root C + 2) in
+      full-append (call_channels_rules C 0 C.channels) (call_vars_rules C 0 C.vars ++ (proc_rules C 0 C.procs (procs_from C) ++ own))
+      (channels_full 0 C.channels)
       (full-append (call_vars_rules C 0 C.vars) (proc_rules C 0 C.procs (procs_from C) ++ own) (vars_full 0 C.vars)
       (full-append (proc_rules C 0 C.procs (procs_from C)) own (procs_full 0 C.procs (procs_from C) bodies)
-      (called_full P C.procs (body_answer C) C.body (call_root C) (call_root C + 2) typed)))
+      (called_full P C.procs (proc_answer C) C.body (call_root C) (call_root C + 2) typed)))

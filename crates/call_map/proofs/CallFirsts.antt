@@ -1,5 +1,8 @@
 -- The first values of both nets: high are one rail of each bit of each variable, and no node of a procedure, since its body has
 -- no hidden variables.
+--
+-- C: the program with calls; P: that with copies; is: what is asked of C; v, u: values of the nodes of the net with shared
+-- bodies and of that with copies; q: a procedure; c: a call; k: a place in the list of all other nodes.
 use Rattle.std.proofs.Common.{◌≡◌, ◌≢◌, ℕ, zero, suc, ◌+◌, ◌*◌, ◌-◌, ◌/◌, ◌%◌, ◌<◌, ◌≤◌, ◌==◌, Bool, true, false, List, [], ◌∷◌, ◌++◌, map, length, get_or, refl, sym, ap, ◌∙◌, arith, ⊎_elim, length-append}
 use Rattle.std.specs.Prelude.{◌||◌, if◌then◌else◌, replicate, slice_index_or}
 use Rattle.std.proofs.lemmas.Bool.{cases_lt, cases_eq, eq-eqb, ne_eqb}
@@ -23,7 +26,8 @@ use Rattle.net_compose.proofs.HalvedNodes.{Numbered}
 use Rattle.net_compose.proofs.NumberedOnce.{nowhere as no_node, node_in, one_place}
 use Rattle.call_map.specs.Shared.{Here, plain, asks, answers, enters, body, There, plainly, asked, copied}
 use Rattle.call_map.specs.Calling.{called_size, called_sites, IsAtom}
-use Rattle.call_map.specs.CallNet.{body_sites, CallProgram, inlined_program, procs_from, call_root, body_at, body_answer, all_sites, call_rules, call_firsts}
+use Rattle.call_map.specs.CallNet.{body_sites, CallProgram, inlined_program, procs_from, call_root, body_at, proc_answer, all_sites, call_rules, call_firsts}
+use Rattle.call_map.proofs.Truths.{or_false}
 use Rattle.call_map.proofs.Items.{Each, Same, CallPoint}
 use Rattle.call_map.proofs.Picks.{any, never_any, IsPick, copy_any, picks_split}
 use Rattle.call_map.proofs.CallNodes.{called_long}
@@ -32,9 +36,11 @@ use Rattle.call_map.proofs.Merged.{nowhere}
 use Rattle.call_map.proofs.CallNet.{points}
 use Rattle.call_map.proofs.CallOrder.{CallFacts, front, front_long, rest_rules, rules_are, order, order_all, order_there, order_there_all}
 use Rattle.call_map.proofs.CallPlaces.{its, count_items, plain_test, PlainAt, a_low, an_item, plain_at, low_is_plain, item_is_plain, place, place_there, IsNodeHere, IsNodeThere, one_here, one_there}
-use Rattle.call_map.proofs.CallShared.{within_here, within_there, item_plain, at_item_there, at_low, at_low_there, each_of, FirstsFit}
+use Rattle.call_map.proofs.CallStands.{within_here, within_there, item_plain, at_item_there, at_low, at_low_there}
+use Rattle.call_map.proofs.CallShared.{each_of, FirstsFit}
 
-highs_placed : (v u : ℕ → Bool) (n value from to : ℕ) → ((i : ℕ) → i < 5 * n → v (from + i) ≡ u (to + i)) → map v (high_first n value from) ≡ map u (high_first n value to)
+highs_placed : (v u : ℕ → Bool) (n value from to : ℕ) → ((i : ℕ) → i < 5 * n → v (from + i) ≡ u (to + i))
+    → map v (high_first n value from) ≡ map u (high_first n value to)
 highs_placed v u zero value from to h = refl
 highs_placed v u (suc n) value from to h =
     ap (λ b. b ∷ map v (high_first n (value / 2) (from + 5))) (by (value % 2 == 1))
@@ -50,14 +56,6 @@ any_member : (m : ℕ) (xs : List ℕ) → any (map (λ n. n == m) xs) ≡ membe
 any_member m [] = refl
 any_member m (x ∷ xs) = ap (λ b. (x == m) || b) (any_member m xs)
 
-or_false : (b : Bool) → (b || false) ≡ b
-or_false true = refl
-or_false false = refl
-
-low_or : (a b : Bool) → (a ≡ true → ⊥) → b ≡ false → (a || b) ≡ false
-low_or true b f e = absurd (f refl)
-low_or false b f e = e
-
 module _ (C : CallProgram) (is : CallFacts C) (unread : (q : ℕ) → q < length C.procs → ReadsNoTarget (body_at C q)) where
   abbrev P : TypedProgram
   P = inlined_program C
@@ -72,7 +70,8 @@ module _ (C : CallProgram) (is : CallFacts C) (unread : (q : ℕ) → q < length
   hidden_pick = record { atoms = atoms }
     where
       assigned : (v u : ℕ → Bool) (x : ℕ) (e : Formula) (b : Bool) → 1 ≤ var_width C.vars x → (from to : ℕ)
-          → ((i : ℕ) → i < (if b then through_size (var_width C.vars x) e else 1 + formula_size e) → from + i ≢ (if b then second_answer P x from (formula_size e) else from)
+          → ((i : ℕ) → i < (if b then through_size (var_width C.vars x) e else 1 + formula_size e)
+          → from + i ≢ (if b then second_answer P x from (formula_size e) else from)
           → v (from + i) ≡ u (to + i))
           → map v (if b then high_first (var_width C.vars x) 0 from else []) ≡ map u (if b then high_first (var_width C.vars x) 0 to else [])
       assigned v u x e false some from to same = refl
@@ -90,7 +89,8 @@ module _ (C : CallProgram) (is : CallFacts C) (unread : (q : ℕ) → q < length
       atoms v u (choosing _ _) a t from to same = absurd a
       atoms v u (repeating _) a t from to same = absurd a
 
-  none_in_bodies : (bs : List Process) (from : ℕ) → ((q : ℕ) → q < length bs → ReadsNoTarget (slice_index_or bs q skipping)) → body_sites P (hidden_high P) bs from ≡ []
+  none_in_bodies : (bs : List Process) (from : ℕ) → ((q : ℕ) → q < length bs → ReadsNoTarget (slice_index_or bs q skipping))
+      → body_sites P (hidden_high P) bs from ≡ []
   none_in_bodies [] from h = refl
   none_in_bodies (b ∷ bs) from h =
       ap (λ l. l ++ body_sites P (hidden_high P) bs (from + 1 + size_of P b)) (none_hidden P b (h 0 (omega arith)) (from + 1))
@@ -98,22 +98,24 @@ module _ (C : CallProgram) (is : CallFacts C) (unread : (q : ℕ) → q < length
 
   module _ (v u : ℕ → Bool) where
     none_in_copies : (cs : List CallPoint) → ((k : ℕ) → k < length cs → (get_or cs k nowhere).proc < length C.procs)
-        → any (map (copy_any P (hidden_high P) hidden_pick v u C.procs (body_answer C)) cs) ≡ false
+        → any (map (copy_any P (hidden_high P) hidden_pick v u C.procs (proc_answer C)) cs) ≡ false
     none_in_copies [] h = refl
     none_in_copies (c ∷ cs) h =
-        ap (λ l. any (map u l) || any (map (copy_any P (hidden_high P) hidden_pick v u C.procs (body_answer C)) cs))
+        ap (λ l. any (map u l) || any (map (copy_any P (hidden_high P) hidden_pick v u C.procs (proc_answer C)) cs))
         (none_hidden P (body_at C c.proc) (unread c.proc (h 0 (omega arith))) c.copy)
         ∙ none_in_copies cs (λ k l. h (suc k) (omega (arith, l)))
 
     -- the hidden rails that are high
     hidden_any : Each (Same v u) (its C is) → any (map u (in_body P (hidden_high P))) ≡ any (map v (all_sites C (hidden_high P)))
     hidden_any same =
-        picks_split P (hidden_high P) hidden_pick v u C.procs (body_answer C) C.body is.atoms is.typed (call_root C) (call_root C + 2) (procs_from C) (procs_from C + 2) same.1.1
+        picks_split P (hidden_high P) hidden_pick v u C.procs (proc_answer C) C.body is.atoms is.typed (call_root C) (call_root C + 2) (procs_from C)
+        (procs_from C + 2) same.1.1
         ∙ (ap (λ z. any (map v (called_sites C.procs P (hidden_high P) C.body (call_root C + 2))) || z) (none_in_copies (points C) is.within)
         ∙ (or_false (any (map v (called_sites C.procs P (hidden_high P) C.body (call_root C + 2))))
         ∙ ap (λ l. any (map v (l ++ called_sites C.procs P (hidden_high P) C.body (call_root C + 2)))) (sym (none_in_bodies C.procs (procs_from C) unread))))
 
-    pointwise : ((k : ℕ) → plain_test C is (procs_from C + k) ≡ true → k < count_items C is → v (here_of (plain (procs_from C + k))) ≡ u (there_of (plainly (procs_from C + k)))) → Each (Same v u) (its C is)
+    pointwise : ((k : ℕ) → plain_test C is (procs_from C + k) ≡ true → k < count_items C is
+        → v (here_of (plain (procs_from C + k))) ≡ u (there_of (plainly (procs_from C + k)))) → Each (Same v u) (its C is)
     pointwise h = each_of (Same v u) (its C is) no_item (λ k l off.
         ap v (sym (ap (λ (x : Numbered). x.node) (item_plain C is k l)))
         ∙ (h k (item_is_plain C is k l off) l ∙ ap u (ap (λ (x : Numbered). x.node) (at_item_there C is k l))))
@@ -125,7 +127,8 @@ module _ (C : CallProgram) (is : CallFacts C) (unread : (q : ℕ) → q < length
 
   apart_there : (s t : There) → IsNodeThere C is s → IsNodeThere C is t → s ≢ t → (there_of s == there_of t) ≡ false
   apart_there s t hs ht ne = ne_eqb (there_of s) (there_of t) (λ e. ne (one_there C is s t hs ht
-      (one_place (order_there C is) (all_rules P) (order_there_all C is) (place_there C is s) (place_there C is t) (within_there C is s hs) (within_there C is t ht) e)))
+      (one_place (order_there C is) (all_rules P) (order_there_all C is) (place_there C is s) (place_there C is t) (within_there C is s hs)
+      (within_there C is t ht) e)))
 
   plain_key : (k j : ℕ) → plain k ≡ plain j → k ≡ j
   plain_key k j e = cc
@@ -152,7 +155,8 @@ module _ (C : CallProgram) (is : CallFacts C) (unread : (q : ℕ) → q < length
       ∙ (hidden_any (λ n. false) (λ n. n == there_of t) (pointwise (λ n. false) (λ n. n == there_of t)
       (λ k h l. sym (apart_there (plainly (procs_from C + k)) t h ht (λ e. ne k (sym e))))) ∙ never_any hidden_here)
 
-  both_same : (j : ℕ) → plain_test C is (procs_from C + j) ≡ true → member (here_of (plain (procs_from C + j))) hidden_here ≡ member (there_of (plainly (procs_from C + j))) hidden_there
+  both_same : (j : ℕ) → plain_test C is (procs_from C + j) ≡ true
+      → member (here_of (plain (procs_from C + j))) hidden_here ≡ member (there_of (plainly (procs_from C + j))) hidden_there
   both_same j hj =
       let a = here_of (plain (procs_from C + j)) in
       let b = there_of (plainly (procs_from C + j)) in
@@ -160,8 +164,10 @@ module _ (C : CallProgram) (is : CallFacts C) (unread : (q : ℕ) → q < length
       ∙ (sym (hidden_any (λ n. n == a) (λ n. n == b) (pointwise (λ n. n == a) (λ n. n == b) (λ k h l. ⊎_elim
       (λ (e : k ≡ j). eq-eqb (here_of (plain (procs_from C + k))) a (ap (λ i. here_of (plain (procs_from C + i))) e)
       ∙ sym (eq-eqb (there_of (plainly (procs_from C + k))) b (ap (λ i. there_of (plainly (procs_from C + i))) e)))
-      (λ (ne : k ≢ j). apart_here (plain (procs_from C + k)) (plain (procs_from C + j)) h hj (λ e. ne (let z = plain_key (procs_from C + k) (procs_from C + j) e in omega (arith, z)))
-      ∙ sym (apart_there (plainly (procs_from C + k)) (plainly (procs_from C + j)) h hj (λ e. ne (let z = plainly_key (procs_from C + k) (procs_from C + j) e in omega (arith, z)))))
+      (λ (ne : k ≢ j). apart_here (plain (procs_from C + k)) (plain (procs_from C + j)) h hj
+      (λ e. ne (let z = plain_key (procs_from C + k) (procs_from C + j) e in omega (arith, z)))
+      ∙ sym (apart_there (plainly (procs_from C + k)) (plainly (procs_from C + j)) h hj
+      (λ e. ne (let z = plainly_key (procs_from C + k) (procs_from C + j) e in omega (arith, z)))))
       (cases_eq k j)))) ∙ any_member b hidden_there)
 
   -- the rails of declared variables
@@ -190,7 +196,7 @@ module _ (C : CallProgram) (is : CallFacts C) (unread : (q : ℕ) → q < length
   rules_long =
       let a = ap length (rules_are C is) in
       let b = length-append (front C is) (rest_rules C is) in
-      let c = called_long P C.procs (body_answer C) C.body is.typed (call_root C) (call_root C + 2) in
+      let c = called_long P C.procs (proc_answer C) C.body is.typed (call_root C) (call_root C + 2) in
       let f = front_long C is in
       omega (arith, a, b, c, f)
 
@@ -199,14 +205,16 @@ module _ (C : CallProgram) (is : CallFacts C) (unread : (q : ℕ) → q < length
       let count = call_root C + 2 + called_size C.procs P C.body in
       let whole = vars_high P 0 C.vars ++ hidden_here in
       raised_is whole (replicate count false) n (let e = length-replicate count false in omega (arith, l, e, rules_long))
-      ∙ (ap (λ b. b || member n whole) (get_or-replicate count n false false (omega (arith, l, rules_long))) ∙ member_append n (vars_high P 0 C.vars) hidden_here)
+      ∙ (ap (λ b. b || member n whole) (get_or-replicate count n false false (omega (arith, l, rules_long)))
+      ∙ member_append n (vars_high P 0 C.vars) hidden_here)
 
   first_there : (n : ℕ) → n < length (all_rules P) → high (first_values P) n ≡ (member n (vars_high P 0 C.vars) || member n hidden_there)
   first_there n l =
       let whole = vars_high P 0 C.vars ++ hidden_there in
       let long = all_length counted P is.typed in
       raised_is whole (replicate (nodes_of P) false) n (let e = length-replicate (nodes_of P) false in omega (arith, l, e, long))
-      ∙ (ap (λ b. b || member n whole) (get_or-replicate (nodes_of P) n false false (omega (arith, l, long))) ∙ member_append n (vars_high P 0 C.vars) hidden_there)
+      ∙ (ap (λ b. b || member n whole) (get_or-replicate (nodes_of P) n false false (omega (arith, l, long)))
+      ∙ member_append n (vars_high P 0 C.vars) hidden_there)
 
   below_here : (s : Here) → IsNodeHere C is s → here_of s < length (call_rules C)
   below_here s h = (node_in (order C is) (call_rules C) (order_all C is) (place C is s) (within_here C is s h)).within
@@ -214,7 +222,7 @@ module _ (C : CallProgram) (is : CallFacts C) (unread : (q : ℕ) → q < length
   pub below_there : (t : There) → IsNodeThere C is t → there_of t < length (all_rules P)
   below_there t h = (node_in (order_there C is) (all_rules P) (order_there_all C is) (place_there C is t) (within_there C is t h)).within
 
-  -- a node that is no low one stands behind the low ones
+  -- a node that is no low one has a higher number than those
   behind_here : (s : Here) → IsNodeHere C is s → ((k : ℕ) → k < procs_from C → s ≢ plain k) → procs_from C ≤ here_of s
   behind_here s h ne = ⊎_elim
       (λ (l : here_of s < procs_from C). absurd (ne (here_of s) l (one_here C is s (plain (here_of s)) h (low_is_plain C is (here_of s) l)
@@ -239,7 +247,8 @@ module _ (C : CallProgram) (is : CallFacts C) (unread : (q : ℕ) → q < length
   low_there : (t : There) → IsNodeThere C is t → ((k : ℕ) → t ≢ plainly k) → high (first_values P) (there_of t) ≡ false
   low_there t h ne =
       first_there (there_of t) (below_there t h)
-      ∙ (ap (λ b. b || member (there_of t) hidden_there) (no_member (there_of t) (behind_there t h (λ k l. ne k))) ∙ none_there t h (λ k. ne (procs_from C + k)))
+      ∙ (ap (λ b. b || member (there_of t) hidden_there) (no_member (there_of t) (behind_there t h (λ k l. ne k)))
+      ∙ none_there t h (λ k. ne (procs_from C + k)))
 
   plain_first : (k : ℕ) → plain_test C is k ≡ true → high (call_firsts C) (here_of (plain k)) ≡ high (first_values P) (there_of (plainly k))
   plain_first k h = by (plain_at C is k h)
@@ -249,9 +258,11 @@ module _ (C : CallProgram) (is : CallFacts C) (unread : (q : ℕ) → q < length
           let e = ap (λ (x : Numbered). x.node) (at_low C is k l) in
           let f = ap (λ (x : Numbered). x.node) (at_low_there C is k l) in
           first_here (here_of (plain k)) (below_here (plain k) h)
-          ∙ (ap (λ b. member (here_of (plain k)) (vars_high P 0 C.vars) || b) (none_here (plain k) h (λ j z. absurd (let y = plain_key k (procs_from C + j) z in omega (arith, y, l))))
+          ∙ (ap (λ b. member (here_of (plain k)) (vars_high P 0 C.vars) || b)
+          (none_here (plain k) h (λ j z. absurd (let y = plain_key k (procs_from C + j) z in omega (arith, y, l))))
           ∙ (ap (λ n. member n (vars_high P 0 C.vars) || false) (e ∙ sym f)
-          ∙ (ap (λ b. member (there_of (plainly k)) (vars_high P 0 C.vars) || b) (sym (none_there (plainly k) h (λ j z. absurd (let y = plainly_key k (procs_from C + j) z in omega (arith, y, l)))))
+          ∙ (ap (λ b. member (there_of (plainly k)) (vars_high P 0 C.vars) || b)
+          (sym (none_there (plainly k) h (λ j z. absurd (let y = plainly_key k (procs_from C + j) z in omega (arith, y, l)))))
           ∙ sym (first_there (there_of (plainly k)) (below_there (plainly k) h)))))
       by (an_item l m off) =
           let e : procs_from C + (k - procs_from C) ≡ k = omega (arith, l) in

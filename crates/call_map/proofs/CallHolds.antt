@@ -1,4 +1,6 @@
 -- The net with shared bodies is a net of a rule file.
+--
+-- C: the program with calls; P: that with copies; ps: the bodies of the procedures; is, t: what is asked of C, and of P.
 use Rattle.std.proofs.Common.{◌≡◌, ℕ, zero, suc, ◌+◌, ◌*◌, ◌≤◌, ◌<◌, true, false, List, [], ◌∷◌, ◌++◌, map, length, get_or, refl, ap, ◌∙◌, arith, append_assoc, get_or-append-add, length-append}
 use Rattle.std.specs.Prelude.{◌||◌, replicate, All}
 use Rattle.std.proofs.lemmas.List.{length-map, length-replicate, get_or_append_left, get_or-map}
@@ -31,7 +33,7 @@ use Rattle.call_map.proofs.CallFirsts.{rules_long, first_here, firsts_fit}
 use Rattle.call_map.proofs.CallFilled.{all_full}
 use Rattle.call_map.proofs.CallLiterals.{few_literals}
 
--- the hidden rails that are high stand behind the variables
+-- the hidden rails that are high have higher numbers than the variables
 module _ (P : TypedProgram) (ps : List Process) where
   mutual
     called_from : (x : Called) (from : ℕ) → AllFrom from (called_sites ps P (hidden_high P) x from)
@@ -56,7 +58,8 @@ module _ (P : TypedProgram) (ps : List Process) where
         let to = from + 3 + called_size ps P x in
         from_append from (called_sites ps P (hidden_high P) x (from + 3)) (called_turn_sites ps P (hidden_high P) (and_called y more) to)
         (from_lower from (from + 3) (called_sites ps P (hidden_high P) x (from + 3)) (omega arith) (called_from x (from + 3)))
-        (from_lower from to (called_turn_sites ps P (hidden_high P) (and_called y more) to) (omega arith) (turn_from (and_called y more) (from + 3 + called_size ps P x)))
+        (from_lower from to (called_turn_sites ps P (hidden_high P) (and_called y more) to) (omega arith)
+        (turn_from (and_called y more) (from + 3 + called_size ps P x)))
 
     branches_from : (members : Calleds) (from : ℕ) → AllFrom from (called_branch_sites ps P (hidden_high P) members from)
     branches_from no_calleds from = tt
@@ -98,7 +101,8 @@ module _ (C : CallProgram) where
       omega (arith, e, f)
 
   wires_at : (k : ℕ) (cs : List Channel) (tail : List NodeRules) (j m : ℕ) → j < length cs → m < wires_size (channel_width cs j)
-      → get_or (call_channels_rules C k cs ++ tail) (wires_before cs j + m) no_rules ≡ get_or (call_channel_rules C (k + j) (channel_width cs j) (kind_at cs j)) m no_rules
+      → get_or (call_channels_rules C k cs ++ tail) (wires_before cs j + m) no_rules
+      ≡ get_or (call_channel_rules C (k + j) (channel_width cs j) (kind_at cs j)) m no_rules
   wires_at k [] tail j m h lt = absurd (omega (arith, h))
   wires_at k (c ∷ cs) tail zero m h lt =
       let own = call_channel_rules C k c.width c.kind in
@@ -216,6 +220,8 @@ module _ (C : CallProgram) (is : IsCallProgram C) (t : IsTranslated (inlined_pro
       let first = firsts_long C is t in
       let own = counted_rules in
       let ups : length (map (λ (r : NodeRules). r.up) (call_rules C)) ≡ length (call_rules C) = length-map (call_rules C) (λ (r : NodeRules). r.up) in
-      net_is P t.typed (procs_size P C.procs + (2 + called_size C.procs P C.body)) (omega (arith, small)) (call_firsts C) (call_composed C) (omega (arith, first)) low_before
-      (λ k h. outside_of k h (kind_at C.channels k) refl) (omega (arith, first, ups, own)) rules (ups_filled (call_rules C) full) (downs_filled (call_rules C) full)
+      net_is P t.typed (procs_size P C.procs + (2 + called_size C.procs P C.body)) (omega (arith, small)) (call_firsts C) (call_composed C)
+      (omega (arith, first)) low_before
+      (λ k h. outside_of k h (kind_at C.channels k) refl) (omega (arith, first, ups, own)) rules (ups_filled (call_rules C) full)
+      (downs_filled (call_rules C) full)
       (omega (arith, few, first, cost)) (record { up = refl; down = refl })

@@ -1,5 +1,9 @@
 -- The calls of a program as a list: it holds each call, and each call in it is of a procedure that is called. And what follows
 -- of a program with calls from what is asked of it.
+--
+-- P: the program with copies; ps: the bodies of the procedures; d: the answer of each body in the net with shared bodies;
+-- x, y: statements with calls; r, s: a statement's request in the net with shared bodies and in that with copies; from, to:
+-- its first node in either net; q: a procedure; C: the program with calls.
 use Rattle.std.proofs.Common.{◌≡◌, ℕ, ◌+◌, ◌<◌, ◌==◌, Bool, true, false, List, [], ◌∷◌, ◌++◌, map, length, get_or, inl, inr, refl, sym, ap, ◌∙◌, subst, arith, length-append}
 use Rattle.std.specs.Prelude.{filter, if◌then◌else◌}
 use Rattle.width_check.specs.Processes.{Process, choice_count, TypedProgram}
@@ -10,7 +14,7 @@ use Rattle.net_compose.proofs.HalvedCarried.{declared_bits}
 use Rattle.net_compose.proofs.PartStands.{part_typed}
 use Rattle.call_map.specs.Calling.{Called, calling, atom, turned, abreast, chosen, looped, Calleds, no_calleds, and_called, CalledChoices, no_called, or_called, inlined_choices, called_size, called_requests, called_turn_requests, called_branch_requests, called_body_requests}
 use Rattle.call_map.specs.CallsApart.{Calls, OneCalls, ChoiceCalls}
-use Rattle.call_map.specs.CallNet.{CallProgram, inlined_program, procs_from, call_root, body_at, body_answer, asks_of, IsCallProgram}
+use Rattle.call_map.specs.CallNet.{CallProgram, inlined_program, procs_from, call_root, body_at, proc_answer, asks_of, IsCallProgram}
 use Rattle.call_map.proofs.Items.{CallPoint, there_size, calls, turn_calls, branch_calls, body_calls}
 use Rattle.call_map.proofs.Merged.{nowhere}
 use Rattle.call_map.proofs.CallNet.{points, asks_listed}
@@ -26,8 +30,10 @@ module _ (P : TypedProgram) (ps : List Process) (d : ℕ → ℕ) (q : ℕ) wher
   listed_append (c ∷ xs) ys = by (c.proc == q) (listed_append xs ys)
     where
       by : (b : Bool) → listed (xs ++ ys) ≡ listed xs ++ listed ys
-          → map (λ (c : CallPoint). c.request) (if b then c ∷ filter (λ (c : CallPoint). c.proc == q) (xs ++ ys) else filter (λ (c : CallPoint). c.proc == q) (xs ++ ys))
-          ≡ map (λ (c : CallPoint). c.request) (if b then c ∷ filter (λ (c : CallPoint). c.proc == q) xs else filter (λ (c : CallPoint). c.proc == q) xs) ++ listed ys
+          → map (λ (c : CallPoint). c.request)
+          (if b then c ∷ filter (λ (c : CallPoint). c.proc == q) (xs ++ ys) else filter (λ (c : CallPoint). c.proc == q) (xs ++ ys))
+          ≡ map (λ (c : CallPoint). c.request) (if b then c ∷ filter (λ (c : CallPoint). c.proc == q) xs else filter (λ (c : CallPoint). c.proc == q) xs)
+          ++ listed ys
       by true e = ap (λ l. c.request ∷ l) e
       by false e = e
 
@@ -73,7 +79,8 @@ module _ (P : TypedProgram) (ps : List Process) (d : ℕ → ℕ) (q : ℕ) wher
         (called_requests ps P q x from (from + 3)) (called_branch_requests ps P q more next)
         (requests_listed x from (from + 3) to (to + 3)) (sides_listed more r next s next_there)
 
-    arms_listed : (choices : CalledChoices) (start from s to : ℕ) → called_body_requests ps P q choices start from ≡ listed (body_calls P ps d choices start from s to)
+    arms_listed : (choices : CalledChoices) (start from s to : ℕ)
+        → called_body_requests ps P q choices start from ≡ listed (body_calls P ps d choices start from s to)
     arms_listed no_called start from s to = refl
     arms_listed (or_called g x more) start from s to =
         let next = from + called_size ps P x in
@@ -93,8 +100,12 @@ module _ (P : TypedProgram) (ps : List Process) (d : ℕ → ℕ) (q : ℕ) wher
 
   found_right : (xs ys : List CallPoint) → Found ys → Found (xs ++ ys)
   found_right xs ys f =
-      let l = f.1 in
-      (length xs + f.0, (let e = length-append xs ys in omega (arith, l, e)), ap (λ (c : CallPoint). c.proc) (get_right xs ys (length xs) f.0 nowhere refl) ∙ f.2)
+      let l = f.1 in (
+        length xs + f.0,
+        (let e = length-append xs ys in omega (arith, l, e)),
+        ap (λ (c : CallPoint). c.proc) (get_right xs ys (length xs) f.0 nowhere refl)
+            ∙ f.2,
+      )
 
   mutual
     pub found_in : (x : Called) (r from s to : ℕ) → Calls x q → Found (calls P ps d x r from s to)
@@ -116,7 +127,8 @@ module _ (P : TypedProgram) (ps : List Process) (d : ℕ → ℕ) (q : ℕ) wher
     found_turn (and_called x no_calleds) r from s to (inr h) = absurd h
     found_turn (and_called x (and_called y more)) r from s to (inl h) =
         found_left (calls P ps d x from (from + 3) to (to + 3))
-        (turn_calls P ps d (and_called y more) (from + 2) (from + 3 + called_size ps P x) (to + 2) (to + 3 + there_size P ps d x)) (found_in x from (from + 3) to (to + 3) h)
+        (turn_calls P ps d (and_called y more) (from + 2) (from + 3 + called_size ps P x) (to + 2) (to + 3 + there_size P ps d x))
+        (found_in x from (from + 3) to (to + 3) h)
     found_turn (and_called x (and_called y more)) r from s to (inr h) =
         found_right (calls P ps d x from (from + 3) to (to + 3))
         (turn_calls P ps d (and_called y more) (from + 2) (from + 3 + called_size ps P x) (to + 2) (to + 3 + there_size P ps d x))
@@ -134,36 +146,37 @@ module _ (P : TypedProgram) (ps : List Process) (d : ℕ → ℕ) (q : ℕ) wher
     found_arm : (choices : CalledChoices) (start from s to : ℕ) → ChoiceCalls choices q → Found (body_calls P ps d choices start from s to)
     found_arm no_called start from s to h = absurd h
     found_arm (or_called g x more) start from s to (inl h) =
-        found_left (calls P ps d x start from s to) (body_calls P ps d more (start + 1) (from + called_size ps P x) (s + 1) (to + there_size P ps d x)) (found_in x start from s to h)
+        found_left (calls P ps d x start from s to) (body_calls P ps d more (start + 1) (from + called_size ps P x) (s + 1) (to + there_size P ps d x))
+        (found_in x start from s to h)
     found_arm (or_called g x more) start from s to (inr h) =
         found_right (calls P ps d x start from s to) (body_calls P ps d more (start + 1) (from + called_size ps P x) (s + 1) (to + there_size P ps d x))
         (found_arm more (start + 1) (from + called_size ps P x) (s + 1) (to + there_size P ps d x) h)
 
 pub asks_are : (C : CallProgram) (q : ℕ) → asks_of C q ≡ asks_listed C q
-asks_are C q = requests_listed (inlined_program C) C.procs (body_answer C) q C.body (call_root C) (call_root C + 2) (procs_from C) (procs_from C + 2)
+asks_are C q = requests_listed (inlined_program C) C.procs (proc_answer C) q C.body (call_root C) (call_root C + 2) (procs_from C) (procs_from C + 2)
 
 module _ (C : CallProgram) (is : IsCallProgram C) (t : IsTranslated (inlined_program C)) where
   abbrev P : TypedProgram
   P = inlined_program C
 
   abbrev Stands : CallPoint → Copy C.procs P.body → Type 0
-  Stands c k = Fits C.procs P (body_answer C) P.body (procs_from C) (procs_from C + 2) c k
+  Stands c k = Fits C.procs P (proc_answer C) P.body (procs_from C) (procs_from C + 2) c k
 
   found : (q : ℕ) → q < length C.procs → (c : ℕ) × (c < length (points C)) × ((get_or (points C) c nowhere).proc ≡ q)
-  found q l = found_in P C.procs (body_answer C) q C.body (call_root C) (call_root C + 2) (procs_from C) (procs_from C + 2) (is.called q l)
+  found q l = found_in P C.procs (proc_answer C) q C.body (call_root C) (call_root C + 2) (procs_from C) (procs_from C + 2) (is.called q l)
 
   -- its body is a part of the program with copies
   typed_body : (q : ℕ) → q < length C.procs → IsProcess C.channels C.vars (body_at C q)
   typed_body q l =
       let f = found q l in
       let z = paired_at Stands nowhere (points C) (copies_in C.procs C.body)
-      (copies_fit C.procs P (body_answer C) C.body (call_root C) (call_root C + 2) (procs_from C) (procs_from C + 2)) f.0 f.1 in
+      (copies_fit C.procs P (proc_answer C) C.body (call_root C) (call_root C + 2) (procs_from C) (procs_from C + 2)) f.0 f.1 in
       subst (λ n. IsProcess C.channels C.vars (body_at C n)) (sym z.1.0 ∙ f.2) (part_typed P z.0.at t.typed.body_is)
 
   called_within : (c : ℕ) → c < length (points C) → (get_or (points C) c nowhere).proc < length C.procs
   called_within c l =
       let z = each_paired Stands nowhere (λ (k : Copy C.procs P.body). Calls C.body k.proc) (points C) (copies_in C.procs C.body)
-      (copies_fit C.procs P (body_answer C) C.body (call_root C) (call_root C + 2) (procs_from C) (procs_from C + 2)) (copies_called C.procs C.body) c l in
+      (copies_fit C.procs P (proc_answer C) C.body (call_root C) (call_root C + 2) (procs_from C) (procs_from C + 2)) (copies_called C.procs C.body) c l in
       subst (λ n. n < length C.procs) (sym z.1.0) (is.declared z.0.proc z.2)
 
   pub call_facts : CallFacts C

@@ -1,5 +1,8 @@
 -- The guards of the net with shared bodies have at most 64 literals for each node: a procedure's request has two for each call,
 -- and each call has a node of its own.
+--
+-- C: the program with calls; P: that with copies; ps, bs: the bodies of the procedures; d: the answer of each body; q: a
+-- procedure; x: a statement with calls; r, from: its request and first node.
 use Rattle.std.proofs.Common.{◌≡◌, ◌≢◌, ℕ, suc, ◌+◌, ◌*◌, ◌≤◌, ◌<◌, ◌==◌, Bool, true, false, List, [], ◌∷◌, ◌++◌, length, refl, ap, arith, ⊎_elim, length-append}
 use Rattle.std.specs.Prelude.{if◌then◌else◌, replicate, slice_index_or}
 use Rattle.std.proofs.lemmas.Bool.{cases_eq, ne_eqb}
@@ -23,7 +26,7 @@ use Rattle.net_compose.proofs.FlatRules.{counted}
 use Rattle.net_compose.proofs.GuardCosts.{cost, cost-append, tree_cheap, or_cost, silent_cost}
 use Rattle.net_compose.proofs.NetLiterals.{times, at_channels, at_vars, rails_cost, select_cost, again_cost, OfCount, share, share_both, share_none, share_of, block_cost, guards_cost, fits}
 use Rattle.call_map.specs.Calling.{Called, calling, atom, turned, abreast, chosen, looped, Calleds, no_calleds, and_called, CalledChoices, no_called, or_called, inlined, inlined_each, inlined_choices, called_size, called_turn_size, called_branches_size, called_bodies_size, called_bodies_from, called_rules, called_turn_rules, called_branches_rules, called_bodies_rules, called_choosing, called_repeating, called_ends, called_branch_answers, called_sites, called_turn_sites, called_branch_sites, called_body_sites, called_requests, called_turn_requests, called_branch_requests, called_body_requests}
-use Rattle.call_map.specs.CallNet.{CallProgram, inlined_program, procs_from, procs_size, body_sites, call_root, call_count, body_answer, asks_of, proc_rules, all_sites, call_channel_rules, call_channels_rules, call_vars_rules, call_answer, call_rules}
+use Rattle.call_map.specs.CallNet.{CallProgram, inlined_program, procs_from, procs_size, body_sites, call_root, call_count, proc_answer, asks_of, proc_rules, all_sites, call_channel_rules, call_channels_rules, call_vars_rules, call_answer, call_rules}
 use Rattle.call_map.proofs.ItemsAlike.{ends_long}
 
 -- something counted for each procedure from a number on
@@ -31,7 +34,8 @@ abbrev each_proc : (ℕ → ℕ) → (q : ℕ) → List Process → ℕ
 each_proc f q [] = 0
 each_proc f q (b ∷ bs) = f q + each_proc f (suc q) bs
 
-each_both : {A : Type 0} (f g : ℕ → List A) (q : ℕ) (bs : List Process) → each_proc (λ i. length (f i ++ g i)) q bs ≡ each_proc (λ i. length (f i)) q bs + each_proc (λ i. length (g i)) q bs
+each_both : {A : Type 0} (f g : ℕ → List A) (q : ℕ) (bs : List Process)
+    → each_proc (λ i. length (f i ++ g i)) q bs ≡ each_proc (λ i. length (f i)) q bs + each_proc (λ i. length (g i)) q bs
 each_both f g q [] = refl
 each_both f g q (b ∷ bs) = let e = length-append (f q) (g q) in let h = each_both f g (suc q) bs in omega (arith, e, h)
 
@@ -119,7 +123,8 @@ module _ (P : TypedProgram) (ps : List Process) (d : ℕ → ℕ) where
           let g = few_branch more (from + 3 + called_size ps P x) in
           omega (arith, e, f, g)
 
-      few_body : (choices : CalledChoices) (start from : ℕ) → each_proc (λ i. length (called_body_requests ps P i choices start from)) q bs ≤ calls_of_choices choices
+      few_body : (choices : CalledChoices) (start from : ℕ)
+          → each_proc (λ i. length (called_body_requests ps P i choices start from)) q bs ≤ calls_of_choices choices
       few_body no_called start from = let e = each_none q bs in omega (arith, e)
       few_body (or_called g x more) start from =
           let next = from + called_size ps P x in
@@ -130,19 +135,23 @@ module _ (P : TypedProgram) (ps : List Process) (d : ℕ → ℕ) where
 
   -- what merges cost for a statement's sites
   abbrev called_share : Called → (from : ℕ) → ℕ
-  called_share x from = share P (λ k. called_sites ps P (send_site k) x from) (λ k. called_sites ps P (receive_site k) x from) (λ y. called_sites ps P (write_site P y) x from)
+  called_share x from =
+      share P (λ k. called_sites ps P (send_site k) x from) (λ k. called_sites ps P (receive_site k) x from) (λ y. called_sites ps P (write_site P y) x from)
 
   abbrev turn_share : Calleds → (from : ℕ) → ℕ
   turn_share ms from =
-      share P (λ k. called_turn_sites ps P (send_site k) ms from) (λ k. called_turn_sites ps P (receive_site k) ms from) (λ y. called_turn_sites ps P (write_site P y) ms from)
+      share P (λ k. called_turn_sites ps P (send_site k) ms from) (λ k. called_turn_sites ps P (receive_site k) ms from)
+      (λ y. called_turn_sites ps P (write_site P y) ms from)
 
   abbrev branch_share : Calleds → (from : ℕ) → ℕ
   branch_share ms from =
-      share P (λ k. called_branch_sites ps P (send_site k) ms from) (λ k. called_branch_sites ps P (receive_site k) ms from) (λ y. called_branch_sites ps P (write_site P y) ms from)
+      share P (λ k. called_branch_sites ps P (send_site k) ms from) (λ k. called_branch_sites ps P (receive_site k) ms from)
+      (λ y. called_branch_sites ps P (write_site P y) ms from)
 
   abbrev choice_share : CalledChoices → (from : ℕ) → ℕ
   choice_share cs from =
-      share P (λ k. called_body_sites ps P (send_site k) cs from) (λ k. called_body_sites ps P (receive_site k) cs from) (λ y. called_body_sites ps P (write_site P y) cs from)
+      share P (λ k. called_body_sites ps P (send_site k) cs from) (λ k. called_body_sites ps P (receive_site k) cs from)
+      (λ y. called_body_sites ps P (write_site P y) cs from)
 
   answers_count : (choices : CalledChoices) (from : ℕ) → length (called_branch_answers ps P choices from) ≡ choice_count (inlined_choices ps choices)
   answers_count no_called from = refl
@@ -169,7 +178,8 @@ module _ (P : TypedProgram) (ps : List Process) (d : ℕ → ℕ) where
         let tree = tree_cheap (called_ends ps P members from) (from + called_branches_size ps P members) in
         let count = counted.tree (called_ends ps P members from) (from + called_branches_size ps P members) in
         let long = ends_long P ps d members from in
-        let parts = cost-append (called_branches_rules ps P d members r from) (tree_rules (called_ends ps P members from) (from + called_branches_size ps P members)) in
+        let parts =
+        cost-append (called_branches_rules ps P d members r from) (tree_rules (called_ends ps P members from) (from + called_branches_size ps P members)) in
         omega (arith, branches, tree, count, long, parts)
     called_fits (chosen false choices) r from t =
         let n = choice_count (inlined_choices ps choices) in
@@ -178,10 +188,12 @@ module _ (P : TypedProgram) (ps : List Process) (d : ℕ → ℕ) where
         let guards = guards_cost P counted (inlined_choices ps choices) (from + 1) (guards_from (inlined_choices ps choices) select_own from) t.2 in
         let bodies = bodies_fit choices (from + select_own + choice_count (inlined_choices ps choices)) (called_bodies_from ps P choices select_own from) t.2 in
         let back = cost-append (guards_rules P (inlined_choices ps choices) (from + 1) (guards_from (inlined_choices ps choices) select_own from))
-        (called_bodies_rules ps P d choices (from + select_own + choice_count (inlined_choices ps choices)) (called_bodies_from ps P choices select_own from)) in
+        (called_bodies_rules ps P d choices (from + select_own + choice_count (inlined_choices ps choices))
+        (called_bodies_from ps P choices select_own from)) in
         let whole = cost-append (select_rules (called_choosing ps P choices r (from + 2) select_own from))
         (guards_rules P (inlined_choices ps choices) (from + 1) (guards_from (inlined_choices ps choices) select_own from)
-        ++ called_bodies_rules ps P d choices (from + select_own + choice_count (inlined_choices ps choices)) (called_bodies_from ps P choices select_own from)) in
+        ++ called_bodies_rules ps P d choices (from + select_own + choice_count (inlined_choices ps choices))
+        (called_bodies_from ps P choices select_own from)) in
         omega (arith, own, guards, bodies, back, whole)
     called_fits (chosen true choices) r from t =
         let own = again_cost (called_repeating ps P choices r from) (choice_count (inlined_choices ps choices))
@@ -192,7 +204,8 @@ module _ (P : TypedProgram) (ps : List Process) (d : ℕ → ℕ) where
         (called_bodies_rules ps P d choices (from + again_own + choice_count (inlined_choices ps choices)) (called_bodies_from ps P choices again_own from)) in
         let whole = cost-append (again_rules (called_repeating ps P choices r from))
         (guards_rules P (inlined_choices ps choices) (from + 3) (guards_from (inlined_choices ps choices) again_own from)
-        ++ called_bodies_rules ps P d choices (from + again_own + choice_count (inlined_choices ps choices)) (called_bodies_from ps P choices again_own from)) in
+        ++ called_bodies_rules ps P d choices (from + again_own + choice_count (inlined_choices ps choices))
+        (called_bodies_from ps P choices again_own from)) in
         omega (arith, own, guards, bodies, back, whole)
     called_fits (looped x) r from t = let e = called_fits x (from + 1) (from + 2) t in omega (arith, e)
 
@@ -203,8 +216,10 @@ module _ (P : TypedProgram) (ps : List Process) (d : ℕ → ℕ) where
     turn_fits (and_called x (and_called y more)) r from t =
         let one = called_fits x from (from + 3) t.0 in
         let rest = turn_fits (and_called y more) (from + 2) (from + 3 + called_size ps P x) t.1 in
-        let parts = cost-append (called_rules ps P d x from (from + 3)) (called_turn_rules ps P d (and_called y more) (from + 2) (from + 3 + called_size ps P x)) in
-        let shares : turn_share (and_called x (and_called y more)) from ≡ called_share x (from + 3) + turn_share (and_called y more) (from + 3 + called_size ps P x) =
+        let parts =
+        cost-append (called_rules ps P d x from (from + 3)) (called_turn_rules ps P d (and_called y more) (from + 2) (from + 3 + called_size ps P x)) in
+        let shares : turn_share (and_called x (and_called y more)) from
+        ≡ called_share x (from + 3) + turn_share (and_called y more) (from + 3 + called_size ps P x) =
         share_both P _ _ _ _ _ _ in
         omega (arith, one, rest, parts, shares)
 
@@ -215,7 +230,8 @@ module _ (P : TypedProgram) (ps : List Process) (d : ℕ → ℕ) where
         let one = called_fits x from (from + 3) t.0 in
         let rest = branches_fit more r (from + 3 + called_size ps P x) t.1 in
         let parts = cost-append (called_rules ps P d x from (from + 3)) (called_branches_rules ps P d more r (from + 3 + called_size ps P x)) in
-        let shares : branch_share (and_called x more) from ≡ called_share x (from + 3) + branch_share more (from + 3 + called_size ps P x) = share_both P _ _ _ _ _ _ in
+        let shares : branch_share (and_called x more) from ≡ called_share x (from + 3) + branch_share more (from + 3 + called_size ps P x) =
+        share_both P _ _ _ _ _ _ in
         omega (arith, one, rest, parts, shares)
 
     bodies_fit : (choices : CalledChoices) (start from : ℕ) → AreChoices P.channels P.vars (inlined_choices ps choices)
@@ -275,7 +291,8 @@ module _ (C : CallProgram) (typed : IsProcess C.channels C.vars (inlined C.procs
       omega (arith, one, rest, parts)
 
   abbrev bodies_share : List Process → (from : ℕ) → ℕ
-  bodies_share bs from = share P (λ k. body_sites P (send_site k) bs from) (λ k. body_sites P (receive_site k) bs from) (λ y. body_sites P (write_site P y) bs from)
+  bodies_share bs from =
+      share P (λ k. body_sites P (send_site k) bs from) (λ k. body_sites P (receive_site k) bs from) (λ y. body_sites P (write_site P y) bs from)
 
   procs_fit : (q : ℕ) (bs : List Process) (from : ℕ) → ((j : ℕ) → j < length bs → IsProcess C.channels C.vars (slice_index_or bs j skipping))
       → cost (proc_rules C q bs from) + bodies_share bs from ≤ 64 * procs_size P bs + 2 * each_proc (λ i. length (asks_of C i)) q bs
@@ -290,18 +307,18 @@ module _ (C : CallProgram) (typed : IsProcess C.channels C.vars (inlined C.procs
 
   pub few_literals : cost (call_rules C) ≤ 64 * call_count C
   few_literals =
-      let own = q_child 0 (call_root C + 1) ∷ q_latch 0 (call_answer C) ∷ called_rules C.procs P (body_answer C) C.body (call_root C) (call_root C + 2) in
+      let own = q_child 0 (call_root C + 1) ∷ q_latch 0 (call_answer C) ∷ called_rules C.procs P (proc_answer C) C.body (call_root C) (call_root C + 2) in
       let channels = channels_cost 0 C.channels in
       let vars = vars_cost 0 C.vars in
       let procs = procs_fit 0 C.procs (procs_from C) bodies in
-      let body = called_fits P C.procs (body_answer C) C.body (call_root C) (call_root C + 2) typed in
-      let asks = few_asks P C.procs (body_answer C) 0 C.procs C.body (call_root C) (call_root C + 2) in
+      let body = called_fits P C.procs (proc_answer C) C.body (call_root C) (call_root C + 2) typed in
+      let asks = few_asks P C.procs (proc_answer C) 0 C.procs C.body (call_root C) (call_root C + 2) in
       let shares : share P (λ k. all_sites C (send_site k)) (λ k. all_sites C (receive_site k)) (λ y. all_sites C (write_site P y))
-      ≡ bodies_share C.procs (procs_from C) + called_share P C.procs (body_answer C) C.body (call_root C + 2) = share_both P _ _ _ _ _ _ in
+      ≡ bodies_share C.procs (procs_from C) + called_share P C.procs (proc_answer C) C.body (call_root C + 2) = share_both P _ _ _ _ _ _ in
       let last = cost-append (proc_rules C 0 C.procs (procs_from C)) (q_child 0 (call_root C + 1) ∷ q_latch 0 (call_answer C)
-      ∷ called_rules C.procs P (body_answer C) C.body (call_root C) (call_root C + 2)) in
+      ∷ called_rules C.procs P (proc_answer C) C.body (call_root C) (call_root C + 2)) in
       let back = cost-append (call_vars_rules C 0 C.vars) (proc_rules C 0 C.procs (procs_from C) ++ (q_child 0 (call_root C + 1) ∷ q_latch 0 (call_answer C)
-      ∷ called_rules C.procs P (body_answer C) C.body (call_root C) (call_root C + 2))) in
+      ∷ called_rules C.procs P (proc_answer C) C.body (call_root C) (call_root C + 2))) in
       let parts = cost-append (call_channels_rules C 0 C.channels) (call_vars_rules C 0 C.vars ++ (proc_rules C 0 C.procs (procs_from C)
-      ++ (q_child 0 (call_root C + 1) ∷ q_latch 0 (call_answer C) ∷ called_rules C.procs P (body_answer C) C.body (call_root C) (call_root C + 2)))) in
+      ++ (q_child 0 (call_root C + 1) ∷ q_latch 0 (call_answer C) ∷ called_rules C.procs P (proc_answer C) C.body (call_root C) (call_root C + 2)))) in
       omega (arith, channels, vars, procs, body, asks, shares, last, back, parts)

@@ -1,5 +1,9 @@
 -- The net in which all calls of a procedure share one body; and its wires and variables, whose merges join the nodes of a body
 -- once.
+--
+-- C: the program with calls; P: that with copies; v, u: values of the nodes of the net with shared bodies and of that with
+-- copies. In the block of a variable: n: its bits; from, to: its first node in either net; x, w: the rails of bits, and those
+-- that write them.
 use Rattle.std.proofs.Common.{◌≡◌, ℕ, zero, suc, ◌+◌, ◌*◌, ◌<◌, ◌≤◌, ◌==◌, Bool, true, false, List, [], ◌∷◌, ◌++◌, map, length, get_or, refl, sym, ap, ◌∙◌, subst, arith}
 use Rattle.std.specs.Prelude.{◌⊎◌, filter, replicate}
 use Rattle.std.proofs.lemmas.List.{map-append}
@@ -22,7 +26,7 @@ use Rattle.net_compose.proofs.FlatSites.{at_site}
 use Rattle.net_compose.proofs.FlatBlocks.{Part, a_bit, a_put, a_mark, a_joint, offset, IsPart, offset_lt, PartAt, part_of, BlockIs, bit_says, put_says, mark_says, joint_says, length-variable_rules, blocks_below}
 use Rattle.net_compose.proofs.SameValues.{SameAt, alike_by_places}
 use Rattle.call_map.specs.Calling.{OfAtoms, inlined, called_sites}
-use Rattle.call_map.specs.CallNet.{CallProgram, inlined_program, procs_from, call_root, body_at, body_answer, all_sites, call_channel_rules, call_channels_rules, call_vars_rules, body_sites}
+use Rattle.call_map.specs.CallNet.{CallProgram, inlined_program, procs_from, call_root, body_at, proc_answer, all_sites, call_channel_rules, call_channels_rules, call_vars_rules, body_sites}
 use Rattle.call_map.proofs.Items.{Each, Same, CallPoint, items, calls}
 use Rattle.call_map.proofs.Picks.{IsPick}
 use Rattle.call_map.proofs.PickSites.{sends, receives, writes, map_sites, map_called, mapped}
@@ -30,7 +34,7 @@ use Rattle.call_map.proofs.Merged.{nowhere, CopyAlike, CopyLow, merge_says}
 
 -- the calls
 abbrev pub points : CallProgram → List CallPoint
-points C = calls (inlined_program C) C.procs (body_answer C) C.body (call_root C) (call_root C + 2) (procs_from C) (procs_from C + 2)
+points C = calls (inlined_program C) C.procs (proc_answer C) C.body (call_root C) (call_root C + 2) (procs_from C) (procs_from C + 2)
 
 -- the requests of the calls of a procedure
 abbrev pub asks_listed : CallProgram → ℕ → List ℕ
@@ -110,22 +114,23 @@ module _ (C : CallProgram) (atoms : OfAtoms C.body) (typed : IsProcess C.channel
   -- what makes merges say the same
   pub record MergesFit : Type 0 where
     pub low_same : (m : ℕ) → m < procs_from C → v m ≡ u m
-    pub items_same : Each (Same v u) (items P C.procs (body_answer C) C.body (call_root C) (call_root C + 2) (procs_from C) (procs_from C + 2))
+    pub items_same : Each (Same v u) (items P C.procs (proc_answer C) C.body (call_root C) (call_root C + 2) (procs_from C) (procs_from C + 2))
     pub within : (c : ℕ) → c < length (points C) → (get_or (points C) c nowhere).proc < length C.procs
     pub each : (c : ℕ) → c < length (points C)
-        → CopyAlike P C.procs (body_answer C) (procs_from C) (receive_site 0) (receives P 0) bodies v u (get_or (points C) c nowhere)
-        ⊎ CopyLow P C.procs (body_answer C) (procs_from C) (receive_site 0) (receives P 0) bodies u (get_or (points C) c nowhere)
+        → CopyAlike P C.procs (proc_answer C) (procs_from C) (receive_site 0) (receives P 0) bodies v u (get_or (points C) c nowhere)
+        ⊎ CopyLow P C.procs (proc_answer C) (procs_from C) (receive_site 0) (receives P 0) bodies u (get_or (points C) c nowhere)
     pub current : (q : ℕ) → q < length C.procs
         → (c : ℕ) × (c < length (points C)) × ((get_or (points C) c nowhere).proc ≡ q)
-        × CopyAlike P C.procs (body_answer C) (procs_from C) (receive_site 0) (receives P 0) bodies v u (get_or (points C) c nowhere)
+        × CopyAlike P C.procs (proc_answer C) (procs_from C) (receive_site 0) (receives P 0) bodies v u (get_or (points C) c nowhere)
 
   module _ (fit : MergesFit) where
     abbrev SaysAlike : List ℕ → List ℕ → Type 0
     SaysAlike ns ms = (guard_holds v (or_of ns).up ≡ guard_holds u (or_of ms).up) × (guard_holds v (or_of ns).down ≡ guard_holds u (or_of ms).down)
 
     picked : (pick : Sites ℕ) (is : IsPick P pick) → SaysAlike (all_sites C pick) (in_body P pick)
-    picked pick is = merge_says P C.procs (body_answer C) (procs_from C) pick is bodies C.body atoms typed (call_root C) (call_root C + 2) (procs_from C) (procs_from C + 2) v u
-        fit.items_same fit.within fit.each fit.current
+    picked pick is =
+        merge_says P C.procs (proc_answer C) (procs_from C) pick is bodies C.body atoms typed (call_root C) (call_root C + 2) (procs_from C)
+        (procs_from C + 2) v u fit.items_same fit.within fit.each fit.current
 
     sites_picked : {A : Type 0} (f : A → ℕ) (site : Sites A) → IsPick P (mapped P f site) → SaysAlike (map f (all_sites C site)) (map f (in_body P site))
     sites_picked f site is =
@@ -155,7 +160,8 @@ module _ (C : CallProgram) (atoms : OfAtoms C.body) (typed : IsProcess C.channel
     channel_alike : (k w : ℕ) (kind : Kind) → w ≤ channel_width C.channels k → RulesAlike v u (call_channel_rules C k w kind) (channel_rules P k w kind)
     channel_alike k w In l = rules_append v u (replicate (2 * w) no_rules) (replicate (2 * w) no_rules) (or_of (all_sites C (receive_site k)) ∷ [])
         (or_of (in_body P (receive_site k)) ∷ []) (nothing_alike (2 * w)) (acks_alike k)
-    channel_alike k w Out l = rules_append v u (rail_rules (all_sites C (send_site k)) 0 w) (rail_rules (in_body P (send_site k)) 0 w) (no_rules ∷ []) (no_rules ∷ [])
+    channel_alike k w Out l =
+        rules_append v u (rail_rules (all_sites C (send_site k)) 0 w) (rail_rules (in_body P (send_site k)) 0 w) (no_rules ∷ []) (no_rules ∷ [])
         (rails_alike k 0 w (omega (arith, l))) (refl, refl, tt)
     channel_alike k w Chan l = rules_append v u (rail_rules (all_sites C (send_site k)) 0 w) (rail_rules (in_body P (send_site k)) 0 w)
         (or_of (all_sites C (receive_site k)) ∷ []) (or_of (in_body P (receive_site k)) ∷ []) (rails_alike k 0 w (omega (arith, l))) (acks_alike k)
@@ -165,7 +171,8 @@ module _ (C : CallProgram) (atoms : OfAtoms C.body) (typed : IsProcess C.channel
     channels_alike k [] h = tt
     channels_alike k (c ∷ cs) h =
         let e : c.width ≡ channel_width C.channels k = h 0 (omega arith) ∙ ap (channel_width C.channels) (let z : k + 0 ≡ k = omega arith in z) in
-        rules_append v u (call_channel_rules C k c.width c.kind) (channel_rules P k c.width c.kind) (call_channels_rules C (suc k) cs) (channels_rules P (suc k) cs)
+        rules_append v u (call_channel_rules C k c.width c.kind) (channel_rules P k c.width c.kind) (call_channels_rules C (suc k) cs)
+        (channels_rules P (suc k) cs)
         (channel_alike k c.width c.kind (omega (arith, e)))
         (channels_alike (suc k) cs (λ j l. h (suc j) (omega (arith, l)) ∙ ap (channel_width C.channels) (let z : k + suc j ≡ suc k + j = omega arith in z)))
 
@@ -176,16 +183,20 @@ module _ (C : CallProgram) (atoms : OfAtoms C.body) (typed : IsProcess C.channel
         let e : w.width ≡ var_width C.vars k = h 0 (omega arith) ∙ ap (var_width C.vars) (let z : k + 0 ≡ k = omega arith in z) in
         let within : k < length C.vars = omega (arith, long) in
         let b = blocks_below C.vars k within in
-        rules_append v u (variable_rules w.width (var_from P k) (all_sites C (write_site P k))) (variable_rules w.width (var_from P k) (in_body P (write_site P k)))
+        rules_append v u (variable_rules w.width (var_from P k) (all_sites C (write_site P k)))
+        (variable_rules w.width (var_from P k) (in_body P (write_site P k)))
         (call_vars_rules C (suc k) vs) (vars_rules P (suc k) vs)
-        (subst (λ n. RulesAlike v u (variable_rules n (var_from P k) (all_sites C (write_site P k))) (variable_rules n (var_from P k) (in_body P (write_site P k)))) (sym e)
+        (subst (λ n. RulesAlike v u (variable_rules n (var_from P k) (all_sites C (write_site P k)))
+        (variable_rules n (var_from P k) (in_body P (write_site P k)))) (sym e)
         (blocks_merged v u (var_width C.vars k) (var_from P k) (var_from P k) (λ i l. fit.low_same (var_from P k + i) (omega (arith, l, b)))
         (all_sites C (write_site P k)) (in_body P (write_site P k))
         (λ i one l. sites_picked (at_site i one) (write_site P k) (writes P k i one l))))
-        (vars_alike (suc k) vs (omega (arith, long)) (λ j l. h (suc j) (omega (arith, l)) ∙ ap (var_width C.vars) (let z : k + suc j ≡ suc k + j = omega arith in z)))
+        (vars_alike (suc k) vs (omega (arith, long))
+        (λ j l. h (suc j) (omega (arith, l)) ∙ ap (var_width C.vars) (let z : k + suc j ≡ suc k + j = omega arith in z)))
 
     -- the wires of channels and the blocks of variables
-    pub declared_alike : RulesAlike v u (call_channels_rules C 0 C.channels ++ call_vars_rules C 0 C.vars) (channels_rules P 0 C.channels ++ vars_rules P 0 C.vars)
+    pub declared_alike : RulesAlike v u (call_channels_rules C 0 C.channels ++ call_vars_rules C 0 C.vars)
+        (channels_rules P 0 C.channels ++ vars_rules P 0 C.vars)
     declared_alike =
         let zero_more : (j : ℕ) → 0 + j ≡ j = λ j. omega arith in
         rules_append v u (call_channels_rules C 0 C.channels) (channels_rules P 0 C.channels) (call_vars_rules C 0 C.vars) (vars_rules P 0 C.vars)

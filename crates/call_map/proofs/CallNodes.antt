@@ -1,5 +1,9 @@
 -- All nodes of a statement with calls: in the net with shared bodies those that stand in both nets, and the answers of calls; in
 -- the net with copies those and the copies.
+--
+-- P: the program with copies; ps: the bodies of the procedures; d: the answer of each body in the net with shared bodies;
+-- x, y: statements with calls; r, s: a statement's request in the net with shared bodies and in that with copies; from, to:
+-- its first node in either net; a, t: what is called an atom is one, and the program is typed.
 use Rattle.std.proofs.Common.{◌≡◌, ℕ, suc, ◌+◌, ◌*◌, ◌-◌, Bool, true, false, List, [], ◌∷◌, ◌++◌, map, length, refl, sym, ap, ◌∙◌, subst, arith, length-append, append-nil, append_assoc}
 use Rattle.std.specs.Prelude.{slice_index_or}
 use Rattle.std.specs.List.Sorted.{IsPermutation}
@@ -33,13 +37,15 @@ theres is = map (λ (i : Item). i.there) is
 paired_heres : (tag : ℕ → Bool) (i from to : ℕ) (rs ss : List NodeRules) → length rs ≡ length ss → heres (paired tag i from to rs ss) ≡ numbered from rs
 paired_heres tag i from to [] ss e = refl
 paired_heres tag i from to (r ∷ rs) [] e = absurd (omega (arith, e))
-paired_heres tag i from to (r ∷ rs) (s ∷ ss) e = ap (λ l. record { node = from; rules = r } ∷ l) (paired_heres tag (suc i) (suc from) (suc to) rs ss (omega (arith, e)))
+paired_heres tag i from to (r ∷ rs) (s ∷ ss) e =
+    ap (λ l. record { node = from; rules = r } ∷ l) (paired_heres tag (suc i) (suc from) (suc to) rs ss (omega (arith, e)))
 
 paired_theres : (tag : ℕ → Bool) (i from to : ℕ) (rs ss : List NodeRules) → length rs ≡ length ss → theres (paired tag i from to rs ss) ≡ numbered to ss
 paired_theres tag i from to [] [] e = refl
 paired_theres tag i from to [] (s ∷ ss) e = absurd (omega (arith, e))
 paired_theres tag i from to (r ∷ rs) [] e = absurd (omega (arith, e))
-paired_theres tag i from to (r ∷ rs) (s ∷ ss) e = ap (λ l. record { node = to; rules = s } ∷ l) (paired_theres tag (suc i) (suc from) (suc to) rs ss (omega (arith, e)))
+paired_theres tag i from to (r ∷ rs) (s ∷ ss) e =
+    ap (λ l. record { node = to; rules = s } ∷ l) (paired_theres tag (suc i) (suc from) (suc to) rs ss (omega (arith, e)))
 
 module _ (P : TypedProgram) (ps : List Process) (d : ℕ → ℕ) where
   -- the answer of a call, and the nodes of its copy
@@ -71,7 +77,8 @@ module _ (P : TypedProgram) (ps : List Process) (d : ℕ → ℕ) where
     called_long (abreast ms) t r from =
         let a = tree_length (called_ends ps P ms from) (from + called_branches_size ps P ms) in
         let b = ends_long P ps d ms from in
-        both (called_branches_rules ps P d ms r from) (tree_rules (called_ends ps P ms from) (from + called_branches_size ps P ms)) (called_branches_size ps P ms)
+        both (called_branches_rules ps P d ms r from) (tree_rules (called_ends ps P ms from) (from + called_branches_size ps P ms))
+        (called_branches_size ps P ms)
         (member_count (inlined_each ps ms) - 1) (called_branches_long ms t.1 r from) (omega (arith, a, b))
     called_long (chosen false c) t r from =
         let n = choice_count (inlined_choices ps c) in
@@ -100,7 +107,8 @@ module _ (P : TypedProgram) (ps : List Process) (d : ℕ → ℕ) where
     called_turn_long (and_called x (and_called y more)) t r from =
         let a = called_long x t.0 from (from + 3) in
         let b = called_turn_long (and_called y more) t.1 (from + 2) (from + 3 + called_size ps P x) in
-        let e = length-append (called_rules ps P d x from (from + 3)) (called_turn_rules ps P d (and_called y more) (from + 2) (from + 3 + called_size ps P x)) in
+        let e = length-append (called_rules ps P d x from (from + 3))
+        (called_turn_rules ps P d (and_called y more) (from + 2) (from + 3 + called_size ps P x)) in
         omega (arith, a, b, e)
 
     called_branches_long : (ms : Calleds) → AreProcesses P.channels P.vars (inlined_each ps ms) → (r from : ℕ)
@@ -116,7 +124,8 @@ module _ (P : TypedProgram) (ps : List Process) (d : ℕ → ℕ) where
         → length (called_bodies_rules ps P d c start from) ≡ called_bodies_size ps P c
     called_bodies_long no_called t start from = refl
     called_bodies_long (or_called g x more) t start from =
-        both (called_rules ps P d x start from) (called_bodies_rules ps P d more (start + 1) (from + called_size ps P x)) (called_size ps P x) (called_bodies_size ps P more)
+        both (called_rules ps P d x start from) (called_bodies_rules ps P d more (start + 1) (from + called_size ps P x)) (called_size ps P x)
+        (called_bodies_size ps P more)
         (called_long x t.1 start from) (called_bodies_long more t.2 (start + 1) (from + called_size ps P x))
 
   -- a Q-element
@@ -128,7 +137,8 @@ module _ (P : TypedProgram) (ps : List Process) (d : ℕ → ℕ) where
       ap (λ k. three_at k (from + 2) from x y z) (let e : from + 1 ≡ suc from = omega arith in e)
       ∙ ap (λ k. three_at (suc from) k from x y z) (let e : from + 2 ≡ suc (suc from) = omega arith in e)
 
-  element_heres : (a b : Bool) (r answer from s other to : ℕ) → heres (element_items P ps d a b r answer from s other to) ≡ numbered from (q_rules r answer from)
+  element_heres : (a b : Bool) (r answer from s other to : ℕ)
+      → heres (element_items P ps d a b r answer from s other to) ≡ numbered from (q_rules r answer from)
   element_heres a b r answer from s other to = three_are from _ _ _
 
   element_theres : (a b : Bool) (r answer from s other to : ℕ) → theres (element_items P ps d a b r answer from s other to) ≡ numbered to (q_rules s other to)
@@ -149,7 +159,7 @@ module _ (P : TypedProgram) (ps : List Process) (d : ℕ → ℕ) where
   no_more : (xs : List Numbered) → All xs [] xs
   no_more xs = subst (λ l. IsPermutation (xs ++ []) l) (append-nil xs) (IsPermutation-refl (xs ++ []))
 
-  -- a part, and behind it what it has and what others have
+  -- a part, then what it has and what others have
   three_parts : (f : Item → Numbered) (g : List CallPoint → List Numbered) → ((xs ys : List CallPoint) → g (xs ++ ys) ≡ g xs ++ g ys)
       → (q xs ys : List Item) (cs es : List CallPoint) (nq nx ny all : List Numbered) → map f q ≡ nq → All (map f xs) (g cs) nx → All (map f ys) (g es) ny
       → nq ++ (nx ++ ny) ≡ all → All (map f (q ++ (xs ++ ys))) (g (cs ++ es)) all
@@ -169,7 +179,7 @@ module _ (P : TypedProgram) (ps : List Process) (d : ℕ → ℕ) where
       (subst (λ l. IsPermutation l all) (sym (append_assoc nx (map f ys) far))
       (subst (λ l. IsPermutation (nx ++ (map f ys ++ far)) l) e (IsPermutation-append_right nx (map f ys ++ far) ny hy)))
 
-  -- a part behind all of it
+  -- a part after all of it
   back_part : (f : Item → Numbered) (xs ys : List Item) (far nx ny all : List Numbered) → map f ys ≡ ny → All (map f xs) far nx → nx ++ ny ≡ all
       → All (map f (xs ++ ys)) far all
   back_part f xs ys far nx ny all eq hx e =
@@ -191,10 +201,12 @@ module _ (P : TypedProgram) (ps : List Process) (d : ℕ → ℕ) where
   abbrev there_of : Item → Numbered
   there_of i = i.there
 
-  select_both : (c : CalledChoices) → AreChoices P.channels P.vars (inlined_choices ps c) → (r from s to : ℕ) → length (select_here P ps d c r from) ≡ length (select_there P ps d c s to)
+  select_both : (c : CalledChoices) → AreChoices P.channels P.vars (inlined_choices ps c) → (r from s to : ℕ)
+      → length (select_here P ps d c r from) ≡ length (select_there P ps d c s to)
   select_both c t r from s to = select_long P ps d c t r from ∙ sym (select_long_there P ps d c t s to)
 
-  again_both : (c : CalledChoices) → AreChoices P.channels P.vars (inlined_choices ps c) → (r from s to : ℕ) → length (again_here P ps d c r from) ≡ length (again_there P ps d c s to)
+  again_both : (c : CalledChoices) → AreChoices P.channels P.vars (inlined_choices ps c) → (r from s to : ℕ)
+      → length (again_here P ps d c r from) ≡ length (again_there P ps d c s to)
   again_both c t r from s to = again_long P ps d c t r from ∙ sym (again_long_there P ps d c t s to)
 
   trees_both : (ms : Calleds) (from to : ℕ) → length (tree_rules (called_ends ps P ms from) (from + called_branches_size ps P ms))
@@ -223,7 +235,8 @@ module _ (P : TypedProgram) (ps : List Process) (d : ℕ → ℕ) where
         back_part here_of (branch_items P ps d ms r from s to) (paired untagged 0 (from + n) (branches_end P (inlined_each ps ms) to) tree other)
         (answer_nodes (branch_calls P ps d ms r from s to)) (numbered from (called_branches_rules ps P d ms r from)) (numbered (from + n) tree)
         (numbered from (called_branches_rules ps P d ms r from ++ tree))
-        (paired_heres untagged 0 (from + n) (branches_end P (inlined_each ps ms) to) tree other (trees_both ms from to)) (all_here_branches ms a t.1 r from s to)
+        (paired_heres untagged 0 (from + n) (branches_end P (inlined_each ps ms) to) tree other (trees_both ms from to))
+        (all_here_branches ms a t.1 r from s to)
         (sym (numbered_append from (called_branches_rules ps P d ms r from) tree
         ∙ ap (λ k. numbered from (called_branches_rules ps P d ms r from) ++ numbered (from + k) tree) (called_branches_long ms t.1 r from)))
     all_here (chosen false c) a t r from s to =
@@ -235,11 +248,13 @@ module _ (P : TypedProgram) (ps : List Process) (d : ℕ → ℕ) where
         let long = select_long P ps d c t.2 r from in
         let z : from + length front ≡ bodies_from (inlined_choices ps c) select_own from = omega (arith, long) in
         front_part here_of (paired (front_tag c (select_own + n)) 0 from to front (select_there P ps d c s to))
-        (body_items P ps d c (from + select_own + n) (bodies_from (inlined_choices ps c) select_own from) (to + select_own + n) (bodies_from (inlined_choices ps c) select_own to))
+        (body_items P ps d c (from + select_own + n) (bodies_from (inlined_choices ps c) select_own from) (to + select_own + n)
+        (bodies_from (inlined_choices ps c) select_own to))
         (answer_nodes (calls P ps d (chosen false c) r from s to)) (numbered from front) (numbered (bodies_from (inlined_choices ps c) select_own from) rest)
         (numbered from (called_rules ps P d (chosen false c) r from))
         (paired_heres (front_tag c (select_own + n)) 0 from to front (select_there P ps d c s to) (select_both c t.2 r from s to))
-        (all_here_bodies c a t.2 (from + select_own + n) (bodies_from (inlined_choices ps c) select_own from) (to + select_own + n) (bodies_from (inlined_choices ps c) select_own to))
+        (all_here_bodies c a t.2 (from + select_own + n) (bodies_from (inlined_choices ps c) select_own from) (to + select_own + n)
+        (bodies_from (inlined_choices ps c) select_own to))
         (ap (λ k. numbered from front ++ numbered k rest) (sym z) ∙ (sym (numbered_append from front rest) ∙ ap (numbered from) (append_assoc own guards rest)))
     all_here (chosen true c) a t r from s to =
         let n = choice_count (inlined_choices ps c) in
@@ -250,17 +265,20 @@ module _ (P : TypedProgram) (ps : List Process) (d : ℕ → ℕ) where
         let long = again_long P ps d c t.2 r from in
         let z : from + length front ≡ bodies_from (inlined_choices ps c) again_own from = omega (arith, long) in
         front_part here_of (paired (front_tag c (again_own + n)) 0 from to front (again_there P ps d c s to))
-        (body_items P ps d c (from + again_own + n) (bodies_from (inlined_choices ps c) again_own from) (to + again_own + n) (bodies_from (inlined_choices ps c) again_own to))
+        (body_items P ps d c (from + again_own + n) (bodies_from (inlined_choices ps c) again_own from) (to + again_own + n)
+        (bodies_from (inlined_choices ps c) again_own to))
         (answer_nodes (calls P ps d (chosen true c) r from s to)) (numbered from front) (numbered (bodies_from (inlined_choices ps c) again_own from) rest)
         (numbered from (called_rules ps P d (chosen true c) r from))
         (paired_heres (front_tag c (again_own + n)) 0 from to front (again_there P ps d c s to) (again_both c t.2 r from s to))
-        (all_here_bodies c a t.2 (from + again_own + n) (bodies_from (inlined_choices ps c) again_own from) (to + again_own + n) (bodies_from (inlined_choices ps c) again_own to))
+        (all_here_bodies c a t.2 (from + again_own + n) (bodies_from (inlined_choices ps c) again_own from) (to + again_own + n)
+        (bodies_from (inlined_choices ps c) again_own to))
         (ap (λ k. numbered from front ++ numbered k rest) (sym z) ∙ (sym (numbered_append from front rest) ∙ ap (numbered from) (append_assoc own guards rest)))
     all_here (looped x) a t r from s to =
         let first = no_rules ∷ loop_request r (called_answer ps P x (from + 2)) ∷ [] in
         front_part here_of (item false from to no_rules no_rules ∷ item (is_calling x) (from + 1) (to + 1) (loop_request r (called_answer ps P x (from + 2)))
         (loop_request s (answer_of P (inlined ps x) (to + 2))) ∷ []) (items P ps d x (from + 1) (from + 2) (to + 1) (to + 2))
-        (answer_nodes (calls P ps d x (from + 1) (from + 2) (to + 1) (to + 2))) (numbered from first) (numbered (from + 2) (called_rules ps P d x (from + 1) (from + 2)))
+        (answer_nodes (calls P ps d x (from + 1) (from + 2) (to + 1) (to + 2))) (numbered from first)
+        (numbered (from + 2) (called_rules ps P d x (from + 1) (from + 2)))
         (numbered from (called_rules ps P d (looped x) r from))
         (ap (λ k. record { node = from; rules = no_rules } ∷ record { node = k; rules = loop_request r (called_answer ps P x (from + 2)) } ∷ [])
         (let e : from + 1 ≡ suc from = omega arith in e))
@@ -280,15 +298,18 @@ module _ (P : TypedProgram) (ps : List Process) (d : ℕ → ℕ) where
         three_parts here_of answer_nodes answers_append q (items P ps d x from (from + 3) to (to + 3))
         (turn_items P ps d (and_called y more) (from + 2) (from + 3 + k) (to + 2) (to + 3 + j)) (calls P ps d x from (from + 3) to (to + 3))
         (turn_calls P ps d (and_called y more) (from + 2) (from + 3 + k) (to + 2) (to + 3 + j)) (numbered from (q_rules r answer from))
-        (numbered (from + 3) (called_rules ps P d x from (from + 3))) (numbered (from + 3 + k) (called_turn_rules ps P d (and_called y more) (from + 2) (from + 3 + k)))
+        (numbered (from + 3) (called_rules ps P d x from (from + 3)))
+        (numbered (from + 3 + k) (called_turn_rules ps P d (and_called y more) (from + 2) (from + 3 + k)))
         (numbered from (called_turn_rules ps P d (and_called x (and_called y more)) r from))
         (element_heres (is_calling x) (one_calling (and_called y more)) r answer from s other to) (all_here x a.0 t.0 from (from + 3) to (to + 3))
         (all_here_turn (and_called y more) a.1 t.1 (from + 2) (from + 3 + k) (to + 2) (to + 3 + j))
-        (behind (q_rules r answer from) (called_rules ps P d x from (from + 3)) (called_turn_rules ps P d (and_called y more) (from + 2) (from + 3 + k)) from k refl
+        (behind (q_rules r answer from) (called_rules ps P d x from (from + 3))
+        (called_turn_rules ps P d (and_called y more) (from + 2) (from + 3 + k)) from k refl
         (called_long x t.0 from (from + 3)))
 
     all_here_branches : (ms : Calleds) → EachOfAtoms ms → AreProcesses P.channels P.vars (inlined_each ps ms) → (r from s to : ℕ)
-        → All (heres (branch_items P ps d ms r from s to)) (answer_nodes (branch_calls P ps d ms r from s to)) (numbered from (called_branches_rules ps P d ms r from))
+        → All (heres (branch_items P ps d ms r from s to)) (answer_nodes (branch_calls P ps d ms r from s to))
+        (numbered from (called_branches_rules ps P d ms r from))
     all_here_branches no_calleds a t r from s to = IsPermutation-refl []
     all_here_branches (and_called x more) a t r from s to =
         let k = called_size ps P x in
@@ -307,7 +328,8 @@ module _ (P : TypedProgram) (ps : List Process) (d : ℕ → ℕ) where
         (called_long x t.0 from (from + 3)))
 
     all_here_bodies : (c : CalledChoices) → BranchesOfAtoms c → AreChoices P.channels P.vars (inlined_choices ps c) → (start from s to : ℕ)
-        → All (heres (body_items P ps d c start from s to)) (answer_nodes (body_calls P ps d c start from s to)) (numbered from (called_bodies_rules ps P d c start from))
+        → All (heres (body_items P ps d c start from s to)) (answer_nodes (body_calls P ps d c start from s to))
+        (numbered from (called_bodies_rules ps P d c start from))
     all_here_bodies no_called a t start from s to = IsPermutation-refl []
     all_here_bodies (or_called g x more) a t start from s to =
         let k = called_size ps P x in
@@ -323,9 +345,6 @@ module _ (P : TypedProgram) (ps : List Process) (d : ℕ → ℕ) where
         (called_long x t.1 start from)))
 
   -- in the net with copies
-  abbrev inner : Called → Process
-  inner x = inlined ps x
-
   mutual
     pub all_there : (x : Called) → OfAtoms x → IsProcess P.channels P.vars (inlined ps x) → (r from s to : ℕ)
         → All (theres (items P ps d x r from s to)) (copies (calls P ps d x r from s to)) (numbered to (rules_of P (inlined ps x) s to))
@@ -345,8 +364,10 @@ module _ (P : TypedProgram) (ps : List Process) (d : ℕ → ℕ) where
         let e = branches_end_is P (inlined_each ps ms) to in
         let z : to + length rules ≡ branches_end P (inlined_each ps ms) to = omega (arith, long, e) in
         back_part there_of (branch_items P ps d ms r from s to) (paired untagged 0 (from + n) (branches_end P (inlined_each ps ms) to) tree other)
-        (copies (branch_calls P ps d ms r from s to)) (numbered to rules) (numbered (branches_end P (inlined_each ps ms) to) other) (numbered to (rules ++ other))
-        (paired_theres untagged 0 (from + n) (branches_end P (inlined_each ps ms) to) tree other (trees_both ms from to)) (all_there_branches ms a t.1 r from s to)
+        (copies (branch_calls P ps d ms r from s to)) (numbered to rules) (numbered (branches_end P (inlined_each ps ms) to) other)
+        (numbered to (rules ++ other))
+        (paired_theres untagged 0 (from + n) (branches_end P (inlined_each ps ms) to) tree other (trees_both ms from to))
+        (all_there_branches ms a t.1 r from s to)
         (sym (numbered_append to rules other ∙ ap (λ k. numbered to rules ++ numbered k other) z))
     all_there (chosen false c) a t r from s to =
         let n = choice_count (inlined_choices ps c) in
@@ -357,11 +378,13 @@ module _ (P : TypedProgram) (ps : List Process) (d : ℕ → ℕ) where
         let long = select_long_there P ps d c t.2 s to in
         let z : to + length front ≡ bodies_from (inlined_choices ps c) select_own to = omega (arith, long) in
         front_part there_of (paired (front_tag c (select_own + n)) 0 from to (select_here P ps d c r from) front)
-        (body_items P ps d c (from + select_own + n) (bodies_from (inlined_choices ps c) select_own from) (to + select_own + n) (bodies_from (inlined_choices ps c) select_own to))
+        (body_items P ps d c (from + select_own + n) (bodies_from (inlined_choices ps c) select_own from) (to + select_own + n)
+        (bodies_from (inlined_choices ps c) select_own to))
         (copies (calls P ps d (chosen false c) r from s to)) (numbered to front) (numbered (bodies_from (inlined_choices ps c) select_own to) rest)
         (numbered to (rules_of P (inlined ps (chosen false c)) s to))
         (paired_theres (front_tag c (select_own + n)) 0 from to (select_here P ps d c r from) front (select_both c t.2 r from s to))
-        (all_there_bodies c a t.2 (from + select_own + n) (bodies_from (inlined_choices ps c) select_own from) (to + select_own + n) (bodies_from (inlined_choices ps c) select_own to))
+        (all_there_bodies c a t.2 (from + select_own + n) (bodies_from (inlined_choices ps c) select_own from) (to + select_own + n)
+        (bodies_from (inlined_choices ps c) select_own to))
         (ap (λ k. numbered to front ++ numbered k rest) (sym z) ∙ (sym (numbered_append to front rest) ∙ ap (numbered to) (append_assoc own guards rest)))
     all_there (chosen true c) a t r from s to =
         let n = choice_count (inlined_choices ps c) in
@@ -372,11 +395,13 @@ module _ (P : TypedProgram) (ps : List Process) (d : ℕ → ℕ) where
         let long = again_long_there P ps d c t.2 s to in
         let z : to + length front ≡ bodies_from (inlined_choices ps c) again_own to = omega (arith, long) in
         front_part there_of (paired (front_tag c (again_own + n)) 0 from to (again_here P ps d c r from) front)
-        (body_items P ps d c (from + again_own + n) (bodies_from (inlined_choices ps c) again_own from) (to + again_own + n) (bodies_from (inlined_choices ps c) again_own to))
+        (body_items P ps d c (from + again_own + n) (bodies_from (inlined_choices ps c) again_own from) (to + again_own + n)
+        (bodies_from (inlined_choices ps c) again_own to))
         (copies (calls P ps d (chosen true c) r from s to)) (numbered to front) (numbered (bodies_from (inlined_choices ps c) again_own to) rest)
         (numbered to (rules_of P (inlined ps (chosen true c)) s to))
         (paired_theres (front_tag c (again_own + n)) 0 from to (again_here P ps d c r from) front (again_both c t.2 r from s to))
-        (all_there_bodies c a t.2 (from + again_own + n) (bodies_from (inlined_choices ps c) again_own from) (to + again_own + n) (bodies_from (inlined_choices ps c) again_own to))
+        (all_there_bodies c a t.2 (from + again_own + n) (bodies_from (inlined_choices ps c) again_own from) (to + again_own + n)
+        (bodies_from (inlined_choices ps c) again_own to))
         (ap (λ k. numbered to front ++ numbered k rest) (sym z) ∙ (sym (numbered_append to front rest) ∙ ap (numbered to) (append_assoc own guards rest)))
     all_there (looped x) a t r from s to =
         let first = no_rules ∷ loop_request s (answer_of P (inlined ps x) (to + 2)) ∷ [] in
@@ -402,15 +427,18 @@ module _ (P : TypedProgram) (ps : List Process) (d : ℕ → ℕ) where
         three_parts there_of copies copies_append q (items P ps d x from (from + 3) to (to + 3))
         (turn_items P ps d (and_called y more) (from + 2) (from + 3 + k) (to + 2) (to + 3 + j)) (calls P ps d x from (from + 3) to (to + 3))
         (turn_calls P ps d (and_called y more) (from + 2) (from + 3 + k) (to + 2) (to + 3 + j)) (numbered to (q_rules s other to))
-        (numbered (to + 3) (rules_of P (inlined ps x) to (to + 3))) (numbered (to + 3 + j) (turn_rules P (inlined_each ps (and_called y more)) (to + 2) (to + 3 + j)))
+        (numbered (to + 3) (rules_of P (inlined ps x) to (to + 3)))
+        (numbered (to + 3 + j) (turn_rules P (inlined_each ps (and_called y more)) (to + 2) (to + 3 + j)))
         (numbered to (turn_rules P (inlined_each ps (and_called x (and_called y more))) s to))
         (element_theres (is_calling x) (one_calling (and_called y more)) r answer from s other to) (all_there x a.0 t.0 from (from + 3) to (to + 3))
         (all_there_turn (and_called y more) a.1 t.1 (from + 2) (from + 3 + k) (to + 2) (to + 3 + j))
-        (behind (q_rules s other to) (rules_of P (inlined ps x) to (to + 3)) (turn_rules P (inlined_each ps (and_called y more)) (to + 2) (to + 3 + j)) to j refl
+        (behind (q_rules s other to) (rules_of P (inlined ps x) to (to + 3))
+        (turn_rules P (inlined_each ps (and_called y more)) (to + 2) (to + 3 + j)) to j refl
         (statement_length counted P (inlined ps x) to (to + 3) t.0))
 
     all_there_branches : (ms : Calleds) → EachOfAtoms ms → AreProcesses P.channels P.vars (inlined_each ps ms) → (r from s to : ℕ)
-        → All (theres (branch_items P ps d ms r from s to)) (copies (branch_calls P ps d ms r from s to)) (numbered to (branches_rules P (inlined_each ps ms) s to))
+        → All (theres (branch_items P ps d ms r from s to)) (copies (branch_calls P ps d ms r from s to))
+        (numbered to (branches_rules P (inlined_each ps ms) s to))
     all_there_branches no_calleds a t r from s to = IsPermutation-refl []
     all_there_branches (and_called x more) a t r from s to =
         let k = called_size ps P x in
@@ -429,7 +457,8 @@ module _ (P : TypedProgram) (ps : List Process) (d : ℕ → ℕ) where
         (statement_length counted P (inlined ps x) to (to + 3) t.0))
 
     all_there_bodies : (c : CalledChoices) → BranchesOfAtoms c → AreChoices P.channels P.vars (inlined_choices ps c) → (start from s to : ℕ)
-        → All (theres (body_items P ps d c start from s to)) (copies (body_calls P ps d c start from s to)) (numbered to (bodies_rules P (inlined_choices ps c) s to))
+        → All (theres (body_items P ps d c start from s to)) (copies (body_calls P ps d c start from s to))
+        (numbered to (bodies_rules P (inlined_choices ps c) s to))
     all_there_bodies no_called a t start from s to = IsPermutation-refl []
     all_there_bodies (or_called g x more) a t start from s to =
         let k = called_size ps P x in

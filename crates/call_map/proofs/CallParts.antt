@@ -1,5 +1,8 @@
 -- The calls of a statement as parts of what it is with a copy of the body in place of each: where the copies stand, and that two
 -- copies of one procedure take turns.
+--
+-- ps: the bodies of the procedures; P: the program with copies; x: a statement with calls; p, t: a statement without; k: a copy
+-- in it; R, S: what is said of members of lists.
 use Rattle.std.proofs.Common.{◌≡◌, ℕ, zero, suc, ◌+◌, ◌<◌, true, false, List, [], ◌∷◌, ◌++◌, map, length, get_or, inl, inr, refl, sym, subst, arith}
 use Rattle.std.specs.Prelude.{slice_index_or}
 use Rattle.width_check.specs.Processes.{Formula, Process, skipping, in_turn, side_by_side, choosing, repeating, Processes, no_members, and_member, Choices, and_choice, choice_count, TypedProgram}
@@ -17,7 +20,8 @@ Paired R [] (y ∷ ys) = ⊥
 Paired R (x ∷ xs) [] = ⊥
 Paired R (x ∷ xs) (y ∷ ys) = R x y × Paired R xs ys
 
-paired_append : {A B : Type 0} (R : A → B → Type 0) (xs : List A) (ys : List B) (zs : List A) (ws : List B) → Paired R xs ys → Paired R zs ws → Paired R (xs ++ zs) (ys ++ ws)
+paired_append : {A B : Type 0} (R : A → B → Type 0) (xs : List A) (ys : List B) (zs : List A) (ws : List B) → Paired R xs ys → Paired R zs ws
+    → Paired R (xs ++ zs) (ys ++ ws)
 paired_append R [] [] zs ws h k = k
 paired_append R [] (y ∷ ys) zs ws h k = absurd h
 paired_append R (x ∷ xs) [] zs ws h k = absurd h
@@ -47,7 +51,8 @@ pairs_append : {A : Type 0} (R : A → A → Type 0) (xs ys : List A) → Pairs 
 pairs_append R [] ys h k c = k
 pairs_append R (x ∷ xs) ys h k c = (each_append (R x) xs ys h.0 c.0, pairs_append R xs ys h.1 k c.1)
 
-pairs_map : {A B : Type 0} (R : A → A → Type 0) (S : B → B → Type 0) (f : A → B) → ((x y : A) → R x y → S (f x) (f y)) → (xs : List A) → Pairs R xs → Pairs S (map f xs)
+pairs_map : {A B : Type 0} (R : A → A → Type 0) (S : B → B → Type 0) (f : A → B) → ((x y : A) → R x y → S (f x) (f y)) → (xs : List A) → Pairs R xs
+    → Pairs S (map f xs)
 pairs_map R S f to [] h = tt
 pairs_map R S f to (x ∷ xs) h = (each_map (R x) (S (f x)) f (λ y r. to x y r) xs h.0, pairs_map R S f to xs h.1)
 
@@ -92,16 +97,16 @@ pub record ArmCopy (ps : List Process) (choices : Choices) : Type 0 where
 
 module _ (ps : List Process) where
   abbrev as_member : (members : Processes) → TurnCopy ps members → Copy ps (in_turn members)
-  as_member members k = record { proc = k.proc; at = of_member k.at }
+  as_member ms k = record { proc = k.proc; at = of_member k.at }
 
   abbrev as_side : (members : Processes) → SideCopy ps members → Copy ps (side_by_side members)
-  as_side members k = record { proc = k.proc; at = of_side k.at }
+  as_side ms k = record { proc = k.proc; at = of_side k.at }
 
   abbrev as_body : (p : Process) → Copy ps p → Copy ps (repeating p)
   as_body p k = record { proc = k.proc; at = of_body k.at }
 
   abbrev as_arm : (again : _) (choices : Choices) → ArmCopy ps choices → Copy ps (choosing again choices)
-  as_arm again choices k = record { proc = k.proc; at = of_arm k.at }
+  as_arm again cs k = record { proc = k.proc; at = of_arm k.at }
 
   abbrev as_last : (p : Process) → Copy ps p → TurnCopy ps (and_member p no_members)
   as_last p k = record { proc = k.proc; at = last_part k.at }
@@ -149,7 +154,8 @@ module _ (ps : List Process) where
     pub arm_copies : (choices : CalledChoices) → List (ArmCopy ps (inlined_choices ps choices))
     arm_copies no_called = []
     arm_copies (or_called g x more) =
-        map (in_this_arm g (inlined ps x) (inlined_choices ps more)) (copies_in x) ++ map (in_other_arm g (inlined ps x) (inlined_choices ps more)) (arm_copies more)
+        map (in_this_arm g (inlined ps x) (inlined_choices ps more)) (copies_in x)
+        ++ map (in_other_arm g (inlined ps x) (inlined_choices ps more)) (arm_copies more)
 
   -- each is of a procedure that is called
   mutual
@@ -157,23 +163,28 @@ module _ (ps : List Process) where
     copies_called (calling q) = (refl, tt)
     copies_called (atom p) = tt
     copies_called (turned members) = each_map (λ (k : TurnCopy ps (inlined_each ps members)). OneCalls members k.proc)
-        (λ (k : Copy ps (in_turn (inlined_each ps members))). OneCalls members k.proc) (as_member (inlined_each ps members)) (λ k h. h) (turn_copies members) (turns_called members)
+        (λ (k : Copy ps (in_turn (inlined_each ps members))). OneCalls members k.proc) (as_member (inlined_each ps members)) (λ k h. h) (turn_copies members)
+        (turns_called members)
     copies_called (abreast members) = each_map (λ (k : SideCopy ps (inlined_each ps members)). OneCalls members k.proc)
-        (λ (k : Copy ps (side_by_side (inlined_each ps members))). OneCalls members k.proc) (as_side (inlined_each ps members)) (λ k h. h) (side_copies members) (sides_called members)
+        (λ (k : Copy ps (side_by_side (inlined_each ps members))). OneCalls members k.proc) (as_side (inlined_each ps members)) (λ k h. h) (side_copies members)
+        (sides_called members)
     copies_called (chosen again choices) = each_map (λ (k : ArmCopy ps (inlined_choices ps choices)). ChoiceCalls choices k.proc)
-        (λ (k : Copy ps (choosing again (inlined_choices ps choices))). ChoiceCalls choices k.proc) (as_arm again (inlined_choices ps choices)) (λ k h. h) (arm_copies choices) (arms_called choices)
+        (λ (k : Copy ps (choosing again (inlined_choices ps choices))). ChoiceCalls choices k.proc) (as_arm again (inlined_choices ps choices)) (λ k h. h)
+        (arm_copies choices) (arms_called choices)
     copies_called (looped x) = each_map (λ (k : Copy ps (inlined ps x)). Calls x k.proc)
         (λ (k : Copy ps (repeating (inlined ps x))). Calls x k.proc) (as_body (inlined ps x)) (λ k h. h) (copies_in x) (copies_called x)
 
     turns_called : (members : Calleds) → Each (λ (k : TurnCopy ps (inlined_each ps members)). OneCalls members k.proc) (turn_copies members)
     turns_called no_calleds = tt
     turns_called (and_called x no_calleds) = each_map (λ (k : Copy ps (inlined ps x)). Calls x k.proc)
-        (λ (k : TurnCopy ps (and_member (inlined ps x) no_members)). OneCalls (and_called x no_calleds) k.proc) (as_last (inlined ps x)) (λ k h. inl h) (copies_in x) (copies_called x)
+        (λ (k : TurnCopy ps (and_member (inlined ps x) no_members)). OneCalls (and_called x no_calleds) k.proc) (as_last (inlined ps x)) (λ k h. inl h)
+        (copies_in x) (copies_called x)
     turns_called (and_called x (and_called y more)) =
         let Q : TurnCopy ps (inlined_each ps (and_called x (and_called y more))) → Type 0 = λ k. OneCalls (and_called x (and_called y more)) k.proc in
         each_append Q (map (as_first (inlined ps x) (inlined ps y) (inlined_each ps more)) (copies_in x))
         (map (as_later (inlined ps x) (inlined ps y) (inlined_each ps more)) (turn_copies (and_called y more)))
-        (each_map (λ (k : Copy ps (inlined ps x)). Calls x k.proc) Q (as_first (inlined ps x) (inlined ps y) (inlined_each ps more)) (λ k h. inl h) (copies_in x) (copies_called x))
+        (each_map (λ (k : Copy ps (inlined ps x)). Calls x k.proc) Q (as_first (inlined ps x) (inlined ps y) (inlined_each ps more)) (λ k h. inl h)
+        (copies_in x) (copies_called x))
         (each_map (λ (k : TurnCopy ps (inlined_each ps (and_called y more))). OneCalls (and_called y more) k.proc) Q
         (as_later (inlined ps x) (inlined ps y) (inlined_each ps more)) (λ k h. inr h) (turn_copies (and_called y more)) (turns_called (and_called y more)))
 
@@ -181,30 +192,36 @@ module _ (ps : List Process) where
     sides_called no_calleds = tt
     sides_called (and_called x more) =
         let Q : SideCopy ps (inlined_each ps (and_called x more)) → Type 0 = λ k. OneCalls (and_called x more) k.proc in
-        each_append Q (map (in_this_side (inlined ps x) (inlined_each ps more)) (copies_in x)) (map (in_other_side (inlined ps x) (inlined_each ps more)) (side_copies more))
-        (each_map (λ (k : Copy ps (inlined ps x)). Calls x k.proc) Q (in_this_side (inlined ps x) (inlined_each ps more)) (λ k h. inl h) (copies_in x) (copies_called x))
-        (each_map (λ (k : SideCopy ps (inlined_each ps more)). OneCalls more k.proc) Q (in_other_side (inlined ps x) (inlined_each ps more)) (λ k h. inr h) (side_copies more) (sides_called more))
+        each_append Q (map (in_this_side (inlined ps x) (inlined_each ps more)) (copies_in x))
+        (map (in_other_side (inlined ps x) (inlined_each ps more)) (side_copies more))
+        (each_map (λ (k : Copy ps (inlined ps x)). Calls x k.proc) Q (in_this_side (inlined ps x) (inlined_each ps more)) (λ k h. inl h) (copies_in x)
+        (copies_called x))
+        (each_map (λ (k : SideCopy ps (inlined_each ps more)). OneCalls more k.proc) Q (in_other_side (inlined ps x) (inlined_each ps more)) (λ k h. inr h)
+        (side_copies more) (sides_called more))
 
     arms_called : (choices : CalledChoices) → Each (λ (k : ArmCopy ps (inlined_choices ps choices)). ChoiceCalls choices k.proc) (arm_copies choices)
     arms_called no_called = tt
     arms_called (or_called g x more) =
         let Q : ArmCopy ps (inlined_choices ps (or_called g x more)) → Type 0 = λ k. ChoiceCalls (or_called g x more) k.proc in
-        each_append Q (map (in_this_arm g (inlined ps x) (inlined_choices ps more)) (copies_in x)) (map (in_other_arm g (inlined ps x) (inlined_choices ps more)) (arm_copies more))
-        (each_map (λ (k : Copy ps (inlined ps x)). Calls x k.proc) Q (in_this_arm g (inlined ps x) (inlined_choices ps more)) (λ k h. inl h) (copies_in x) (copies_called x))
-        (each_map (λ (k : ArmCopy ps (inlined_choices ps more)). ChoiceCalls more k.proc) Q (in_other_arm g (inlined ps x) (inlined_choices ps more)) (λ k h. inr h) (arm_copies more) (arms_called more))
+        each_append Q (map (in_this_arm g (inlined ps x) (inlined_choices ps more)) (copies_in x))
+        (map (in_other_arm g (inlined ps x) (inlined_choices ps more)) (arm_copies more))
+        (each_map (λ (k : Copy ps (inlined ps x)). Calls x k.proc) Q (in_this_arm g (inlined ps x) (inlined_choices ps more)) (λ k h. inl h) (copies_in x)
+        (copies_called x))
+        (each_map (λ (k : ArmCopy ps (inlined_choices ps more)). ChoiceCalls more k.proc) Q (in_other_arm g (inlined ps x) (inlined_choices ps more))
+        (λ k h. inr h) (arm_copies more) (arms_called more))
 
   -- two copies of one procedure take turns
   abbrev pub Turning : (p : Process) → Copy ps p → Copy ps p → Type 0
   Turning p k l = k.proc ≡ l.proc → InTurns k.at l.at
 
   abbrev TurnTurning : (members : Processes) → TurnCopy ps members → TurnCopy ps members → Type 0
-  TurnTurning members k l = k.proc ≡ l.proc → MembersInTurns k.at l.at
+  TurnTurning ms k l = k.proc ≡ l.proc → MembersInTurns k.at l.at
 
   abbrev SideTurning : (members : Processes) → SideCopy ps members → SideCopy ps members → Type 0
-  SideTurning members k l = k.proc ≡ l.proc → SidesInTurns k.at l.at
+  SideTurning ms k l = k.proc ≡ l.proc → SidesInTurns k.at l.at
 
   abbrev ArmTurning : (choices : Choices) → ArmCopy ps choices → ArmCopy ps choices → Type 0
-  ArmTurning choices k l = k.proc ≡ l.proc → ArmsInTurns k.at l.at
+  ArmTurning cs k l = k.proc ≡ l.proc → ArmsInTurns k.at l.at
 
   mutual
     pub copies_turn : (x : Called) → CallsApart x → Pairs (Turning (inlined ps x)) (copies_in x)
@@ -239,7 +256,8 @@ module _ (ps : List Process) where
         (pairs_map (Turning p) R (as_first p s ms) (λ k l h. h) front (copies_turn x a.0))
         (pairs_map (TurnTurning (and_member s ms)) R (as_later p s ms) (λ k l h. h) rest (turns_turn (and_called y more) a.1))
         (each_map (λ (k : Copy ps p). Unit {0}) (λ k. Each (R k) (map (as_later p s ms) rest)) (as_first p s ms)
-        (λ k h. each_map (λ (l : TurnCopy ps (and_member s ms)). Unit {0}) (R (as_first p s ms k)) (as_later p s ms) (λ l h e. tt) rest (each_all (λ l. Unit {0}) (λ l. tt) rest))
+        (λ k h. each_map (λ (l : TurnCopy ps (and_member s ms)). Unit {0}) (R (as_first p s ms k)) (as_later p s ms) (λ l h e. tt) rest
+        (each_all (λ l. Unit {0}) (λ l. tt) rest))
         front (each_all (λ k. Unit {0}) (λ k. tt) front))
 
     sides_turn : (members : Calleds) → BranchesApart members → Pairs (SideTurning (inlined_each ps members)) (side_copies members)
@@ -270,7 +288,8 @@ module _ (ps : List Process) where
         (pairs_map (Turning p) R (in_this_arm g p cs) (λ k l h. h) front (copies_turn x a.0))
         (pairs_map (ArmTurning cs) R (in_other_arm g p cs) (λ k l h. h) rest (arms_turn more a.1))
         (each_map (λ (k : Copy ps p). Unit {0}) (λ k. Each (R k) (map (in_other_arm g p cs) rest)) (in_this_arm g p cs)
-        (λ k h. each_map (λ (l : ArmCopy ps cs). Unit {0}) (R (in_this_arm g p cs k)) (in_other_arm g p cs) (λ l h e. tt) rest (each_all (λ l. Unit {0}) (λ l. tt) rest))
+        (λ k h. each_map (λ (l : ArmCopy ps cs). Unit {0}) (R (in_this_arm g p cs k)) (in_other_arm g p cs) (λ l h e. tt) rest
+        (each_all (λ l. Unit {0}) (λ l. tt) rest))
         front (each_all (λ k. Unit {0}) (λ k. tt) front))
 
   -- where they stand
@@ -279,13 +298,13 @@ module _ (ps : List Process) where
     Fits p s to c k = (c.proc ≡ k.proc) × (part_ask P k.at s to ≡ c.request_there) × (part_from P k.at to ≡ c.copy)
 
     abbrev TurnFits : (members : Processes) (s to : ℕ) → CallPoint → TurnCopy ps members → Type 0
-    TurnFits members s to c k = (c.proc ≡ k.proc) × (turn_part_ask P k.at s to ≡ c.request_there) × (turn_part_from P k.at to ≡ c.copy)
+    TurnFits ms s to c k = (c.proc ≡ k.proc) × (turn_part_ask P k.at s to ≡ c.request_there) × (turn_part_from P k.at to ≡ c.copy)
 
     abbrev SideFits : (members : Processes) (to : ℕ) → CallPoint → SideCopy ps members → Type 0
-    SideFits members to c k = (c.proc ≡ k.proc) × (side_part_ask P k.at to ≡ c.request_there) × (side_part_from P k.at to ≡ c.copy)
+    SideFits ms to c k = (c.proc ≡ k.proc) × (side_part_ask P k.at to ≡ c.request_there) × (side_part_from P k.at to ≡ c.copy)
 
     abbrev ArmFits : (choices : Choices) (s to : ℕ) → CallPoint → ArmCopy ps choices → Type 0
-    ArmFits choices s to c k = (c.proc ≡ k.proc) × (arm_part_ask P k.at s to ≡ c.request_there) × (arm_part_from P k.at to ≡ c.copy)
+    ArmFits cs s to c k = (c.proc ≡ k.proc) × (arm_part_ask P k.at s to ≡ c.request_there) × (arm_part_from P k.at to ≡ c.copy)
 
     mutual
       pub copies_fit : (x : Called) (r from s to : ℕ) → Paired (Fits (inlined ps x) s to) (calls P ps d x r from s to) (copies_in x)
@@ -315,14 +334,17 @@ module _ (ps : List Process) where
           (arms_fit choices start (bodies_from cs again_own from) start_there (bodies_from cs again_own to))
       copies_fit (looped x) r from s to =
           let p = inlined ps x in
-          paired_map (Fits p (to + 1) (to + 2)) (Fits (repeating p) s to) (as_body p) (λ c k h. h) (calls P ps d x (from + 1) (from + 2) (to + 1) (to + 2)) (copies_in x)
+          paired_map (Fits p (to + 1) (to + 2)) (Fits (repeating p) s to) (as_body p) (λ c k h. h) (calls P ps d x (from + 1) (from + 2) (to + 1) (to + 2))
+          (copies_in x)
           (copies_fit x (from + 1) (from + 2) (to + 1) (to + 2))
 
-      turns_fit : (members : Calleds) (r from s to : ℕ) → Paired (TurnFits (inlined_each ps members) s to) (turn_calls P ps d members r from s to) (turn_copies members)
+      turns_fit : (members : Calleds) (r from s to : ℕ)
+          → Paired (TurnFits (inlined_each ps members) s to) (turn_calls P ps d members r from s to) (turn_copies members)
       turns_fit no_calleds r from s to = tt
       turns_fit (and_called x no_calleds) r from s to =
           let p = inlined ps x in
-          paired_map (Fits p s to) (TurnFits (and_member p no_members) s to) (as_last p) (λ c k h. h) (calls P ps d x r from s to) (copies_in x) (copies_fit x r from s to)
+          paired_map (Fits p s to) (TurnFits (and_member p no_members) s to) (as_last p) (λ c k h. h) (calls P ps d x r from s to) (copies_in x)
+          (copies_fit x r from s to)
       turns_fit (and_called x (and_called y more)) r from s to =
           let p = inlined ps x in
           let t = inlined ps y in
@@ -332,12 +354,14 @@ module _ (ps : List Process) where
           let next_there = to + 3 + there_size P ps d x in
           paired_append R (calls P ps d x from (from + 3) to (to + 3)) (map (as_first p t ms) (copies_in x))
           (turn_calls P ps d (and_called y more) (from + 2) next (to + 2) next_there) (map (as_later p t ms) (turn_copies (and_called y more)))
-          (paired_map (Fits p to (to + 3)) R (as_first p t ms) (λ c k h. h) (calls P ps d x from (from + 3) to (to + 3)) (copies_in x) (copies_fit x from (from + 3) to (to + 3)))
+          (paired_map (Fits p to (to + 3)) R (as_first p t ms) (λ c k h. h) (calls P ps d x from (from + 3) to (to + 3)) (copies_in x)
+          (copies_fit x from (from + 3) to (to + 3)))
           (paired_map (TurnFits (and_member t ms) (to + 2) next_there) R (as_later p t ms) (λ c k h. h)
           (turn_calls P ps d (and_called y more) (from + 2) next (to + 2) next_there) (turn_copies (and_called y more))
           (turns_fit (and_called y more) (from + 2) next (to + 2) next_there))
 
-      sides_fit : (members : Calleds) (r from s to : ℕ) → Paired (SideFits (inlined_each ps members) to) (branch_calls P ps d members r from s to) (side_copies members)
+      sides_fit : (members : Calleds) (r from s to : ℕ)
+          → Paired (SideFits (inlined_each ps members) to) (branch_calls P ps d members r from s to) (side_copies members)
       sides_fit no_calleds r from s to = tt
       sides_fit (and_called x more) r from s to =
           let p = inlined ps x in
@@ -347,7 +371,8 @@ module _ (ps : List Process) where
           let next_there = to + 3 + there_size P ps d x in
           paired_append R (calls P ps d x from (from + 3) to (to + 3)) (map (in_this_side p ms) (copies_in x))
           (branch_calls P ps d more r next s next_there) (map (in_other_side p ms) (side_copies more))
-          (paired_map (Fits p to (to + 3)) R (in_this_side p ms) (λ c k h. h) (calls P ps d x from (from + 3) to (to + 3)) (copies_in x) (copies_fit x from (from + 3) to (to + 3)))
+          (paired_map (Fits p to (to + 3)) R (in_this_side p ms) (λ c k h. h) (calls P ps d x from (from + 3) to (to + 3)) (copies_in x)
+          (copies_fit x from (from + 3) to (to + 3)))
           (paired_map (SideFits ms next_there) R (in_other_side p ms) (λ c k h. h) (branch_calls P ps d more r next s next_there) (side_copies more)
           (sides_fit more r next s next_there))
 
@@ -363,5 +388,6 @@ module _ (ps : List Process) where
           paired_append R (calls P ps d x start from s to) (map (in_this_arm g p cs) (copies_in x))
           (body_calls P ps d more (start + 1) next (s + 1) next_there) (map (in_other_arm g p cs) (arm_copies more))
           (paired_map (Fits p s to) R (in_this_arm g p cs) (λ c k h. h) (calls P ps d x start from s to) (copies_in x) (copies_fit x start from s to))
-          (paired_map (ArmFits cs (s + 1) next_there) R (in_other_arm g p cs) (λ c k h. h) (body_calls P ps d more (start + 1) next (s + 1) next_there) (arm_copies more)
+          (paired_map (ArmFits cs (s + 1) next_there) R (in_other_arm g p cs) (λ c k h. h) (body_calls P ps d more (start + 1) next (s + 1) next_there)
+          (arm_copies more)
           (arms_fit more (start + 1) next (s + 1) next_there))

@@ -1,4 +1,7 @@
 -- Each node of the net with shared bodies has one place in its order, and so has each of the net with copies.
+--
+-- C: the program with calls; P: that with copies; s, t: nodes of the two nets; c: a call; q: a procedure; y: a node of its
+-- body; k: a place in the list of all nodes that aren't in a body or a copy.
 use Rattle.std.proofs.Common.{◌≡◌, ℕ, zero, suc, ◌+◌, ◌-◌, ◌<◌, ◌≤◌, Bool, true, false, List, [], ◌∷◌, map, length, get_or, inl, inr, refl, sym, ap, ◌∙◌, subst, arith, ⊎_elim}
 use Rattle.std.specs.Prelude.{◌⊎◌, ◌&&◌, not, if◌then◌else◌, replicate, nat_lt}
 use Rattle.std.specs.List.Sorted.{apply_swaps}
@@ -179,7 +182,8 @@ module _ (C : CallProgram) (is : CallFacts C) where
       let f : nat_lt k (procs_from C) ≡ false = grind (arith, nat_tests) in
       let g : (nat_lt (k - procs_from C) count_items && not (get_or its (k - procs_from C) no_item).asked) ≡ true =
       sym (ap (λ b. if b then true else nat_lt (k - procs_from C) count_items && not (get_or its (k - procs_from C) no_item).asked) f) ∙ e in
-      an_item h (by_test (k - procs_from C) count_items (and_left (nat_lt (k - procs_from C) count_items) (not (get_or its (k - procs_from C) no_item).asked) g))
+      an_item h (by_test (k - procs_from C) count_items
+      (and_left (nat_lt (k - procs_from C) count_items) (not (get_or its (k - procs_from C) no_item).asked) g))
       (not_true _ (and_right (nat_lt (k - procs_from C) count_items) (not (get_or its (k - procs_from C) no_item).asked) g))) (cases_lt k (procs_from C))
     where
       by_test : (a b : ℕ) → nat_lt a b ≡ true → a < b
@@ -232,7 +236,9 @@ module _ (C : CallProgram) (is : CallFacts C) where
 
   -- bounds of places
   abbrev pub Bounds : Here → Type 0
-  Bounds (plain k) = ((k < procs_from C) × (place (plain k) ≡ k)) ⊎ ((procs_from C ≤ k) × (k - procs_from C < count_items) × (place (plain k) ≡ call_root C + (k - procs_from C)))
+  Bounds (plain k) =
+      ((k < procs_from C) × (place (plain k) ≡ k)) ⊎
+      ((procs_from C ≤ k) × (k - procs_from C < count_items) × (place (plain k) ≡ call_root C + (k - procs_from C)))
   Bounds (asks c) = ask_place c < count_items
   Bounds (answers c) = c < count_calls
   Bounds (enters q) = procs_from C + begins sizes q < call_root C
@@ -379,7 +385,8 @@ module _ (C : CallProgram) (is : CallFacts C) where
       let ly = ht.1 in
       let a = size_there_at c lc in
       let b = size_there_at d ld in
-      let z = apart_blocks sizes_there c d x y (omega (arith, lc, sizes_there_long)) (omega (arith, ld, sizes_there_long)) (omega (arith, lx, a)) (omega (arith, ly, b)) (omega (arith, e)) in
+      let z = apart_blocks sizes_there c d x y (omega (arith, lc, sizes_there_long)) (omega (arith, ld, sizes_there_long)) (omega (arith, lx, a))
+      (omega (arith, ly, b)) (omega (arith, e)) in
       ap (λ j. copied j x) z.0 ∙ ap (λ j. copied d j) z.1
 
   -- each place is that of a node

@@ -1,4 +1,6 @@
 -- Copies keep their handshakes along the runs of the net of the program with copies, since they are parts of that program.
+--
+-- C: the program with calls; P: that with copies; is: what is asked of C; st: a state of the net of P; c, j: calls.
 use Rattle.std.proofs.Common.{◌≡◌, ℕ, ◌+◌, ◌<◌, List, [], ◌∷◌, Bool, true, false, length, inl, inr, refl, sym, ap, ◌∙◌, subst, arith, ⊎_elim, length-set, get_or-set_same}
 use Rattle.std.specs.Prelude.{◌||◌, not}
 use Rattle.std.proofs.lemmas.Bool.{cases_lt, cases_eq}
@@ -15,13 +17,13 @@ use Rattle.net_compose.specs.Translation.{translation, first_values}
 use Rattle.net_compose.specs.PartNumbers.{first_of_part, request_of_part, answer_of_part, PartsInTurns}
 use Rattle.call_map.specs.Shared.{asked}
 use Rattle.call_map.specs.CallsApart.{CallsApart}
-use Rattle.call_map.specs.CallNet.{CallProgram, inlined_program, procs_from, call_root, body_at, body_answer}
+use Rattle.call_map.specs.CallNet.{CallProgram, inlined_program, procs_from, call_root, body_at, proc_answer}
 use Rattle.call_map.proofs.CallParts.{Copy, copies_in, Turning, copies_turn, Fits, copies_fit, paired_at, pair_at}
 use Rattle.call_map.proofs.CallNet.{points}
 use Rattle.call_map.proofs.Merged.{nowhere}
 use Rattle.call_map.proofs.CallPlaces.{point}
 use Rattle.call_map.proofs.CallOrder.{CallFacts}
-use Rattle.call_map.proofs.CallShared.{node_asked}
+use Rattle.call_map.proofs.CallStands.{node_asked}
 use Rattle.call_map.proofs.CallFirsts.{firsts_fit, below_there}
 use Rattle.call_map.proofs.CallCarries.{PointsKeep}
 
@@ -50,15 +52,17 @@ module _ (C : CallProgram) (is : CallFacts C) (unread : (q : ℕ) → q < length
   CopyOf = Copy C.procs P.body
 
   abbrev Stands : (c : ℕ) → CopyOf → Type 0
-  Stands c k = Fits C.procs P (body_answer C) P.body (procs_from C) (procs_from C + 2) (point C is c) k
+  Stands c k = Fits C.procs P (proc_answer C) P.body (procs_from C) (procs_from C + 2) (point C is c) k
 
   copy_at : (c : ℕ) → c < length (points C) → (k : CopyOf) × Stands c k
-  copy_at c l = paired_at (Fits C.procs P (body_answer C) P.body (procs_from C) (procs_from C + 2)) nowhere (points C) (copies_in C.procs C.body)
-      (copies_fit C.procs P (body_answer C) C.body (call_root C) (call_root C + 2) (procs_from C) (procs_from C + 2)) c l
+  copy_at c l = paired_at (Fits C.procs P (proc_answer C) P.body (procs_from C) (procs_from C + 2)) nowhere (points C) (copies_in C.procs C.body)
+      (copies_fit C.procs P (proc_answer C) C.body (call_root C) (call_root C + 2) (procs_from C) (procs_from C + 2)) c l
 
   two_at : (c j : ℕ) → c < j → j < length (points C) → (k : CopyOf) × (l : CopyOf) × Stands c k × Stands j l × Turning C.procs P.body k l
-  two_at c j less l = pair_at (Fits C.procs P (body_answer C) P.body (procs_from C) (procs_from C + 2)) nowhere (Turning C.procs P.body) (points C) (copies_in C.procs C.body)
-      (copies_fit C.procs P (body_answer C) C.body (call_root C) (call_root C + 2) (procs_from C) (procs_from C + 2)) (copies_turn C.procs C.body apart) c j less l
+  two_at c j less l =
+      pair_at (Fits C.procs P (proc_answer C) P.body (procs_from C) (procs_from C + 2)) nowhere (Turning C.procs P.body) (points C) (copies_in C.procs C.body)
+      (copies_fit C.procs P (proc_answer C) C.body (call_root C) (call_root C + 2) (procs_from C) (procs_from C + 2))
+      (copies_turn C.procs C.body apart) c j less l
 
   -- its numbers
   answer_is : (c : ℕ) (k : CopyOf) → Stands c k → answer_of_part P k.at ≡ answer_of P (body_at C (point C is c).proc) (point C is c).copy
@@ -114,7 +118,8 @@ module _ (C : CallProgram) (is : CallFacts C) (unread : (q : ℕ) → q < length
         subst (λ n. move_enabled (translation P) script st (n + y) ≡ false) s.2
         (by k (free c l k s) (sized c k s y h) (value (ask c)) r (d ∙ sym e))
       where
-        by : (k : CopyOf) → ReadsNoTarget (body_at C k.proc) → y < size_of P (body_at C k.proc) → (b : Bool) → value (request_of_part P k.at) ≡ b → value (answer_of_part P k.at) ≡ b
+        by : (k : CopyOf) → ReadsNoTarget (body_at C k.proc) → y < size_of P (body_at C k.proc) → (b : Bool) → value (request_of_part P k.at) ≡ b
+            → value (answer_of_part P k.at) ≡ b
             → move_enabled (translation P) script st (first_of_part P k.at + y) ≡ false
         by k f g true r d = t.still k.at f r d y g
         by k f g false r d = t.rests k.at f r d y g

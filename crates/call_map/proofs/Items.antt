@@ -1,4 +1,8 @@
 -- The nodes of a statement that stand in both nets, in the net with shared bodies and in that with copies, one by one.
+--
+-- P: the program with copies; ps: the bodies of the procedures; d: the answer of each body in the net with shared bodies;
+-- x, y: statements with calls; r, s: a statement's request in the net with shared bodies and in that with copies; from, to:
+-- its first node in either net; v, u: values of the nodes of the one and of the other.
 use Rattle.std.proofs.Common.{◌≡◌, ℕ, zero, suc, ◌+◌, ◌-◌, ◌<◌, Bool, true, false, List, [], ◌∷◌, ◌++◌, length, ap, ◌∙◌, arith}
 use Rattle.std.specs.Prelude.{if◌then◌else◌, nat_lt, slice_index_or}
 use Rattle.prs_core.specs.Nets.{NodeRules}
@@ -52,18 +56,22 @@ Same v u i = i.asked ≡ false → v i.here.node ≡ u i.there.node
 abbrev pub SaysSame : (v u : ℕ → Bool) → Item → Type 0
 SaysSame v u i = (guard_holds v i.here.rules.up ≡ guard_holds u i.there.rules.up) × (guard_holds v i.here.rules.down ≡ guard_holds u i.there.rules.down)
 
-pub paired_same : (v u : ℕ → Bool) (tag : ℕ → Bool) (i from to : ℕ) (rs ss : List NodeRules) → length rs ≡ length ss → Each (Same v u) (paired tag i from to rs ss)
+pub paired_same : (v u : ℕ → Bool) (tag : ℕ → Bool) (i from to : ℕ) (rs ss : List NodeRules) → length rs ≡ length ss
+    → Each (Same v u) (paired tag i from to rs ss)
     → (k : ℕ) → k < length rs → tag (i + k) ≡ false → v (from + k) ≡ u (to + k)
 paired_same v u tag i from to [] ss e h k l off = absurd (omega (arith, l))
 paired_same v u tag i from to (r ∷ rs) [] e h k l off = absurd (omega (arith, e))
 paired_same v u tag i from to (r ∷ rs) (s ∷ ss) e h zero l off =
-    ap v (let z : from + 0 ≡ from = omega arith in z) ∙ (h.0 (ap tag (let z : i ≡ i + 0 = omega arith in z) ∙ off) ∙ ap u (let z : to ≡ to + 0 = omega arith in z))
+    ap v (let z : from + 0 ≡ from = omega arith in z)
+    ∙ (h.0 (ap tag (let z : i ≡ i + 0 = omega arith in z) ∙ off) ∙ ap u (let z : to ≡ to + 0 = omega arith in z))
 paired_same v u tag i from to (r ∷ rs) (s ∷ ss) e h (suc k) l off =
     ap v (let z : from + suc k ≡ suc from + k = omega arith in z)
-    ∙ (paired_same v u tag (suc i) (suc from) (suc to) rs ss (omega (arith, e)) h.1 k (omega (arith, l)) (ap tag (let z : suc i + k ≡ i + suc k = omega arith in z) ∙ off)
+    ∙ (paired_same v u tag (suc i) (suc from) (suc to) rs ss (omega (arith, e)) h.1 k (omega (arith, l))
+    (ap tag (let z : suc i + k ≡ i + suc k = omega arith in z) ∙ off)
     ∙ ap u (let z : suc to + k ≡ to + suc k = omega arith in z))
 
-pub paired_says : (v u : ℕ → Bool) (tag : ℕ → Bool) (i from to : ℕ) (rs ss : List NodeRules) → RulesAlike v u rs ss → Each (SaysSame v u) (paired tag i from to rs ss)
+pub paired_says : (v u : ℕ → Bool) (tag : ℕ → Bool) (i from to : ℕ) (rs ss : List NodeRules) → RulesAlike v u rs ss
+    → Each (SaysSame v u) (paired tag i from to rs ss)
 paired_says v u tag i from to [] ss h = tt
 paired_says v u tag i from to (r ∷ rs) [] h = tt
 paired_says v u tag i from to (r ∷ rs) (s ∷ ss) h = ((h.0, h.1), paired_says v u tag (suc i) (suc from) (suc to) rs ss h.2)
@@ -99,7 +107,7 @@ branch_calling no_called i = false
 branch_calling (or_called g s more) zero = is_calling s
 branch_calling (or_called g s more) (suc i) = branch_calling more i
 
--- a selection's starts stand behind its own nodes and the latches
+-- whether this node of a selection is the start of a branch that is a call: the starts come after its own nodes and the latches
 abbrev pub front_tag : CalledChoices → (before : ℕ) → ℕ → Bool
 front_tag choices before i = if nat_lt i before then false else branch_calling choices (i - before)
 

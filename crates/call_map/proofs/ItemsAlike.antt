@@ -1,4 +1,9 @@
 -- Where the nodes that stand in both nets have the same values, but for the requests of calls, their rules say the same.
+--
+-- P: the program with copies; ps: the bodies of the procedures; d: the answer of each body in the net with shared bodies;
+-- x, y: statements with calls; r, s: a statement's request in the net with shared bodies and in that with copies; from, to:
+-- its first node in either net; v, u: values of the nodes of the one and of the other; o: how many nodes a
+-- selection has of its own; a, t: what is called an atom is one, and the program is typed.
 use Rattle.std.proofs.Common.{◌≡◌, ℕ, zero, suc, ◌+◌, ◌*◌, ◌-◌, ◌<◌, ◌≤◌, Bool, true, false, List, ◌++◌, length, refl, sym, ap, ◌∙◌, arith, length-append}
 use Rattle.std.specs.Prelude.{if◌then◌else◌, nat_lt}
 use Rattle.std.proofs.lemmas.Bool.Decides.{nat_tests}
@@ -23,14 +28,15 @@ use Rattle.call_map.proofs.AtomsAlike.{expression_alike, atom_alike, atom_answer
 use Rattle.call_map.proofs.Items.{Each, each_left, each_right, each_append, Item, paired, Same, SaysSame, paired_same, paired_says, untagged, CallPoint, is_calling, one_calling, branch_calling, front_tag, element_items, select_here, select_there, again_here, again_there, items, turn_items, branch_items, body_items, calls, turn_calls, branch_calls, body_calls, CallSame}
 
 module _ (P : TypedProgram) (ps : List Process) (d : ℕ → ℕ) where
-  -- how many nodes the fronts have
+  -- how many nodes a selection has before its branches
   pub select_long : (choices : CalledChoices) → AreChoices P.channels P.vars (inlined_choices ps choices) → (r from : ℕ)
       → length (select_here P ps d choices r from) ≡ select_own + 2 * choice_count (inlined_choices ps choices) + guards_size (inlined_choices ps choices)
   select_long choices t r from =
       let c = inlined_choices ps choices in
       let a = latches_and_starts counted P c r (from + 2) select_own from t in
       let b = guards_length counted P c (from + 1) (guards_from c select_own from) t in
-      let e = length-append (select_rules (called_choosing ps P choices r (from + 2) select_own from)) (guards_rules P c (from + 1) (guards_from c select_own from)) in
+      let e = length-append (select_rules (called_choosing ps P choices r (from + 2) select_own from))
+      (guards_rules P c (from + 1) (guards_from c select_own from)) in
       omega (arith, a, b, e)
 
   pub select_long_there : (choices : CalledChoices) → AreChoices P.channels P.vars (inlined_choices ps choices) → (s to : ℕ)
@@ -75,9 +81,6 @@ module _ (P : TypedProgram) (ps : List Process) (d : ℕ → ℕ) (some : (y : �
   abbrev Calls : List CallPoint → Type 0
   Calls cs = Each (CallSame P ps d v u) cs
 
-  abbrev inner : Called → Process
-  inner x = inlined ps x
-
   -- guards
   pub guards_alike : (c : Choices) → AreChoices P.channels P.vars c → (r s from to : ℕ) → v r ≡ u s
       → ((i : ℕ) → i < guards_size c → v (from + i) ≡ u (to + i)) → RulesAlike v u (guards_rules P c r from) (guards_rules P c s to)
@@ -104,14 +107,15 @@ module _ (P : TypedProgram) (ps : List Process) (d : ℕ → ℕ) (some : (y : �
       (λ i l. ap v (let z : from + formula_size g + i ≡ from + (formula_size g + i) = omega arith in z)
       ∙ (same (formula_size g + i) (omega (arith, l)) ∙ ap u (let z : to + (formula_size g + i) ≡ to + formula_size g + i = omega arith in z))))
 
-  -- places in the front of a selection
+  -- places among the nodes of a selection before its branches
   branch_past : (choices : CalledChoices) (i : ℕ) → choice_count (inlined_choices ps choices) ≤ i → branch_calling choices i ≡ false
   branch_past no_called i l = refl
   branch_past (or_called g x more) zero l = absurd (omega (arith, l))
   branch_past (or_called g x more) (suc i) l = branch_past more i (omega (arith, l))
 
   tag_before : (choices : CalledChoices) (before i : ℕ) → i < before → front_tag choices before i ≡ false
-  tag_before choices before i l = ap (λ b. if b then false else branch_calling choices (i - before)) (let e : nat_lt i before ≡ true = grind (arith, nat_tests) in e)
+  tag_before choices before i l =
+      ap (λ b. if b then false else branch_calling choices (i - before)) (let e : nat_lt i before ≡ true = grind (arith, nat_tests) in e)
 
   tag_behind : (choices : CalledChoices) (before j : ℕ) → front_tag choices before (before + j) ≡ branch_calling choices j
   tag_behind choices before j =
@@ -145,10 +149,12 @@ module _ (P : TypedProgram) (ps : List Process) (d : ℕ → ℕ) (some : (y : �
     guard_place i l =
         let e : o + 2 * n + i ≡ o + n + (n + i) = omega arith in
         ap v (let z : guards_from c o from + i ≡ from + (o + 2 * n + i) = omega arith in z)
-        ∙ (at_place (o + 2 * n + i) (omega (arith, l)) (ap (front_tag choices (o + n)) e ∙ (tag_behind choices (o + n) (n + i) ∙ branch_past choices (n + i) (omega arith)))
+        ∙ (at_place (o + 2 * n + i) (omega (arith, l))
+        (ap (front_tag choices (o + n)) e ∙ (tag_behind choices (o + n) (n + i) ∙ branch_past choices (n + i) (omega arith)))
         ∙ ap u (let z : to + (o + 2 * n + i) ≡ guards_from c o to + i = omega arith in z))
 
-    choosing_same : (r s any other : ℕ) → v r ≡ u s → v any ≡ u other → Alike v u (called_branch_answers ps P choices (bodies_from c o from)) (branch_answers P c (bodies_from c o to))
+    choosing_same : (r s any other : ℕ) → v r ≡ u s → v any ≡ u other
+        → Alike v u (called_branch_answers ps P choices (bodies_from c o from)) (branch_answers P c (bodies_from c o to))
         → SameChoosing v u (called_choosing ps P choices r any o from) (choosing_at P c s other o to)
     choosing_same r s any other asked high answers = record {
       request = asked;
@@ -176,7 +182,8 @@ module _ (P : TypedProgram) (ps : List Process) (d : ℕ → ℕ) (some : (y : �
       → Sames (paired untagged 0 (from + called_branches_size ps P members) (branches_end P (inlined_each ps members) to)
       (tree_rules (called_ends ps P members from) (from + called_branches_size ps P members))
       (tree_rules (branch_ends P (inlined_each ps members) to) (branches_end P (inlined_each ps members) to)))
-      → (k : ℕ) → k < member_count (inlined_each ps members) - 1 → v (from + called_branches_size ps P members + k) ≡ u (branches_end P (inlined_each ps members) to + k)
+      → (k : ℕ) → k < member_count (inlined_each ps members) - 1
+      → v (from + called_branches_size ps P members + k) ≡ u (branches_end P (inlined_each ps members) to + k)
   tree_place members from to its k l =
       let a = tree_length (called_ends ps P members from) (from + called_branches_size ps P members) in
       let b = tree_length (branch_ends P (inlined_each ps members) to) (branches_end P (inlined_each ps members) to) in
@@ -184,7 +191,8 @@ module _ (P : TypedProgram) (ps : List Process) (d : ℕ → ℕ) (some : (y : �
       let f = ends_length P (inlined_each ps members) to in
       paired_same v u untagged 0 (from + called_branches_size ps P members) (branches_end P (inlined_each ps members) to)
       (tree_rules (called_ends ps P members from) (from + called_branches_size ps P members))
-      (tree_rules (branch_ends P (inlined_each ps members) to) (branches_end P (inlined_each ps members) to)) (omega (arith, a, b, e, f)) its k (omega (arith, a, e, l)) refl
+      (tree_rules (branch_ends P (inlined_each ps members) to) (branches_end P (inlined_each ps members) to)) (omega (arith, a, b, e, f)) its k
+      (omega (arith, a, e, l)) refl
 
   -- the answers
   mutual
@@ -209,15 +217,20 @@ module _ (P : TypedProgram) (ps : List Process) (d : ℕ → ℕ) (some : (y : �
         ∙ ap u (let z : branches_end P (inlined_each ps members) to + (member_count (inlined_each ps members) - 2)
         ≡ to + (branches_size P (inlined_each ps members) + (member_count (inlined_each ps members) - 1)) - 1 = omega (arith, more, e) in z))
     answer_same (chosen false choices) a t r from s to asked its cs =
-        let front = each_left (Same v u) (paired (front_tag choices (select_own + choice_count (inlined_choices ps choices))) 0 from to (select_here P ps d choices r from)
+        let front =
+        each_left (Same v u) (paired (front_tag choices (select_own + choice_count (inlined_choices ps choices))) 0 from to
+        (select_here P ps d choices r from)
         (select_there P ps d choices s to)) (body_items P ps d choices (from + select_own + choice_count (inlined_choices ps choices))
         (bodies_from (inlined_choices ps choices) select_own from) (to + select_own + choice_count (inlined_choices ps choices))
         (bodies_from (inlined_choices ps choices) select_own to)) its in
         ap v (let z : from ≡ from + 0 = omega arith in z)
-        ∙ (own_place choices t.2 select_own from to (select_here P ps d choices r from) (select_there P ps d choices s to) (select_long P ps d choices t.2 r from)
+        ∙ (own_place choices t.2 select_own from to (select_here P ps d choices r from) (select_there P ps d choices s to)
+        (select_long P ps d choices t.2 r from)
         (select_long_there P ps d choices t.2 s to) front 0 (omega arith) ∙ ap u (let z : to + 0 ≡ to = omega arith in z))
     answer_same (chosen true choices) a t r from s to asked its cs =
-        let front = each_left (Same v u) (paired (front_tag choices (again_own + choice_count (inlined_choices ps choices))) 0 from to (again_here P ps d choices r from)
+        let front =
+        each_left (Same v u) (paired (front_tag choices (again_own + choice_count (inlined_choices ps choices))) 0 from to
+        (again_here P ps d choices r from)
         (again_there P ps d choices s to)) (body_items P ps d choices (from + again_own + choice_count (inlined_choices ps choices))
         (bodies_from (inlined_choices ps choices) again_own from) (to + again_own + choice_count (inlined_choices ps choices))
         (bodies_from (inlined_choices ps choices) again_own to)) its in
@@ -226,13 +239,16 @@ module _ (P : TypedProgram) (ps : List Process) (d : ℕ → ℕ) (some : (y : �
         (again_long_there P ps d choices t.2 s to) front 0 (omega arith) ∙ ap u (let z : to + 0 ≡ to = omega arith in z))
     answer_same (looped x) a t r from s to asked its cs = its.0 refl
 
-    turn_answer_same : (members : Calleds) → EachOfAtoms members → AreProcesses P.channels P.vars (inlined_each ps members) → 1 ≤ member_count (inlined_each ps members)
-        → (r from s to : ℕ) → (one_calling members ≡ false → v r ≡ u s) → Sames (turn_items P ps d members r from s to) → Calls (turn_calls P ps d members r from s to)
+    turn_answer_same : (members : Calleds) → EachOfAtoms members → AreProcesses P.channels P.vars (inlined_each ps members)
+        → 1 ≤ member_count (inlined_each ps members)
+        → (r from s to : ℕ) → (one_calling members ≡ false → v r ≡ u s) → Sames (turn_items P ps d members r from s to)
+        → Calls (turn_calls P ps d members r from s to)
         → v (called_turn_answer ps P members from) ≡ u (turn_answer P (inlined_each ps members) to)
     turn_answer_same no_calleds a t one r from s to asked its cs = absurd (omega (arith, one))
     turn_answer_same (and_called x no_calleds) a t one r from s to asked its cs = answer_same x a.0 t.0 r from s to asked its cs
     turn_answer_same (and_called x (and_called y more)) a t one r from s to asked its cs =
-        let q = element_items P ps d (is_calling x) (one_calling (and_called y more)) r (called_answer ps P x (from + 3)) from s (answer_of P (inlined ps x) (to + 3)) to in
+        let q = element_items P ps d (is_calling x) (one_calling (and_called y more)) r (called_answer ps P x (from + 3)) from s
+        (answer_of P (inlined ps x) (to + 3)) to in
         let first = items P ps d x from (from + 3) to (to + 3) in
         let later = turn_items P ps d (and_called y more) (from + 2) (from + 3 + called_size ps P x) (to + 2) (to + 3 + size_of P (inlined ps x)) in
         let parts = each_right (Same v u) q (first ++ later) its in
@@ -251,7 +267,8 @@ module _ (P : TypedProgram) (ps : List Process) (d : ℕ → ℕ) (some : (y : �
       let later = body_items P ps d more (start + 1) (from + called_size ps P x) (s + 1) (to + size_of P (inlined ps x)) in
       let mine = calls P ps d x start from s to in
       let others = body_calls P ps d more (start + 1) (from + called_size ps P x) (s + 1) (to + size_of P (inlined ps x)) in (
-        answer_same x a.0 t.1 start from s to (this_start more g x start s (choice_count (inlined_choices ps more)) starts) (each_left (Same v u) first later its)
+        answer_same x a.0 t.1 start from s to (this_start more g x start s (choice_count (inlined_choices ps more)) starts)
+            (each_left (Same v u) first later its)
             (each_left (CallSame P ps d v u) mine others cs),
         body_answers_same more a.1 t.2 (start + 1) (from + called_size ps P x) (s + 1) (to + size_of P (inlined ps x))
             (next_start more g x start s (choice_count (inlined_choices ps more)) starts) (each_right (Same v u) first later its)
@@ -300,7 +317,8 @@ module _ (P : TypedProgram) (ps : List Process) (d : ℕ → ℕ) (some : (y : �
         (tree_rules (called_ends ps P members from) (from + called_branches_size ps P members))
         (tree_rules (branch_ends P (inlined_each ps members) to) (branches_end P (inlined_each ps members) to))
         (tree_rules_alike v u (called_ends ps P members from) (branch_ends P (inlined_each ps members) to) (from + called_branches_size ps P members)
-        (branches_end P (inlined_each ps members) to) (ends_same members r from s to first) (λ k l. tree_place members from to rest k (omega (arith, l, b, f)))))
+        (branches_end P (inlined_each ps members) to) (ends_same members r from s to first)
+        (λ k l. tree_place members from to rest k (omega (arith, l, b, f)))))
     says_same (chosen false choices) a t r from s to asked its cs =
         let c = inlined_choices ps choices in
         let fh = select_here P ps d choices r from in
@@ -324,7 +342,8 @@ module _ (P : TypedProgram) (ps : List Process) (d : ℕ → ℕ) (some : (y : �
         (selects_alike v u (called_choosing ps P choices r (from + 2) select_own from) (choosing_at P c s (to + 2) select_own to)
         (choosing_same choices t.2 select_own from to fh ft long long_there mine r s (from + 2) (to + 2) (asked refl) (own 2 (omega arith)) answers))
         (guards_alike c t.2 (from + 1) (to + 1) (guards_from c select_own from) (guards_from c select_own to) (own 1 (omega arith)) guards_at)))
-        (bodies_say choices a t.2 (from + select_own + choice_count c) (bodies_from c select_own from) (to + select_own + choice_count c) (bodies_from c select_own to)
+        (bodies_say choices a t.2 (from + select_own + choice_count c) (bodies_from c select_own from) (to + select_own + choice_count c)
+        (bodies_from c select_own to)
         starts_at others cs)
     says_same (chosen true choices) a t r from s to asked its cs =
         let c = inlined_choices ps choices in
@@ -347,9 +366,11 @@ module _ (P : TypedProgram) (ps : List Process) (d : ℕ → ℕ) (some : (y : �
         (rules_append v u (again_rules (called_repeating ps P choices r from)) (again_rules (repeating_at P c s to))
         (guards_rules P c (from + 3) (guards_from c again_own from)) (guards_rules P c (to + 3) (guards_from c again_own to))
         (agains_alike v u (called_repeating ps P choices r from) (repeating_at P c s to) (asked refl) (own 2 (omega arith)) (own 5 (omega arith))
-        (choosing_same choices t.2 again_own from to fh ft long long_there mine (from + 1) (to + 1) (from + 4) (to + 4) (own 1 (omega arith)) (own 4 (omega arith)) answers))
+        (choosing_same choices t.2 again_own from to fh ft long long_there mine (from + 1) (to + 1) (from + 4) (to + 4) (own 1 (omega arith))
+        (own 4 (omega arith)) answers))
         (guards_alike c t.2 (from + 3) (to + 3) (guards_from c again_own from) (guards_from c again_own to) (own 3 (omega arith)) guards_at)))
-        (bodies_say choices a t.2 (from + again_own + choice_count c) (bodies_from c again_own from) (to + again_own + choice_count c) (bodies_from c again_own to)
+        (bodies_say choices a t.2 (from + again_own + choice_count c) (bodies_from c again_own from) (to + again_own + choice_count c)
+        (bodies_from c again_own to)
         starts_at others cs)
     says_same (looped x) a t r from s to asked its cs =
         let answered = answer_same x a t (from + 1) (from + 2) (to + 1) (to + 2) its.1.0 its.1.1 cs in (
@@ -364,12 +385,14 @@ module _ (P : TypedProgram) (ps : List Process) (d : ℕ → ℕ) (some : (y : �
         )
 
     turn_says : (members : Calleds) → EachOfAtoms members → AreProcesses P.channels P.vars (inlined_each ps members)
-        → (r from s to : ℕ) → (one_calling members ≡ false → v r ≡ u s) → Sames (turn_items P ps d members r from s to) → Calls (turn_calls P ps d members r from s to)
+        → (r from s to : ℕ) → (one_calling members ≡ false → v r ≡ u s) → Sames (turn_items P ps d members r from s to)
+        → Calls (turn_calls P ps d members r from s to)
         → Says (turn_items P ps d members r from s to)
     turn_says no_calleds a t r from s to asked its cs = tt
     turn_says (and_called x no_calleds) a t r from s to asked its cs = says_same x a.0 t.0 r from s to asked its cs
     turn_says (and_called x (and_called y more)) a t r from s to asked its cs =
-        let q = element_items P ps d (is_calling x) (one_calling (and_called y more)) r (called_answer ps P x (from + 3)) from s (answer_of P (inlined ps x) (to + 3)) to in
+        let q = element_items P ps d (is_calling x) (one_calling (and_called y more)) r (called_answer ps P x (from + 3)) from s
+        (answer_of P (inlined ps x) (to + 3)) to in
         let first = items P ps d x from (from + 3) to (to + 3) in
         let later = turn_items P ps d (and_called y more) (from + 2) (from + 3 + called_size ps P x) (to + 2) (to + 3 + size_of P (inlined ps x)) in
         let mine = calls P ps d x from (from + 3) to (to + 3) in
@@ -379,7 +402,8 @@ module _ (P : TypedProgram) (ps : List Process) (d : ℕ → ℕ) (some : (y : �
         let inside = each_left (Same v u) first later parts in
         let my_calls = each_left (CallSame P ps d v u) mine others cs in
         each_append (SaysSame v u) q (first ++ later)
-        (element_says (is_calling x) (one_calling (and_called y more)) r (called_answer ps P x (from + 3)) from s (answer_of P (inlined ps x) (to + 3)) to (asked refl)
+        (element_says (is_calling x) (one_calling (and_called y more)) r (called_answer ps P x (from + 3)) from s (answer_of P (inlined ps x) (to + 3)) to
+        (asked refl)
         (answer_same x a.0 t.0 from (from + 3) to (to + 3) element.0 inside my_calls) (element.1.0 refl))
         (each_append (SaysSame v u) first later (says_same x a.0 t.0 from (from + 3) to (to + 3) element.0 inside my_calls)
         (turn_says (and_called y more) a.1 t.1 (from + 2) (from + 3 + called_size ps P x) (to + 2) (to + 3 + size_of P (inlined ps x)) element.1.1.0
@@ -417,7 +441,8 @@ module _ (P : TypedProgram) (ps : List Process) (d : ℕ → ℕ) (some : (y : �
         let mine = calls P ps d x start from s to in
         let others = body_calls P ps d more (start + 1) (from + called_size ps P x) (s + 1) (to + size_of P (inlined ps x)) in
         each_append (SaysSame v u) first later
-        (says_same x a.0 t.1 start from s to (this_start more g x start s (choice_count (inlined_choices ps more)) starts) (each_left (Same v u) first later its)
+        (says_same x a.0 t.1 start from s to (this_start more g x start s (choice_count (inlined_choices ps more)) starts)
+        (each_left (Same v u) first later its)
         (each_left (CallSame P ps d v u) mine others cs))
         (bodies_say more a.1 t.2 (start + 1) (from + called_size ps P x) (s + 1) (to + size_of P (inlined ps x))
         (next_start more g x start s (choice_count (inlined_choices ps more)) starts) (each_right (Same v u) first later its)

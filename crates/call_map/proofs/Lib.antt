@@ -1,28 +1,38 @@
-pub mod Mapped
-pub mod Along
-pub mod Carried
-pub mod AtomsAlike
-pub mod Items
-pub mod ItemsAlike
-pub mod PlacedAlike
-pub mod Picks
-pub mod PickSites
-pub mod CallNodes
-pub mod Requests
-pub mod Merged
-pub mod CallNet
-pub mod Ranks
-pub mod CallOrder
-pub mod CallParts
-pub mod CallListed
-pub mod CallPlaces
-pub mod CallShared
-pub mod CallFirsts
-pub mod CallCarries
-pub mod CallTurns
-pub mod SharedBodies
-pub mod CallFilled
-pub mod CallLiterals
-pub mod CallHolds
-pub mod CallReset
-pub mod CallExamples
+mod Truths
+mod MapNodes
+mod MapStates
+mod MapGuards
+mod MapEnabled
+mod MapMoved
+mod MapOwed
+mod MapWent
+mod MapStable
+mod MapRuns
+mod Along
+mod Carried
+mod AtomsAlike
+mod Items
+mod ItemsAlike
+mod PlacedAlike
+mod Picks
+mod PickSites
+mod CallNodes
+mod Requests
+mod Merged
+mod CallNet
+mod Ranks
+mod CallOrder
+mod CallParts
+mod CallListed
+mod CallPlaces
+mod CallStands
+mod CallShared
+mod CallFirsts
+mod CallCarries
+mod CallTurns
+mod SharedBodies
+mod CallFilled
+mod CallLiterals
+mod CallHolds
+mod CallReset
+mod CallExamples

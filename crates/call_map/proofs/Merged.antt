@@ -1,5 +1,10 @@
 -- A merge says the same in both nets, where of each procedure one copy has the values of the body and every other is low: it
 -- joins the nodes of a body once here, and those of each copy there.
+--
+-- P: the program with copies; ps: the bodies of the procedures; d: the answer of each body in the net with shared bodies;
+-- x, y: statements with calls; r, s: a statement's request in the net with shared bodies and in that with copies; from, to:
+-- its first node in either net; v, u: values of the nodes of the one and of the other; pick: which
+-- nodes of a statement a merge joins; c, j: calls.
 use Rattle.std.proofs.Common.{◌≡◌, ◌≢◌, ℕ, zero, suc, ◌+◌, ◌<◌, Bool, true, false, List, [], ◌∷◌, ◌++◌, map, length, get_or, inl, inr, refl, sym, ap, ◌∙◌, arith}
 use Rattle.std.specs.Prelude.{not, ◌&&◌, ◌||◌, ◌⊎◌, slice_index_or}
 use Rattle.std.specs.List.{list_all}
@@ -14,6 +19,7 @@ use Rattle.circuit_places.specs.Whole.{lows_only}
 use Rattle.net_compose.proofs.FlatRules.{or_up, or_down}
 use Rattle.call_map.specs.Calling.{Called, inlined, called_sites, OfAtoms}
 use Rattle.call_map.specs.CallNet.{body_sites, body_start}
+use Rattle.call_map.proofs.Truths.{or_left, or_right}
 use Rattle.call_map.proofs.Items.{Each, Same, CallPoint, items, calls}
 use Rattle.call_map.proofs.Picks.{any, any_map_append, never_any, IsPick, picks_placed, copy_any, picks_split}
 
@@ -21,14 +27,6 @@ both_ways : (a b : Bool) → (a ≡ true → b ≡ true) → (b ≡ true → a �
 both_ways true b f g = sym (f refl)
 both_ways false true f g = g refl
 both_ways false false f g = refl
-
-or_left : (a b : Bool) → a ≡ true → (a || b) ≡ true
-or_left true b e = refl
-or_left false b e = absurd (cc e)
-
-or_right : (a b : Bool) → b ≡ true → (a || b) ≡ true
-or_right true b e = refl
-or_right false b e = e
 
 or_either : (a b : Bool) → (a || b) ≡ true → (a ≡ true) ⊎ (b ≡ true)
 or_either true b e = inl refl
@@ -120,11 +118,14 @@ module _ (P : TypedProgram) (ps : List Process) (d : ℕ → ℕ) (base : ℕ) (
     point c = get_or points c nowhere
 
     alike_any : (c : ℕ) → c < length points → CopyAlike v u (point c) → here_any v (point c).proc ≡ copy_any P pick is v u ps d (point c)
-    alike_any c l same = ap any (picks_placed P pick is v u (body_at (point c).proc) (bodies (point c).proc (within c l)) (body_start P ps base (point c).proc) (point c).copy same)
+    alike_any c l same =
+        ap any (picks_placed P pick is v u (body_at (point c).proc) (bodies (point c).proc (within c l)) (body_start P ps base (point c).proc)
+        (point c).copy same)
 
     low_any : (c : ℕ) → c < length points → CopyLow u (point c) → copy_any P pick is v u ps d (point c) ≡ false
     low_any c l low =
-        ap any (sym (picks_placed P pick is (λ n. false) u (body_at (point c).proc) (bodies (point c).proc (within c l)) 0 (point c).copy (λ i h ne. sym (low i h))))
+        ap any (sym (picks_placed P pick is (λ n. false) u (body_at (point c).proc) (bodies (point c).proc (within c l)) 0 (point c).copy
+        (λ i h ne. sym (low i h))))
         ∙ never_any (sites_in P pick (body_at (point c).proc) 0)
 
     copies_any : any (map (copy_any P pick is v u ps d) points) ≡ any (map v (body_sites P pick ps base))

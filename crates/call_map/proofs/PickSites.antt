@@ -1,5 +1,7 @@
 -- What merges join: the rails of sends on a channel, the nodes that say that a receive has stored, the rails that write a
 -- variable. None of these is the answer of its statement.
+--
+-- P: the program with copies; f: the node of a site that a merge joins; from: the first node of a statement.
 use Rattle.std.proofs.Common.{◌≡◌, ◌≢◌, ℕ, ◌+◌, ◌*◌, ◌<◌, ◌==◌, Bool, true, false, List, [], ◌∷◌, ◌++◌, map, refl, sym, ap, ◌∙◌, subst, arith}
 use Rattle.std.specs.Prelude.{if◌then◌else◌}
 use Rattle.std.proofs.lemmas.Bool.{eqb-true}
@@ -49,7 +51,8 @@ module _ (P : TypedProgram) where
   sends k i one l = record { atoms = atoms }
     where
       atoms : (v u : ℕ → Bool) (p : Process) → IsAtom p → IsProcess P.channels P.vars p → (from to : ℕ)
-          → ((i : ℕ) → i < size_of P p → from + i ≢ answer_of P p from → v (from + i) ≡ u (to + i)) → map v (send_pick k i one p from) ≡ map u (send_pick k i one p to)
+          → ((i : ℕ) → i < size_of P p → from + i ≢ answer_of P p from → v (from + i) ≡ u (to + i))
+          → map v (send_pick k i one p from) ≡ map u (send_pick k i one p to)
       atoms v u skipping a t from to same = refl
       atoms v u (assigning x at e) a t from to same = refl
       atoms v u (receiving chan at x into) a t from to same = refl
@@ -70,7 +73,8 @@ module _ (P : TypedProgram) where
   receives k = record { atoms = atoms }
     where
       atoms : (v u : ℕ → Bool) (p : Process) → IsAtom p → IsProcess P.channels P.vars p → (from to : ℕ)
-          → ((i : ℕ) → i < size_of P p → from + i ≢ answer_of P p from → v (from + i) ≡ u (to + i)) → map v (receive_site k p from) ≡ map u (receive_site k p to)
+          → ((i : ℕ) → i < size_of P p → from + i ≢ answer_of P p from → v (from + i) ≡ u (to + i))
+          → map v (receive_site k p from) ≡ map u (receive_site k p to)
       atoms v u skipping a t from to same = refl
       atoms v u (assigning x at e) a t from to same = refl
       atoms v u (sending chan at e) a t from to same = refl
@@ -92,7 +96,8 @@ module _ (P : TypedProgram) where
           ap v (pair_place w from i one h) ∙ (same (rail_place i one) (rail_place_lt i w one h) ∙ ap u (sym (pair_place w to i one h)))
 
       assigned : (v u : ℕ → Bool) (e : Formula) (b : Bool) → IsOfWidth P.vars (var_width P.vars x) e → (from to : ℕ)
-          → ((j : ℕ) → j < (if b then through_size (var_width P.vars x) e else 1 + formula_size e) → from + j ≢ (if b then second_answer P x from (formula_size e) else from)
+          → ((j : ℕ) → j < (if b then through_size (var_width P.vars x) e else 1 + formula_size e)
+          → from + j ≢ (if b then second_answer P x from (formula_size e) else from)
           → v (from + j) ≡ u (to + j))
           → v (at_site i one (if b then read_back (through_at (var_width P.vars x) (formula_size e) from) else formula_result e (from + 1)))
           ≡ u (at_site i one (if b then read_back (through_at (var_width P.vars x) (formula_size e) to) else formula_result e (to + 1)))
@@ -108,14 +113,16 @@ module _ (P : TypedProgram) where
           ∙ ap u (let z : to + (s + j) ≡ to + block_size w + 4 + formula_size e + 1 + j = omega arith in z)))
 
       atoms : (v u : ℕ → Bool) (p : Process) → IsAtom p → IsProcess P.channels P.vars p → (from to : ℕ)
-          → ((i : ℕ) → i < size_of P p → from + i ≢ answer_of P p from → v (from + i) ≡ u (to + i)) → map v (write_pick P x i one p from) ≡ map u (write_pick P x i one p to)
+          → ((i : ℕ) → i < size_of P p → from + i ≢ answer_of P p from → v (from + i) ≡ u (to + i))
+          → map v (write_pick P x i one p from) ≡ map u (write_pick P x i one p to)
       atoms v u skipping a t from to same = refl
       atoms v u (sending chan at e) a t from to same = refl
       atoms v u (assigning y at e) a t from to same =
           map_twice_if v (at_site i one) (y == x) (assigned_rails P x e from)
           ∙ (if_same (y == x) (v (at_site i one (assigned_rails P x e from)) ∷ []) (u (at_site i one (assigned_rails P x e to)) ∷ [])
           (λ is. ap (λ b. b ∷ []) (assigned v u e (reads x e) (subst (λ z. IsOfWidth P.vars (var_width P.vars z) e) (eqb-true y x is) t.1) from to
-          (subst (λ z. (i : ℕ) → i < size_of P (assigning z at e) → from + i ≢ answer_of P (assigning z at e) from → v (from + i) ≡ u (to + i)) (eqb-true y x is) same)))
+          (subst (λ z. (i : ℕ) → i < size_of P (assigning z at e) → from + i ≢ answer_of P (assigning z at e) from → v (from + i) ≡ u (to + i))
+          (eqb-true y x is) same)))
           ∙ sym (map_twice_if u (at_site i one) (y == x) (assigned_rails P x e to)))
       atoms v u (receiving chan at y into) a t from to same =
           map_twice_if v (at_site i one) (y == x) (pairs_from (channel_width P.channels chan) (from + 2))

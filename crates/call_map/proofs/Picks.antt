@@ -1,4 +1,8 @@
 -- The nodes that a merge joins: those of a body count once in the net with shared bodies, and once for each copy in the other.
+--
+-- P: the program with copies; pick: which nodes of a statement a merge joins; v, u: values of the nodes of the net with shared
+-- bodies and of that with copies; ps: the bodies of the procedures; d: the answer of each body; x: a statement with calls;
+-- r, s: its request in either net; from, to: its first node.
 use Rattle.std.proofs.Common.{◌≡◌, ◌≢◌, ℕ, ◌+◌, ◌*◌, ◌<◌, ◌≤◌, Bool, true, false, List, [], ◌∷◌, ◌++◌, map, refl, sym, ap, ◌∙◌, arith}
 use Rattle.std.specs.Prelude.{◌||◌, if◌then◌else◌, slice_index_or}
 use Rattle.std.specs.List.{list_any}
@@ -15,6 +19,7 @@ use Rattle.call_map.specs.Calling.{Called, calling, atom, turned, abreast, chose
 use Rattle.call_map.proofs.Items.{Each, each_left, each_right, paired, Same, paired_same, untagged, CallPoint, is_calling, one_calling, front_tag, element_items, select_here, select_there, again_here, again_there, items, turn_items, branch_items, body_items, calls, turn_calls, branch_calls, body_calls}
 use Rattle.cell_parallel.specs.Trees.{tree_rules}
 use Rattle.call_map.specs.Calling.{called_branches_size, called_ends, IsAtom, OfAtoms, EachOfAtoms, BranchesOfAtoms}
+use Rattle.call_map.proofs.Truths.{or_false}
 use Rattle.net_compose.specs.Translation.{branch_ends, branches_end}
 
 abbrev pub any : List Bool → Bool
@@ -31,14 +36,6 @@ any_map_append f (x ∷ xs) ys = ap (λ z. f x || z) (any_map_append f xs ys) �
 map_both : {A B : Type 0} (f : A → B) (xs ys : List A) → map f (xs ++ ys) ≡ map f xs ++ map f ys
 map_both f [] ys = refl
 map_both f (x ∷ xs) ys = ap (λ l. f x ∷ l) (map_both f xs ys)
-
-or_false : (b : Bool) → (b || false) ≡ b
-or_false true = refl
-or_false false = refl
-
-or_true : (b : Bool) → (b || true) ≡ true
-or_true true = refl
-or_true false = refl
 
 regroup : (a b c e : Bool) → ((a || b) || (c || e)) ≡ ((a || c) || (b || e))
 regroup true b c e = refl
@@ -119,7 +116,8 @@ module _ (P : TypedProgram) where
           picks_placed p t (from + 2) (to + 2) (inner from (answer_of P p (from + 2)) from to 2 (size_of P p) (2 + size_of P p) (omega arith) same
           (λ i l ne e. absurd (let g : ⊥ = omega (arith, e) in g)))
 
-      picks_turn : (ms : Processes) → AreProcesses P.channels P.vars ms → 1 ≤ member_count ms → (from to : ℕ) → Except (turn_answer P ms from) from to (turn_size P ms)
+      picks_turn : (ms : Processes) → AreProcesses P.channels P.vars ms → 1 ≤ member_count ms → (from to : ℕ)
+          → Except (turn_answer P ms from) from to (turn_size P ms)
           → map v (sites_in_turn P pick ms from) ≡ map u (sites_in_turn P pick ms to)
       picks_turn no_members t one from to same = refl
       picks_turn (and_member p no_members) t one from to same = picks_placed p t.0 from to same
@@ -131,7 +129,9 @@ module _ (P : TypedProgram) where
           let f : to + 3 + k ≡ to + (3 + k) = omega arith in
           let range = turn_range rest t.1 (omega arith) (from + 3 + k) in
           let least = range.0 in
-          let mine = picks_placed p t.0 (from + 3) (to + 3) (inner (turn_answer P rest (from + 3 + k)) (answer_of P p (from + 3)) from to 3 k (3 + k + n) (omega arith) same
+          let mine =
+          picks_placed p t.0 (from + 3) (to + 3)
+          (inner (turn_answer P rest (from + 3 + k)) (answer_of P p (from + 3)) from to 3 k (3 + k + n) (omega arith) same
           (λ i l ne z. absurd (let g : ⊥ = omega (arith, z, l, least) in g))) in
           let later = picks_turn (and_member q more) t.1 (omega arith) (from + (3 + k)) (to + (3 + k))
           (inner (turn_answer P rest (from + 3 + k)) (turn_answer P rest (from + (3 + k))) from to (3 + k) n (3 + k + n) (omega arith) same
@@ -154,7 +154,8 @@ module _ (P : TypedProgram) where
           ∙ (same (3 + k + i) (omega (arith, l)) ∙ ap u (let z : to + (3 + k + i) ≡ to + 3 + k + i = omega arith in z))) in
           map_both v (sites_in P pick p (from + 3)) (sites_in_branches P pick more (from + 3 + k))
           ∙ (ap (λ l. l ++ map v (sites_in_branches P pick more (from + 3 + k))) mine
-          ∙ (ap (λ l. map u (sites_in P pick p (to + 3)) ++ l) later ∙ sym (map_both u (sites_in P pick p (to + 3)) (sites_in_branches P pick more (to + 3 + k)))))
+          ∙ (ap (λ l. map u (sites_in P pick p (to + 3)) ++ l) later
+          ∙ sym (map_both u (sites_in P pick p (to + 3)) (sites_in_branches P pick more (to + 3 + k)))))
 
       picks_bodies : (c : Choices) → AreChoices P.channels P.vars c → (from to : ℕ) → ((i : ℕ) → i < bodies_size P c → v (from + i) ≡ u (to + i))
           → map v (sites_in_bodies P pick c from) ≡ map u (sites_in_bodies P pick c to)
@@ -185,7 +186,8 @@ module _ (P : TypedProgram) where
           ∙ ap (λ z. any (map v (ns ++ bs)) || z) (sym (any_map_append copy_any cs es))))))
 
       mutual
-        pub picks_split : (x : Called) → OfAtoms x → IsProcess P.channels P.vars (inlined ps x) → (r from s to : ℕ) → Each (Same v u) (items P ps d x r from s to)
+        pub picks_split : (x : Called) → OfAtoms x → IsProcess P.channels P.vars (inlined ps x) → (r from s to : ℕ)
+            → Each (Same v u) (items P ps d x r from s to)
             → Split (sites_in P pick (inlined ps x) to) (called_sites ps P pick x from) (calls P ps d x r from s to)
         picks_split (calling q) a t r from s to its = sym (or_false (any (map u (sites_in P pick (slice_index_or ps q skipping) to))))
         picks_split (atom p) a t r from s to its =
@@ -200,14 +202,20 @@ module _ (P : TypedProgram) where
             (tree_rules (branch_ends P (inlined_each ps members) to) (branches_end P (inlined_each ps members) to))) its)
         picks_split (chosen false choices) a t r from s to its =
             let c = inlined_choices ps choices in
-            split_bodies choices a t.2 (from + select_own + choice_count c) (bodies_from c select_own from) (to + select_own + choice_count c) (bodies_from c select_own to)
-            (each_right (Same v u) (paired (front_tag choices (select_own + choice_count c)) 0 from to (select_here P ps d choices r from) (select_there P ps d choices s to))
-            (body_items P ps d choices (from + select_own + choice_count c) (bodies_from c select_own from) (to + select_own + choice_count c) (bodies_from c select_own to)) its)
+            split_bodies choices a t.2 (from + select_own + choice_count c) (bodies_from c select_own from) (to + select_own + choice_count c)
+            (bodies_from c select_own to)
+            (each_right (Same v u) (paired (front_tag choices (select_own + choice_count c)) 0 from to (select_here P ps d choices r from)
+            (select_there P ps d choices s to))
+            (body_items P ps d choices (from + select_own + choice_count c) (bodies_from c select_own from) (to + select_own + choice_count c)
+            (bodies_from c select_own to)) its)
         picks_split (chosen true choices) a t r from s to its =
             let c = inlined_choices ps choices in
-            split_bodies choices a t.2 (from + again_own + choice_count c) (bodies_from c again_own from) (to + again_own + choice_count c) (bodies_from c again_own to)
-            (each_right (Same v u) (paired (front_tag choices (again_own + choice_count c)) 0 from to (again_here P ps d choices r from) (again_there P ps d choices s to))
-            (body_items P ps d choices (from + again_own + choice_count c) (bodies_from c again_own from) (to + again_own + choice_count c) (bodies_from c again_own to)) its)
+            split_bodies choices a t.2 (from + again_own + choice_count c) (bodies_from c again_own from) (to + again_own + choice_count c)
+            (bodies_from c again_own to)
+            (each_right (Same v u) (paired (front_tag choices (again_own + choice_count c)) 0 from to (again_here P ps d choices r from)
+            (again_there P ps d choices s to))
+            (body_items P ps d choices (from + again_own + choice_count c) (bodies_from c again_own from) (to + again_own + choice_count c)
+            (bodies_from c again_own to)) its)
         picks_split (looped x) a t r from s to its = picks_split x a t (from + 1) (from + 2) (to + 1) (to + 2) its.1.1
 
         split_turn : (members : Calleds) → EachOfAtoms members → AreProcesses P.channels P.vars (inlined_each ps members) → (r from s to : ℕ)
@@ -216,19 +224,23 @@ module _ (P : TypedProgram) where
         split_turn no_calleds a t r from s to its = refl
         split_turn (and_called x no_calleds) a t r from s to its = picks_split x a.0 t.0 r from s to its
         split_turn (and_called x (and_called y more)) a t r from s to its =
-            let q = element_items P ps d (is_calling x) (one_calling (and_called y more)) r (called_answer ps P x (from + 3)) from s (answer_of P (inlined ps x) (to + 3)) to in
+            let q = element_items P ps d (is_calling x) (one_calling (and_called y more)) r (called_answer ps P x (from + 3)) from s
+            (answer_of P (inlined ps x) (to + 3)) to in
             let first = items P ps d x from (from + 3) to (to + 3) in
             let later = turn_items P ps d (and_called y more) (from + 2) (from + 3 + called_size ps P x) (to + 2) (to + 3 + size_of P (inlined ps x)) in
             let parts = each_right (Same v u) q (first ++ later) its in
             joined (sites_in P pick (inlined ps x) (to + 3)) (sites_in_turn P pick (inlined_each ps (and_called y more)) (to + 3 + size_of P (inlined ps x)))
             (called_sites ps P pick x (from + 3)) (called_turn_sites ps P pick (and_called y more) (from + 3 + called_size ps P x))
-            (calls P ps d x from (from + 3) to (to + 3)) (turn_calls P ps d (and_called y more) (from + 2) (from + 3 + called_size ps P x) (to + 2) (to + 3 + size_of P (inlined ps x)))
+            (calls P ps d x from (from + 3) to (to + 3))
+            (turn_calls P ps d (and_called y more) (from + 2) (from + 3 + called_size ps P x) (to + 2) (to + 3 + size_of P (inlined ps x)))
             (picks_split x a.0 t.0 from (from + 3) to (to + 3) (each_left (Same v u) first later parts))
-            (split_turn (and_called y more) a.1 t.1 (from + 2) (from + 3 + called_size ps P x) (to + 2) (to + 3 + size_of P (inlined ps x)) (each_right (Same v u) first later parts))
+            (split_turn (and_called y more) a.1 t.1 (from + 2) (from + 3 + called_size ps P x) (to + 2) (to + 3 + size_of P (inlined ps x))
+            (each_right (Same v u) first later parts))
 
         split_branches : (members : Calleds) → EachOfAtoms members → AreProcesses P.channels P.vars (inlined_each ps members) → (r from s to : ℕ)
             → Each (Same v u) (branch_items P ps d members r from s to)
-            → Split (sites_in_branches P pick (inlined_each ps members) to) (called_branch_sites ps P pick members from) (branch_calls P ps d members r from s to)
+            → Split (sites_in_branches P pick (inlined_each ps members) to) (called_branch_sites ps P pick members from)
+            (branch_calls P ps d members r from s to)
         split_branches no_calleds a t r from s to its = refl
         split_branches (and_called x more) a t r from s to its =
             let q = element_items P ps d (is_calling x) false r (called_answer ps P x (from + 3)) from s (answer_of P (inlined ps x) (to + 3)) to in
@@ -243,7 +255,8 @@ module _ (P : TypedProgram) where
 
         split_bodies : (choices : CalledChoices) → BranchesOfAtoms choices → AreChoices P.channels P.vars (inlined_choices ps choices) → (start from s to : ℕ)
             → Each (Same v u) (body_items P ps d choices start from s to)
-            → Split (sites_in_bodies P pick (inlined_choices ps choices) to) (called_body_sites ps P pick choices from) (body_calls P ps d choices start from s to)
+            → Split (sites_in_bodies P pick (inlined_choices ps choices) to) (called_body_sites ps P pick choices from)
+            (body_calls P ps d choices start from s to)
         split_bodies no_called a t start from s to its = refl
         split_bodies (or_called g x more) a t start from s to its =
             let first = items P ps d x start from s to in

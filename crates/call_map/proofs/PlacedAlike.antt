@@ -1,5 +1,8 @@
 -- A statement whose nodes stand in one net from one number on and in another from another, as the body of a procedure and a
 -- copy of it: where its nodes have the same values in both, its rules say the same.
+--
+-- P: the program with copies; v, u: values of the nodes of the one net and of the other; r, s: the request of a statement in
+-- either; from, to: its first node; c: the choices of a selection; o: how many nodes it has of its own.
 use Rattle.std.proofs.Common.{◌≡◌, ℕ, suc, ◌+◌, ◌*◌, ◌-◌, ◌<◌, ◌≤◌, Bool, true, false, [], ◌++◌, length, refl, sym, ap, ◌∙◌, subst, arith}
 use Rattle.width_check.specs.Processes.{Process, skipping, assigning, sending, receiving, in_turn, side_by_side, choosing, repeating, Processes, no_members, and_member, member_count, Choices, no_choices, and_choice, choice_count, TypedProgram}
 use Rattle.width_check.specs.Typing.{var_width, IsProcess, AreProcesses, AreChoices}
@@ -49,7 +52,8 @@ module _ (P : TypedProgram) (some : (y : ℕ) → y < length P.vars → 1 ≤ va
         ∙ (same (o + 2 * choice_count c + guards_size c + i) (omega (arith, l))
         ∙ ap u (let z : to + (o + 2 * choice_count c + guards_size c + i) ≡ bodies_from c o to + i = omega arith in z))
 
-    placed_choosing : (r s any other : ℕ) → v r ≡ u s → v any ≡ u other → Alike v u (branch_answers P c (bodies_from c o from)) (branch_answers P c (bodies_from c o to))
+    placed_choosing : (r s any other : ℕ) → v r ≡ u s → v any ≡ u other
+        → Alike v u (branch_answers P c (bodies_from c o from)) (branch_answers P c (bodies_from c o to))
         → SameChoosing v u (choosing_at P c r any o from) (choosing_at P c s other o to)
     placed_choosing r s any other asked high answers = record {
       request = asked;
@@ -109,7 +113,8 @@ module _ (P : TypedProgram) (some : (y : ℕ) → y < length P.vars → 1 ≤ va
   placed_ends no_members from to same = tt
   placed_ends (and_member p more) from to same =
       let k = size_of P p in
-      let z = placed_ends more (from + (3 + k)) (to + (3 + k)) (behind from to (3 + k) (branches_size P more) (3 + k + branches_size P more) (omega arith) same) in
+      let z = placed_ends more (from + (3 + k)) (to + (3 + k))
+      (behind from to (3 + k) (branches_size P more) (3 + k + branches_size P more) (omega arith) same) in
       let e : from + 3 + k ≡ from + (3 + k) = omega arith in
       let f : to + 3 + k ≡ to + (3 + k) = omega arith in (
         same 2 (omega arith),
@@ -146,13 +151,16 @@ module _ (P : TypedProgram) (some : (y : ℕ) → y < length P.vars → 1 ≤ va
         (guards_rules P c (to + 1) (guards_from c select_own to) ++ bodies_rules P c (to + select_own + choice_count c) (bodies_from c select_own to))
         (selects_alike v u (choosing_at P c r (from + 2) select_own from) (choosing_at P c s (to + 2) select_own to)
         (placed_choosing c t.2 select_own from to more same r s (from + 2) (to + 2) asked (same 2 (omega arith))
-        (placed_body_answers c t.2 (from + select_own + choice_count c) (bodies_from c select_own from) (to + select_own + choice_count c) (bodies_from c select_own to)
+        (placed_body_answers c t.2 (from + select_own + choice_count c) (bodies_from c select_own from) (to + select_own + choice_count c)
+        (bodies_from c select_own to)
         starts_at inner)))
         (rules_append v u (guards_rules P c (from + 1) (guards_from c select_own from)) (guards_rules P c (to + 1) (guards_from c select_own to))
-        (bodies_rules P c (from + select_own + choice_count c) (bodies_from c select_own from)) (bodies_rules P c (to + select_own + choice_count c) (bodies_from c select_own to))
+        (bodies_rules P c (from + select_own + choice_count c) (bodies_from c select_own from))
+        (bodies_rules P c (to + select_own + choice_count c) (bodies_from c select_own to))
         (guards_alike P [] (λ q. q) some v u low c t.2 (from + 1) (to + 1) (guards_from c select_own from) (guards_from c select_own to) (same 1 (omega arith))
         (in_guards c t.2 select_own from to more same))
-        (placed_bodies c t.2 (from + select_own + choice_count c) (bodies_from c select_own from) (to + select_own + choice_count c) (bodies_from c select_own to)
+        (placed_bodies c t.2 (from + select_own + choice_count c) (bodies_from c select_own from) (to + select_own + choice_count c)
+        (bodies_from c select_own to)
         starts_at inner))
     placed_alike (choosing true c) t r from s to asked same =
         let more = bodies_size P c in
@@ -163,10 +171,12 @@ module _ (P : TypedProgram) (some : (y : ℕ) → y < length P.vars → 1 ≤ va
         (guards_rules P c (to + 3) (guards_from c again_own to) ++ bodies_rules P c (to + again_own + choice_count c) (bodies_from c again_own to))
         (agains_alike v u (repeating_at P c r from) (repeating_at P c s to) asked (same 2 (omega arith)) (same 5 (omega arith))
         (placed_choosing c t.2 again_own from to more same (from + 1) (to + 1) (from + 4) (to + 4) (same 1 (omega arith)) (same 4 (omega arith))
-        (placed_body_answers c t.2 (from + again_own + choice_count c) (bodies_from c again_own from) (to + again_own + choice_count c) (bodies_from c again_own to)
+        (placed_body_answers c t.2 (from + again_own + choice_count c) (bodies_from c again_own from) (to + again_own + choice_count c)
+        (bodies_from c again_own to)
         starts_at inner)))
         (rules_append v u (guards_rules P c (from + 3) (guards_from c again_own from)) (guards_rules P c (to + 3) (guards_from c again_own to))
-        (bodies_rules P c (from + again_own + choice_count c) (bodies_from c again_own from)) (bodies_rules P c (to + again_own + choice_count c) (bodies_from c again_own to))
+        (bodies_rules P c (from + again_own + choice_count c) (bodies_from c again_own from))
+        (bodies_rules P c (to + again_own + choice_count c) (bodies_from c again_own to))
         (guards_alike P [] (λ q. q) some v u low c t.2 (from + 3) (to + 3) (guards_from c again_own from) (guards_from c again_own to) (same 3 (omega arith))
         (in_guards c t.2 again_own from to more same))
         (placed_bodies c t.2 (from + again_own + choice_count c) (bodies_from c again_own from) (to + again_own + choice_count c) (bodies_from c again_own to)
@@ -221,7 +231,8 @@ module _ (P : TypedProgram) (some : (y : ℕ) → y < length P.vars → 1 ≤ va
         (rules_of P p from (from + 3) ++ branches_rules P more r (from + 3 + k)) (rules_of P p to (to + 3) ++ branches_rules P more s (to + 3 + k))
         (elements_alike v u r (answer_of P p (from + 3)) from s (answer_of P p (to + 3)) to asked (placed_answer p t.0 from (from + 3) to (to + 3) child inner)
         (same 1 (omega arith)))
-        (rules_append v u (rules_of P p from (from + 3)) (rules_of P p to (to + 3)) (branches_rules P more r (from + 3 + k)) (branches_rules P more s (to + 3 + k))
+        (rules_append v u (rules_of P p from (from + 3)) (rules_of P p to (to + 3)) (branches_rules P more r (from + 3 + k))
+        (branches_rules P more s (to + 3 + k))
         (placed_alike p t.0 from (from + 3) to (to + 3) child inner)
         (subst (λ j. RulesAlike v u (branches_rules P more r j) (branches_rules P more s (to + 3 + k))) (sym e)
         (subst (λ j. RulesAlike v u (branches_rules P more r (from + (3 + k))) (branches_rules P more s j)) (sym f)

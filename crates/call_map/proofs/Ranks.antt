@@ -1,5 +1,8 @@
--- Places in lists: the marked members of a list by their rank, blocks of several sizes behind one another, and a list whose
+-- Places in lists: the marked members of a list by their rank, blocks of several sizes one after another, and a list whose
 -- members are exchanged.
+--
+-- xs: a list of nodes of both nets, of which some are marked as requests of calls; k: a place in it; i: a rank; ns: the sizes
+-- of blocks; p, q: which block; a, b: places in a block.
 use Rattle.std.proofs.Common.{◌≡◌, ℕ, zero, suc, ◌+◌, ◌-◌, ◌<◌, ◌≤◌, Bool, true, false, List, [], ◌∷◌, map, length, get_or, set, refl, sym, ap, ◌∙◌, arith, ⊎_elim}
 use Rattle.std.specs.Prelude.{if◌then◌else◌, ◌⊎◌}
 use Rattle.std.specs.List.{swap}
@@ -40,7 +43,8 @@ RankedBehind x xs b i = (place_next b i (asked_place xs) < length (x ∷ xs)) ×
     ≡ get_or (if b then twin x.here.node x.there.node ∷ asked_in xs else asked_in xs) i (twin 0 0))
     × (asked_rank (x ∷ xs) (place_next b i (asked_place xs)) ≡ i)
 
-ranked_first : (x : Item) (xs : List Item) (b : Bool) → x.asked ≡ b → (i : ℕ) → i < length (if b then twin x.here.node x.there.node ∷ asked_in xs else asked_in xs)
+ranked_first : (x : Item) (xs : List Item) (b : Bool) → x.asked ≡ b → (i : ℕ)
+    → i < length (if b then twin x.here.node x.there.node ∷ asked_in xs else asked_in xs)
     → ((j : ℕ) → j < length (asked_in xs) → Ranked xs j) → RankedBehind x xs b i
 ranked_first x xs true e zero l later = (omega arith, e, refl, refl)
 ranked_first x xs true e (suc i) l later =
@@ -60,7 +64,8 @@ ranked (x ∷ xs) i l =
 
 rank_first : (x : Item) (xs : List Item) (b : Bool) → x.asked ≡ b → (k : ℕ) → k < length (x ∷ xs) → (get_or (x ∷ xs) k no_item).asked ≡ true
     → ((j : ℕ) → j < length xs → (get_or xs j no_item).asked ≡ true → (asked_rank xs j < length (asked_in xs)) × (asked_place xs (asked_rank xs j) ≡ j))
-    → (asked_rank (x ∷ xs) k < length (if b then twin x.here.node x.there.node ∷ asked_in xs else asked_in xs)) × (place_next b (asked_rank (x ∷ xs) k) (asked_place xs) ≡ k)
+    → (asked_rank (x ∷ xs) k < length (if b then twin x.here.node x.there.node ∷ asked_in xs else asked_in xs))
+    × (place_next b (asked_rank (x ∷ xs) k) (asked_place xs) ≡ k)
 rank_first x xs true e zero l on later = (omega arith, refl)
 rank_first x xs false e zero l on later = absurd (cc (e, on))
 rank_first x xs true e (suc k) l on later =
@@ -79,7 +84,7 @@ pub rank_place : (xs : List Item) (k : ℕ) → k < length xs → (get_or xs k n
 rank_place [] k l on = absurd (omega (arith, l))
 rank_place (x ∷ xs) k l on = rank_first x xs x.asked refl k l on (rank_place xs)
 
--- blocks behind one another: where a block begins, and the block and the place in it of a number
+-- blocks one after another: where a block begins, and the block and the place in it of a number
 abbrev pub total : List ℕ → ℕ
 total [] = 0
 total (n ∷ ns) = n + total ns
@@ -109,12 +114,6 @@ located (n ∷ ns) i l = by (cases_lt i n) (λ h. located ns (i - n) h)
         let e = z.is in
         let r : In (n ∷ ns) i = record { block = suc z.block; place = z.place; within = omega (arith, w); inside = z.inside; is = omega (arith, e, h) } in
         r) h
-
-pub before_next : (ns : List ℕ) (p q : ℕ) → p < q → q < length ns → begins ns p + get_or ns p 0 ≤ begins ns q
-before_next [] p q h l = absurd (omega (arith, l))
-before_next (n ∷ ns) p zero h l = absurd (omega (arith, h))
-before_next (n ∷ ns) zero (suc q) h l = omega arith
-before_next (n ∷ ns) (suc p) (suc q) h l = let e = before_next ns p q (omega (arith, h)) (omega (arith, l)) in omega (arith, e)
 
 pub within_total : (ns : List ℕ) (q : ℕ) → q < length ns → begins ns q + get_or ns q 0 ≤ total ns
 within_total [] q l = absurd (omega (arith, l))

@@ -1,4 +1,8 @@
 -- The requests of calls are those of the nodes in both nets that are marked so, each once.
+--
+-- P: the program with copies; ps: the bodies of the procedures; d: the answer of each body in the net with shared bodies;
+-- x, y: statements with calls; r, s: a statement's request in the net with shared bodies and in that with copies; from, to:
+-- its first node in either net.
 use Rattle.std.proofs.Common.{◌≡◌, ℕ, zero, suc, ◌+◌, ◌*◌, ◌-◌, ◌<◌, ◌≤◌, Bool, true, false, List, [], ◌∷◌, ◌++◌, map, length, refl, sym, ap, ◌∙◌, subst, arith, append-nil}
 use Rattle.std.specs.Prelude.{if◌then◌else◌, nat_lt}
 use Rattle.std.specs.List.Sorted.{IsPermutation}
@@ -43,7 +47,8 @@ asked_append : (xs ys : List Item) → asked_in (xs ++ ys) ≡ asked_in xs ++ as
 asked_append [] ys = refl
 asked_append (x ∷ xs) ys = by x.asked (asked_append xs ys)
   where
-    by : (b : Bool) → asked_in (xs ++ ys) ≡ asked_in xs ++ asked_in ys → (if b then twin x.here.node x.there.node ∷ asked_in (xs ++ ys) else asked_in (xs ++ ys))
+    by : (b : Bool) → asked_in (xs ++ ys) ≡ asked_in xs ++ asked_in ys
+        → (if b then twin x.here.node x.there.node ∷ asked_in (xs ++ ys) else asked_in (xs ++ ys))
         ≡ (if b then twin x.here.node x.there.node ∷ asked_in xs else asked_in xs) ++ asked_in ys
     by true e = ap (λ l. twin x.here.node x.there.node ∷ l) e
     by false e = e
@@ -53,10 +58,12 @@ abbrev marked : (ℕ → Bool) → (i n m count : ℕ) → List Twin
 marked tag i n m zero = []
 marked tag i n m (suc count) = if tag i then twin n m ∷ marked tag (suc i) (suc n) (suc m) count else marked tag (suc i) (suc n) (suc m) count
 
-asked_paired : (tag : ℕ → Bool) (i from to : ℕ) (rs ss : List NodeRules) → length rs ≡ length ss → asked_in (paired tag i from to rs ss) ≡ marked tag i from to (length rs)
+asked_paired : (tag : ℕ → Bool) (i from to : ℕ) (rs ss : List NodeRules) → length rs ≡ length ss
+    → asked_in (paired tag i from to rs ss) ≡ marked tag i from to (length rs)
 asked_paired tag i from to [] ss e = refl
 asked_paired tag i from to (r ∷ rs) [] e = absurd (omega (arith, e))
-asked_paired tag i from to (r ∷ rs) (s ∷ ss) e = ap (λ l. if tag i then twin from to ∷ l else l) (asked_paired tag (suc i) (suc from) (suc to) rs ss (omega (arith, e)))
+asked_paired tag i from to (r ∷ rs) (s ∷ ss) e =
+    ap (λ l. if tag i then twin from to ∷ l else l) (asked_paired tag (suc i) (suc from) (suc to) rs ss (omega (arith, e)))
 
 none_marked : (tag : ℕ → Bool) (i n m count : ℕ) → ((k : ℕ) → k < count → tag (i + k) ≡ false) → marked tag i n m count ≡ []
 none_marked tag i n m zero h = refl
@@ -65,13 +72,15 @@ none_marked tag i n m (suc count) h =
     (ap tag (let e : i ≡ i + 0 = omega arith in e) ∙ h 0 (omega arith))
     ∙ none_marked tag (suc i) (suc n) (suc m) count (λ k l. ap tag (let e : suc i + k ≡ i + suc k = omega arith in e) ∙ h (suc k) (omega (arith, l)))
 
-marked_skip : (tag : ℕ → Bool) (skip i n m count : ℕ) → ((k : ℕ) → k < skip → tag (i + k) ≡ false) → marked tag i n m (skip + count) ≡ marked tag (i + skip) (n + skip) (m + skip) count
+marked_skip : (tag : ℕ → Bool) (skip i n m count : ℕ) → ((k : ℕ) → k < skip → tag (i + k) ≡ false)
+    → marked tag i n m (skip + count) ≡ marked tag (i + skip) (n + skip) (m + skip) count
 marked_skip tag zero i n m count h =
     let a : i ≡ i + 0 = omega arith in
     let b : n ≡ n + 0 = omega arith in
     let c : m ≡ m + 0 = omega arith in
     let e : 0 + count ≡ count = omega arith in
-    ap (λ k. marked tag i n m k) e ∙ (ap (λ k. marked tag k n m count) a ∙ (ap (λ k. marked tag (i + 0) k m count) b ∙ ap (λ k. marked tag (i + 0) (n + 0) k count) c))
+    ap (λ k. marked tag i n m k) e
+    ∙ (ap (λ k. marked tag k n m count) a ∙ (ap (λ k. marked tag (i + 0) k m count) b ∙ ap (λ k. marked tag (i + 0) (n + 0) k count) c))
 marked_skip tag (suc skip) i n m count h =
     let a : suc i + skip ≡ i + suc skip = omega arith in
     let b : suc n + skip ≡ n + suc skip = omega arith in
@@ -96,10 +105,12 @@ starts_marked (or_called g x more) tag i n m zero h ps l = absurd (omega (arith,
 starts_marked (or_called g x more) tag i n m (suc count) h ps l =
     let a : suc n ≡ n + 1 = omega arith in
     let b : suc m ≡ m + 1 = omega arith in
-    let rest = starts_marked more tag (suc i) (suc n) (suc m) count (λ k. ap tag (let e : suc i + k ≡ i + suc k = omega arith in e) ∙ h (suc k)) ps (omega (arith, l)) in
+    let rest =
+    starts_marked more tag (suc i) (suc n) (suc m) count (λ k. ap tag (let e : suc i + k ≡ i + suc k = omega arith in e) ∙ h (suc k)) ps (omega (arith, l)) in
     let moved = ap (λ k. start_twins more k (suc m)) a ∙ ap (λ k. start_twins more (n + 1) k) b in
     ap (λ l. if tag i then twin n m ∷ l else l) (rest ∙ moved)
-    ∙ (ap (λ b. if b then twin n m ∷ start_twins more (n + 1) (m + 1) else start_twins more (n + 1) (m + 1)) (ap tag (let e : i ≡ i + 0 = omega arith in e) ∙ h 0)
+    ∙ (ap (λ b. if b then twin n m ∷ start_twins more (n + 1) (m + 1) else start_twins more (n + 1) (m + 1))
+    (ap tag (let e : i ≡ i + 0 = omega arith in e) ∙ h 0)
     ∙ by (is_calling x) (start_twins more (n + 1) (m + 1)))
   where
     by : (b : Bool) (l : List Twin) → (if b then twin n m ∷ l else l) ≡ mine b n m ++ l
@@ -107,7 +118,8 @@ starts_marked (or_called g x more) tag i n m (suc count) h ps l =
     by false l = refl
 
 module _ (P : TypedProgram) (ps : List Process) (d : ℕ → ℕ) where
-  front_asked : (c : CalledChoices) (o from to : ℕ) (fh ft : List NodeRules) → length fh ≡ o + 2 * choice_count (inlined_choices ps c) + guards_size (inlined_choices ps c)
+  front_asked : (c : CalledChoices) (o from to : ℕ) (fh ft : List NodeRules)
+      → length fh ≡ o + 2 * choice_count (inlined_choices ps c) + guards_size (inlined_choices ps c)
       → length fh ≡ length ft → asked_in (paired (front_tag c (o + choice_count (inlined_choices ps c))) 0 from to fh ft)
       ≡ start_twins c (from + (o + choice_count (inlined_choices ps c))) (to + (o + choice_count (inlined_choices ps c)))
   front_asked c o from to fh ft long e =
@@ -127,7 +139,7 @@ module _ (P : TypedProgram) (ps : List Process) (d : ℕ → ℕ) where
   abbrev Gives : List Twin → List Item → List CallPoint → Type 0
   Gives own xs cs = IsPermutation (own ++ asked_in xs) (requests_of cs)
 
-  -- two parts behind a front that marks their requests
+  -- two parts after a prefix that marks their requests
   two_parts : (q xs ys : List Item) (a b : List Twin) (cs es : List CallPoint) → asked_in q ≡ a ++ b → Gives a xs cs → Gives b ys es
       → IsPermutation (asked_in (q ++ (xs ++ ys))) (requests_of (cs ++ es))
   two_parts q xs ys a b cs es eq f g =
@@ -137,7 +149,8 @@ module _ (P : TypedProgram) (ps : List Process) (d : ℕ → ℕ) where
       (subst (λ l. IsPermutation ((a ++ b) ++ (asked_in xs ++ asked_in ys)) l) (sym (map-append request_of cs es))
       (mixed [] a b (asked_in xs) (asked_in ys) (requests_of cs) (requests_of es) f g))
 
-  element_asked : (a b : Bool) (r answer from s other to : ℕ) → asked_in (element_items P ps d a b r answer from s other to) ≡ mine a from to ++ mine b (from + 2) (to + 2)
+  element_asked : (a b : Bool) (r answer from s other to : ℕ)
+      → asked_in (element_items P ps d a b r answer from s other to) ≡ mine a from to ++ mine b (from + 2) (to + 2)
   element_asked true true r answer from s other to = refl
   element_asked true false r answer from s other to = refl
   element_asked false true r answer from s other to = refl
@@ -168,8 +181,10 @@ module _ (P : TypedProgram) (ps : List Process) (d : ℕ → ℕ) where
         (tree_rules (branch_ends P (inlined_each ps ms) to) (branches_end P (inlined_each ps ms) to)) in
         let e : asked_in (branch_items P ps d ms r from s to ++ tree) ≡ asked_in (branch_items P ps d ms r from s to) =
         asked_append (branch_items P ps d ms r from s to) tree ∙ (ap (λ l. asked_in (branch_items P ps d ms r from s to) ++ l)
-        (untagged_none 0 (from + called_branches_size ps P ms) (branches_end P (inlined_each ps ms) to) (tree_rules (called_ends ps P ms from) (from + called_branches_size ps P ms))
-        (tree_rules (branch_ends P (inlined_each ps ms) to) (branches_end P (inlined_each ps ms) to))) ∙ append-nil (asked_in (branch_items P ps d ms r from s to))) in
+        (untagged_none 0 (from + called_branches_size ps P ms) (branches_end P (inlined_each ps ms) to)
+        (tree_rules (called_ends ps P ms from) (from + called_branches_size ps P ms))
+        (tree_rules (branch_ends P (inlined_each ps ms) to) (branches_end P (inlined_each ps ms) to)))
+        ∙ append-nil (asked_in (branch_items P ps d ms r from s to))) in
         subst (λ l. IsPermutation l (requests_of (branch_calls P ps d ms r from s to))) (sym e) (requests_branches ms t.1 r from s to)
       where
         untagged_none : (i from to : ℕ) (rs ss : List NodeRules) → asked_in (paired untagged i from to rs ss) ≡ []
@@ -181,21 +196,31 @@ module _ (P : TypedProgram) (ps : List Process) (d : ℕ → ℕ) where
         let a : from + (select_own + n) ≡ from + select_own + n = omega arith in
         let b : to + (select_own + n) ≡ to + select_own + n = omega arith in
         let front = paired (front_tag c (select_own + n)) 0 from to (select_here P ps d c r from) (select_there P ps d c s to) in
-        let bodies = body_items P ps d c (from + select_own + n) (bodies_from (inlined_choices ps c) select_own from) (to + select_own + n) (bodies_from (inlined_choices ps c) select_own to) in
+        let bodies =
+        body_items P ps d c (from + select_own + n) (bodies_from (inlined_choices ps c) select_own from) (to + select_own + n)
+        (bodies_from (inlined_choices ps c) select_own to) in
         let marks = front_asked c select_own from to (select_here P ps d c r from) (select_there P ps d c s to) (select_long P ps d c t.2 r from)
-        (select_long P ps d c t.2 r from ∙ sym (select_long_there P ps d c t.2 s to)) ∙ (ap (λ k. start_twins c k (to + (select_own + n))) a ∙ ap (λ k. start_twins c (from + select_own + n) k) b) in
-        subst (λ l. IsPermutation l (requests_of (calls P ps d (chosen false c) r from s to))) (sym (asked_append front bodies ∙ ap (λ l. l ++ asked_in bodies) marks))
-        (requests_bodies c t.2 (from + select_own + n) (bodies_from (inlined_choices ps c) select_own from) (to + select_own + n) (bodies_from (inlined_choices ps c) select_own to))
+        (select_long P ps d c t.2 r from ∙ sym (select_long_there P ps d c t.2 s to))
+        ∙ (ap (λ k. start_twins c k (to + (select_own + n))) a ∙ ap (λ k. start_twins c (from + select_own + n) k) b) in
+        subst (λ l. IsPermutation l (requests_of (calls P ps d (chosen false c) r from s to)))
+        (sym (asked_append front bodies ∙ ap (λ l. l ++ asked_in bodies) marks))
+        (requests_bodies c t.2 (from + select_own + n) (bodies_from (inlined_choices ps c) select_own from) (to + select_own + n)
+        (bodies_from (inlined_choices ps c) select_own to))
     requests_all (chosen true c) t r from s to =
         let n = choice_count (inlined_choices ps c) in
         let a : from + (again_own + n) ≡ from + again_own + n = omega arith in
         let b : to + (again_own + n) ≡ to + again_own + n = omega arith in
         let front = paired (front_tag c (again_own + n)) 0 from to (again_here P ps d c r from) (again_there P ps d c s to) in
-        let bodies = body_items P ps d c (from + again_own + n) (bodies_from (inlined_choices ps c) again_own from) (to + again_own + n) (bodies_from (inlined_choices ps c) again_own to) in
+        let bodies =
+        body_items P ps d c (from + again_own + n) (bodies_from (inlined_choices ps c) again_own from) (to + again_own + n)
+        (bodies_from (inlined_choices ps c) again_own to) in
         let marks = front_asked c again_own from to (again_here P ps d c r from) (again_there P ps d c s to) (again_long P ps d c t.2 r from)
-        (again_long P ps d c t.2 r from ∙ sym (again_long_there P ps d c t.2 s to)) ∙ (ap (λ k. start_twins c k (to + (again_own + n))) a ∙ ap (λ k. start_twins c (from + again_own + n) k) b) in
-        subst (λ l. IsPermutation l (requests_of (calls P ps d (chosen true c) r from s to))) (sym (asked_append front bodies ∙ ap (λ l. l ++ asked_in bodies) marks))
-        (requests_bodies c t.2 (from + again_own + n) (bodies_from (inlined_choices ps c) again_own from) (to + again_own + n) (bodies_from (inlined_choices ps c) again_own to))
+        (again_long P ps d c t.2 r from ∙ sym (again_long_there P ps d c t.2 s to))
+        ∙ (ap (λ k. start_twins c k (to + (again_own + n))) a ∙ ap (λ k. start_twins c (from + again_own + n) k) b) in
+        subst (λ l. IsPermutation l (requests_of (calls P ps d (chosen true c) r from s to)))
+        (sym (asked_append front bodies ∙ ap (λ l. l ++ asked_in bodies) marks))
+        (requests_bodies c t.2 (from + again_own + n) (bodies_from (inlined_choices ps c) again_own from) (to + again_own + n)
+        (bodies_from (inlined_choices ps c) again_own to))
     requests_all (looped x) t r from s to = subst (λ l. IsPermutation l (requests_of (calls P ps d x (from + 1) (from + 2) (to + 1) (to + 2))))
         (by (is_calling x) (asked_in (items P ps d x (from + 1) (from + 2) (to + 1) (to + 2)))) (requests_all x t (from + 1) (from + 2) (to + 1) (to + 2))
       where
@@ -210,7 +235,8 @@ module _ (P : TypedProgram) (ps : List Process) (d : ℕ → ℕ) where
     requests_turn (and_called x (and_called y more)) t r from s to =
         let k = called_size ps P x in
         let j = size_of P (inlined ps x) in
-        two_parts (element_items P ps d (is_calling x) (one_calling (and_called y more)) r (called_answer ps P x (from + 3)) from s (answer_of P (inlined ps x) (to + 3)) to)
+        two_parts (element_items P ps d (is_calling x) (one_calling (and_called y more)) r (called_answer ps P x (from + 3)) from s
+        (answer_of P (inlined ps x) (to + 3)) to)
         (items P ps d x from (from + 3) to (to + 3)) (turn_items P ps d (and_called y more) (from + 2) (from + 3 + k) (to + 2) (to + 3 + j))
         (mine (is_calling x) from to) (mine (one_calling (and_called y more)) (from + 2) (to + 2)) (calls P ps d x from (from + 3) to (to + 3))
         (turn_calls P ps d (and_called y more) (from + 2) (from + 3 + k) (to + 2) (to + 3 + j))

@@ -25,6 +25,7 @@ module _ (steps_taken : (c d : Configuration) (at : Place) → step_at c at ≡ 
       let facts = call_facts C is t in
       let net = translation P in
       call_net_carries steps_taken hold C facts is.unread names t.sharing
-      (λ script fits ns run. points_kept C facts is.unread is.apart script (after net (begin_at net net.first) ns) (length_after net (begin_at net net.first) ns)
+      (λ script fits ns run. points_kept C facts is.unread is.apart script (after net (begin_at net net.first) ns)
+      (length_after net (begin_at net net.first) ns)
       (turning P t script fits ns run))
       (carries P t)

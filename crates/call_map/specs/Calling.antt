@@ -1,5 +1,5 @@
--- Programs with calls, beside what they are with a copy of the body in place of each call; and how the nodes of the net are
--- numbered in which all calls of a procedure share one body.
+-- Programs with calls, beside what they are with a copy of the body in place of each call; and how the nodes of the net
+-- are numbered in which all calls of a procedure share one body.
 use Rattle.std.specs.Prelude.{ℕ, ◌+◌, ◌-◌, ◌*◌, ◌==◌, Bool, true, false, if◌then◌else◌, List, [], ◌∷◌, ◌++◌, slice_index_or}
 use Rattle.std.specs.List.{range_with_len}
 use Rattle.prs_core.specs.Nets.{NodeRules}
@@ -88,8 +88,12 @@ module _ (ps : List Process) where
       called_size (atom s) = size_of p s
       called_size (turned members) = called_turn_size members
       called_size (abreast members) = called_branches_size members + (member_count (inlined_each members) - 1)
-      called_size (chosen false choices) = 3 + 2 * choice_count (inlined_choices choices) + guards_size (inlined_choices choices) + called_bodies_size choices
-      called_size (chosen true choices) = 6 + 2 * choice_count (inlined_choices choices) + guards_size (inlined_choices choices) + called_bodies_size choices
+      called_size (chosen false choices) =
+          3 + 2 * choice_count (inlined_choices choices) + guards_size (inlined_choices choices)
+          + called_bodies_size choices
+      called_size (chosen true choices) =
+          6 + 2 * choice_count (inlined_choices choices) + guards_size (inlined_choices choices)
+          + called_bodies_size choices
       called_size (looped s) = 2 + called_size s
 
       pub called_turn_size : Calleds → ℕ
@@ -117,15 +121,20 @@ module _ (ps : List Process) where
       pub called_turn_answer : Calleds → (from : ℕ) → ℕ
       called_turn_answer no_calleds from = from
       called_turn_answer (and_called s no_calleds) from = called_answer s from
-      called_turn_answer (and_called s (and_called t more)) from = called_turn_answer (and_called t more) (from + 3 + called_size s)
+      called_turn_answer (and_called s (and_called t more)) from =
+          called_turn_answer (and_called t more) (from + 3 + called_size s)
 
-    -- where the branches of a selection begin
+    -- where the branches of a selection begin, and where their requests do
     abbrev pub called_bodies_from : CalledChoices → (own from : ℕ) → ℕ
     called_bodies_from choices own from = bodies_from (inlined_choices choices) own from
 
+    abbrev pub called_starts_from : CalledChoices → (own from : ℕ) → ℕ
+    called_starts_from choices own from = from + own + choice_count (inlined_choices choices)
+
     abbrev pub called_branch_answers : CalledChoices → (from : ℕ) → List ℕ
     called_branch_answers no_called from = []
-    called_branch_answers (or_called g s more) from = called_answer s from ∷ called_branch_answers more (from + called_size s)
+    called_branch_answers (or_called g s more) from =
+        called_answer s from ∷ called_branch_answers more (from + called_size s)
 
     abbrev pub called_ends : Calleds → (from : ℕ) → List ℕ
     called_ends no_calleds from = []
@@ -156,15 +165,20 @@ module _ (ps : List Process) where
         called_rules (atom s) request from = rules_of p s request from
         called_rules (turned members) request from = called_turn_rules members request from
         called_rules (abreast members) request from =
-            called_branches_rules members request from ++ tree_rules (called_ends members from) (from + called_branches_size members)
+            called_branches_rules members request from
+            ++ tree_rules (called_ends members from) (from + called_branches_size members)
         called_rules (chosen false choices) request from =
             select_rules (called_choosing choices request (from + 2) select_own from)
-            ++ (guards_rules p (inlined_choices choices) (from + 1) (guards_from (inlined_choices choices) select_own from)
-            ++ called_bodies_rules choices (from + select_own + choice_count (inlined_choices choices)) (called_bodies_from choices select_own from))
+            ++ (guards_rules p (inlined_choices choices) (from + 1)
+            (guards_from (inlined_choices choices) select_own from)
+            ++ called_bodies_rules choices (called_starts_from choices select_own from)
+            (called_bodies_from choices select_own from))
         called_rules (chosen true choices) request from =
             again_rules (called_repeating choices request from)
-            ++ (guards_rules p (inlined_choices choices) (from + 3) (guards_from (inlined_choices choices) again_own from)
-            ++ called_bodies_rules choices (from + again_own + choice_count (inlined_choices choices)) (called_bodies_from choices again_own from))
+            ++ (guards_rules p (inlined_choices choices) (from + 3)
+            (guards_from (inlined_choices choices) again_own from)
+            ++ called_bodies_rules choices (called_starts_from choices again_own from)
+            (called_bodies_from choices again_own from))
         called_rules (looped s) request from =
             no_rules ∷ loop_request request (called_answer s (from + 2)) ∷ called_rules s (from + 1) (from + 2)
 
@@ -173,7 +187,8 @@ module _ (ps : List Process) where
         called_turn_rules (and_called s no_calleds) request from = called_rules s request from
         called_turn_rules (and_called s (and_called t more)) request from =
             q_rules request (called_answer s (from + 3)) from
-            ++ (called_rules s from (from + 3) ++ called_turn_rules (and_called t more) (from + 2) (from + 3 + called_size s))
+            ++ (called_rules s from (from + 3)
+            ++ called_turn_rules (and_called t more) (from + 2) (from + 3 + called_size s))
 
         pub called_branches_rules : Calleds → (request from : ℕ) → List NodeRules
         called_branches_rules no_calleds request from = []
@@ -194,8 +209,10 @@ module _ (ps : List Process) where
         called_sites (atom s) from = sites_in p site s from
         called_sites (turned members) from = called_turn_sites members from
         called_sites (abreast members) from = called_branch_sites members from
-        called_sites (chosen false choices) from = called_body_sites choices (called_bodies_from choices select_own from)
-        called_sites (chosen true choices) from = called_body_sites choices (called_bodies_from choices again_own from)
+        called_sites (chosen false choices) from =
+            called_body_sites choices (called_bodies_from choices select_own from)
+        called_sites (chosen true choices) from =
+            called_body_sites choices (called_bodies_from choices again_own from)
         called_sites (looped s) from = called_sites s (from + 2)
 
         pub called_turn_sites : Calleds → (from : ℕ) → List A
@@ -206,11 +223,13 @@ module _ (ps : List Process) where
 
         pub called_branch_sites : Calleds → (from : ℕ) → List A
         called_branch_sites no_calleds from = []
-        called_branch_sites (and_called s more) from = called_sites s (from + 3) ++ called_branch_sites more (from + 3 + called_size s)
+        called_branch_sites (and_called s more) from =
+            called_sites s (from + 3) ++ called_branch_sites more (from + 3 + called_size s)
 
         pub called_body_sites : CalledChoices → (from : ℕ) → List A
         called_body_sites no_called from = []
-        called_body_sites (or_called g s more) from = called_sites s from ++ called_body_sites more (from + called_size s)
+        called_body_sites (or_called g s more) from =
+            called_sites s from ++ called_body_sites more (from + called_size s)
 
     -- the requests of the calls of a procedure
     module _ (proc : ℕ) where
@@ -221,21 +240,26 @@ module _ (ps : List Process) where
         called_requests (turned members) request from = called_turn_requests members request from
         called_requests (abreast members) request from = called_branch_requests members from
         called_requests (chosen false choices) request from =
-            called_body_requests choices (from + select_own + choice_count (inlined_choices choices)) (called_bodies_from choices select_own from)
+            called_body_requests choices (called_starts_from choices select_own from)
+            (called_bodies_from choices select_own from)
         called_requests (chosen true choices) request from =
-            called_body_requests choices (from + again_own + choice_count (inlined_choices choices)) (called_bodies_from choices again_own from)
+            called_body_requests choices (called_starts_from choices again_own from)
+            (called_bodies_from choices again_own from)
         called_requests (looped s) request from = called_requests s (from + 1) (from + 2)
 
         pub called_turn_requests : Calleds → (request from : ℕ) → List ℕ
         called_turn_requests no_calleds request from = []
         called_turn_requests (and_called s no_calleds) request from = called_requests s request from
         called_turn_requests (and_called s (and_called t more)) request from =
-            called_requests s from (from + 3) ++ called_turn_requests (and_called t more) (from + 2) (from + 3 + called_size s)
+            called_requests s from (from + 3)
+            ++ called_turn_requests (and_called t more) (from + 2) (from + 3 + called_size s)
 
         pub called_branch_requests : Calleds → (from : ℕ) → List ℕ
         called_branch_requests no_calleds from = []
-        called_branch_requests (and_called s more) from = called_requests s from (from + 3) ++ called_branch_requests more (from + 3 + called_size s)
+        called_branch_requests (and_called s more) from =
+            called_requests s from (from + 3) ++ called_branch_requests more (from + 3 + called_size s)
 
         pub called_body_requests : CalledChoices → (start from : ℕ) → List ℕ
         called_body_requests no_called start from = []
-        called_body_requests (or_called g s more) start from = called_requests s start from ++ called_body_requests more (start + 1) (from + called_size s)
+        called_body_requests (or_called g s more) start from =
+            called_requests s start from ++ called_body_requests more (start + 1) (from + called_size s)

@@ -1,4 +1,5 @@
--- Two nets: in the one each procedure has one body, which its calls share; in the other each call has a copy of its own.
+-- Two nets: in the one each procedure has one body, which its calls share; in the other each call has a copy of its
+-- own.
 use Rattle.std.specs.Prelude.{◌≡◌, ◌≢◌, ℕ, ◌<◌, ◌≤◌, Bool, true, false, not, ◌&&◌, ◌||◌, List, [], length}
 use Rattle.prs_core.specs.Nets.{NetValue, up_of, down_of}
 use Rattle.prs_core.specs.Moves.{high, guard_holds}
@@ -53,28 +54,43 @@ IsThere S (plainly k) = S.is_plain k ≡ true
 IsThere S (asked c) = c < S.calls
 IsThere S (copied c x) = (c < S.calls) × (x < S.size (S.of c))
 
--- Values of all nodes but requests, where the copy of one call of each procedure has the values of the body, but that its
--- answer is that of the call, and every other copy is low.
-pub record IsAlike (S : Sharing) (cur : ℕ → ℕ) (v u : ℕ → Bool) : Type 0 where
+-- the node of a body that answers a call, and that of the call's copy
+abbrev pub body_end : Sharing → (call : ℕ) → Here
+body_end S c = body (S.of c) (S.last (S.of c))
+
+abbrev pub copy_end : Sharing → (call : ℕ) → There
+copy_end S c = copied c (S.last (S.of c))
+
+-- Values of all nodes but requests, v in the net with shared bodies and u in that with copies: the copy of one call of
+-- each procedure, cur, has the values of the body, but that its answer is that of the call; every other copy is low.
+pub record IsInStep (S : Sharing) (cur : ℕ → ℕ) (v u : ℕ → Bool) : Type 0 where
   pub current : (p : ℕ) → p < S.procs → (cur p < S.calls) × (S.of (cur p) ≡ p)
   pub plain : (k : ℕ) → S.is_plain k ≡ true → v (S.here (plain k)) ≡ u (S.there (plainly k))
-  pub answers : (c : ℕ) → c < S.calls → v (S.here (answers c)) ≡ u (S.there (copied c (S.last (S.of c))))
+  pub answers : (c : ℕ) → c < S.calls → v (S.here (answers c)) ≡ u (S.there (copy_end S c))
   pub inside : (c x : ℕ) → c < S.calls → cur (S.of c) ≡ c → x < S.size (S.of c) → x ≢ S.last (S.of c)
       → v (S.here (body (S.of c) x)) ≡ u (S.there (copied c x))
   pub blank : (c x : ℕ) → c < S.calls → cur (S.of c) ≢ c → x < S.size (S.of c) → u (S.there (copied c x)) ≡ false
 
--- values that a body and the copy of a call have in common, its request and its answer among them
+-- values that the body and the copy of the call c have in common, its request and its answer among them
 pub record IsBodyAlike (S : Sharing) (c : ℕ) (v u : ℕ → Bool) : Type 0 where
   pub plain : (k : ℕ) → S.is_plain k ≡ true → v (S.here (plain k)) ≡ u (S.there (plainly k))
   pub request : v (S.here (enters (S.of c))) ≡ u (S.there (asked c))
   pub inside : (x : ℕ) → x < S.size (S.of c) → v (S.here (body (S.of c) x)) ≡ u (S.there (copied c x))
 
+-- a node's guard that lets it rise holds, and that which lets it fall
+abbrev pub pulled_up : NetValue → (ℕ → Bool) → ℕ → Bool
+pulled_up net v n = guard_holds v (up_of net n)
+
+abbrev pub pulled_down : NetValue → (ℕ → Bool) → ℕ → Bool
+pulled_down net v n = guard_holds v (down_of net n)
+
 -- the two guards of a node of the one net say what those of a node of the other say
 abbrev pub SameGuards : (A B : NetValue) → (v u : ℕ → Bool) → (n m : ℕ) → Type 0
-SameGuards A B v u n m = (guard_holds v (up_of A n) ≡ guard_holds u (up_of B m)) × (guard_holds v (down_of A n) ≡ guard_holds u (down_of B m))
+SameGuards A B v u n m = (pulled_up A v n ≡ pulled_up B u m) × (pulled_down A v n ≡ pulled_down B u m)
 
--- Net A is net B with one body for all calls of a procedure.
-pub record IsShared (A B : NetValue) (S : Sharing) : Type 0 where
+-- Net A is net B with one body for all calls of a procedure. What is left open is how either net is laid out: S says
+-- which node has which number.
+pub record SharesBodies (A B : NetValue) (S : Sharing) : Type 0 where
   -- each node has one number
   pub here_below : (s : Here) → IsHere S s → S.here s < S.count
   pub here_back : (n : ℕ) → n < S.count → (s : Here) × IsHere S s × (S.here s ≡ n)
@@ -103,39 +119,45 @@ pub record IsShared (A B : NetValue) (S : Sharing) : Type 0 where
   pub first_asked : (c : ℕ) → c < S.calls → high B.first (S.there (asked c)) ≡ false
   pub first_copied : (c x : ℕ) → c < S.calls → x < S.size (S.of c) → high B.first (S.there (copied c x)) ≡ false
   -- rules: none of these but those of bodies and calls reads a request
-  pub plain_rules : (cur : ℕ → ℕ) (v u : ℕ → Bool) → IsAlike S cur v u → (k : ℕ) → S.is_plain k ≡ true
+  pub plain_rules : (cur : ℕ → ℕ) (v u : ℕ → Bool) → IsInStep S cur v u → (k : ℕ) → S.is_plain k ≡ true
       → SameGuards A B v u (S.here (plain k)) (S.there (plainly k))
-  pub asks_rules : (cur : ℕ → ℕ) (v u : ℕ → Bool) → IsAlike S cur v u → (c : ℕ) → c < S.calls
+  pub asks_rules : (cur : ℕ → ℕ) (v u : ℕ → Bool) → IsInStep S cur v u → (c : ℕ) → c < S.calls
       → SameGuards A B v u (S.here (asks c)) (S.there (asked c))
   pub body_rules : (c : ℕ) (v u : ℕ → Bool) → c < S.calls → IsBodyAlike S c v u → (x : ℕ) → x < S.size (S.of c)
       → SameGuards A B v u (S.here (body (S.of c) x)) (S.there (copied c x))
   -- the request of a body is the OR of those of its calls
   pub enters_on : (v : ℕ → Bool) (c : ℕ) → c < S.calls → v (S.here (asks c)) ≡ true
-      → (guard_holds v (up_of A (S.here (enters (S.of c)))) ≡ true) × (guard_holds v (down_of A (S.here (enters (S.of c)))) ≡ false)
-  pub enters_off : (v : ℕ → Bool) (p : ℕ) → p < S.procs → ((c : ℕ) → c < S.calls → S.of c ≡ p → v (S.here (asks c)) ≡ false)
-      → (guard_holds v (up_of A (S.here (enters p))) ≡ false) × (guard_holds v (down_of A (S.here (enters p))) ≡ true)
+      → (pulled_up A v (S.here (enters (S.of c))) ≡ true) × (pulled_down A v (S.here (enters (S.of c))) ≡ false)
+  pub enters_off : (v : ℕ → Bool) (p : ℕ) → p < S.procs
+      → ((c : ℕ) → c < S.calls → S.of c ≡ p → v (S.here (asks c)) ≡ false)
+      → (pulled_up A v (S.here (enters p)) ≡ false) × (pulled_down A v (S.here (enters p)) ≡ true)
   -- a call answers where it is asked and the body answers, until the body answers no more
   pub answers_rules : (v : ℕ → Bool) (c : ℕ) → c < S.calls
-      → (guard_holds v (up_of A (S.here (answers c))) ≡ (v (S.here (asks c)) && v (S.here (body (S.of c) (S.last (S.of c))))))
-      × (guard_holds v (down_of A (S.here (answers c))) ≡ not (v (S.here (body (S.of c) (S.last (S.of c))))))
+      → (pulled_up A v (S.here (answers c)) ≡ (v (S.here (asks c)) && v (S.here (body_end S c))))
+      × (pulled_down A v (S.here (answers c)) ≡ not (v (S.here (body_end S c))))
   pub past : (n : ℕ) → S.count ≤ n → (up_of A n ≡ []) × (down_of A n ≡ [])
   pub past_there : (n : ℕ) → S.count_there ≤ n → (up_of B n ≡ []) × (down_of B n ≡ [])
 
--- the request or the answer of the call's copy is high
-abbrev pub IsBusy : Sharing → RunState → ℕ → Type 0
-IsBusy S st c = (high st.values (S.there (asked c)) || high st.values (S.there (copied c (S.last (S.of c))))) ≡ true
+-- in a state of the net with copies the request of a call's copy is high, and its answer
+abbrev pub copy_asked : Sharing → RunState → (call : ℕ) → Bool
+copy_asked S st c = high st.values (S.there (asked c))
 
--- What copies keep in a state of their net. A request rises only where the answer is low, and falls only where it is high.
--- Where both are high or both are low nothing in the copy may move, and in the second case all in it is low. Of the copies
--- of one procedure at most one is busy.
+abbrev pub copy_answers : Sharing → RunState → (call : ℕ) → Bool
+copy_answers S st c = high st.values (S.there (copy_end S c))
+
+abbrev pub IsBusy : Sharing → RunState → ℕ → Type 0
+IsBusy S st c = (copy_asked S st c || copy_answers S st c) ≡ true
+
+-- What copies keep in a state of their net. A request rises only where the answer is low, and falls only where it is
+-- high. Where both are high or both are low nothing in the copy may move, and in the second case all in it is low. Of
+-- the copies of one procedure at most one is busy.
 pub record CopiesKeep (B : NetValue) (S : Sharing) (script : List OfferValue) (st : RunState) : Type 0 where
   pub turn : (c : ℕ) → c < S.calls → move_enabled B script st (S.there (asked c)) ≡ true
-      → high st.values (S.there (asked c)) ≡ high st.values (S.there (copied c (S.last (S.of c))))
-  pub quiet : (c x : ℕ) → c < S.calls → x < S.size (S.of c)
-      → high st.values (S.there (asked c)) ≡ high st.values (S.there (copied c (S.last (S.of c))))
+      → copy_asked S st c ≡ copy_answers S st c
+  pub quiet : (c x : ℕ) → c < S.calls → x < S.size (S.of c) → copy_asked S st c ≡ copy_answers S st c
       → move_enabled B script st (S.there (copied c x)) ≡ false
-  pub clear : (c x : ℕ) → c < S.calls → x < S.size (S.of c) → high st.values (S.there (asked c)) ≡ false
-      → high st.values (S.there (copied c (S.last (S.of c)))) ≡ false → high st.values (S.there (copied c x)) ≡ false
+  pub clear : (c x : ℕ) → c < S.calls → x < S.size (S.of c) → copy_asked S st c ≡ false → copy_answers S st c ≡ false
+      → high st.values (S.there (copied c x)) ≡ false
   pub alone : (c j : ℕ) → c < S.calls → j < S.calls → S.of c ≡ S.of j → IsBusy S st c → IsBusy S st j → c ≡ j
 
 -- no node is pulled both ways, and each enabled move is safe

@@ -7,14 +7,16 @@ ghost use Rattle.call_map.specs.CallNet.{SharedBodiesCarry, SharedBodiesCounted,
 use chp_meaning::laws::{rounds_hold, steps_taken};
 use net_compose::laws::{carries, carries_reset, parts_in_turns};
 
-/// Law: let the one net be the other with one body for all calls of a procedure in place of a copy for each call, and let
-/// the other be free of hazards, and each copy keep its handshake there. Then each run of the one is a run of the other, of
-/// no more moves, that passes the same; it is free of hazards, and where it is at rest the other is.
+/// Law: let one net be another one with one body for all calls of a procedure in place of a copy for each call, and let
+/// that other net be free of hazards, and each copy keep its handshake there. Then each run of the one is a run of the
+/// other, of no more moves, that passes the same; it is free of hazards, and where the one is at rest the other is. It
+/// holds of any numbering of the nodes and of no program in particular, so `CallNet.antt` isn't needed to read it.
 pub fn shared_runs()
     ensures { SharedRuns }
 {}
 
-/// Law: where the net with copies carries a program, so does the net with shared bodies.
+/// Law: where the net with copies carries a program, so does the net with shared bodies. `CallNet.antt` isn't needed to
+/// read this either; and this law and the one above are steps of the proof of those below, which don't speak of them.
 pub fn shared_carries()
     ensures { SharedCarries }
 {
@@ -22,9 +24,10 @@ pub fn shared_carries()
     rounds_hold();
 }
 
-/// Law: a program with procedures, of which no two parallel branches call the same one, is carried by the net in which all
-/// calls of a procedure share one body: it carries the program in which each call is a copy of the body, if that is typed
-/// and meets the sharing rule.
+/// Law: a program with procedures, of which no two parallel branches call the same one, is carried by the net in which
+/// all calls of a procedure share one body: it carries the program in which each call is a copy of the body, if that is
+/// typed and meets the sharing rule. `CallNet.antt` says what net that is; how it is compared with the net with copies,
+/// in `Shared.antt` and `Carrying.antt`, isn't needed to read this.
 pub fn shared_bodies_carry()
     ensures { SharedBodiesCarry }
 {
@@ -34,18 +37,21 @@ pub fn shared_bodies_carry()
     parts_in_turns();
 }
 
-/// Law: that net has a name, a first value and two guards for each node that is counted.
+/// Law: that net has a name, a first value and two guards for each node that is counted. `Shared.antt` and
+/// `Carrying.antt` aren't needed to read this, nor what any node's rules are.
 pub fn shared_bodies_counted()
     ensures { SharedBodiesCounted }
 {}
 
-/// Law: that net, of at most 65,536 nodes and with guards that speak of its own nodes alone, is a net that a rule file can
-/// hold: its wires and variables are named as those of a program are, and its other nodes by their numbers.
+/// Law: that net, of at most 65,536 nodes and with guards that speak of its own nodes alone, is a net that a rule file
+/// can hold: its wires and variables are named as those of a program are, and its other nodes by their numbers.
+/// `Shared.antt` and `Carrying.antt` aren't needed to read this, nor is what a run is.
 pub fn shared_bodies_hold()
     ensures { SharedBodiesHold }
 {}
 
-/// Law: that net carries the program with a reset node too, from every power-up state.
+/// Law: that net carries the program with a reset node too, from every power-up state. `Shared.antt` and
+/// `Carrying.antt` aren't needed to read this.
 pub fn shared_bodies_carry_reset()
     ensures { SharedBodiesCarryReset }
 {
