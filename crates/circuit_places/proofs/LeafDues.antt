@@ -59,8 +59,8 @@ guards_fall P env clean r (and_choice g p more) laws x (other_gate q) fit z f h 
 guards_fall P env clean r no_choices laws x q fit z f h = elim q [ ]
 
 -- a site
-pub site_falls : (P : TypedProgram) (k : Line) (e : Formula) (env : Seen) → Clean P env → (m : Mode) (u : Pairs (gate_count e)) → SiteMay e m u → (s : SiteSpot e)
-    → SiteFits k e m u env → site_moves env k e m u s ≡ true
+pub site_falls : (P : TypedProgram) (k : Line) (e : Formula) (env : Seen) → Clean P env → (m : Mode) (u : Pairs (gate_count e)) → SiteMay e m u
+    → (s : SiteSpot e) → SiteFits k e m u env → site_moves env k e m u s ≡ true
     → suc (weigh (asks m) (turned_site e (site_of e (acks m) u) s).answer
     + pairs_sum (weigh (asks m)) (gate_count e) (turned_site e (site_of e (acks m) u) s).gates)
     ≤ weigh (asks m) (acks m) + pairs_sum (weigh (asks m)) (gate_count e) u
