@@ -1,5 +1,5 @@
 -- The wave of a net that carries a program.
-use Rattle.std.proofs.Common.{◌≡◌, ◌≢◌, ◌↔◌, ℕ, false, Bool, List, Option, Some, None}
+use Rattle.std.proofs.Common.{◌≡◌, ◌≢◌, ◌↔◌, ℕ, true, false, Bool, List, Option, Some, None}
 use Rattle.std.specs.Prelude.{IsSome}
 use Rattle.delay_script.specs.DelayTables.{DelayTable}
 use Rattle.delay_script.specs.TimedRuns.{moved_nodes, timed_start}
@@ -17,20 +17,20 @@ use Rattle.chp_cli.specs.Simulated.{HoldsCarrying}
 use Rattle.chp_cli.specs.Steps.{a_file, a_net}
 use Rattle.chp_cli.specs.Timing.{delays_read}
 use Rattle.chp_cli.specs.TracedFiles.{IsFileTraced}
-use Rattle.chp_cli.specs.Tracing.{AskedWaves, FromDelayFile, HoldsDelayFile, Traces, trace_for}
+use Rattle.chp_cli.specs.Tracing.{AskedWaves, FromDelayFile, HoldsDelayFile, TracesNet, Traces, trace_for}
 use Rattle.chp_cli.proofs.CalmRuns.{all_safe, file_carries, run_calm}
 
 -- what is written comes from delays that were read
-delays_held : (given : Given) (file : Option (List ℕ)) (names : List (List ℕ)) {Next : DelayTable → Answer → Type 0} (end : Ending) (text : List ℕ) →
+delays_held : (given : Given) (file : Option (List ℕ)) (names : List (List ℕ)) (Next : DelayTable → Answer → Type 0) (end : Ending) (text : List ℕ) →
     FromDelayFile given file names Next (writes end text) → (delays : DelayTable) × HoldsDelayFile given file names delays × Next delays (writes end text)
-delays_held given None names end text (delays_read {delays = table} are next) = (table, are, next)
-delays_held given (Some file) names end text (a_file gives short (delays_read {delays = table} are next)) =
+delays_held given None names Next end text (delays_read {delays = table} are next) = (table, are, next)
+delays_held given (Some file) names Next end text (a_file gives short (delays_read {delays = table} are next)) =
     (table, record { text = _; gives = gives; short = short; is = are }, next)
 
 pub trace_written : (w : AskedWaves) (given : Given) → given.tells ≡ true → (end : Ending) (text : List ℕ) → Traces w given (writes end text) →
     IsFileTraced w given (writes end text)
 trace_written w given told end text (a_file {text = x} gives short (a_net {net = n} is (a_file {text = t} reads fits (a_script {script = sc} are next)))) =
-    let d = delays_held given w.delays n.names end text next in record {
+    let d = delays_held given w.delays n.names (λ delays. TracesNet (trace_for w n sc delays) w.causes) end text next in record {
       rules = x;
       net = n;
       told = t;
