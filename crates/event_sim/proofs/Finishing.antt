@@ -64,7 +64,7 @@ drop_front : (xs ys : List ℕ) → drop (length xs) (xs ++ ys) ≡ ys
 drop_front [] ys = refl
 drop_front (x ∷ xs) ys = drop_front xs ys
 
-growth_is : (before now picks : List ℕ) → now ≡ before ++ picks → growth before now ≡ picks
+pub growth_is : (before now picks : List ℕ) → now ≡ before ++ picks → growth before now ≡ picks
 growth_is before now picks grown = ap (drop (length before)) grown ∙ drop_front before picks
 
 goes_on : (last : Option Hazard) (xs : List ℕ) → end_with last xs false ≡ None → 0 < length xs

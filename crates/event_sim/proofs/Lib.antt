@@ -7,6 +7,7 @@ pub mod Following
 pub mod Underway
 pub mod Ranges
 pub mod Finishing
+pub mod Asking
 pub mod Wholes
 pub mod Aging
 pub mod Near

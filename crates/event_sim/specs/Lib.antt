@@ -2,6 +2,7 @@ pub mod Following
 pub mod Passing
 pub mod Ends
 pub mod Picking
+pub mod Asking
 pub mod Ages
 pub mod Simulating
 pub mod Locality

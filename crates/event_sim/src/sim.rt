@@ -11,6 +11,7 @@ ghost use Rattle.event_sim.specs.Following.{ArePicks};
 ghost use Rattle.event_sim.specs.Passing.{passed_in};
 ghost use Rattle.event_sim.specs.Ends.{end_from, end_with, EndsSo};
 ghost use Rattle.event_sim.specs.Picking.{IsChoiceList};
+ghost use Rattle.event_sim.specs.Asking.{IsAskedAlong, picker_value};
 
 use crate::picker::Picker;
 use crate::power::power_state;
@@ -145,6 +146,9 @@ impl Sim {
         requires nodes { length self.net.first ≤ nodes picker.old }
         ensures log { log picker.new ≡ log picker.old ++ growth (log picker.old) (log picker.new) }
         ensures picks { ArePicks self.net self.script (start_at self) (growth (log picker.old) (log picker.new)) }
+        ensures asked { IsAskedAlong
+            (λ p. picker_value (name p) (log p) (spare p) (nodes p) (seeded p) (choice p))
+            self.net self.script (start_at self) (growth (log picker.old) (log picker.new)) picker.old picker.new }
         ensures run { IsRun self.net self.script (start_at self) (picked_moves self (log picker.old) (log picker.new)) }
         ensures ends { EndsSo self.net self.script self.steps (start_at self)
             (picked_moves self (log picker.old) (log picker.new)) result.end }

@@ -4,10 +4,11 @@ use Rattle.std.proofs.lemmas.Bool.{ne_eqb, eq-eqb}
 use Rattle.std.proofs.lemmas.List.{append_assoc, length_push}
 use Rattle.prs_core.specs.Nets.{NetValue}
 use Rattle.event_sim.specs.Ends.{end_with}
-use Rattle.event_sim.specs.Simulating.{SimValue, IsEndIn}
+use Rattle.event_sim.specs.Simulating.{SimValue, IsEndIn, start_at}
 use Rattle.event_sim.specs.Stages.{moves_now}
-use Rattle.event_sim.proofs.Underway.{step}
+use Rattle.event_sim.proofs.Underway.{step, moves_are}
 use Rattle.event_sim.proofs.Finishing.{begun, choice_list, picked_within, picked_enabled, finish}
+use Rattle.event_sim.proofs.Asking.{asked_not, asked_on}
 use Rattle.event_sim.proofs.sim.Sim.run.Goals as goal
 
 -- within a list the default plays no part
@@ -19,10 +20,12 @@ any_default (x ∷ xs) (suc k) d e within = any_default xs k d e (omega arith)
 pub loop-made-init : goal.loop-made-init
 loop-made-init g c =
     let s = c.self.inside in
+    let first = goal.Picker-dyn g (c.args.picker.now.vtable, c.args.picker.now.value) in
     record {
       steps = ap (λ (v : SimValue). v.steps) c.self.view_is;
       net = rw (← c.self.view_is) c.first_hazard-hazard.ensures.net;
       picked = rw (← c.self.view_is) (begun s.stage s.steps s.high c.first_hazard-hazard.result _ c.self.invariant c.first_hazard-hazard.ensures.hazard);
+      asked = asked_not _ c.args.self.net c.args.self.script (start_at c.args.self) (first.log c.args.picker.now.value) c.args.picker.now;
       spare = omega arith;
       name = refl;
       nodes = refl;
@@ -73,6 +76,10 @@ loop-made-preserved g c =
     let xs = c.moves-in-None-2.result.now in
     let none : end_with c.loop-made.hazard (moves_now c.loop-made.stage) false ≡ None =
     ap (λ (xs : List ℕ). end_with c.loop-made.hazard xs false) (sym c.moves.ensures) ∙ sym c.early_end.ensures ∙ c.in-None.is in
+    let first = goal.Picker-dyn g (c.args.picker.now.vtable, c.args.picker.now.value) in
+    let later = goal.Picker-dyn g (c.choose-place.new.picker.vtable, c.choose-place.new.picker.value) in
+    let mid = goal.Picker-dyn g (c.loop-made.picker.vtable, c.loop-made.picker.value) in
+    let listed = moves_are c.args.self i.picked.picks c.loop-made.stage c.loop-made.hazard i.picked.underway in
     let few : length i.picked.picks < c.args.self.steps = omega (arith, i.picked.counted, i.steps, c.loop-made-test.true) in
     let within : p < length (moves_now c.loop-made.stage) = omega (arith, c.choose-place.ensures.within, ap length c.moves-in-None.ensures) in
     let at : get_or xs p 0 ≡ get_or (moves_now c.loop-made.stage) p (get_or xs p 0) = ap (λ (ys : List ℕ). get_or ys p 0) c.moves-in-None-2.ensures
@@ -88,6 +95,16 @@ loop-made-preserved g c =
             i.picked.underway few none within at c.make-hazard.ensures.net c.make-hazard.ensures.script c.make-hazard.ensures.moved c.make-hazard.ensures.passed
             c.make-hazard.ensures.room c.make-hazard.ensures.hazard;
       };
+      asked = asked_on _ c.args.self.net c.args.self.script (start_at c.args.self) (first.log c.args.picker.now.value)
+          (mid.log c.loop-made.picker.value) (later.log c.choose-place.new.picker.value) i.picked.picks p c.args.picker.now c.loop-made.picker
+          c.choose-place.new.picker i.picked.grown c.choose-place.ensures.log i.asked (record {
+            choice = c.choose-place.ensures.choice ∙ ap (mid.choice c.loop-made.picker.value) (c.moves-in-None.ensures ∙ listed);
+            log = c.choose-place.ensures.log;
+            spare = c.choose-place.ensures.spare;
+            name = c.choose-place.ensures.name;
+            nodes = c.choose-place.ensures.nodes;
+            seeded = c.choose-place.ensures.seeded;
+          });
       spare = omega (arith, c.choose-place.ensures.spare, i.spare);
       name = c.choose-place.ensures.name ∙ i.name;
       nodes = c.choose-place.ensures.nodes ∙ i.nodes;
@@ -104,6 +121,7 @@ returns-in-Some g c =
     record {
       log = fin.log;
       picks = fin.picks;
+      asked = i.asked;
       run = fin.run;
       ends = rw c.ran.ensures fin.ends;
       net = rw c.ran.ensures fin.net;
@@ -128,6 +146,7 @@ returns g c =
     record {
       log = fin.log;
       picks = fin.picks;
+      asked = i.asked;
       run = fin.run;
       ends = rw c.ran-2.ensures fin.ends;
       net = rw c.ran-2.ensures fin.net;

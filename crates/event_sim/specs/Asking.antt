@@ -1,0 +1,43 @@
+-- Which lists a picker is asked with in a run.
+use Rattle.std.specs.Prelude.{◌≡◌, ℕ, ◌+◌, ◌<◌, List, [], ◌∷◌, ◌++◌, length, take, slice_index, Option}
+use Rattle.prs_core.specs.Nets.{NetValue}
+use Rattle.env_script.specs.Scripts.{OfferValue}
+use Rattle.env_script.specs.Runs.{RunState, after}
+use Rattle.event_sim.specs.Following.{enabled_moves, follow}
+
+-- what is known of a picker: its name, all places that it answered, for how many picks and for how many nodes it has
+-- room, the last seed and how many places it had answered then, and the place that it answers to a list now
+pub record PickerValue : Type 0 where
+  pub name : List ℕ
+  pub log : List ℕ
+  pub spare : ℕ
+  pub nodes : ℕ
+  pub seeded : Option (ℕ × ℕ)
+  pub choice : List ℕ → ℕ
+
+abbrev pub picker_value : (name log : List ℕ) (spare nodes : ℕ) → Option (ℕ × ℕ) → (List ℕ → ℕ) → PickerValue
+picker_value name log spare nodes seeded choice =
+    record { name = name; log = log; spare = spare; nodes = nodes; seeded = seeded; choice = choice }
+
+-- What one pick makes of a picker: it answered this place to this list. What it answers to a list may be another now.
+pub record IsPick (list : List ℕ) (place : ℕ) (was is : PickerValue) : Type 0 where
+  pub choice : place ≡ was.choice list
+  pub log : is.log ≡ was.log ++ place ∷ []
+  pub spare : is.spare + 1 ≡ was.spare
+  pub name : is.name ≡ was.name
+  pub nodes : is.nodes ≡ was.nodes
+  pub seeded : is.seeded ≡ was.seeded
+
+-- the moves that are enabled after the moves to which these picks lead
+abbrev pub enabled_after : NetValue → List OfferValue → RunState → List ℕ → List ℕ
+enabled_after net script st picks = enabled_moves net script (after net st (follow net script st picks))
+
+-- A picker was asked before each move of a run with the list of the moves that were enabled then, and these are its
+-- picks. It has a state after each number of picks.
+pub record IsAskedAlong {P : Type 0} (known : P → PickerValue) (net : NetValue) (script : List OfferValue)
+    (st : RunState) (picks : List ℕ) (was is : P) : Type 0 where
+  pub after_picks : ℕ → P
+  pub first : after_picks 0 ≡ was
+  pub last : after_picks (length picks) ≡ is
+  pub each : (k : ℕ) → k < length picks → IsPick (enabled_after net script st (take k picks)) (slice_index picks k)
+      (known (after_picks k)) (known (after_picks (k + 1)))
