@@ -1,5 +1,5 @@
 -- How long nodes have been in the lists of a picker, and which of them is the oldest or the newest.
-use Rattle.std.specs.Prelude.{ℕ, ◌+◌, ◌-◌, ◌≤◌, nat_le, ◌==◌, if◌then◌else◌, List, length, map, slice_index}
+use Rattle.std.specs.Prelude.{ℕ, ◌+◌, ◌-◌, ◌≤◌, nat_le, ◌==◌, if◌then◌else◌, List, length, map, slice_index, Option}
 use Rattle.std.specs.List.{list_any, list_all, position_or_len, range_with_len}
 use Rattle.event_sim.specs.declared.ages.Presence.{Presence}
 
@@ -15,6 +15,14 @@ ages_at now table = map (age_at now) table
 abbrev pub aged : List ℕ → List ℕ → List ℕ
 aged list ages = map (λ node. if list_any (λ n. n == node) list then slice_index ages node + 1 else 0)
     (range_with_len 0 (length ages))
+
+-- a picker that goes by age: all places that it answered, for how many picks it has room, the last seed and how many
+-- places it had answered then, and the age of each node
+pub record AgedValue : Type 0 where
+  pub log : List ℕ
+  pub spare : ℕ
+  pub seeded : Option (ℕ × ℕ)
+  pub ages : List ℕ
 
 -- the ages that the nodes of the list have by a pick from it
 abbrev pub ages_in : List ℕ → List ℕ → List ℕ

@@ -1,11 +1,13 @@
 //! The picker that takes the move which was enabled last.
 
-ghost use Rattle.std.specs.Prelude.{◌≡◌, ℕ, ◌-◌, [], All, length, codes, None, vec_capacity};
-ghost use Rattle.event_sim.specs.Ages.{ages_at, ages_in, first_least, IsPast};
+ghost use Rattle.std.specs.Prelude.{◌≡◌, ◌+◌, ◌<◌, ◌≤◌, [], ◌∷◌, ◌++◌, length, replicate, codes, None, Some, OnOk, OnErr};
+ghost use Rattle.event_sim.specs.Ages.{aged, ages_in, first_least};
+ghost use Rattle.event_sim.specs.Picking.{IsChoiceList};
 
 use crate::ages::{Presence, fresh, newest, note};
 use crate::picker::Picker;
 use std::alloc::{AllocError, Global};
+use std::marker::Model;
 
 /// Chooses the node that was in the fewest lists in a row, this one included; of several the least.
 #[derive(Debug, Drop)]
@@ -13,14 +15,30 @@ pub struct Newest {
     log: Vec<usize>,
     seeded: Option<(u64, usize)>,
     ages: Vec<Presence>,
-    ghost past: { All (IsPast (length log.items)) ages.items },
+}
+
+impl Model for Newest {
+    ghost use Rattle.std.specs.Prelude.{◌-◌, All, length, vec_capacity};
+    ghost use Rattle.event_sim.specs.Ages.{AgedValue, ages_at, IsPast};
+
+    ghost Value = { AgedValue };
+
+    ghost view = { λ p. record {
+      log = p.log.items;
+      spare = vec_capacity p.log - length p.log.items;
+      seeded = p.seeded;
+      ages = ages_at (length p.log.items) p.ages.items;
+    } };
+
+    ghost invariant = { λ p. All (IsPast (length p.log.items)) p.ages.items };
 }
 
 impl Newest {
     /// A picker that has made no pick. It takes no memory.
     pub fn new(alloc: Global) -> Newest
-        ensures log { result.log.items ≡ [] }
+        ensures log { result.log ≡ [] }
         ensures seeded { result.seeded ≡ None }
+        ensures ages { result.ages ≡ [] }
     {
         Newest {
             log: Vec::new(alloc),
@@ -33,32 +51,50 @@ impl Newest {
 impl Picker for Newest {
     ghost name = { λ p. codes "newest" };
 
-    ghost log = { λ p. p.log.items };
+    ghost log = { λ p. p.log };
 
-    ghost spare = { λ p. vec_capacity p.log - length p.log.items };
+    ghost spare = { λ p. p.spare };
 
-    ghost nodes = { λ p. length p.ages.items };
+    ghost nodes = { λ p. length p.ages };
 
     ghost seeded = { λ p. p.seeded };
 
-    ghost choice = { λ p list. first_least (ages_in list (ages_at (length p.log.items) p.ages.items)) };
+    ghost choice = { λ p list. first_least (ages_in list p.ages) };
 
     fn name(&self) -> &str {
         "newest"
     }
 
-    fn seed(&mut self, seed: u64) {
+    fn seed(&mut self, seed: u64)
+        ensures { self.new ≡ record self.old { seeded = Some (seed, length self.old.log) } }
+    {
         self.seeded = Some((seed, self.log.len()));
     }
 
-    fn make_room(&mut self, picks: u32, node_count: u32) -> Result<(), AllocError> {
+    fn make_room(&mut self, picks: u32, node_count: u32) -> Result<(), AllocError>
+        ensures log { self.new.log ≡ self.old.log }
+        ensures seeded { self.new.seeded ≡ self.old.seeded }
+        ensures picks { OnOk result (picks ≤ self.new.spare) }
+        ensures ages { OnOk result (self.new.ages ≡ replicate node_count 0) }
+        ensures kept { OnErr result (self.new ≡ self.old) }
+    {
         self.ages.reserve_exact(node_count as usize)?;
         self.log.reserve_exact(picks as usize)?;
         fresh(&mut self.ages, node_count, self.log.len() as u64);
         Ok(())
     }
 
-    fn pick(&mut self, enabled: &[u32]) -> usize {
+    fn pick(&mut self, enabled: &[u32]) -> usize
+        requires list { IsChoiceList (length self.old.ages) enabled.now }
+        requires room { 1 ≤ self.old.spare }
+        ensures choice { result ≡ first_least (ages_in enabled.now self.old.ages) }
+        ensures within { result < length enabled.now }
+        ensures log { self.new.log ≡ self.old.log ++ result ∷ [] }
+        ensures spare { self.new.spare + 1 ≡ self.old.spare }
+        ensures ages { self.new.ages ≡ aged enabled.now self.old.ages }
+        ensures nodes { length self.new.ages ≡ length self.old.ages }
+        ensures seeded { self.new.seeded ≡ self.old.seeded }
+    {
         let now = self.log.len() as u64;
         note(&mut self.ages, enabled, now);
         let place = newest(&self.ages, enabled, now + 1);
