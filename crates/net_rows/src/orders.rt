@@ -46,9 +46,14 @@ fn simulate(
     let Ok(nodes) = u32::try_from(net.first().len()) else {
         return Ok(None);
     };
+    let earlier = picker.log().len();
     picker.seed(seed);
     picker.make_room(steps, nodes)?;
     let ran = Sim::new(alloc, net, script, steps)?.run(picker);
+    let Some(picks) = picker.log().get(earlier..) else {
+        return Ok(None);
+    };
+    let picks = Vec::from_slice(alloc, picks)?;
     let mut passed = Vec::from_slice(alloc, ran.passed())?;
     passed.sort_by_key(|value| value.0)?;
     Ok(Some(Simulated {
@@ -56,7 +61,7 @@ fn simulate(
         moves: ran.moves(),
         done: ran.done_high(),
         passed,
-        picks: Vec::from_slice(alloc, picker.log())?,
+        picks,
     }))
 }
 
@@ -143,28 +148,30 @@ fn go_by_age(
     Ok(true)
 }
 
-/// Prints of the picks by this order how many they are, and whether each took the oldest node and whether each took the
-/// newest one.
-fn tell_ages(
+/// Prints of the picks by this order how many they are, whether each took the oldest node and whether each took the
+/// newest one, and whether it picks the same again.
+fn tell_picks(
     alloc: Global,
     bench: &Bench,
     order: &str,
     picks: &[usize],
+    again: &[usize],
     page: &mut String,
 ) -> Result<(), AllocError> {
     let count = picks.len();
     let oldest = go_by_age(alloc, bench, picks, true)?;
     let newest = go_by_age(alloc, bench, picks, false)?;
+    let same = picks == again;
     writeln!(
         page,
-        "{order}: {count} picks, oldest {oldest}, newest {newest}"
+        "{order}: {count} picks, oldest {oldest}, newest {newest}, the same again {same}"
     )?;
     Ok(())
 }
 
-/// Simulates by each of these orders, with a seed and for so many moves at most. It prints of each how many picks it
-/// made, and whether each took the oldest node and whether each took the newest one; then whether all came to the same,
-/// and whether all picks differ.
+/// Simulates by each of these orders, with a seed and for so many moves at most, and then once more by the same one. It
+/// prints of each how many picks it made, whether each took the oldest node and whether each took the newest one, and
+/// whether it picked the same again; then whether all came to the same, and whether all picks differ.
 fn compare(
     alloc: Global,
     bench: &Bench,
@@ -181,7 +188,10 @@ fn compare(
         let Some(run) = simulate(alloc, bench, seed, steps, picker)? else {
             return Ok(false);
         };
-        tell_ages(alloc, bench, picker.name(), &run.picks, page)?;
+        let Some(again) = simulate(alloc, bench, seed, steps, picker)? else {
+            return Ok(false);
+        };
+        tell_picks(alloc, bench, picker.name(), &run.picks, &again.picks, page)?;
         agree = agree && earlier.iter().all(|other| other.agrees(&run));
         differ = differ && earlier.iter().all(|other| other.picks != run.picks);
         earlier.push(run)?;
