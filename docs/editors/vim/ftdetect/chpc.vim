@@ -1,0 +1,2 @@
+autocmd BufNewFile,BufRead *.chp setfiletype chp
+autocmd BufNewFile,BufRead *.prs setfiletype prs
