@@ -1,16 +1,18 @@
-"""What the pages say of causes: the tables of docs/LANGUAGE.md, docs/FORMATS.md and README.md, which are the one place
-where these sentences stand."""
+"""What the pages say of causes: the tables of docs/LANGUAGE.md, docs/FORMATS.md and the one of statuses, which are the
+one place where these sentences stand."""
 
 from __future__ import annotations
 
 import functools
+import glob
 import os
 import re
+from collections.abc import Iterator
 from dataclasses import dataclass, field
 
 from companion.program import TOP
 
-LANGUAGE, FORMATS, README = "docs/LANGUAGE.md", "docs/FORMATS.md", "README.md"
+LANGUAGE, FORMATS = "docs/LANGUAGE.md", "docs/FORMATS.md"
 
 
 @dataclass(frozen=True)
@@ -111,12 +113,21 @@ def causes() -> dict[int, Cause]:
     return found
 
 
+def every_table() -> Iterator[Table]:
+    """The tables of all pages."""
+    names = glob.glob(os.path.join(TOP, "docs", "*.md"))
+    for page in ("README.md", *sorted(f"docs/{os.path.basename(name)}" for name in names)):
+        yield from tables(page)
+
+
 @functools.cache
 def statuses() -> dict[int, tuple[str, str]]:
     """For each status what happened and what to do."""
     found: dict[int, tuple[str, str]] = {}
-    for table in tables(README):
-        for row in table.rows if table.columns[0] == "Status" else []:
+    for table in every_table():
+        if table.columns[0] != "Status" or "What to do" not in table.columns:
+            continue
+        for row in table.rows:
             for number in row[0].split(","):
                 if number.strip().isdigit():
                     found[int(number)] = (row[1], row[2])

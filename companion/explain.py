@@ -113,7 +113,7 @@ class Explainer:
         self.say(f"{self.paint.bold(called(name))}: this file, {role}, can't be read")
 
     def status(self) -> None:
-        """What the README says of the status."""
+        """What the table of statuses says."""
         told = causes.statuses().get(self.answer.status)
         if told:
             self.say(f"what happened: {told[0]}")

@@ -5,12 +5,13 @@ from __future__ import annotations
 
 from dataclasses import dataclass, field
 
+from companion import options, program
 from companion.chp_reader import read_program
 from companion.chp_tokens import Unread
 from companion.chp_tree import Program, Stmt
-from companion.parts import Part, Tree
+from companion.parts import Part, Tree, tree_of
 from companion.places import Text
-from companion.rules import Net
+from companion.rules import Net, read_net
 
 
 @dataclass
@@ -58,6 +59,13 @@ def fitted(data: bytes, name: str, tree: Tree, net: Net | None) -> Fit:
         why = "its text as it is read here and its parts don't fit"
         fit.why = f"no places in {fit.text.name} are told, since {why}: {error}"
     return fit
+
+
+def circuit_of(name: str) -> tuple[Tree, Net, Fit]:
+    """The parts of the program in a file, its net, and how its text fits them."""
+    tree = tree_of(name)
+    net = read_net(program.wanted(["compile", name]).out.decode("latin-1"), name)
+    return tree, net, fitted(options.read(name), name, tree, net)
 
 
 def pair(statement: Stmt, part: Part, found: dict[Part, Stmt]) -> None:

@@ -84,22 +84,28 @@ def told(bench: Bench, net: Net, found: Try, delays: str | None, to: str) -> lis
     return [*lines, f"the wave is {to}.vcd; {again} --delays {to}.delays shows it again"]
 
 
+def nothing(bench: Bench, nodes: list[str], seeds: int, mixed: int) -> list[str]:
+    """What is said where no run ended in a hazard."""
+    ways = f"{seeds + 3} orders and seeds, each of {len(nodes)} nodes slow and fast"
+    return [
+        f"no hazard in {bench.count} runs: {ways}, and {mixed} mixtures of delays",
+        "that proves nothing: there are more orders than were tried",
+    ]
+
+
 def main(words: Sequence[str]) -> int:
     """Runs the command: 5 where a hazard was found, else 0."""
     given = parser().parse_args(words)
     net = net_in(given.rules)
     nodes = moving(net)
+    bench = Bench(given.rules, given.script, given.steps, options.room())
     with Progress(f"hunt in {given.rules}") as progress:
-        bench = Bench(given.rules, given.script, given.steps, options.room())
-        bench.run(Try("", (), ""))
+        bench.run(Try("", (), ""))  # what is refused is told before many runs are made
         found = bench.first(all_tries(nodes, given.seeds, given.mixed), progress)
         if found is None:
-            progress.clear()
-            ways = f"{given.seeds + 3} orders and seeds, each of {len(nodes)} nodes slow and fast"
-            print(f"no hazard in {bench.count} runs: {ways}, and {given.mixed} mixtures of delays")
-            print("that proves nothing: there are more orders than were tried")
-            return 0
-        delays = as_delays(bench, found[0], nodes, progress, given.mixed)
-        lines = told(bench, net, found[0], delays, given.to or f"{options.stem(given.rules)}-hazard")
+            lines = nothing(bench, nodes, given.seeds, given.mixed)
+        else:
+            delays = as_delays(bench, found[0], nodes, progress, given.mixed)
+            lines = told(bench, net, found[0], delays, given.to or f"{options.stem(given.rules)}-hazard")
     print("\n".join(lines))
-    return 5
+    return 0 if found is None else 5

@@ -5,11 +5,10 @@ from __future__ import annotations
 from collections.abc import Sequence
 from xml.sax.saxutils import escape
 
-from companion import options, program
-from companion.fit import Fit, fitted, name_of
+from companion.fit import Fit, circuit_of, name_of
 from companion.options import Parser
-from companion.parts import Part, Tree, tree_of, width_of
-from companion.rules import Net, read_net
+from companion.parts import Part, Tree, width_of
+from companion.rules import Net
 from companion.terminal import Progress
 
 ABOUT = """\
@@ -36,6 +35,10 @@ class Drawing:
         self.fit = fit
         self.net = net
         self.places: dict[Part, tuple[int, float]] = {}
+        self.ends: dict[str, list[Part]] = {}  # by channel the sends and receives on it
+        for part in tree.root.walk():
+            if part.kind in ("send", "receive"):
+                self.ends.setdefault(name_of(part, tree, net), []).append(part)
         self.rows = 0
         self.lay(tree.root, 0)
         self.depth = max(column for column, _ in self.places.values()) + 1
@@ -106,12 +109,7 @@ class Drawing:
         lines = []
         channels = [it.name for it in self.net.channels if it.kind == "chan"]
         for number, name in enumerate(channels):
-            ends = [
-                it
-                for it in self.tree.root.walk() if it.kind in ("send", "receive") and name_of(
-                    it, self.tree, self.net
-                ) == name
-            ]
+            ends = self.ends.get(name, [])
             if not ends:
                 continue
             colour = LINES[number % len(LINES)]
@@ -146,8 +144,7 @@ def main(words: Sequence[str]) -> int:
     made.add_argument("file", metavar="F", help="the program")
     given = made.parse_args(words)
     with Progress(f"the parts of {given.file}"):
-        tree = tree_of(given.file)
-        net = read_net(program.wanted(["compile", given.file]).out.decode("latin-1"), given.file)
-        drawing = Drawing(tree, fitted(options.read(given.file), given.file, tree, net), net)
+        tree, net, fit = circuit_of(given.file)
+        drawing = Drawing(tree, fit, net)
     print(drawing.svg(), end="")
     return 0

@@ -12,6 +12,7 @@ from typing import BinaryIO
 
 from companion.terminal import Progress
 
+_called: list[bool] = []  # something where the program has answered
 TOP = os.path.dirname(os.path.dirname(os.path.abspath(__file__)))
 
 
@@ -62,17 +63,24 @@ def shell_status(code: int) -> int:
     return code if code >= 0 else 128 - code
 
 
-def started(words: Sequence[str], out: int | None, err: int | None) -> subprocess.Popen[bytes]:
-    """Starts the program."""
+def started(words: Sequence[str], out: int | None, err: int | None, name: str) -> subprocess.Popen[bytes]:
+    """Starts the program of this name."""
     try:
-        return subprocess.Popen([path(), *words], stdin=subprocess.DEVNULL, stdout=out, stderr=err)
+        return subprocess.Popen([name, *words], stdin=subprocess.DEVNULL, stdout=out, stderr=err)
     except OSError as error:
-        raise Refusal(f"{path()} can't be started: {error.strerror}", 127) from error
+        raise Refusal(f"{name} can't be started: {error.strerror}", 127) from error
+
+
+def again() -> str:
+    """The program for a call that isn't the first one. ./chpc builds itself where its sources are newer, and then
+    starts what it has built; after the first call that is there, and is started at once."""
+    built = os.path.join(TOP, "crates", "chpc", "out", "chpc")
+    return built if _called and "CHPC" not in os.environ and os.access(built, os.X_OK) else path()
 
 
 def answer(words: Sequence[str]) -> Answer:
     """What the program answers to these words. Where ./chpc builds itself first, what it tells of that is handed on."""
-    with started(words, subprocess.PIPE, subprocess.PIPE) as run:
+    with started(words, subprocess.PIPE, subprocess.PIPE, again()) as run:
         assert run.stdout is not None and run.stderr is not None
         kept: list[bytes] = []
         reader = threading.Thread(target=keep_lines, args=(run.stderr, kept))
@@ -80,6 +88,8 @@ def answer(words: Sequence[str]) -> Answer:
         out = run.stdout.read()
         reader.join()
         run.wait()
+    if run.returncode not in (70, 127, 130):
+        _called.append(True)
     return Answer(shell_status(run.returncode), out, b"".join(kept))
 
 
@@ -116,7 +126,7 @@ def relay(words: Sequence[str], progress: Progress) -> Answer:
     """Calls the program with the streams of this one. Standard error is kept besides; standard output passes through
     here only where it is a terminal, so that a line of progress can be taken away before."""
     seen = sys.stdout.isatty() and progress.shown
-    with started(words, subprocess.PIPE if seen else None, subprocess.PIPE) as run:
+    with started(words, subprocess.PIPE if seen else None, subprocess.PIPE, path()) as run:
         assert run.stderr is not None
         if seen:
             assert run.stdout is not None

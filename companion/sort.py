@@ -83,28 +83,35 @@ def variables(lines: Lines) -> dict[str, int]:
     return found
 
 
-def laid_out(lines: Lines, tree: Tree | None) -> list[str] | None:
-    """The nodes in the order of a compiled circuit, or none where their names aren't such."""
-    left = variables(lines)
-    channels = list(lines.channels)
+def channel_orders(lines: Lines, tree: Tree | None) -> list[list[str]]:
+    """In which order the channels may come: that of the program; or else that of their nodes' lines, and that of their
+    own."""
     if tree is not None:
-        channels = [it.name for it in tree.channels()]
-        left = {it.name: width_of(it) for it in tree.variables()}
+        return [[it.name for it in tree.channels()]]
+    places = {name: at for at, name in enumerate(lines.nodes)}
+    by_nodes = sorted(lines.channels, key=lambda name: places.get(f"{name}.0.t", len(places)))
+    return [by_nodes, list(lines.channels)]
+
+
+def laid_out(lines: Lines, channels: list[str], left: dict[str, int]) -> list[str]:
+    """The nodes in the order of a compiled circuit with these channels and variables, or none where they aren't
+    such."""
     order = ["go", "done"]
     for name in channels:
         order += wires(name, int(lines.channels.get(name, ("", "0"))[1]))
     numbered = sorted(int(name[1:]) for name in lines.nodes if re.fullmatch(r"n\d+", name))
+    left = dict(left)
     while left:
         name = next_variable(left, len(order), numbered)
         if not name:
-            return None
+            return []
         width = left.pop(name)
         order += bit_nodes(name, width)
         order += [f"n{number}" for number in range(len(order), len(order) + width - 1)]
     rest = len(lines.nodes) - len(order) - (lines.version == "prs 2")
     order += [f"n{number}" for number in range(len(order), len(order) + rest)]
     order += ["reset"] if lines.version == "prs 2" else []
-    return order if sorted(order) == sorted(lines.nodes) else None
+    return order if sorted(order) == sorted(lines.nodes) else []
 
 
 def next_variable(left: dict[str, int], first: int, numbered: list[int]) -> str:
@@ -124,14 +131,25 @@ def as_they_stand(lines: Lines) -> list[str]:
     return [*(it for it in ends[:2] if it in lines.nodes), *inner, *(it for it in ends[2:] if it in lines.nodes)]
 
 
+def order_of(lines: Lines, tree: Tree | None) -> tuple[list[str], list[str]]:
+    """The order of the nodes, and that of the channels. Where the nodes' lines are in the order of a compiled circuit
+    already, that is it; else it is made of the channels' lines; and where no such order fits, the lines are left as
+    they stand."""
+    left = variables(lines) if tree is None else {it.name: width_of(it) for it in tree.variables()}
+    standing = as_they_stand(lines)
+    for channels in channel_orders(lines, tree):
+        nodes = laid_out(lines, channels, left)
+        if nodes and (tree is not None or nodes == standing or channels == list(lines.channels)):
+            return nodes, channels
+    if tree is not None:
+        raise Refusal("the program's circuit has other nodes than the rule file")
+    return standing, list(lines.channels)
+
+
 def ordered(lines: Lines, tree: Tree | None) -> str:
     """The text of the file in order."""
-    nodes = laid_out(lines, tree) or as_they_stand(lines)
+    nodes, channels = order_of(lines, tree)
     numbers = {name: number for number, name in enumerate(nodes)}
-    channels = list(lines.channels)
-    if tree is not None:
-        places = {it.name: number for number, it in enumerate(tree.channels())}
-        channels.sort(key=lambda name: places.get(name, len(places)))
     rules = sorted(lines.rules, key=lambda key: (numbers.get(key[0], len(nodes)), key[1] == "-"))
     made = [lines.version, *(f"node {name} {lines.nodes[name]}" for name in nodes)]
     made += [f"{lines.channels[name][0]} {name} {lines.channels[name][1]}" for name in channels]

@@ -5,11 +5,10 @@ from __future__ import annotations
 from collections.abc import Iterable, Sequence
 from dataclasses import dataclass
 
-from companion import options, program
-from companion.fit import Fit, fitted
+from companion.fit import Fit, circuit_of
 from companion.options import Parser
-from companion.parts import Tree, tree_of
-from companion.rules import Net, literals_of, read_net, series_of
+from companion.parts import Tree
+from companion.rules import Net, literals_of, series_of
 from companion.terminal import Progress
 
 ABOUT = """\
@@ -78,11 +77,8 @@ def by_kind(net: Net, tree: Tree) -> tuple[list[str], list[tuple[str, Size]]]:
         kinds.setdefault(block.what, Size()).add(size)
         sizes.append((f"{block.what} {block.name}", size))
     for part in tree.root.walk():
-        size = size_of(net, (names[number] for stretch in part.own_nodes() for number in stretch))
-        if part is tree.root:
-            size.nodes += 2
-            size.rules += sum(("done", sign) in net.rules for sign in "+-")
-            size.literals += sum(literals_of(net.rules["done", sign]) for sign in "+-" if ("done", sign) in net.rules)
+        nodes = [names[number] for stretch in part.own_nodes() for number in stretch]
+        size = size_of(net, [*nodes, *(["go", "done"] if part is tree.root else [])])
         kinds.setdefault(part.kind, Size()).add(size)
         sizes.append((part.kind, size))
     rows = [["kind", "parts", "nodes", "rules", "literals", "series"]]
@@ -115,9 +111,7 @@ def main(words: Sequence[str]) -> int:
     made.add_argument("file", metavar="F", help="the program")
     given = made.parse_args(words)
     with Progress(f"the size of {given.file}"):
-        tree = tree_of(given.file)
-        net = read_net(program.wanted(["compile", given.file]).out.decode("latin-1"), given.file)
-        fit = fitted(options.read(given.file), given.file, tree, net)
+        tree, net, fit = circuit_of(given.file)
         whole = size_of(net, net.first)
         kinds, sizes = by_kind(net, tree)
     print(f"nodes {whole.nodes}\nrules {whole.rules}\nliterals {whole.literals}\nlongest series {whole.series}\n")

@@ -82,7 +82,7 @@ class Bench:
     def first(self, tries: Sequence[Try], progress: Progress) -> tuple[Try, program.Answer] | None:
         """The first of the runs in their order that ends in a hazard. They are made side by side, some at a time, so
         which one is found doesn't depend on how many processors there are."""
-        with concurrent.futures.ThreadPoolExecutor(os.cpu_count() or 1) as pool:
+        with concurrent.futures.ThreadPoolExecutor(len(os.sched_getaffinity(0))) as pool:
             for at in range(0, len(tries), TOGETHER):
                 some = tries[at : at + TOGETHER]
                 progress.count = f", {at} of {len(tries)} runs"

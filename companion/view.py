@@ -76,8 +76,8 @@ def main(words: Sequence[str]) -> int:
     to = given.to or options.stem(given.rules)
     options.write(f"{to}.vcd", vector_dump(wave, signals))
     options.write(f"{to}.gtkw", gtkw(f"{os.path.basename(to)}.vcd", signals))
-    print(f"{to}.vcd: {len(wave.changes)} moves of {len(wave.first)} nodes, {len(channels)} channels and "
-          f"{len(signals) - len(channels)} variables as vectors; {to}.gtkw shows them in gtkwave")
+    vectors = f"{len(channels)} channels and {len(signals) - len(channels)} variables as vectors"
+    print(f"{to}.vcd: {len(wave.changes)} moves of {len(wave.first)} nodes, {vectors}; {to}.gtkw shows them in gtkwave")
     print("\n".join(table(found)))
     if given.latency:
         print(between(found, *given.latency))

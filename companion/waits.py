@@ -2,6 +2,7 @@
 
 from __future__ import annotations
 
+import functools
 from collections.abc import Iterator
 from dataclasses import dataclass, field
 
@@ -52,9 +53,14 @@ class Scene:
         child = path[path.index(part) + 1]
         return self.held(child, target) if self.is_active(child) else self.leaves(part)
 
-    def sites(self, kind: str, channel: str) -> list[Part]:
-        """The sends or the receives on a channel."""
-        return [it for it in self.tree.root.walk() if it.kind == kind and name_of(it, self.tree, self.net) == channel]
+    @functools.cached_property
+    def sites(self) -> dict[tuple[str, str], list[Part]]:
+        """The sends and the receives on each channel, by their kind and its name."""
+        found: dict[tuple[str, str], list[Part]] = {}
+        for part in self.tree.root.walk():
+            if part.kind in ("send", "receive"):
+                found.setdefault((part.kind, name_of(part, self.tree, self.net)), []).append(part)
+        return found
 
     def called(self, part: Part) -> str:
         """A part for people: its place and its text, or its kind and its nodes."""
@@ -103,7 +109,7 @@ def wait_on_channel(scene: Scene, wait: Wait) -> None:
         wait.lines.append(f"the environment {'takes' if is_send else 'sends'} no more on {name}: {count}")
         return
     doing, other = ("receive", "received") if is_send else ("send", "sent")
-    sites = scene.sites(doing, name)
+    sites = scene.sites.get((doing, name), [])
     if not sites:
         wait.blocked = True
         wait.lines.append(f"it waits for ever: nothing is {other} on {name} in this program")

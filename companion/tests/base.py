@@ -6,6 +6,7 @@ import contextlib
 import io
 import os
 import subprocess
+import sys
 import tempfile
 import unittest
 from collections.abc import Sequence
@@ -13,6 +14,7 @@ from dataclasses import dataclass
 from unittest import mock
 
 from companion import main, program
+from companion.terminal import Progress
 from companion.tests import recorded
 
 TOP = program.TOP
@@ -26,6 +28,14 @@ class Ran:
     status: int
     out: str
     err: str
+
+
+def relayed(words: Sequence[str], _: Progress) -> program.Answer:
+    """What `program.relay` does, over recorded answers."""
+    answer = recorded.answer(words)
+    sys.stdout.write(answer.text())
+    sys.stderr.write(answer.err.decode())
+    return answer
 
 
 class Case(unittest.TestCase):
@@ -56,9 +66,9 @@ class Case(unittest.TestCase):
         return self.write(f"{name}.prs", answer.out)
 
     def chpx(self, *words: str) -> Ran:
-        """Runs a command of the companion in this process; for those that call the program and keep what it answers."""
+        """Runs a command of the companion in this process."""
         out, err = io.StringIO(), io.StringIO()
-        answers = mock.patch.object(program, "answer", recorded.answer)
+        answers = mock.patch.multiple(program, answer=recorded.answer, relay=relayed)
         with answers, contextlib.redirect_stdout(out), contextlib.redirect_stderr(err):
             status = main.main(list(words))
         return Ran(status, out.getvalue(), err.getvalue())
@@ -66,13 +76,16 @@ class Case(unittest.TestCase):
     def typed(self, *words: str, given: str = "", to: str = "", other: str = "") -> Ran:
         """Runs ./chpx as a person does. `given` is standard input, `to` a file for standard output, and `other` a
         program in place of the recorded answers."""
-        where = dict(os.environ, CHPC=other or os.path.join(recorded.HERE, "replay"))
+        where = dict(os.environ, CHPC=other or recorded.stand_in("."))
         with contextlib.ExitStack() as stack:
             out = stack.enter_context(open(to, "wb")) if to else subprocess.PIPE
             run = subprocess.run(
-                [
-                    os.path.join(TOP, "chpx"), *words
-                ], input=given.encode(), stdout=out, stderr=subprocess.PIPE, env=where, check=False
+                [sys.executable, os.path.join(TOP, "chpx"), *words],
+                input=given.encode(),
+                stdout=out,
+                stderr=subprocess.PIPE,
+                env=where,
+                check=False,
             )
         return Ran(run.returncode, (run.stdout or b"").decode(), run.stderr.decode())
 

@@ -13,6 +13,7 @@ import json
 import os
 import stat
 import subprocess
+import sys
 from collections.abc import Sequence
 
 from companion.program import Answer, shell_status
@@ -61,12 +62,12 @@ def with_names(text: str, words: Sequence[str]) -> str:
 
 
 @functools.cache
-def store() -> tuple[dict[str, str], dict[str, Kept]]:
-    """The recorded calls, and the answers by their keys."""
+def store() -> tuple[dict[str, str], dict[str, str]]:
+    """The recorded calls, and the answers by their keys, as JSON."""
     with open(os.path.join(RECORDED, "calls"), encoding="ascii") as file:
         calls = dict(line.split() for line in file)
     with open(os.path.join(RECORDED, "answers"), encoding="utf-8") as file:
-        answers = {line[:8]: json.loads(line[9:]) for line in file}
+        answers = {line[:8]: line[9:] for line in file}
     return calls, answers
 
 
@@ -95,9 +96,19 @@ def answer(words: Sequence[str], full: bool = False) -> Answer:
         key = key_of(words, full)
         if key not in calls:
             raise LookupError(f"no answer was recorded for: {' '.join(words)} ({key}); bench/companion records anew")
-        kept = answers[calls[key]]
+        kept = json.loads(answers[calls[key]])
     err = with_names(str(kept["err"]), words)
     return Answer(int(str(kept["status"])), str(kept["out"]).encode("latin-1"), err.encode("latin-1"))
+
+
+def stand_in(folder: str) -> str:
+    """Writes a program into a folder that answers as chpc did, and tells its path: `replay`, by this very Python."""
+    path = os.path.join(os.path.abspath(folder), "recorded-chpc")
+    with open(path, "w", encoding="utf-8") as file:
+        file.write(f"#!{sys.executable}\nimport runpy\n")
+        file.write(f"runpy.run_path({os.path.join(HERE, 'replay')!r}, run_name='__main__')\n")
+    os.chmod(path, 0o755)
+    return path
 
 
 def keep(found: dict[str, Kept], folder: str) -> None:

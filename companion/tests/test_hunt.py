@@ -57,7 +57,7 @@ class Hunt(Case):
                 " slow, after ",
                 "hazard: ",
                 "whose move did it: ",
-                "each the cause of the next",
+                "each move the cause of the next",
                 "the rules:",
                 "it.delays",
                 "it.vcd",

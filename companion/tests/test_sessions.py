@@ -14,7 +14,7 @@ class Sessions(Case):
     """What the page shows is what comes."""
 
     def test_sessions(self) -> None:
-        differing = sessions.compare(os.path.join(recorded.HERE, "replay"))
+        differing = sessions.compare(recorded.stand_in("."))
         self.assertEqual("\n".join(differing), "")
 
     def test_page(self) -> None:
@@ -25,7 +25,7 @@ class Sessions(Case):
         commands = " ".join(it.command for it in sessions.sessions(page))
         for name in ("check", "compile", "simulate", "why", "hunt", "view", "stat", "tree", "lint", "sort"):
             self.assertRegex(commands, rf"\./chpx {name}\b")
-        self.assertRegex(page, "nothing (is )?found proves nothing")
+        self.assertIn("nothing is found proves nothing", " ".join(page.replace("**", "").split()))
 
     def test_house(self) -> None:
         """Each module is below 200 lines, and no line is longer than 120 columns."""

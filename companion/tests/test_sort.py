@@ -43,6 +43,8 @@ class Sort(Case):
         text = self.read(self.compiled("gcd"))
         ran = self.chpx("sort", self.write("s.prs", self.shuffled(text, "rule")))
         self.assertEqual((ran.status, ran.out, ran.err), (0, text, ""))
+        ran = self.chpx("sort", self.write("s.prs", self.shuffled(text, "rule", "in", "out")))
+        self.assertEqual((ran.status, ran.out, ran.err), (0, text, ""))
         ran = self.chpx("sort", self.write("s.prs", self.shuffled(text)))
         self.assertEqual(ran.status, 0)
         self.has(ran.err, ["note: in which order these come isn't told by names, so it is that of their lines"])
@@ -54,6 +56,12 @@ class Sort(Case):
         """The rule file of a text."""
         self.write("f.chp", text)
         return self.compiled("f")
+
+    def test_other_program(self) -> None:
+        self.example("gcd.chp"), self.example("one.chp")
+        ran = self.chpx("sort", self.compiled("gcd"), "--program", "one.chp")
+        self.assertEqual((ran.status, ran.out), (1, ""))
+        self.has(ran.err, ["the program's circuit has other nodes"])
 
     def test_foreign(self) -> None:
         text = "rule a -> b-\nnode b 0\nprs 1\nnode a 1\nnode done 0\nrule ~a -> b+\nrule go -> a-\nnode go 0\n"

@@ -1,4 +1,4 @@
-"""What stands below the fixed line, for each status of the README's table; typed as a person types it."""
+"""What stands below the fixed line, for each status of the pages' table; typed as a person types it."""
 
 from __future__ import annotations
 
@@ -13,7 +13,7 @@ class Statuses(Case):
     """Each status, with the fixed line first and what is said below it."""
 
     def page_says(self, ran: Ran, status: int) -> None:
-        """The README's sentences on a status stand there."""
+        """The table's sentences on a status stand there."""
         self.assertEqual(ran.status, status, ran.err)
         happened, todo = causes.statuses()[status]
         self.has(ran.err, [f"what happened: {happened}\n", f"what to do: {todo}\n"])
@@ -31,7 +31,7 @@ class Statuses(Case):
     def test_1(self) -> None:
         for number, (text, place, wide) in TEXTS.items():
             with self.subTest(number):
-                ran = self.typed("check", self.write("f.chp", text))
+                ran = self.chpx("check", self.write("f.chp", text))
                 self.assertEqual((ran.status, ran.out), (1, ""))
                 cause = causes.causes()[number]
                 self.assertTrue(cause.instead, "a cause without a way out")
@@ -60,10 +60,10 @@ class Statuses(Case):
     def test_2(self) -> None:
         for words, (under, told) in WORDS.items():
             with self.subTest(words):
-                ran = self.typed(*words)
+                ran = self.chpx(*words)
                 self.assertEqual((ran.status, ran.out), (2, ""))
                 fixed, line, carets, *_ = ran.err.split("\n")
-                self.assertEqual((fixed, line), ("chp: 2 usage", "  chpx " + " ".join(words)))
+                self.assertEqual((fixed, line), ("chp: 2 usage", " ".join(["  chpx", *words])))
                 self.has(carets, [told])
                 start, end = carets.index("^"), carets.rindex("^") + 1
                 self.assertEqual(line[start:end], under)
@@ -94,7 +94,7 @@ class Statuses(Case):
             with self.subTest(number):
                 for name, text in {"net": NET, "script": "", "delays": "", **files}.items():
                     self.write(name, text)
-                ran = self.typed(*words)
+                ran = self.chpx(*words)
                 self.assertEqual((ran.status, ran.out), (8, ""))
                 cause = causes.causes()[number]
                 self.has(

@@ -89,7 +89,7 @@ class Words(Case):
         return ran.out
 
     def test_version(self) -> None:
-        self.has(self.typed("--version").out, ["chpx ", "isn't proved", recorded.HERE])
+        self.has(self.typed("--version").out, ["chpx ", "isn't proved", "recorded-chpc\n"])
 
     def test_own_words(self) -> None:
         ran = self.typed("why", "a", "b", "--progam", "c")
