@@ -115,13 +115,15 @@ def laid_out(lines: Lines, channels: list[str], left: dict[str, int]) -> list[st
 
 
 def next_variable(left: dict[str, int], first: int, numbered: list[int]) -> str:
-    """The variable that begins at this number. So many numbers are free before the next one that is a node's name: five
-    for each bit of a variable, whose tree has the numbers, and five more for each variable of one bit before it, which
-    has no tree."""
+    """The variable that begins at this number. A variable of w bits has 5w nodes with names and then w - 1 numbered
+    ones, its tree; so it is told by how many numbers are free here, and how many are none behind them. Where these
+    don't fit together, variables of one bit come first, which have no tree."""
     after = bisect.bisect_left(numbered, first)
     free = numbered[after] - first if after < len(numbered) else 0
-    widths = (free // 5, 1) if free % 5 == 0 else (1,)
-    return next((name for width in widths for name, wide in left.items() if wide == width), "")
+    width, last = free // 5, first + free + free // 5 - 2
+    has_tree = width > 1 and after + width - 2 < len(numbered) and numbered[after + width - 2] == last
+    widths = (width, 1) if free % 5 == 0 and has_tree else (1,)
+    return next((name for wanted in widths for name, wide in left.items() if wide == wanted), "")
 
 
 def as_they_stand(lines: Lines) -> list[str]:

@@ -72,7 +72,8 @@ def told(scene: Scene, waits: list[Wait], paint: Paint, with_all: bool) -> list[
 def conclusion(scene: Scene, waits: list[Wait], paint: Paint) -> list[str]:
     """What it comes down to."""
     found = []
-    for cycle in cycles(waits):
+    is_still = scene.report.end == ["rest"]
+    for cycle in cycles(waits) if is_still else ():
         whom = "it waits for itself" if len(
             cycle
         ) == 1 else "each of these waits for the next one, the last one for the first"
@@ -81,7 +82,7 @@ def conclusion(scene: Scene, waits: list[Wait], paint: Paint) -> list[str]:
     for wait in waits:
         if wait.blocked:
             found.append(paint.red("blocked for good") + f": {scene.called(wait.part)}")
-    if not found and waits and scene.report.end == ["rest"]:
+    if not found and waits and is_still:
         if any(wait.outside for wait in waits):
             found.append("no deadlock: it would go on if the environment did, by the script")
         else:

@@ -1,12 +1,14 @@
 """Recorded answers of chpc: which words over which files are answered by what.
 
 A call is known by its words, those that name a file by what the file holds. The file `calls` has a line for each, its
-key and that of its answer, and `answers` one for each answer, as JSON. Where the variable CHPX_RECORD names a folder,
-the program that CHPX_PROGRAM names is called instead, and each answer is kept in that folder, with the words.
+key and that of its answer, and `answers` one for each answer, as JSON, packed where it is long. Where the variable
+CHPX_RECORD names a folder, the program that CHPX_PROGRAM names is called instead, and each answer is kept in that
+folder, with the words.
 """
 
 from __future__ import annotations
 
+import base64
 import functools
 import hashlib
 import json
@@ -14,12 +16,14 @@ import os
 import stat
 import subprocess
 import sys
+import zlib
 from collections.abc import Sequence
 
 from companion.program import Answer, shell_status
 
 HERE = os.path.dirname(os.path.abspath(__file__))
 RECORDED = os.path.join(HERE, "recorded")
+LONG = 1000  # characters from which on an answer is packed
 Kept = dict[str, object]
 
 
@@ -61,6 +65,18 @@ def with_names(text: str, words: Sequence[str]) -> str:
     return text
 
 
+def packed(text: str) -> str:
+    """A text, if it is long in fewer characters: `=` and its compressed bytes."""
+    if len(text) < LONG:
+        return text
+    return "=" + base64.b64encode(zlib.compress(text.encode(), 9)).decode()
+
+
+def unpacked(text: str) -> str:
+    """The text that was packed."""
+    return zlib.decompress(base64.b64decode(text[1:])).decode() if text.startswith("=") else text
+
+
 @functools.cache
 def store() -> tuple[dict[str, str], dict[str, str]]:
     """The recorded calls, and the answers by their keys, as JSON."""
@@ -96,7 +112,7 @@ def answer(words: Sequence[str], full: bool = False) -> Answer:
         key = key_of(words, full)
         if key not in calls:
             raise LookupError(f"no answer was recorded for: {' '.join(words)} ({key}); bench/companion records anew")
-        kept = json.loads(answers[calls[key]])
+        kept = json.loads(unpacked(answers[calls[key]]))
     err = with_names(str(kept["err"]), words)
     return Answer(int(str(kept["status"])), str(kept["out"]).encode("latin-1"), err.encode("latin-1"))
 
@@ -118,4 +134,4 @@ def keep(found: dict[str, Kept], folder: str) -> None:
     with open(os.path.join(folder, "calls"), "w", encoding="ascii") as file:
         file.writelines(f"{key} {names[text]}\n" for key, text in sorted(texts.items()))
     with open(os.path.join(folder, "answers"), "w", encoding="utf-8") as file:
-        file.writelines(f"{name} {text}\n" for text, name in sorted(names.items(), key=lambda it: it[1]))
+        file.writelines(f"{name} {packed(text)}\n" for text, name in sorted(names.items(), key=lambda it: it[1]))

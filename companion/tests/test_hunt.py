@@ -6,14 +6,14 @@ import os
 from unittest import mock
 
 from companion import program, shrink
-from companion.hunt import all_tries, moving
+from companion.hunt import all_tries, moving, told
 from companion.rules import read_net
 from companion.terminal import Progress
 from companion.tests import recorded
 from companion.tests.base import Case
 from companion.tests.broken import broken_files
 from companion.tests.programs import FIFO, FIFO_SCRIPT
-from companion.tries import Bench
+from companion.tries import Bench, Try
 
 COUNT, SEED, WANTED = 60, 1, 37
 FOUND = 45  # so many are found; the answers are recorded, so it is always this number
@@ -80,6 +80,13 @@ class Hunt(Case):
             self.typed("hunt", "--help").out,
             ["nothing is found proves nothing", "`chpc compile` wrote there", "nothing to find"],
         )
+
+    def test_no_delay_file(self) -> None:
+        """A hazard that an order shows, and no delay file that was tried."""
+        net, found = read_net(self.text, "fifo.prs"), Try("the order newest", ("--order", "newest"))
+        lines = told(Bench("fifo.prs", "fifo.script", None, "."), net, found, None, "it")
+        self.assertEqual(lines[0], "found by the order newest, after 0 runs")
+        self.assertTrue(lines[1].endswith("chpc simulate fifo.prs fifo.script --order newest does"))
 
     def test_refused(self) -> None:
         self.write("bad.script", "L: 7\n")

@@ -52,6 +52,17 @@ class Sort(Case):
         ran = self.chpx("sort", self.write("s.prs", self.shuffled(one)))
         self.assertEqual((ran.status, ran.out, ran.err), (0, one, ""))
 
+    def test_many_widths(self) -> None:
+        """Variables of one bit have no tree of numbered nodes, so they are told apart from wider ones by what
+        follows."""
+        for seed in range(4):
+            draw = random.Random(seed)
+            names = [f"v{at}" for at in range(30)]
+            head = "".join(f"var {name} : {draw.choice((1, 1, 1, 2, 3, 8))};\n" for name in names)
+            text = self.read(self.compiled_text(f"{head}begin {'; '.join(f'{name} := 0' for name in names)} end"))
+            ran = self.chpx("sort", self.write("s.prs", self.shuffled(text)), "--program", "f.chp")
+            self.assertEqual((ran.status, ran.out), (0, text))
+
     def compiled_text(self, text: str) -> str:
         """The rule file of a text."""
         self.write("f.chp", text)

@@ -109,6 +109,13 @@ class Why(Case):
             ],
         )
 
+    def test_no_deadlock_before_rest(self) -> None:
+        """While a run goes on, a send and its receive may both be under way."""
+        text = "chan p : 4; var x : 4; begin *[p!9] || *[p?x] end"
+        for steps in range(20, 40):
+            ran = self.why(text, "", "--steps", str(steps))
+            self.assertNotIn("deadlock", ran.out)
+
     def test_reset(self) -> None:
         self.has(self.why(RING, "", compiled=("--reset",)).out, ["a deadlock: each of these", "f.chp:7:5: p!x"])
 
