@@ -1,0 +1,79 @@
+"""Which row of the table "you wrote, write instead" in docs/LANGUAGE.md fits a refused place. The rows' sentences stand
+in the table alone; here stands only how each is recognised."""
+
+from __future__ import annotations
+
+import re
+
+from companion.causes import wrote
+
+# for each row, by its first cell: what stands right before the place and what begins there
+ROWS: list[tuple[str, tuple[int, ...], str, str]] = [
+    ("`true`, `false`", (21,), r"", r"(true|false|TRUE|FALSE|True|False)\b"),
+    ("`else -> S`", (21,), r"", r"(else|otherwise|default)\b"),
+    ("`const N = 8;`", (11,), r"", r"(const|let|define|param)\b"),
+    ("`bool b;`, `int n;`", (11,), r"", r"(bool|int|uint|byte|bit|reg|wire|logic|signal|node)\b"),
+    ("`if b then S`, `while b do S`", (11,), r"\b(if|while)\s*$", r""),
+    ("`if b then S`, `while b do S`", (11,), r"", r"(if|while|then|do)\b"),
+    ("`not b`, `a and b`, `a or b`", (11,), r"\b(not|and|or|xor)\s*$", r""),
+    ("`not b`, `a and b`, `a or b`", (11,), r"", r"(and|or|xor)\b"),
+    ("`x == y`", (11,), r"=\s*$", r"="),
+    ("`a && b`, `a || b`", (11,), r"&\s*$", r"&"),
+    ("`a && b`, `a || b`", (11,), r"(\[|\[\]|->|:=)[^\[\];]*$", r"\|\|[^;\[\]]*->"),
+    ("`x <- 1`", (11,), r"\w\s*$", r"<\s*-"),
+    ("`x << 1`", (11,), r"<\s*$", r"<"),
+    ("`x >> 1`", (11,), r">\s*$", r">"),
+    ("`x++`, `x += 1`", (11,), r"\w\s*$", r"(\+\s*\+|\+\s*=|-\s*-|-\s*=)"),
+    ("`!b`", (11,), r"(:=|!|->|\[|\[\]|[&|^=<>+\-~({,])\s*$", r"!"),
+    ("`~~x`", (11,), r"~\s*$", r"~"),
+    ("`-x`", (11,), r"(:=|!|[&|^=<>+\-~({,])\s*$", r"-"),
+    ("`x * y`", (11,), r"[\w)\]}]\s*$", r"\*"),
+    ("`x / y`, `x % y`", (10,), r"[\w)\]}]\s*$", r"(/(?![*])|%)"),
+    ("`/* .. */`", (10,), r"", r"/\*"),
+    ("`0XFF`, `0b101`, `1_000`, `8'd1`", (10,), r"", r"[0-9]|'"),
+    ("`_x`", (10,), r"", r"_"),
+    ("a name of 25 characters or more", (10,), r"", r"[A-Za-z]\w{24}"),
+    ("`m[i]`", (11,), r"\w\s*\[\s*$", r"[A-Za-z]"),
+    ("`x[3:0] := y`", (11,), r"(\bbegin|[;,(\[]|->|\|\|)\s*[A-Za-z]\w*\s*$", r"\[[^\]]*\]\s*:="),
+    ("`X!`, `X?`", (11,), r"[A-Za-z]\w*\s*[!?]\s*$", r"(;|,|\]|\[\]|\)|\|\||end\b|$)"),
+    ("`X!(a, b)`", (11,), r"!\s*\([^()]*$", r","),
+    ("`in X, Y : 8;`", (11,), r"\b(in|out|chan|var)\s+\w+\s*$", r","),
+    ("`var x;`, `var x := 0;`", (11,), r"\bvar\s+\w+\s*$", r"[;=\[]|:="),
+    ("`var x : 8 := 0;`", (11,), r"\bvar\s+\w+\s*:\s*\w+\s*$", r":="),
+    (
+        "a keyword as a name",
+        (11,),
+        r"\b(in|out|chan|var|proc|call)\s+$",
+        r"(in|out|chan|var|begin|end|skip|proc|call)\b",
+    ),
+    ("`[x]`, `*[x]`", (11,), r"\[[^\[\]]*[\w)}\]]\s*$", r"\]"),
+    ("`[a -> S | b -> T]`", (11,), r"->.*$", r"\|(?!\|)[^\[\]]*->"),
+    ("`;` before `]`, `)` or `end`", (11,), r";\s*$", r"(\]|\[\]|\)|\|\||end\b)"),
+    ("`end;`", (11,), r"\bend\s*$", r"[;.]"),
+    ("`x = 1;` as a statement", (11,), r"(\bbegin|[;,(\[]|->|\|\|)\s*[A-Za-z]\w*\s*$", r"="),
+    ("`x := 1  y := 2`", (11,), r"[\w)\]}]\s+$", r"([A-Za-z]\w*\s*(:=|!|\?)|skip\b|\*\s*\[|\[)"),
+    ("`var x : 8` without `;`", (11,), r"\b(in|out|chan|var)\s+\w+\s*:\s*\w+\s*$", r"(in|out|chan|var|proc|begin)\b"),
+    ("`x := y` without `begin`", (11,), r"(^|;)\s*$", r"(skip\b|\*|\[|\(|[A-Za-z]\w*\s*(:=|!|\?))"),
+]
+
+
+def bare(data: bytes) -> str:
+    """A text without its comments, each byte a character, comments as blanks."""
+    text = data.decode("latin-1")
+    return re.sub(r"//[^\n]*", lambda it: " " * len(it[0]), text)
+
+
+def key_of(data: bytes, number: int, start: int) -> str:
+    """The first cell of the row that fits the place, or nothing."""
+    text = bare(data) if number != 10 else data.decode("latin-1")
+    before, behind = text[max(0, start - 400) : start], text[start : start + 400]
+    for key, numbers, front, back in ROWS:
+        if number in numbers and re.search(front, before) and re.match(back, behind):
+            return key
+    return ""
+
+
+def hint(data: bytes, number: int, start: int, end: int) -> str:
+    """What to write instead at a refused place, as the table says, or nothing."""
+    row = wrote().get(key_of(data, number, start))
+    return f"{row.instead} (for {row.key})" if row else ""

@@ -1,0 +1,147 @@
+"""`lint`: what a program that chpc accepts may still be doing wrong."""
+
+from __future__ import annotations
+
+import sys
+from collections.abc import Iterator, Sequence
+
+from companion import options, program
+from companion.chp_reader import read_program
+from companion.chp_tokens import Unread
+from companion.chp_tree import Program, Stmt
+from companion.guards import MOST_BITS, Choice, bits_read, choices_of, is_wide
+from companion.options import Parser
+from companion.places import Text
+from companion.program import Refusal
+from companion.terminal import Paint, Progress
+
+ABOUT = f"""\
+Looks at a program that `chpc check` accepts for what is seldom meant: selections in which for some
+values no guard is true, or several are; variables and channels that nothing uses; a channel inside
+of the program with one end; and a loop that can never be left though something follows it. Guards
+are tried by `chpc run` on all values of the bits that they read, up to {MOST_BITS} bits; wider ones
+are told as not tried. Whether a value that is told ever comes, lint doesn't know. The status is 20
+where it found something."""
+FOUND = 20
+Finding = tuple[int, int, str]  # the bytes from..to, and what is to be said
+
+
+def unused(it: Program) -> Iterator[Finding]:
+    """Variables and channels that no statement uses, and internal channels with one end."""
+    sends = {stmt.name for stmt in it.statements() if stmt.kind == "send"}
+    receives = {stmt.name for stmt in it.statements() if stmt.kind == "receive"}
+    written = {stmt.name for stmt in it.statements() if stmt.kind in ("assign", "through")}
+    written |= {stmt.target for stmt in it.statements() if stmt.kind == "receive"}
+    read = {use.name for stmt in it.statements() for expr in (stmt.value, *stmt.guards) if expr for use in expr.uses}
+    for decl in it.decls:
+        if decl.kind == "var":
+            if decl.name not in written | read:
+                yield decl.start, decl.end, f"the variable {decl.name} isn't used"
+        elif decl.name not in sends | receives:
+            yield decl.start, decl.end, f"the channel {decl.name} isn't used"
+        elif decl.kind == "chan" and decl.name not in receives:
+            yield decl.start, decl.end, f"nothing is received on {decl.name}, so a send on it waits for ever"
+        elif decl.kind == "chan" and decl.name not in sends:
+            yield decl.start, decl.end, f"nothing is sent on {decl.name}, so a receive on it waits for ever"
+
+
+def is_endless(stmt: Stmt) -> bool:
+    """Whether a statement can never end, whatever the values are: a loop `*[S]`, or a statement that has to run such a
+    one."""
+    if stmt.kind == "loop":
+        return True
+    if stmt.kind in ("sequence", "parallel"):
+        return any(is_endless(child) for child in stmt.children)
+    return stmt.kind == "select" and all(is_endless(child) for child in stmt.children)
+
+
+def unreached(it: Program, text: Text) -> Iterator[Finding]:
+    """Loops that can never be left though something follows them."""
+    for stmt in it.statements():
+        if stmt.kind != "sequence":
+            continue
+        for child, after in zip(stmt.children, stmt.children[1:]):
+            if is_endless(child):
+                where = text.place(after.start)
+                follows = f"what follows at {where.line}:{where.column}"
+                yield child.start, child.end, f"this never ends, so {follows} is never reached"
+                break
+
+
+def ranges(values: list[int]) -> str:
+    """Numbers in ascending order, three or more in a row as `a..b`; of many the first ones."""
+    parts: list[list[int]] = []
+    for value in values:
+        if parts and value == parts[-1][-1] + 1:
+            parts[-1].append(value)
+        else:
+            parts.append([value])
+    told = [
+        str(it[0]) if len(it) == 1 else f"{it[0]}, {it[1]}" if len(it) == 2 else f"{it[0]}..{it[-1]}" for it in parts
+    ]
+    return ", ".join(told[:6]) + (", .." if len(told) > 6 else "")
+
+
+def cases(choice: Choice, rows: list[int]) -> str:
+    """The values of the variables in some rows of a choice: of one variable all, of several the first ones."""
+    if len(choice.names) == 1:
+        return f"{choice.names[0]} = {ranges([choice.values[row][0] for row in rows])}"
+    some = [
+        "(" + ", ".join(f"{name} = {value}" for name, value in zip(choice.names, choice.values[row])) + ")"
+        for row in rows[:3]
+    ]
+    return ", ".join(some) + (f" and {len(rows) - 3} more" if len(rows) > 3 else "")
+
+
+def wide_choices(it: Program) -> list[Stmt]:
+    """The selections whose guards read too many bits to be tried."""
+    return [stmt for stmt in it.statements() if stmt.kind in ("select", "again") and is_wide(bits_read(it, stmt))]
+
+
+def selections(it: Program, text: Text, folder: str) -> Iterator[Finding]:
+    """Selections and guarded repetitions for which not exactly one guard is true."""
+    for stmt in it.statements():
+        if stmt.kind not in ("select", "again"):
+            continue
+        if is_wide(bits_read(it, stmt)):
+            continue
+        choice = choices_of(it, stmt, text.data, folder)
+        none = [row for row, true in enumerate(choice.true) if not true]
+        if none and stmt.kind == "select":
+            for_some = f"no guard is true for {cases(choice, none)}: it waits for ever then" if choice.names else ""
+            yield stmt.start, stmt.end, for_some or "no guard is ever true: it waits for ever"
+        several: dict[tuple[int, ...], list[int]] = {}
+        for row, true in enumerate(choice.true):
+            if len(true) > 1:
+                several.setdefault(tuple(true), []).append(row)
+        for guards, rows in several.items():
+            names = " and ".join(str(guard + 1) for guard in guards)
+            which = f" for {cases(choice, rows)}" if choice.names else ""
+            yield stmt.start, stmt.end, f"the guards {names} are true at once{which}: it waits for ever then"
+
+
+def main(words: Sequence[str]) -> int:
+    """Runs the command: 0 where nothing was found, else 20."""
+    made = Parser("lint", ABOUT)
+    made.add_argument("file", metavar="F", help="the program")
+    given = made.parse_args(words)
+    with Progress(f"lint of {given.file}"):
+        program.wanted(["check", given.file])
+        text = Text(given.file, options.read(given.file))
+        try:
+            it = read_program(text.data)
+        except Unread as error:
+            raise Refusal(
+                f"{text.told(error.at)}: chpc accepts this program, but lint can't read it: {error}"
+            ) from error
+        found = [*unused(it), *unreached(it, text), *selections(it, text, options.room())]
+    paint = Paint(sys.stdout)
+    for start, end, what in sorted(found, key=lambda it: it[0]):
+        print(f"{paint.bold(text.told(start))}: {what}")
+        print("\n".join(text.shown(start, end, paint)))
+    print(f"{len(found)} found" if found else "nothing found")
+    wide = wide_choices(it)
+    if wide:
+        places = ", ".join(text.told(stmt.start) for stmt in wide)
+        print(f"not tried, since their guards read more than {MOST_BITS} bits: {places}")
+    return FOUND if found else 0

@@ -1,0 +1,110 @@
+"""What `./chpx` does with its words: the companion's own commands here, all others by the proved program."""
+
+from __future__ import annotations
+
+import importlib
+import os
+import sys
+from collections.abc import Sequence
+
+from companion import options, program
+from companion.commands import forms, forms_of
+from companion.explain import explained
+from companion.own import OWN
+from companion.program import Ended, Refusal
+from companion.terminal import Paint, Progress
+
+VERSION = "1"
+HEAD = """\
+chpx calls chpc, the proved compiler and simulator, and says more plainly what it answers.
+
+Nothing that chpx does itself is proved: its places, explanations, pictures and hunts are there to
+help, and add nothing to what chpc promises. What stands on standard output of a command of chpc is
+chpc's, byte for byte, with its status.
+"""
+TAIL = """\
+`chpx COMMAND --help` tells more of one. A file `-` is standard input. The program that is called is
+./chpc of the folder of chpx, or the one that the variable CHPC names. NO_COLOR takes the colours
+away. docs/COMPANION.md shows it all.
+"""
+
+
+def help_text() -> str:
+    """What `chpx --help` prints."""
+    lines = [HEAD, "commands of chpc, with its answer explained:"]
+    lines += [f"  {form.text}" for form in forms()]
+    lines += ["", "commands of chpx, which make many calls of chpc:"]
+    lines += [f"  {name:6} {about}" for name, (_, about) in OWN.items()]
+    return "\n".join([*lines, "", TAIL])
+
+
+def help_of(command: str) -> str:
+    """What `chpx COMMAND --help` prints for a command of chpc."""
+    lines = [f"chpx calls `chpc {command}`; on standard output comes, with status 0,", ""]
+    for form in forms_of(command):
+        lines += [f"  chpx {form.text}", f"      {form.about}", ""]
+    lines.append("All of it is told in docs/FORMATS.md. Nothing that chpx adds to it is proved.")
+    return "\n".join(lines)
+
+
+def own(command: str, words: Sequence[str]) -> int:
+    """Runs one of the companion's own commands."""
+    module = importlib.import_module(f"companion.{OWN[command][0]}")
+    return int(module.main(words))
+
+
+def call(words: Sequence[str]) -> int:
+    """Hands a command to the proved program, and explains how it ended."""
+    with Progress(" ".join(words[:1]) or "chpc") as progress:
+        answer = program.relay(words, progress)
+    tell(words, answer)
+    return answer.status
+
+
+def tell(words: Sequence[str], answer: program.Answer) -> None:
+    """Writes the explanation below the fixed line."""
+    lines = explained(words, answer, Paint(sys.stderr))
+    if lines:
+        print("\n".join(lines), file=sys.stderr)
+
+
+def dispatch(words: Sequence[str]) -> int:
+    """Does what the words ask for."""
+    if words and words[0] in ("--help", "-h", "help"):
+        print(help_text(), end="")
+        return 0
+    if words and words[0] == "--version":
+        print(f"chpx {VERSION}, which isn't proved; it calls {program.path()}")
+        return 0
+    named = options.with_standard_input(words)
+    if words and words[0] in OWN:
+        return own(words[0], named[1:])
+    asked = named[: named.index("--")] if "--" in named else named
+    if ("--help" in asked[1:] or "-h" in asked[1:]) and forms_of(words[0]):
+        print(help_of(words[0]))
+        return 0
+    return call(named)
+
+
+def main(words: Sequence[str]) -> int:
+    """The same, with what stops it told on standard error."""
+    sys.setrecursionlimit(20_000)
+    try:
+        status = dispatch(words)
+        sys.stdout.flush()
+        return status
+    except Refusal as refusal:
+        print(f"chpx: {refusal.text}", file=sys.stderr)
+        return refusal.status
+    except Ended as ended:
+        sys.stderr.write(ended.answer.err.decode("utf-8", "replace"))
+        tell(ended.words, ended.answer)
+        return ended.answer.status
+    except BrokenPipeError:
+        os.dup2(os.open(os.devnull, os.O_WRONLY), sys.stdout.fileno())
+        return 4
+    except KeyboardInterrupt:
+        print("chpx: broken off", file=sys.stderr)
+        return 130
+    finally:
+        options.leave()

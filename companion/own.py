@@ -1,0 +1,13 @@
+"""The companion's own commands: the module of each, and what it does in a line."""
+
+from __future__ import annotations
+
+OWN = {
+    "why": ("why", "what is under way where a run stops, and what each waits for"),
+    "hunt": ("hunt", "looks for hazards in a rule file by many orders and delays"),
+    "view": ("view", "writes a wave with channels and variables as vectors; causes; latency and cycle time"),
+    "stat": ("stat", "how large a circuit is, by part and by kind of part"),
+    "tree": ("picture", "draws the parts of a circuit"),
+    "lint": ("lint", "what a program that is accepted may still be doing wrong"),
+    "sort": ("sort", "brings a rule file's lines into the one order"),
+}

@@ -1,0 +1,80 @@
+"""Places in texts: lines and columns for byte offsets, and the line with a caret below it."""
+
+from __future__ import annotations
+
+from dataclasses import dataclass
+
+from companion.labels import called
+from companion.terminal import Paint
+
+WIDEST = 100  # columns of a source line that are shown
+
+
+@dataclass(frozen=True)
+class Place:
+    """Where something stands: line and column, both from 1, the columns counted in characters."""
+
+    line: int
+    column: int
+
+
+class Text:
+    """A file's bytes with the name by which a person knows it."""
+
+    def __init__(self, name: str, data: bytes) -> None:
+        self.name = called(name)
+        self.data = data
+        self.starts = [0, *(at + 1 for at, byte in enumerate(data) if byte == 10)]
+
+    def line_at(self, offset: int) -> int:
+        """The number of the line, from 1, in which a byte offset lies."""
+        low, high = 0, len(self.starts)
+        while high - low > 1:
+            middle = (low + high) // 2
+            low, high = (middle, high) if self.starts[middle] <= offset else (low, middle)
+        return low + 1
+
+    def line(self, number: int) -> bytes:
+        """The bytes of a line, without its end; nothing where there is no such line."""
+        if number > len(self.starts):
+            return b""
+        return self.data[self.starts[number - 1] :].split(b"\n", 1)[0]
+
+    def place(self, offset: int) -> Place:
+        """Line and column of a byte offset."""
+        number = self.line_at(offset)
+        before = self.data[self.starts[number - 1] : offset]
+        return Place(number, len(before.decode("utf-8", "replace")) + 1)
+
+    def told(self, offset: int) -> str:
+        """FILE:LINE:COLUMN of a byte offset."""
+        it = self.place(offset)
+        return f"{self.name}:{it.line}:{it.column}"
+
+    def shown(self, start: int, end: int, paint: Paint) -> list[str]:
+        """The line of a stretch of bytes, and a line with carets below its first line's part."""
+        number = self.line_at(start)
+        from_line = self.starts[number - 1]
+        return marked(self.line(number), start - from_line, end - from_line, number, paint)
+
+
+def visible(data: bytes) -> str:
+    """Bytes as characters of which each takes one column: a tab becomes a blank, other control characters a dot."""
+    text = data.decode("utf-8", "replace")
+    return "".join(" " if it == "\t" else it if it.isprintable() else "·" for it in text)
+
+
+def marked(line: bytes, start: int, end: int, number: int, paint: Paint) -> list[str]:
+    """A line and its carets: below the bytes from `start` to `end` of it, below one column at least. Of a long line
+    only the part round the place is shown."""
+    left = len(visible(line[:start]))
+    wide = max(1, len(visible(line[start : min(end, len(line))])))
+    text = visible(line.rstrip(b"\r") if start < len(line.rstrip(b"\r")) else line)
+    first = max(0, left - WIDEST // 2) if len(text) > WIDEST else 0
+    front = ".. " if first else ""
+    shown = text[first : first + WIDEST]
+    back = " .." if first + WIDEST < len(text) else ""
+    wide = min(wide, max(1, len(shown) - (left - first)))
+    margin = f"{number:5} | "
+    carets = " " * (len(front) + left - first) + paint.red("^" * wide)
+    return [paint.dim(margin) + front + shown + back, paint.dim(" " * 5 + " | ") + carets]

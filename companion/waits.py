@@ -1,0 +1,182 @@
+"""What is under way where a run stops, and what waits for what."""
+
+from __future__ import annotations
+
+import functools
+from collections.abc import Iterator
+from dataclasses import dataclass, field
+
+from companion.fit import Fit, name_of
+from companion.parts import Part, Tree, width_of
+from companion.rules import Net
+from companion.waves import Report, bits
+
+
+@dataclass
+class Wait:
+    """A part under way with none in it: why it waits, in lines; the parts that it waits for; whether it waits for the
+    environment; and whether it is blocked for good by itself, as a selection is where not exactly one guard is true."""
+
+    part: Part
+    lines: list[str] = field(default_factory=list)
+    on: list[Part] = field(default_factory=list)
+    outside: bool = False
+    blocked: bool = False
+
+
+@dataclass(frozen=True)
+class Scene:
+    """All that is known where a run stops: the net with the values of its nodes, the parts with their places, and the
+    report."""
+
+    net: Net
+    values: dict[str, str]
+    tree: Tree
+    fit: Fit
+    report: Report
+
+    def is_active(self, part: Part) -> bool:
+        """Whether a part's request is high and its answer low."""
+        return self.values.get(part.request) == "1" and self.values.get(part.answer) == "0"
+
+    def leaves(self, part: Part) -> list[Part]:
+        """The parts under way in this one, itself too, that have none under way in them."""
+        if not self.is_active(part):
+            return []
+        return [leaf for child in part.children for leaf in self.leaves(child)] or [part]
+
+    def held(self, part: Part, target: Part) -> list[Part]:
+        """What is under way and has to end before the target, which lies in this part, comes to its turn."""
+        path = target.path()
+        if part is target:
+            return self.leaves(part)
+        child = path[path.index(part) + 1]
+        return self.held(child, target) if self.is_active(child) else self.leaves(part)
+
+    @functools.cached_property
+    def sites(self) -> dict[tuple[str, str], list[Part]]:
+        """The sends and the receives on each channel, by their kind and its name."""
+        found: dict[tuple[str, str], list[Part]] = {}
+        for part in self.tree.root.walk():
+            if part.kind in ("send", "receive"):
+                found.setdefault((part.kind, name_of(part, self.tree, self.net)), []).append(part)
+        return found
+
+    def called(self, part: Part) -> str:
+        """A part for people: its place and its text, or its kind and its nodes."""
+        if part in self.fit.statements:
+            return f"{self.fit.place(part)}: {self.fit.source(part)}"
+        return f"{part.kind} {name_of(part, self.tree, self.net)} ({part.request}, {part.answer})".replace("  ", " ")
+
+    def value(self, name: str, width: int) -> str:
+        """The value of a channel or a variable, in decimal; `between values` where not each bit has one."""
+        digits = bits(self.values, name, width)
+        return str(int(digits, 2)) if set(digits) <= {"0", "1"} else f"between values ({digits})"
+
+
+def waits_of(scene: Scene) -> list[Wait]:
+    """What each innermost part under way waits for."""
+    return [wait_of(scene, part) for part in scene.leaves(scene.tree.root)]
+
+
+def wait_of(scene: Scene, part: Part) -> Wait:
+    """What this part waits for."""
+    wait = Wait(part)
+    if part.kind in ("send", "receive"):
+        wait_on_channel(scene, wait)
+    elif part.kind in ("select", "again"):
+        wait_on_guards(scene, wait)
+    else:
+        wait.lines.append("it is between two of its steps")
+    return wait
+
+
+def wait_on_channel(scene: Scene, wait: Wait) -> None:
+    """A send waits for a receive, a receive for a send; the environment does one of them on channels that lead
+    outside."""
+    part, is_send = wait.part, wait.part.kind == "send"
+    name = name_of(part, scene.tree, scene.net)
+    channel = scene.net.channel(name)
+    if channel is None:
+        wait.lines.append("its channel isn't told by the rules")
+        return
+    passed = len(scene.report.passed.get(name, []))
+    count = f"{passed} value{' has' if passed == 1 else 's have'} passed"
+    if is_send:
+        wait.lines.append(f"it offers {scene.value(name, channel.width)} on {name}")
+    if channel.kind != "chan":
+        wait.outside = True
+        wait.lines.append(f"the environment {'takes' if is_send else 'sends'} no more on {name}: {count}")
+        return
+    doing, other = ("receive", "received") if is_send else ("send", "sent")
+    sites = scene.sites.get((doing, name), [])
+    if not sites:
+        wait.blocked = True
+        wait.lines.append(f"it waits for ever: nothing is {other} on {name} in this program")
+    for site in sites:
+        path, own = site.path(), part.path()
+        at = next(at for at, it in enumerate(path) if at >= len(own) or it is not own[at])
+        where = scene.called(site)
+        if path[at - 1].kind != "parallel":
+            wait.on.append(part)
+            wait.lines.append(f"{name} is {other} at {where}, which isn't beside it: it waits for itself")
+            continue
+        held = scene.held(path[at], site)
+        wait.on += [it for it in held if it not in wait.on]
+        behind = f"which waits for {' and '.join(scene.called(it) for it in held if it is not site)}"
+        ended = "whose branch isn't under way any more"
+        told = "which is under way too" if site in held else behind if held else ended
+        wait.lines.append(f"{name} is {other} at {where}, {told}")
+
+
+def guards_of(scene: Scene, part: Part) -> list[tuple[str, str]]:
+    """The rails of each guard of a selection, as the rule of its first start tells them: `l & ~h1.t & ~h1.f & ..`."""
+    own = 3 if part.kind == "select" else 6
+    names = list(scene.net.first)
+    start = names[part.first + own + len(part.children)]
+    terms = scene.net.terms(start, "+")
+    rails = [node for node, high in terms[0] if not high and node != "reset"] if terms else []
+    return list(zip(rails[0::2], rails[1::2]))
+
+
+def wait_on_guards(scene: Scene, wait: Wait) -> None:
+    """A selection waits where not exactly one guard is true, a guarded repetition where several are."""
+    part = wait.part
+    guards = guards_of(scene, part)
+    true = [at for at, (high, _) in enumerate(guards) if scene.values[high] == "1"]
+    known = all(scene.values[high] != scene.values[low] for high, low in guards)
+    if not guards or not known or len(true) == 1 or (part.kind == "again" and not true):
+        wait.lines.append("it is between two of its steps")
+        return
+    wait.blocked = True
+    statement = scene.fit.statements.get(part)
+    text = [f" ({scene.fit.cut(it.start, it.end, 40)})" for it in statement.guards] if statement else [""] * len(guards)
+    if not true:
+        wait.lines.append(f"none of its {len(guards)} guards is true, so it waits for ever")
+    else:
+        several = " and ".join(f"{at + 1}{text[at]}" for at in true)
+        wait.lines.append(f"the guards {several} are true at once, so it waits for ever")
+    if statement:
+        names = dict.fromkeys(use.name for guard in statement.guards for use in guard.uses)
+        widths = {block.name: width_of(block) for block in scene.tree.variables()}
+        read = [f"{name} = {scene.value(name, widths[name])}" for name in names if name in widths]
+        if read:
+            wait.lines.append(f"they read {', '.join(read)}")
+
+
+def cycles(waits: list[Wait]) -> Iterator[list[Part]]:
+    """The cycles of parts of which each waits for the next one, the last one for the first; each once."""
+    on = {wait.part: wait.on for wait in waits}
+    told: set[frozenset[Part]] = set()
+    for start in on:
+        paths, seen = [[start]], {start}
+        while paths:
+            path = paths.pop(0)
+            after = on.get(path[-1], [])
+            if start in after:
+                if frozenset(path) not in told:
+                    told.add(frozenset(path))
+                    yield path
+                break
+            paths += [[*path, it] for it in after if it not in seen]
+            seen.update(after)
