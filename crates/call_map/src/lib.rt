@@ -24,10 +24,10 @@ pub fn shared_carries()
     rounds_hold();
 }
 
-/// Law: a program with procedures, of which no two parallel branches call the same one, is carried by the net in which
-/// all calls of a procedure share one body: it carries the program in which each call is a copy of the body, if that is
-/// typed and meets the sharing rule. `CallNet.antt` says what net that is; how it is compared with the net with copies,
-/// in `Shared.antt` and `Carrying.antt`, isn't needed to read this.
+/// Law: a program with procedures is carried by the net in which all calls of a procedure share one body: that net
+/// carries the program in which each call is a copy of the body. This is so where that program is typed and meets the
+/// sharing rule, bodies call nothing, each procedure is called, no two parallel branches call the same one, and no
+/// assignment in a body reads its own target (`IsCallProgram`).
 pub fn shared_bodies_carry()
     ensures { SharedBodiesCarry }
 {

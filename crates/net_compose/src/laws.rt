@@ -76,11 +76,10 @@ pub fn carries_rest()
 }
 
 /// Law: the net of each such program keeps pace with it, in every run. What a run of the net has passed, some run of
-/// the program has passed, and between two steps of that, before the first and after the last each node moves twice at
-/// most; an assignment that reads its own target counts as two steps, and where there is one, every step is counted
-/// twice (`plain`: else none is). So where the program goes no further under a script after m steps, each run of its
-/// net ends, without any fairness: no run has more moves than that, each goes on to one at rest, and that one has
-/// passed all that the program has, with `done` high exactly where the program has ended.
+/// the program has passed, of m steps, and it has at most 2 · nodes · (2m + 1) moves in all; where no assignment reads
+/// its own target, at most 2 · nodes · (m + 1) (`plain`). So where the program goes no further under a script after m
+/// steps, each run of its net ends, without any fairness: no run has more moves than that, each goes on to one at
+/// rest, and that one has passed all that the program has, with `done` high exactly where the program has ended.
 pub fn runs_end()
     ensures every { TranslationProgresses }
     ensures plain { PlainTranslationProgresses }
