@@ -12,7 +12,7 @@ from dataclasses import dataclass, field
 
 from companion.program import TOP
 
-LANGUAGE, FORMATS = "docs/LANGUAGE.md", "docs/FORMATS.md"
+LANGUAGE, FORMATS, COMMANDS = "docs/LANGUAGE.md", "docs/FORMATS.md", "docs/COMMANDS.md"
 
 
 @dataclass(frozen=True)

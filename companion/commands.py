@@ -1,4 +1,4 @@
-"""The forms of the program's commands, as the table in docs/FORMATS.md tells them, and what each of some words is in
+"""The forms of the program's commands, as the table in docs/COMMANDS.md has them, and what each of some words is in
 them."""
 
 from __future__ import annotations
@@ -8,7 +8,7 @@ import re
 from collections.abc import Sequence
 from dataclasses import dataclass, field
 
-from companion.causes import FORMATS, tables
+from companion.causes import COMMANDS, tables
 from companion.own import OWN
 
 PROGRAM, RULES, SCRIPT, DELAYS, WAVE = "program", "rule file", "script", "delay file", "wave file"
@@ -71,7 +71,7 @@ def form_of(text: str, about: str) -> Form:
 @functools.cache
 def forms() -> list[Form]:
     """All forms of all commands."""
-    for table in tables(FORMATS):
+    for table in tables(COMMANDS):
         if table.columns[0] == "Words":
             return [form_of(row[0].strip("`"), row[1]) for row in table.rows]
     return []

@@ -52,7 +52,7 @@ class Explainer:
             self.say(f"write instead: {hint}")
         elif cause.instead:
             self.say("a way out: " + "; or ".join(cause.instead))
-        self.say(self.paint.dim(f"({cause.page} tells more of {number} {cause.name})"))
+        self.say(self.paint.dim(f"(more on {number} {cause.name}: {cause.page})"))
 
     def when(self, number: int, name: str) -> str:
         """When a cause comes, in a sentence."""

@@ -29,9 +29,9 @@ def parser() -> Parser:
     made = Parser("hunt", ABOUT)
     made.add_argument("rules", metavar="PRS", help="the rule file")
     made.add_argument("script", metavar="SCRIPT", help="what the environment sends and takes")
-    made.add_argument("--seeds", metavar="N", type=int, default=10, help="seeds of the order random (10)")
-    made.add_argument("--mixed", metavar="N", type=int, default=20, help="runs with mixed delays (20)")
-    made.add_argument("--steps", metavar="N", type=int, help="the most moves of a run (100,000)")
+    made.add_argument("--seeds", metavar="N", type=options.natural, default=10, help="seeds of the order random (10)")
+    made.add_argument("--mixed", metavar="N", type=options.natural, default=20, help="runs with mixed delays (20)")
+    made.add_argument("--steps", metavar="N", type=options.natural, help="the most moves of a run (100,000)")
     made.add_argument(
         "--to", metavar="NAME", help="the files that are written are NAME.delays and NAME.vcd (PRS-hazard)"
     )
@@ -66,7 +66,7 @@ def as_delays(bench: Bench, found: Try, nodes: list[str], progress: Progress, mi
 
 def told(bench: Bench, net: Net, found: Try, delays: str | None, to: str) -> list[str]:
     """What is said of a hazard that a run found; its delay file and its wave are written."""
-    lines = [f"found by {found.what}, after {bench.count} runs"]
+    lines = [f"found by {found.what}; {bench.count} runs were begun"]
     again = f"chpc simulate {bench.rules} {bench.script}"
     if delays is None:
         return [*lines, f"no delay file was found that shows it too: {again} {' '.join(found.words)} does"]

@@ -45,23 +45,33 @@ def unused(it: Program) -> Iterator[Finding]:
             yield decl.start, decl.end, f"nothing is sent on {decl.name}, so a receive on it waits for ever"
 
 
-def is_endless(stmt: Stmt) -> bool:
-    """Whether a statement can never end, whatever the values are: a loop `*[S]`, or a statement that has to run such a
-    one."""
+def is_endless(stmt: Stmt, tried: dict[int, Choice]) -> bool:
+    """Whether a statement can never end, whatever the values are: a loop `*[S]`, a guarded repetition of which for all
+    values some guard is true, or a statement that has to run such a one."""
+    if stmt.kind == "again" and id(stmt) in tried and all(tried[id(stmt)].true):
+        return True
     if stmt.kind == "loop":
         return True
     if stmt.kind in ("sequence", "parallel"):
-        return any(is_endless(child) for child in stmt.children)
-    return stmt.kind == "select" and all(is_endless(child) for child in stmt.children)
+        return any(is_endless(child, tried) for child in stmt.children)
+    return stmt.kind == "select" and all(is_endless(child, tried) for child in stmt.children)
 
 
-def unreached(it: Program, text: Text) -> Iterator[Finding]:
+def choices_tried(it: Program, text: Text, folder: str) -> dict[int, Choice]:
+    """Of each selection and guarded repetition that isn't too wide what its guards are worth, by the statement."""
+    both = (stmt for stmt in it.statements() if stmt.kind in ("select", "again"))
+    return {
+        id(stmt): choices_of(it, stmt, text.data, folder) for stmt in both if not is_wide(bits_read(it, stmt))
+    }
+
+
+def unreached(it: Program, text: Text, tried: dict[int, Choice]) -> Iterator[Finding]:
     """Loops that can never be left though something follows them."""
     for stmt in it.statements():
         if stmt.kind != "sequence":
             continue
         for child, after in zip(stmt.children, stmt.children[1:]):
-            if is_endless(child):
+            if is_endless(child, tried):
                 where = text.place(after.start)
                 follows = f"what follows at {where.line}:{where.column}"
                 yield child.start, child.end, f"this never ends, so {follows} is never reached"
@@ -98,14 +108,12 @@ def wide_choices(it: Program) -> list[Stmt]:
     return [stmt for stmt in it.statements() if stmt.kind in ("select", "again") and is_wide(bits_read(it, stmt))]
 
 
-def selections(it: Program, text: Text, folder: str) -> Iterator[Finding]:
+def selections(it: Program, tried: dict[int, Choice]) -> Iterator[Finding]:
     """Selections and guarded repetitions for which not exactly one guard is true."""
     for stmt in it.statements():
-        if stmt.kind not in ("select", "again"):
+        if id(stmt) not in tried:
             continue
-        if is_wide(bits_read(it, stmt)):
-            continue
-        choice = choices_of(it, stmt, text.data, folder)
+        choice = tried[id(stmt)]
         none = [row for row, true in enumerate(choice.true) if not true]
         if none and stmt.kind == "select":
             for_some = f"no guard is true for {cases(choice, none)}: it waits for ever then" if choice.names else ""
@@ -134,7 +142,8 @@ def main(words: Sequence[str]) -> int:
             raise Refusal(
                 f"{text.told(error.at)}: chpc accepts this program, but lint can't read it: {error}"
             ) from error
-        found = [*unused(it), *unreached(it, text), *selections(it, text, options.room())]
+        tried = choices_tried(it, text, options.room())
+        found = [*unused(it), *unreached(it, text, tried), *selections(it, tried)]
     paint = Paint(sys.stdout)
     for start, end, what in sorted(found, key=lambda it: it[0]):
         print(f"{paint.bold(text.told(start))}: {what}")

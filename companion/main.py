@@ -43,7 +43,7 @@ def help_of(command: str) -> str:
     lines = [f"chpx calls `chpc {command}`; on standard output comes, with status 0,", ""]
     for form in forms_of(command):
         lines += [f"  chpx {form.text}", f"      {form.about}", ""]
-    lines.append("All of it is told in docs/FORMATS.md. Nothing that chpx adds to it is proved.")
+    lines.append("More of it is in docs/COMMANDS.md. Nothing that chpx adds to it is proved.")
     return "\n".join(lines)
 
 
@@ -101,6 +101,10 @@ def main(words: Sequence[str]) -> int:
         tell(ended.words, ended.answer)
         return ended.answer.status
     except BrokenPipeError:
+        os.dup2(os.open(os.devnull, os.O_WRONLY), sys.stdout.fileno())
+        return 4
+    except OSError as error:
+        print(f"chpx: the output couldn't be written: {error.strerror}", file=sys.stderr)
         os.dup2(os.open(os.devnull, os.O_WRONLY), sys.stdout.fileno())
         return 4
     except KeyboardInterrupt:

@@ -14,6 +14,13 @@ from companion.labels import STANDARD_INPUT, called, label
 from companion.program import Refusal
 
 
+def natural(word: str) -> int:
+    """A number from 0 on, as a word gives it."""
+    if not word.isdecimal() or not word.isascii():
+        raise argparse.ArgumentTypeError(f"{word} isn't a number from 0 on")
+    return int(word)
+
+
 class Parser(argparse.ArgumentParser):
     """A parser that ends with 2 for wrong words, as chpc does, and says which word is wrong."""
 
@@ -34,7 +41,7 @@ class Parser(argparse.ArgumentParser):
         self.add_argument("rules", metavar="PRS", help="the rule file")
         self.add_argument("script", metavar="SCRIPT", help="what the environment sends and takes")
         self.add_argument("--delays", metavar="FILE", help="how long moves take; without it each takes 1")
-        self.add_argument("--steps", metavar="N", type=int, help="the most moves that are made (100,000)")
+        self.add_argument("--steps", metavar="N", type=natural, help="the most moves that are made (100,000)")
 
 
 _rooms = contextlib.ExitStack()

@@ -62,6 +62,10 @@ class Scene:
                 found.setdefault((part.kind, name_of(part, self.tree, self.net)), []).append(part)
         return found
 
+    def is_still(self) -> bool:
+        """Whether the run has come to rest, so that what waits waits for ever unless the environment goes on."""
+        return self.report.end == ["rest"]
+
     def called(self, part: Part) -> str:
         """A part for people: its place and its text, or its kind and its nodes."""
         if part in self.fit.statements:
@@ -106,7 +110,10 @@ def wait_on_channel(scene: Scene, wait: Wait) -> None:
         wait.lines.append(f"it offers {scene.value(name, channel.width)} on {name}")
     if channel.kind != "chan":
         wait.outside = True
-        wait.lines.append(f"the environment {'takes' if is_send else 'sends'} no more on {name}: {count}")
+        does = "takes no more" if is_send else "sends no more"
+        if not scene.is_still():
+            does = "is to take the next value" if is_send else "is to send the next value"
+        wait.lines.append(f"the environment {does} on {name}: {count}")
         return
     doing, other = ("receive", "received") if is_send else ("send", "sent")
     sites = scene.sites.get((doing, name), [])
@@ -148,14 +155,15 @@ def wait_on_guards(scene: Scene, wait: Wait) -> None:
     if not guards or not known or len(true) == 1 or (part.kind == "again" and not true):
         wait.lines.append("it is between two of its steps")
         return
-    wait.blocked = True
+    wait.blocked = scene.is_still()
+    for_ever = ", so it waits for ever" if wait.blocked else " where the run stops"
     statement = scene.fit.statements.get(part)
     text = [f" ({scene.fit.cut(it.start, it.end, 40)})" for it in statement.guards] if statement else [""] * len(guards)
     if not true:
-        wait.lines.append(f"none of its {len(guards)} guards is true, so it waits for ever")
+        wait.lines.append(f"none of its {len(guards)} guards is true{for_ever}")
     else:
         several = " and ".join(f"{at + 1}{text[at]}" for at in true)
-        wait.lines.append(f"the guards {several} are true at once, so it waits for ever")
+        wait.lines.append(f"the guards {several} are true at once{for_ever}")
     if statement:
         names = dict.fromkeys(use.name for guard in statement.guards for use in guard.uses)
         widths = {block.name: width_of(block) for block in scene.tree.variables()}

@@ -37,7 +37,7 @@ class Wave:
 
 
 def read_wave(text: str) -> Wave:
-    """Reads a dump of the profile that docs/FORMATS.md tells."""
+    """Reads a dump of the profile that docs/FORMATS.md describes."""
     names: dict[str, str] = {}
     first: dict[str, str] = {}
     changes: list[Change] = []

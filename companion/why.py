@@ -72,7 +72,7 @@ def told(scene: Scene, waits: list[Wait], paint: Paint, with_all: bool) -> list[
 def conclusion(scene: Scene, waits: list[Wait], paint: Paint) -> list[str]:
     """What it comes down to."""
     found = []
-    is_still = scene.report.end == ["rest"]
+    is_still = scene.is_still()
     for cycle in cycles(waits) if is_still else ():
         whom = "it waits for itself" if len(
             cycle

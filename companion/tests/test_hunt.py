@@ -54,7 +54,7 @@ class Hunt(Case):
             ran.out,
             [
                 "found by ",
-                " slow, after ",
+                " slow; ",
                 "hazard: ",
                 "whose move did it: ",
                 "each move the cause of the next",
@@ -85,7 +85,7 @@ class Hunt(Case):
         """A hazard that an order shows, and no delay file that was tried."""
         net, found = read_net(self.text, "fifo.prs"), Try("the order newest", ("--order", "newest"))
         lines = told(Bench("fifo.prs", "fifo.script", None, "."), net, found, None, "it")
-        self.assertEqual(lines[0], "found by the order newest, after 0 runs")
+        self.assertEqual(lines[0], "found by the order newest; 0 runs were begun")
         self.assertTrue(lines[1].endswith("chpc simulate fifo.prs fifo.script --order newest does"))
 
     def test_refused(self) -> None:
@@ -93,6 +93,9 @@ class Hunt(Case):
         ran = self.chpx("hunt", "fifo.prs", "bad.script")
         self.assertEqual((ran.status, ran.out), (8, ""))
         self.has(ran.err, ["chp: 8 52 TooWide at line 1\n", "bad.script:1:4: the script"])
+        ran = self.chpx("hunt", "fifo.prs", "fifo.script", "--seeds", "-1")
+        self.assertEqual((ran.status, ran.out), (2, ""))
+        self.has(ran.err, ["--seeds", "-1 isn't a number from 0 on"])
 
 
 class Shrink(Case):

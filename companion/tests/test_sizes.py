@@ -2,10 +2,11 @@
 
 from __future__ import annotations
 
+import os
 import re
 import xml.dom.minidom
 
-from companion.tests.base import Case
+from companion.tests.base import TOP, Case
 
 
 class Sizes(Case):
@@ -52,6 +53,11 @@ class Sizes(Case):
         for text in ("root", "parallel", "L?w", "a!w", "c?z", "R!z"):
             self.assertIn(f">{text}</text>", ran.out)
         self.assertEqual(ran.out.count("<rect"), 1 + 1 + 1 + 4 * 4)
+
+    def test_picture(self) -> None:
+        """The picture of docs/TEMPLATES.md is what comes."""
+        with open(os.path.join(TOP, "docs", "tree.svg"), encoding="utf-8") as file:
+            self.assertEqual(self.chpx("tree", self.example("pipeline.chp")).out, file.read())
 
     def test_refused(self) -> None:
         for command in ("stat", "tree", "lint"):

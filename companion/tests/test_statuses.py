@@ -76,6 +76,9 @@ class Statuses(Case):
     def test_4(self) -> None:
         ran = self.typed("compile", self.write("f.chp", "begin skip; skip end"), to="/dev/full")
         self.page_says(ran, 4)
+        ran = self.typed("stat", self.write("f.chp", "begin skip; skip end"), to="/dev/full")
+        self.assertEqual(ran.status, 4)
+        self.has(ran.err, ["the output couldn't be written"])
 
     def test_5(self) -> None:
         ran = self.typed("simulate", self.write("net", HAZARD), self.write("script", ""))

@@ -109,6 +109,13 @@ class Why(Case):
             ],
         )
 
+    def test_environment_before_rest(self) -> None:
+        """Where a run is cut off, the environment may still send what its script has."""
+        ran = self.why("in L : 1; var x : 1; begin *[L?x] end", "L: 1 0 1", "--steps", "5")
+        self.has(
+            ran.out, ["the run was cut off after 5 moves", "the environment is to send the next value on L: 0 val"]
+        )
+
     def test_no_deadlock_before_rest(self) -> None:
         """While a run goes on, a send and its receive may both be under way."""
         text = "chan p : 4; var x : 4; begin *[p!9] || *[p?x] end"
