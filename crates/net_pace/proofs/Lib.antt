@@ -1,0 +1,4 @@
+pub mod Brought
+pub mod Overtakes
+pub mod SweepExamples
+pub mod PaceKept

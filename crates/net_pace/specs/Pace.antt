@@ -1,0 +1,37 @@
+-- How soon a net passes what its program passes, counted in sweeps. (To read it by, and proved nowhere: where each
+-- enabled move is made within a delay, a sweep takes no longer; where each is made within so many moves, it has no more.)
+use Rattle.std.specs.Prelude.{◌≡◌, ◌*◌, ℕ, List, ◌++◌}
+use Rattle.prs_core.specs.Nets.{NetValue, IsNet}
+use Rattle.env_script.specs.Scripts.{OfferValue, IsScript}
+use Rattle.env_script.specs.Runs.{RunState, history_at, begin_at, after, IsRun}
+use Rattle.net_pace.specs.Sweeps.{Sweeps, Layers}
+use Rattle.width_check.specs.Processes.{TypedProgram}
+use Rattle.chp_meaning.specs.Steps.{Configuration}
+use Rattle.chp_meaning.specs.Rounds.{rounds}
+use Rattle.net_compose.specs.Carries.{Carries}
+
+-- on each channel the circuit has passed all that the program has, and maybe more
+abbrev pub HasPassed : RunState → Configuration → Type 0
+HasPassed st c = (k : ℕ) → (rest : List ℕ) × (history_at st.histories k ≡ history_at c.histories k ++ rest)
+
+-- Each run from the net's first values, under every script and in every order, whose moves begin with so many sweeps
+-- for each of n rounds of the program, has passed what these pass.
+abbrev pub KeepsTime : NetValue → TypedProgram → (sweeps : ℕ) → Type 0
+KeepsTime net p sweeps =
+    (script : List OfferValue) → IsScript p.channels script
+    → (moves : List ℕ) → IsRun net script (begin_at net net.first) moves
+    → (n : ℕ) → Sweeps net script (begin_at net net.first) (n * sweeps) moves
+    → HasPassed (after net (begin_at net net.first) moves) (rounds p script n)
+
+-- For each number of rounds there is one run of as many layers for each that has passed what they pass.
+abbrev pub HasLayers : NetValue → TypedProgram → (layers : ℕ) → Type 0
+HasLayers net p layers =
+    (script : List OfferValue) → IsScript p.channels script → (n : ℕ)
+    → (moves : List ℕ) × Layers net script (begin_at net net.first) (n * layers) moves
+    × HasPassed (after net (begin_at net net.first) moves) (rounds p script n)
+
+-- so the layers of one run for each number of rounds tell how many sweeps are enough in every run
+abbrev pub LayersTell : Type 0
+LayersTell =
+    (net : NetValue) (p : TypedProgram) (layers : ℕ) → IsNet net → Carries net p → HasLayers net p layers
+    → KeepsTime net p layers
