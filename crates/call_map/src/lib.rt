@@ -10,7 +10,7 @@ use net_compose::laws::{carries, carries_reset, parts_in_turns};
 /// Law: let one net be another one with one body for all calls of a procedure in place of a copy for each call, and let
 /// that other net be free of hazards, and each copy keep its handshake there. Then each run of the one is a run of the
 /// other, of no more moves, that passes the same; it is free of hazards, and where the one is at rest the other is. It
-/// holds of any numbering of the nodes and of no program in particular, so `CallNet.antt` isn't needed to read it.
+/// holds of any numbering of the nodes and of no program in particular: who reads it can leave `CallNet.antt` aside.
 pub fn shared_runs()
     ensures { SharedRuns }
 {}

@@ -27,8 +27,8 @@ RestsInTime reset p net script steps start moves end =
     (m : ℕ) (c : Configuration) → RestsAfter p script m c → most_in_run reset p m < steps →
     (end ≡ AtRest) × IsLevel (after net start moves) c
 
--- So does a timed run, and where no move takes longer than some time, its last move comes by that time for each of so
--- many moves.
+-- So does a timed run, and where no move takes longer than some time, its last move comes by that time multiplied by
+-- the most moves.
 pub record TimedRests (reset : Bool) (p : TypedProgram) (t : TimedValue) (moves : List NotedMove) (end : End)
     (time : ℕ) : Type 0 where
   pub rests : RestsInTime reset p t.net t.script t.steps (timed_start t) (moved_nodes moves) end

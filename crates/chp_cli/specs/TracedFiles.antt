@@ -29,7 +29,8 @@ pub record IsFileTraced (w : AskedWaves) (given : Given) (answer : Answer) : Typ
   pub said_are : HoldsDelayFile given w.delays net.names delays
   pub traced : TracesNet (trace_for w net script delays) w.causes answer
 
--- where the program comes to rest for which `compile` writes the rule file, the timed run does
+-- where the program comes to rest for which `compile` writes the rule file, the timed run does, if its limit is high
+-- enough
 abbrev pub TracedRests : (w : AskedWaves) (given : Given) (p : TypedProgram) → HoldsCompiled given w.net p →
     {answer : Answer} → IsFileTraced w given answer → Type 0
 TracedRests w given p holds f =
@@ -41,7 +42,7 @@ pub record AsksForTrace (asked : Option Asked) (given : Given) (w : AskedWaves) 
   pub holds : HoldsCompiled given w.net p
 
 -- the text tells a timed run, which comes to rest in time where a program does for which `compile` writes this rule
--- file
+-- file, if its limit is high enough
 pub record IsCalmTrace (w : AskedWaves) (given : Given) (text : List ℕ) : Type 0 where
   pub run : IsFileTraced w given (writes Done text)
   pub rests : (p : TypedProgram) (holds : HoldsCompiled given w.net p) → TracedRests w given p holds run

@@ -177,7 +177,7 @@ pub fn traced_runs_are_safe()
 /// Law: where a program goes no further after m steps under the script, a run of the rule file that `compile` wrote for
 /// it ends at rest, if its limit is above the most moves that its net makes till then: by whatever order it is made, or
 /// by whatever delays. It has passed what the program has, and `done` is high exactly where that has ended. Where no
-/// move takes longer than some time, the last one comes by that time for each of so many moves.
+/// move takes longer than some time, the last one comes no later than the most moves at that time each.
 pub fn compiled_runs_rest()
     ensures simulated { (s : AskedRun) (given : Given) (played : Played) (p : TypedProgram)
         (holds : HoldsCompiled given s.net p) (answer : Answer) (f : IsFileSimulated s given played answer) →

@@ -124,21 +124,22 @@ fn run<'a, S: Shelf, K: Sink>(
     }
 }
 
-/// Runs the command that the words ask for: reads its files from the shelf, writes its output whole or not at all, and
-/// says one line where it doesn't end well. Faults of `say` change neither the status nor the output.
+/// Runs the command that the words ask for: reads its files from the shelf, writes its output, and says one line where
+/// it doesn't end well. The output is written whole or not at all, but where it fails: then a prefix of it was written.
+/// Faults of `say` change neither the status nor the output.
 ///
 /// What is answered, written and said is the command's answer to its files, of which there is at most one where the
 /// shelf tells them. Three things may come between: the shelf fails at a file of the command (`Read`), the output
-/// fails, and a front of what the command writes was written (`Write`), or memory runs out (`NoMemory`), which may be
+/// fails, and a prefix of what the command writes was written (`Write`), or memory runs out (`NoMemory`), which may be
 /// at any point and is merged with no other answer.
 ///
 /// The simulation of a rule file that `compile` wrote finds no hazard, under whatever script and by whatever order or
 /// delays, and where it reports rest no order makes more moves. Where its program comes to rest under the script, so
-/// does the run, if the limit is high enough; with delays of at most some time by that time for each of so many moves.
-/// The same holds of the run that `waves` tells.
+/// does the run, if the limit is high enough; with delays of at most some time, no later than the most moves at that
+/// time each. The same holds of the run that `waves` tells.
 ///
-/// Of the handed-in orders only the one that the command asks for is used, if it asks for one: all others are as they
-/// were, and all have their names and their places still.
+/// Of the handed-in orders only the one that the command asks for is used, if it asks for one: the others have the logs
+/// and the last seeds that they had, and all have their names and their places still.
 pub fn chp_main<S: Shelf, K: Sink, W: Sink>(
     alloc: Global,
     words: &[String],

@@ -1,12 +1,12 @@
 -- The core as a port, and the guarded repetition round it.
 use Rattle.std.proofs.Common.{◌≡◌, ◌≢◌, ℕ, Bool, true, false, refl, sym, ap, ◌∙◌, subst}
-use Rattle.function_blocks.specs.Rails.{Pairs, Rule, one_rule_fires, is_apart}
+use Rattle.function_blocks.specs.Rails.{Pairs, is_apart}
 use Rattle.circuit_places.specs.Heads.{Bits, low_bits, nothing_true, all_neutral, over}
-use Rattle.circuit_places.specs.Cores.{Core, Turning, of_joined, of_ask, of_any, of_latch, of_start, RoundSpot, of_answer, of_turn, of_leave, core_rule, turning_rule, turned_turning, core_of, turning_of}
+use Rattle.circuit_places.specs.Cores.{Core, Turning, of_joined, of_ask, of_any, of_latch, of_start, RoundSpot, of_answer, of_turn, of_leave, turned_turning, core_of, turning_of}
 use Rattle.circuit_places.proofs.Modes.{goes_asks}
 use Rattle.circuit_places.proofs.HeadFacts.{snd_true, both_true, false_none, over_false, neutral_over, over_alone}
-use Rattle.circuit_places.proofs.CoreControl.{Mode, idle, running, answered, returning, asks, goes, noted, spread, freed, lock_may, uncalled, called, evaluating, latched, leaving, works, worked, reported, letting, backs, Closing, told_all, lets_turn, lets_leave, lets_any, lets_answer, closing_turn, closing_leave, closing_any, closing_cells, closing_own, closing_moves, closing_own_is, closing_can_is, core_apart, turning_apart}
-use Rattle.circuit_places.proofs.CoreMoves.{core_steps, core_round_steps, Guards, Branches, Story, CoreAt, in_control, in_branch, CoreSpot, own, guard, branch, core_turned, whole_rule, core_cells, core_leave, core_moves, core_turning, CoreFits, core_shown, core_left, core_can_is, core_turning_is, whole_apart, round_apart, CoreStep, stays, ends, low_still, CoreAfter}
+use Rattle.circuit_places.proofs.CoreControl.{Mode, idle, running, answered, returning, asks, goes, noted, spread, freed, lock_may, uncalled, called, evaluating, latched, leaving, works, worked, reported, letting, backs, Closing, told_all, lets_turn, lets_leave, lets_any, lets_answer, closing_leave, closing_any, closing_cells, closing_own, closing_moves, core_apart}
+use Rattle.circuit_places.proofs.CoreMoves.{core_steps, core_round_steps, Guards, Branches, Story, CoreAt, in_control, in_branch, CoreSpot, own, guard, branch, core_turned, whole_rule, core_cells, core_leave, core_moves, core_turning, CoreFits, core_shown, core_left, CoreStep, stays, ends, low_still, CoreAfter}
 
 abbrev pub low_core : {n : ℕ} {G Q B C S T : Type 0} → Guards n G Q → Branches n B C S T → Core n G B
 low_core {n = n} W K = core_of false false false (low_bits n) (low_bits n) W.low K.low
@@ -19,28 +19,8 @@ pub record CoreBegun {n : ℕ} {G Q B C S T : Type 0} (again : Bool) (W : Guards
   pub shows : core_shown W K place ≡ K.none
   pub term : core_left W K y place ≡ y.whole
 
-pub core_begun : {n : ℕ} {G Q B C S T : Type 0} (again : Bool) (W : Guards n G Q) (K : Branches n B C S T) (y : Story T) → CoreBegun again W K y
-core_begun again W K y = record { place = in_control called; same = refl; fits = W.begins false; shows = K.reading_low; term = refl }
-
 -- The core as a port.
 module _ {again : Bool} {n : ℕ} {G Q B C S T : Type 0} (W : Guards n G Q) (K : Branches n B C S T) (y : Story T) where
-  pub core_idle_is : (x : CoreAt again n G W.heads K.At idle)
-      → (core_cells W K x ≡ low_core W K) × (core_shown W K x ≡ K.none) × (core_leave W K x ≡ false) × (core_left W K y x ≡ y.wrap K.over)
-  core_idle_is (in_control uncalled) = (refl, K.reading_low, refl, refl)
-  core_idle_is (in_branch a w) = elim w [ ]
-
-  pub core_idle_moves : (x : CoreAt again n G W.heads K.At idle) (s : CoreSpot n Q C) → core_moves W K x s ≡ false
-  core_idle_moves (in_control uncalled) (own s) = refl
-  core_idle_moves (in_control uncalled) (guard q) = W.low_quiet q
-  core_idle_moves (in_control uncalled) (branch c) = refl
-  core_idle_moves (in_branch a w) s = elim w [ ]
-
-  pub core_answered_moves : (x : CoreAt again n G W.heads K.At answered) → CoreFits W K x → (s : CoreSpot n Q C) → core_moves W K x s ≡ false
-  core_answered_moves (in_branch a reported) f (own s) = refl
-  core_answered_moves (in_branch a reported) f (guard q) = refl
-  core_answered_moves (in_branch a reported) f (branch c) = K.answered_moves a f c
-  core_answered_moves (in_control c) f s = elim c [ ]
-
   -- what goes on where it falls
   pub record CoreLowered (x : CoreAt again n G W.heads K.At answered) : Type 0 where
     pub place : CoreAt again n G W.heads K.At returning
@@ -48,10 +28,6 @@ module _ {again : Bool} {n : ℕ} {G Q B C S T : Type 0} (W : Guards n G Q) (K :
     pub fits : CoreFits W K place
     pub shows : core_shown W K place ≡ core_shown W K x
     pub term : core_left W K y place ≡ core_left W K y x
-
-  pub core_lowered : (x : CoreAt again n G W.heads K.At answered) → CoreFits W K x → CoreLowered x
-  core_lowered (in_branch a reported) f = record { place = in_branch a letting; same = refl; fits = f; shows = refl; term = refl }
-  core_lowered (in_control c) f = elim c [ ]
 
 -- Where a guarded repetition is.
 pub data AgainAt (n : ℕ) (G : Type 0) (heads : G → Pairs n) (At : Mode → Type 0) : Mode → Type 0 where
@@ -72,10 +48,6 @@ module _ {n : ℕ} {G Q B C S T : Type 0} (W : Guards n G Q) (K : Branches n B C
   abbrev pub again_turned : Turning (Core n G B) → AgainSpot n Q C → Turning (Core n G B)
   again_turned x (round t) = turned_turning x t
   again_turned x (in_core s) = record x { core = core_turned W K x.core s }
-
-  abbrev pub again_rule : (r : Bool) → Turning (Core n G B) → AgainSpot n Q C → Rule
-  again_rule r x (round t) = turning_rule r (W.heads x.core.guards) x t
-  again_rule r x (in_core s) = whole_rule W K x.turn x.leave x.core s
 
   abbrev pub again_moves : {m : Mode} → AgainAt n G W.heads K.At m → AgainSpot n Q C → Bool
   again_moves (turning x) (round t) = core_turning W K x t
@@ -101,26 +73,6 @@ module _ {n : ℕ} {G Q B C S T : Type 0} (W : Guards n G Q) (K : Branches n B C
   again_left y (turning x) = core_left W K y x
   again_left y _ = y.gone
 
-  rests_core : (s : CoreSpot n Q C) → one_rule_fires (whole_rule W K false false (low_core W K) s) ≡ false
-  rests_core (own s) = core_can_is {again = true} W K (in_control uncalled) (own s)
-  rests_core (guard q) = W.low_quiet q
-  rests_core (branch c) = K.low_quiet c
-
-  pub again_can_is : {m : Mode} (x : AgainAt n G W.heads K.At m) (s : AgainSpot n Q C) →
-      one_rule_fires (again_rule (asks m) (again_cells x) s) ≡ again_moves x s
-  again_can_is again_rests (round of_answer) = refl
-  again_can_is again_rests (round of_turn) = refl
-  again_can_is again_rests (round of_leave) = neutral_over n (W.heads W.low) W.low_neutral
-  again_can_is again_rests (in_core s) = rests_core s
-  again_can_is (turning x) (round t) = core_turning_is W K x t
-  again_can_is (turning x) (in_core s) = core_can_is W K x s
-  again_can_is (closing c) (round t) = closing_can_is n W.low (W.heads W.low) K.low W.low_neutral c t
-  again_can_is (closing c) (in_core (own s)) = ap (λ (a : Bits n). one_rule_fires (core_rule (closing_turn c) (closing_leave c) (W.heads W.low) a
-      (core_of {B = B} false false (closing_any c) (low_bits n) (low_bits n) W.low K.low)
-      s)) K.low_answers ∙ closing_own_is W.low (W.heads W.low) K.low W.low_neutral c s
-  again_can_is (closing c) (in_core (guard q)) = W.low_quiet q
-  again_can_is (closing c) (in_core (branch b)) = K.low_quiet b
-
   low_apart : (r v : Bool) (x : Core n G B) → x.guards ≡ W.low → x.ask ≡ false → x.branches ≡ K.low → x.started ≡ low_bits n → (s : CoreSpot n Q C)
       → is_apart (whole_rule W K r v x s) ≡ true
   low_apart r v x g e b t (own s) =
@@ -135,18 +87,6 @@ module _ {n : ℕ} {G Q B C S T : Type 0} (W : Guards n G Q) (K : Branches n B C
   closing_known lets_leave e = refl
   closing_known lets_any e = refl
   closing_known lets_answer e = absurd (cc e)
-
-  -- no node is pulled both ways
-  pub again_apart : {m : Mode} (x : AgainAt n G W.heads K.At m) → AgainFits x → (s : AgainSpot n Q C) → is_apart (again_rule (asks m) (again_cells x) s) ≡ true
-  again_apart again_rests f (round t) =
-      turning_apart false (W.heads W.low) (turning_of false false false (low_core W K)) (λ e. W.low_neutral) (λ e z. absurd (cc e)) t
-  again_apart again_rests f (in_core s) = low_apart false false (low_core W K) refl refl refl refl s
-  again_apart (turning x) f (round t) = round_apart W K x t
-  again_apart (turning x) f (in_core s) = whole_apart W K x f s
-  again_apart {m = m} (closing c) f (round t) =
-      turning_apart (asks m) (W.heads W.low) (closing_cells W.low K.low c) (λ e. W.low_neutral) (λ e z. closing_known c e) t
-  again_apart (closing c) f (in_core s) =
-      low_apart (closing_turn c) (closing_leave c) (core_of false false (closing_any c) (low_bits n) (low_bits n) W.low K.low) refl refl refl refl s
 
 module _ {n : ℕ} {G Q B C S T : Type 0} (W : Guards n G Q) (K : Branches n B C S T) (y : Story T) where
   pub record AgainAfter {m : Mode} (x : AgainAt n G W.heads K.At m) (s : AgainSpot n Q C) : Type 0 where
@@ -423,36 +363,12 @@ module _ {n : ℕ} {G Q B C S T : Type 0} (W : Guards n G Q) (K : Branches n B C
   closing_after c (guard q) e = absurd (cc e)
   closing_after c (branch b) e = absurd (cc e)
 
-  -- the repetition as a port
-  pub again_idle_is : (x : AgainAt n G W.heads K.At idle) → (again_cells W K x ≡ turning_of false false false (low_core W K)) × (again_shown W K x ≡ K.none)
-  again_idle_is again_rests = (refl, refl)
-  again_idle_is (closing c) = elim c [ ]
-
-  pub again_idle_moves : (x : AgainAt n G W.heads K.At idle) (s : AgainSpot n Q C) → again_moves W K x s ≡ false
-  again_idle_moves again_rests s = refl
-  again_idle_moves (closing c) s = elim c [ ]
-
-  pub again_answered_moves : (x : AgainAt n G W.heads K.At answered) (s : AgainSpot n Q C) → again_moves W K x s ≡ false
-  again_answered_moves (closing told_all) (round of_turn) = refl
-  again_answered_moves (closing told_all) (round of_leave) = refl
-  again_answered_moves (closing told_all) (round of_answer) = refl
-  again_answered_moves (closing told_all) (in_core (own of_any)) = refl
-  again_answered_moves (closing told_all) (in_core (own of_joined)) = refl
-  again_answered_moves (closing told_all) (in_core (own of_ask)) = refl
-  again_answered_moves (closing told_all) (in_core (own (of_latch j))) = refl
-  again_answered_moves (closing told_all) (in_core (own (of_start j))) = refl
-  again_answered_moves (closing told_all) (in_core (guard q)) = refl
-  again_answered_moves (closing told_all) (in_core (branch c)) = refl
-
   -- where its request falls
   pub record AgainLowered (x : AgainAt n G W.heads K.At answered) : Type 0 where
     pub place : AgainAt n G W.heads K.At returning
     pub same : again_cells W K place ≡ again_cells W K x
     pub shows : again_shown W K place ≡ again_shown W K x
     pub fits : AgainFits W K place
-
-  pub again_lowered : (x : AgainAt n G W.heads K.At answered) → AgainLowered x
-  again_lowered (closing told_all) = record { place = closing lets_turn; same = refl; shows = refl; fits = tt }
 
 -- and where it rises
 pub record AgainBegun {n : ℕ} {G Q B C S T : Type 0} (W : Guards n G Q) (K : Branches n B C S T) (y : Story T) : Type 0 where
@@ -461,6 +377,3 @@ pub record AgainBegun {n : ℕ} {G Q B C S T : Type 0} (W : Guards n G Q) (K : B
   pub fits : AgainFits W K place
   pub shows : again_shown W K place ≡ K.none
   pub term : again_left W K y place ≡ y.whole
-
-pub again_begun : {n : ℕ} {G Q B C S T : Type 0} (W : Guards n G Q) (K : Branches n B C S T) (y : Story T) → y.wrap K.over ≡ y.whole → AgainBegun W K y
-again_begun W K y z = record { place = turning (in_control uncalled); same = refl; fits = W.begins false; shows = K.reading_low; term = z }

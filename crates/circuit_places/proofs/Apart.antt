@@ -12,11 +12,6 @@ use Rattle.circuit_places.specs.Cores.{OwnSpot, core_rule, core_of, turning_of}
 use Rattle.circuit_places.proofs.HeadFacts.{neutral_over}
 use Rattle.circuit_places.proofs.CoreControl.{Control, uncalled, called, evaluating, latched, leaving, noted, spread, freed, lock_alone, Closing, told_all, lets_turn, lets_leave, lets_any, lets_answer, closing_turn, closing_leave, closing_any, closing_cells, control_leave, control_any, control_guards, core_apart, turning_apart}
 
-both_of : (r u : Bool) → not ((r && not u) && u) ≡ true
-both_of true true = refl
-both_of true false = refl
-both_of false u = refl
-
 and_not : (u d : Bool) → not ((u && not d) && not u) ≡ true
 and_not true true = refl
 and_not true false = refl

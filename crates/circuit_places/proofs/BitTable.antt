@@ -168,13 +168,6 @@ ready_after n l e = implies_both (legal n) (agree n.wa (not n.va)) (ready n)
 pub ready_alone : (n : Now) → legal n ≡ true → may written n ≡ true → ready n ≡ true
 ready_alone n l m = implies_both (legal n) (may written n) (ready n) (at_now (λ n. implies (legal n) (implies (may written n) (ready n))) refl n) l m
 
--- a rail of the value moves only under those by which it is written
-pub under_t : (n : Now) → may rail_t n ≡ true → (if n.xt then n.wf else n.wt) ≡ true
-under_t n = implies_at (may rail_t n) (if n.xt then n.wf else n.wt) (at_now (λ n. implies (may rail_t n) (if n.xt then n.wf else n.wt)) refl n)
-
-pub under_f : (n : Now) → may rail_f n ≡ true → (if n.xf then n.wt else n.wf) ≡ true
-under_f n = implies_at (may rail_f n) (if n.xf then n.wt else n.wf) (at_now (λ n. implies (may rail_f n) (if n.xf then n.wt else n.wf)) refl n)
-
 -- no node is pulled both ways
 abbrev pub pulled : Role → Now → Bool
 pulled rail_t n = (n.wt && not n.xf) && n.wf
@@ -201,14 +194,6 @@ idle n = not n.wt && (not n.wf && not n.va)
 idle_from : (n : Now) → n.wt ≡ false → n.wf ≡ false → n.va ≡ false → idle n ≡ true
 idle_from n a b c = subst (λ x. (not x && (not n.wf && not n.va)) ≡ true) (sym a)
     (subst (λ x. (not x && not n.va) ≡ true) (sym b) (subst (λ x. not x ≡ true) (sym c) refl))
-
-pub low_when_idle : (n : Now) → legal n ≡ true → n.wt ≡ false → n.wf ≡ false → n.va ≡ false → n.wa ≡ false
-low_when_idle n l a b c = not_true n.wa (implies_both (legal n) (idle n) (not n.wa) (at_now (λ n. implies (legal n) (implies (idle n) (not n.wa))) refl n) l
-    (idle_from n a b c))
-
-pub valid_when_idle : (n : Now) → legal n ≡ true → n.wt ≡ false → n.wf ≡ false → n.va ≡ false → valid n.xt n.xf ≡ true
-valid_when_idle n l a b c = implies_both (legal n) (idle n) (valid n.xt n.xf) (at_now (λ n. implies (legal n) (implies (idle n) (valid n.xt n.xf))) refl n) l
-    (idle_from n a b c)
 
 pub legal_at_first : (n : Now) → valid n.xt n.xf ≡ true → n.wt ≡ false → n.wf ≡ false → n.va ≡ false → n.wa ≡ false → legal n ≡ true
 legal_at_first n v a b c d =
@@ -255,14 +240,6 @@ role_cases write_t write_t = inl refl
 role_cases write_f write_f = inl refl
 role_cases written written = inl refl
 role_cases _ _ = inr refl
-
--- a move at the bit leaves the acknowledge alone
-pub ack_kept : (k : Role) (n : Now) → n.va ≡ (turn k n).va
-ack_kept rail_t n = refl
-ack_kept rail_f n = refl
-ack_kept write_t n = refl
-ack_kept write_f n = refl
-ack_kept written n = refl
 
 -- a rail of the value moves only while the bit is written
 pub written_t : (n : Now) → legal n ≡ true → may rail_t n ≡ true → (not n.va && (n.wt || n.wf)) ≡ true

@@ -5,7 +5,7 @@ use Rattle.std.specs.List.{list_any}
 use Rattle.chp_base.specs.declared.channel.Kind.TheVariants.{Out}
 use Rattle.env_script.specs.declared.script.Count.TheVariants.{All, Times}
 use Rattle.env_script.specs.Scripts.{takes}
-use Rattle.width_check.specs.Processes.{constant, reading, inverted, skipping, assigning, sending, in_turn, choosing, repeating, no_members, and_member, Choices, no_choices, and_choice, TypedProgram}
+use Rattle.width_check.specs.Processes.{constant, reading, skipping, assigning, sending, in_turn, choosing, no_members, and_member, Choices, no_choices, and_choice, TypedProgram}
 use Rattle.circuit_places.specs.Lines.{of_channel, of_var}
 use Rattle.circuit_places.specs.Heads.{top, under}
 use Rattle.circuit_places.specs.Cores.{of_joined, of_ask, of_any, of_latch, of_start, of_answer, of_turn, of_leave}

@@ -3,9 +3,9 @@ use Rattle.std.proofs.Common.{◌≡◌, ◌≢◌, ℕ, Bool, true, false, refl
 use Rattle.std.specs.Prelude.{not}
 use Rattle.function_blocks.specs.Rails.{Pairs, Rule, one_rule_fires, is_apart}
 use Rattle.circuit_places.specs.Heads.{Index, Bits, low_bits, bit_of, hot, nothing_true, all_neutral, all_valid, all_single, alone, told, over, below}
-use Rattle.circuit_places.specs.Cores.{Core, OwnSpot, of_joined, of_ask, of_any, of_latch, of_start, RoundSpot, of_answer, of_turn, of_leave, core_rule, turning_rule, turned_own, core_of, turning_of}
+use Rattle.circuit_places.specs.Cores.{Core, OwnSpot, of_joined, of_ask, of_any, of_latch, of_start, RoundSpot, of_answer, of_turn, of_leave, core_rule, turned_own, core_of}
 use Rattle.circuit_places.proofs.HeadFacts.{fst_true, snd_true, both_true, hot_low, hot_is, hot_turned, hot_up, alone_told, over_false, false_valid, alone_valid, told_alone, told_falls, none_falls, neutral_alone, neutral_over, over_alone}
-use Rattle.circuit_places.proofs.CoreControl.{control_steps, turning_steps, Mode, idle, running, answered, returning, asks, acks, goes, noted, spread, freed, lock_may, lock_alone, Control, uncalled, called, evaluating, latched, leaving, isnt_running, Way, works, worked, reported, letting, backs, control_leave, control_ask, control_guards, control_any, control_cells, control_moves, turning_moves, way_cells, way_moves, way_turning, control_can_is, turning_can_is, way_can_is, way_turning_is, core_apart, turning_apart}
+use Rattle.circuit_places.proofs.CoreControl.{control_steps, turning_steps, Mode, idle, running, answered, returning, asks, acks, goes, noted, spread, freed, lock_may, lock_alone, Control, uncalled, called, evaluating, latched, leaving, isnt_running, Way, works, worked, reported, letting, backs, control_leave, control_ask, control_guards, control_any, control_cells, control_moves, turning_moves, way_cells, way_moves, way_turning}
 
 -- The guards as waves: under the request they become good and full, without it they empty. `good r` are the states under the
 -- request r.
@@ -170,44 +170,6 @@ module _ {again : Bool} {n : ℕ} {G Q B C S T : Type 0} (W : Guards n G Q) (K :
   core_left y (in_control (leaving t l g h)) = y.gone
   core_left y (in_branch a w) = y.wrap (K.left a)
 
-  -- the rules allow what a place says
-  pub core_can_is : {m : Mode} (x : CoreAt again n G W.heads K.At m) (s : CoreSpot n Q C)
-      → one_rule_fires (whole_rule W K (asks m) (core_leave x) (core_cells x) s) ≡ core_moves x s
-  core_can_is {m = m} (in_control c) (own s) = ap (λ (y : Bits n). one_rule_fires (core_rule (asks m) (control_leave c) (W.heads (control_guards W.low c)) y
-      (control_cells W.low K.low c) s)) K.low_answers ∙ control_can_is W.low K.low W.low_neutral c s
-  core_can_is (in_control c) (guard q) = refl
-  core_can_is (in_control c) (branch b) = K.low_quiet b
-  core_can_is {m = m} (in_branch a w) (own s) = ap (λ (y : Bits n). one_rule_fires
-      (core_rule (asks m) false (W.heads W.low) y (way_cells W.low (K.index a) (K.cells a) w) s)) (K.answers_are a) ∙ way_can_is W.low (W.heads W.low) (K.cells
-      a) W.low_neutral w (K.index a) s
-  core_can_is (in_branch a w) (guard q) = W.low_quiet q
-  core_can_is (in_branch a w) (branch b) = K.can_is a b
-
-  -- and round it
-  pub core_turning_is : {m : Mode} (x : CoreAt again n G W.heads K.At m) (s : RoundSpot)
-      → one_rule_fires (turning_rule true (W.heads (core_cells x).guards) (turning_of false (asks m) (core_leave x) (core_cells x)) s) ≡ core_turning x s
-  core_turning_is (in_control c) s = turning_can_is W.low K.low W.low_neutral c s
-  core_turning_is (in_branch a w) s = way_turning_is W.low (W.heads W.low) (K.cells a) W.low_neutral w (K.index a) s
-
-  -- no node is pulled both ways
-  idle_low : {m : Mode} (c : Control again n G W.heads m) → asks m ≡ false → all_neutral n (W.heads (control_guards W.low c)) ≡ true
-  idle_low uncalled e = W.low_neutral
-  idle_low called e = absurd (cc e)
-  idle_low (evaluating g) e = absurd (cc e)
-  idle_low (latched l i g h) e = absurd (cc e)
-  idle_low (leaving y l g h) e = absurd (cc e)
-
-  pub whole_apart : {m : Mode} (x : CoreAt again n G W.heads K.At m) → CoreFits x → (s : CoreSpot n Q C)
-      → is_apart (whole_rule W K (asks m) (core_leave x) (core_cells x) s) ≡ true
-  whole_apart {m = m} (in_control c) f (own s) =
-      core_apart (asks m) (control_leave c) (W.heads (control_guards W.low c)) (K.answers K.low) (control_cells W.low K.low c) (idle_low c) s
-  whole_apart (in_control c) f (guard q) = W.apart (control_ask c) (control_guards W.low c) q f
-  whole_apart (in_control c) f (branch b) = K.low_apart b
-  whole_apart {m = m} (in_branch a w) f (own s) =
-      core_apart (asks m) false (W.heads W.low) (K.answers (K.cells a)) (way_cells W.low (K.index a) (K.cells a) w) (λ e. W.low_neutral) s
-  whole_apart (in_branch a w) f (guard q) = W.apart false W.low q (W.begins false)
-  whole_apart (in_branch a w) f (branch b) = K.apart a b
-
   known : {m : Mode} (c : Control again n G W.heads m) → control_leave c ≡ true → all_neutral n (W.heads (control_guards W.low c)) ≡ true → control_any c ≡ true
   known uncalled e z = absurd (cc e)
   known called e z = absurd (cc e)
@@ -216,13 +178,6 @@ module _ {again : Bool} {n : ℕ} {G Q B C S T : Type 0} (W : Guards n G Q) (K :
   known (leaving y noted g h) e z = absurd (cc (lock_alone noted (over n (W.heads g)) (nothing_true n (W.heads g)) h refl, neutral_over n (W.heads g) z))
   known (leaving y spread g h) e z = refl
   known (leaving y freed g h) e z = refl
-
-  pub round_apart : {m : Mode} (x : CoreAt again n G W.heads K.At m) (s : RoundSpot)
-      → is_apart (turning_rule true (W.heads (core_cells x).guards) (turning_of false (asks m) (core_leave x) (core_cells x)) s) ≡ true
-  round_apart {m = m} (in_control c) s =
-      turning_apart true (W.heads (control_guards W.low c)) (turning_of false (asks m) (control_leave c) (control_cells W.low K.low c)) (idle_low c) (known c) s
-  round_apart {m = m} (in_branch a w) s = turning_apart true (W.heads W.low) (turning_of false (asks m) false (way_cells W.low (K.index a) (K.cells a) w))
-      (λ e. W.low_neutral) (λ e z. absurd (cc e)) s
 
 -- How the statement goes on, where z is shown: not at all; it chooses the branch whose guard is true alone, or ends since all are false, both as
 -- the guards are found full under their request; or its branch goes on.

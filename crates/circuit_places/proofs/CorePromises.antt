@@ -1,66 +1,14 @@
 -- What a core promises to its guards and to its branches, and where it comes to rest.
 use Rattle.std.proofs.Common.{◌≡◌, ℕ, Bool, true, false, refl, ap, ◌∙◌}
 use Rattle.std.specs.Prelude.{◌&&◌}
-use Rattle.circuit_places.specs.Heads.{Index, Bits, low_bits, bit_of, hot, nothing_true, all_neutral, all_valid, alone, told, over}
+use Rattle.circuit_places.specs.Heads.{Index, Bits, bit_of, hot, all_neutral, all_valid, alone, over}
 use Rattle.circuit_places.specs.Cores.{of_joined, of_ask, of_any, of_latch, of_start, RoundSpot, of_answer, of_turn, of_leave}
-use Rattle.circuit_places.proofs.HeadFacts.{fst_true, snd_true, both_true, bit_none, hot_low, bit_hot, hot_is, over_false, false_valid, alone_valid}
-use Rattle.circuit_places.proofs.CoreControl.{Mode, idle, running, answered, returning, asks, acks, noted, spread, freed, uncalled, called, evaluating, latched, leaving, isnt_running, works, worked, reported, letting, backs, told_all, lets_turn, lets_leave, lets_any, lets_answer}
+use Rattle.circuit_places.proofs.HeadFacts.{both_true, bit_none, hot_low, bit_hot, hot_is}
+use Rattle.circuit_places.proofs.CoreControl.{Mode, idle, running, answered, returning, asks, acks, noted, spread, freed, uncalled, called, evaluating, latched, leaving, isnt_running, works, worked, reported, letting, backs}
 use Rattle.circuit_places.proofs.CoreMoves.{Guards, Branches, CoreAt, in_control, in_branch, CoreSpot, own, guard, branch, core_cells, core_moves, core_turning, CoreFits, Arrives}
-use Rattle.circuit_places.proofs.AgainMoves.{AgainAt, again_rests, turning, closing, AgainSpot, round, in_core, AgainFits, again_moves}
+use Rattle.circuit_places.proofs.AgainMoves.{AgainAt, turning}
 
 module _ {again : Bool} {n : ℕ} {G Q B C S T : Type 0} (W : Guards n G Q) (K : Branches n B C S T) where
-  -- the guards are called where none of their rails is up, and let go where each has one
-  pub ask_promise : {m : Mode} (x : CoreAt again n G W.heads K.At m) → core_moves W K x (own of_ask) ≡ true
-      → ((core_cells W K x).ask ≡ false → (core_cells W K x).guards ≡ W.low)
-      × ((core_cells W K x).ask ≡ true → all_valid n (W.heads (core_cells W K x).guards) ≡ true)
-  ask_promise (in_control called) e = (λ z. refl, λ z. absurd (cc z))
-  ask_promise (in_control (latched spread i g h)) e = (λ z. absurd (cc z), λ z. alone_valid i (W.heads g) (snd_true (told i (W.heads g)) _ h))
-  ask_promise (in_control (leaving t spread g h)) e =
-      (λ z. absurd (cc z), λ z. false_valid n (W.heads g) (over_false n (W.heads g) (snd_true (nothing_true n (W.heads g)) _ h)))
-  ask_promise (in_control (latched noted i g h)) e = absurd (cc e)
-  ask_promise (in_control (latched freed i g h)) e = absurd (cc e)
-  ask_promise (in_control (leaving t noted g h)) e = absurd (cc e)
-  ask_promise (in_control (leaving t freed g h)) e = absurd (cc e)
-  ask_promise (in_control uncalled) e = absurd (cc e)
-  ask_promise (in_control (evaluating g)) e = absurd (cc e)
-  ask_promise (in_branch a works) e = absurd (cc e)
-  ask_promise (in_branch a worked) e = absurd (cc e)
-  ask_promise (in_branch a reported) e = absurd (cc e)
-  ask_promise (in_branch a letting) e = absurd (cc e)
-  ask_promise (in_branch a (backs any h)) e = absurd (cc e)
-
-  -- the latch that rises is that of the guard that is true alone, where no other is up, under the guards' request
-  pub latch_promise : {m : Mode} (x : CoreAt again n G W.heads K.At m) (j : Index n) → CoreFits W K x → core_moves W K x (own (of_latch j)) ≡ true
-      → bit_of j (core_cells W K x).latched ≡ false
-      → (alone j (W.heads (core_cells W K x).guards) ≡ true) × ((core_cells W K x).latched ≡ low_bits n) × ((core_cells W K x).ask ≡ true)
-      × (W.good true (core_cells W K x).guards ≡ true)
-  latch_promise (in_control (evaluating g)) j f e l = (e, refl, refl, f)
-  latch_promise (in_control uncalled) j f e l = absurd (cc e)
-  latch_promise (in_control called) j f e l = absurd (cc e)
-  latch_promise (in_control (latched k i g h)) j f e l = absurd (cc e)
-  latch_promise (in_control (leaving t k g h)) j f e l = absurd (cc e)
-  latch_promise (in_branch a works) j f e l = absurd (cc e)
-  latch_promise (in_branch a worked) j f e l = absurd (cc e)
-  latch_promise (in_branch a reported) j f e l = absurd (cc e)
-  latch_promise (in_branch a letting) j f e l = absurd (cc (e, l))
-  latch_promise (in_branch a (backs any h)) j f e l = absurd (cc e)
-
-  -- a start rises where its latch is up, the guards are let go and no branch is under way; it falls where its branch has answered
-  pub start_rises : {m : Mode} (x : CoreAt again n G W.heads K.At m) (j : Index n) → core_moves W K x (own (of_start j)) ≡ true
-      → bit_of j (core_cells W K x).started ≡ false
-      → (bit_of j (core_cells W K x).latched ≡ true) × (all_neutral n (W.heads (core_cells W K x).guards) ≡ true) × ((core_cells W K x).started ≡ low_bits n)
-      × ((core_cells W K x).branches ≡ K.low)
-  start_rises (in_control (latched l i g h)) j e s = (fst_true (bit_of j (hot i true)) _ e, snd_true (bit_of j (hot i true)) _ e, refl, refl)
-  start_rises (in_control (evaluating g)) j e s = absurd (cc e)
-  start_rises (in_control uncalled) j e s = absurd (cc e)
-  start_rises (in_control called) j e s = absurd (cc e)
-  start_rises (in_control (leaving t k g h)) j e s = absurd (cc e)
-  start_rises (in_branch a works) j e s = absurd (cc e)
-  start_rises (in_branch a worked) j e s = absurd (cc e)
-  start_rises (in_branch a reported) j e s = absurd (cc e)
-  start_rises (in_branch a letting) j e s = absurd (cc e)
-  start_rises (in_branch a (backs any h)) j e s = absurd (cc (e, s))
-
   -- its branch's answer is high then
   pub start_falls : {m : Mode} (x : CoreAt again n G W.heads K.At m) (j : Index n) → core_moves W K x (own (of_start j)) ≡ true
       → bit_of j (core_cells W K x).started ≡ true
@@ -138,13 +86,3 @@ turning_rest W K returning x t (core_settled e) = absurd (cc e)
 turning_rest W K running _ t (stuck g f v a o) = again_stuck g f v a (o refl)
 turning_rest W K running _ t (at_work a c) = again_at_work a c
 turning_rest W K returning _ t (falling a c) = again_falling a c
-
-pub again_rest : {n : ℕ} {G Q B C S T : Type 0} (W : Guards n G Q) (K : Branches n B C S T) → Arrives W → {m : Mode} (x : AgainAt n G W.heads K.At m)
-    → AgainFits W K x → ((s : AgainSpot n Q C) → again_moves W K x s ≡ false) → AgainRest W K m x
-again_rest W K R again_rests f s = again_settled refl
-again_rest W K R (turning {m = m} x) f s = turning_rest W K m x (λ t. s (round t)) (core_rest W K R x f (λ p. s (in_core p)) (λ e t. s (round t)))
-again_rest W K R (closing told_all) f s = again_settled refl
-again_rest W K R (closing lets_turn) f s = absurd (cc (s (round of_turn)))
-again_rest W K R (closing lets_leave) f s = absurd (cc (s (round of_leave)))
-again_rest W K R (closing lets_any) f s = absurd (cc (s (in_core (own of_any))))
-again_rest W K R (closing lets_answer) f s = absurd (cc (s (round of_answer)))

@@ -12,7 +12,7 @@ use Rattle.circuit_places.specs.Circuit.{Pairs, gate_count}
 use Rattle.circuit_places.specs.Whole.{is_merged}
 use Rattle.circuit_places.proofs.PortLeaf.{runs_kept}
 use Rattle.circuit_places.proofs.RailLemmas.{snd_true}
-use Rattle.circuit_places.proofs.Places.{Mode, idle, running, answered, returning, asks, inner_may, SiteMay, GuardedAt, At, TurnAt, BranchesAt, g_rests, g_in, g_past, g_back, rests, at_skip, at_assign, at_send, at_receive, at_turn, at_side, at_body, no_more, and_at, turn_rests, at_last, at_member, at_later, Shown, none_shown, both_shown, guarded_shown, shown, turn_shown, branches_shown, site_shown, under_way, writing, guarded_writing, turn_writing, branches_writing, port_may, port_shown, PortFits, SiteFits, GuardedFits, Fits, TurnFits, BranchesFit, at_choice, at_turning, at_closing, ChoiceAt, control_at, inside_at, ChosenAt, this_one, another, choice_shown, chosen_shown, ChoiceFits, ChosenFits, choice_writing, chosen_writing, guards_shown}
+use Rattle.circuit_places.proofs.Places.{Mode, idle, running, answered, returning, asks, inner_may, SiteMay, GuardedAt, At, TurnAt, BranchesAt, g_rests, g_in, g_past, g_back, rests, at_skip, at_assign, at_send, at_receive, at_turn, at_side, at_body, no_more, and_at, turn_rests, at_last, at_member, at_later, Shown, none_shown, both_shown, guarded_shown, shown, turn_shown, branches_shown, site_shown, under_way, writing, guarded_writing, turn_writing, branches_writing, port_may, port_shown, PortFits, SiteFits, GuardedFits, Fits, TurnFits, BranchesFit, at_choice, at_turning, at_closing, ChoiceAt, control_at, inside_at, ChosenAt, this_one, another, choice_shown, chosen_shown, ChoiceFits, ChosenFits, choice_writing, chosen_writing}
 use Rattle.circuit_places.proofs.Meets.{HasLine, PortMeets, SiteMeets, read_declared, Meets, TurnMeets, EachMeets, ChoiceMeets}
 use Rattle.circuit_places.proofs.Left.{waits, inner_left, again, guarded_left, left, turn_left, branches_left, Act, left_done, branch_term, choice_left, chosen_left}
 use Rattle.circuit_places.proofs.Exchange.{One, Fired, FiredInside, fired_then, fired_together, none_fired, fired_both, fired_map, fired_map_inside}

@@ -5,7 +5,6 @@ use Rattle.prs_core.specs.Deciding.{implies}
 use Rattle.prs_core.specs.Moves.{bit_value, with_bit}
 use Rattle.width_check.specs.Processes.{Formula, Process, Choices, no_choices, and_choice, choice_count, TypedProgram}
 use Rattle.width_check.specs.Typing.{var_width}
-use Rattle.width_check.specs.Values.{width_of}
 use Rattle.width_check.specs.Reads.{reads}
 use Rattle.function_blocks.specs.Rails.{Pairs, Rails, Single, low_pairs, turned_pairs, one_rule_fires, is_apart, value_on, neutral_on}
 use Rattle.function_blocks.specs.Parts.{gate_count}

@@ -6,14 +6,6 @@ use Rattle.function_blocks.specs.Rails.{Pairs}
 pub use Rattle.circuit_places.proofs.RailLemmas.{fst_true, snd_true, both_true, not_true}
 use Rattle.circuit_places.specs.Heads.{Index, top, under, Bits, low_bits, bit_of, some_bit, turned_bit, hot, each_false, nothing_true, all_neutral, all_valid, all_single, alone, told, over, below}
 
-pub true_not : (b : Bool) → b ≡ false → not b ≡ true
-true_not true h = absurd (cc h)
-true_not false h = refl
-
-pub not_high : (b : Bool) → (b ≡ true → ⊥) → b ≡ false
-not_high true f = absurd (f refl)
-not_high false f = refl
-
 -- single bits
 pub bit_none : {n : ℕ} (i : Index n) → bit_of i (low_bits n) ≡ false
 bit_none top = refl

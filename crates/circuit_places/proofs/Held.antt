@@ -7,7 +7,7 @@ use Rattle.circuit_places.specs.Lines.{of_channel, same_line, Rails, Seen}
 use Rattle.circuit_places.specs.Circuit.{Pairs, gate_count, SiteSpot, PortSpot, heard, GuardedSpot, Spot, TurnSpot, BranchSpot, child, latch, next, inner, done, gate, of_send, of_receive, in_members, of_branch, in_this, in_others, ask, in_body, in_last, in_member, in_later, ChoiceSpot, this_choice, other_choice, of_core, of_choice, of_round}
 use Rattle.function_blocks.specs.Waves.{out_rail}
 use Rattle.circuit_places.proofs.RailLemmas.{never_and, empty_low}
-use Rattle.circuit_places.proofs.Places.{Mode, idle, running, answered, returning, SiteMay, GuardedAt, At, TurnAt, BranchesAt, g_rests, g_in, g_past, g_back, rests, at_skip, at_assign, at_send, at_receive, at_turn, at_side, at_body, no_more, and_at, turn_rests, at_last, at_member, at_later, Shown, none_shown, both_shown, guarded_shown, shown, turn_shown, branches_shown, site_moves, SiteFits, port_may, port_shown, port_moves, GuardedFits, Fits, TurnFits, BranchesFit, guarded_moves, moves, turn_moves, branch_moves, at_choice, at_turning, at_closing, ChoiceAt, control_at, inside_at, ChosenAt, this_one, another, chosen_shown, ChosenFits, chosen_moves, chosen_index, guards_shown}
+use Rattle.circuit_places.proofs.Places.{Mode, idle, running, answered, returning, SiteMay, GuardedAt, At, TurnAt, BranchesAt, g_rests, g_in, g_past, g_back, rests, at_skip, at_assign, at_send, at_receive, at_turn, at_side, at_body, no_more, and_at, turn_rests, at_last, at_member, at_later, Shown, none_shown, both_shown, guarded_shown, shown, turn_shown, branches_shown, site_moves, SiteFits, port_may, port_shown, port_moves, GuardedFits, Fits, TurnFits, BranchesFit, guarded_moves, moves, turn_moves, branch_moves, at_choice, at_turning, at_closing, control_at, inside_at, ChosenAt, this_one, another, chosen_shown, ChosenFits, chosen_moves, chosen_index}
 use Rattle.circuit_places.proofs.Meets.{PortMeets, Meets, TurnMeets, EachMeets, ChoiceMeets}
 use Rattle.circuit_places.proofs.Flow.{cases}
 use Rattle.circuit_places.proofs.LineNames.{same_number}
@@ -16,7 +16,7 @@ use Rattle.circuit_places.proofs.Rest.{Releasing, port_holds, this_releasing, ot
 use Rattle.circuit_places.specs.Cores.{OwnSpot, RoundSpot, of_joined, of_latch, of_turn, of_start}
 use Rattle.circuit_places.specs.Heads.{Index}
 use Rattle.circuit_places.proofs.HeadFacts.{bit_hot}
-use Rattle.circuit_places.proofs.CoreControl.{Way, works, worked, reported, letting, backs, way_moves, way_turning, control_ask}
+use Rattle.circuit_places.proofs.CoreControl.{Way, works, worked, reported, letting, backs, way_moves, way_turning}
 
 pub record Held (P : TypedProgram) (c : ℕ) (env : Seen) (x : Shown) : Type 0 where
   pub gone : (i : ℕ) (one : Bool) → x.offer (of_channel c) i one ≡ false

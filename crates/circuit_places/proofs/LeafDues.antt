@@ -13,13 +13,13 @@ use Rattle.circuit_places.specs.Lines.{Line, of_channel, of_var, Rails, Seen}
 use Rattle.circuit_places.specs.Circuit.{GuardCells, gate_count, gate_rule, guards_rule, guards_good, turned_guards, one_rule_fires, SiteSpot, done, gate, turned_site, PortSpot, heard, stored, taking, rails_turned, turned_port, GuardSpot, this_gate, other_gate}
 use Rattle.circuit_places.proofs.RailLemmas.{fst_true, snd_true, gate_there}
 use Rattle.circuit_places.proofs.CoreControl.{Mode, idle, running, answered, returning, asks, acks}
-use Rattle.circuit_places.proofs.Places.{SiteMay, site_of, port_of, port_may, site_moves, port_moves, SiteFits, PortFits, ends, cells}
+use Rattle.circuit_places.proofs.Places.{SiteMay, site_of, port_of, port_may, site_moves, port_moves, SiteFits, PortFits, ends}
 use Rattle.circuit_places.proofs.Meets.{PortMeets, GuardsMeet}
 use Rattle.circuit_places.proofs.Flow.{Clean, cases, not_both}
 use Rattle.circuit_places.proofs.Begin.{site_answered_moves, port_answered_moves}
 use Rattle.circuit_places.proofs.PortLeaf.{turned_there, turned_else, runs_va}
 use Rattle.circuit_places.proofs.LineNames.{self_number, same_number}
-use Rattle.circuit_places.proofs.Dues.{mark, lack, weigh, pairs_sum, bits_sum, pairs_turned, bits_turned, weigh_falls, guards_sum, rails_sum, due}
+use Rattle.circuit_places.proofs.Dues.{mark, lack, weigh, pairs_sum, bits_sum, pairs_turned, bits_turned, weigh_falls, guards_sum, rails_sum}
 
 -- a rule that goes with the request
 with_request : (r v o : Bool) → (if v then not r else (r && not o)) ≡ true → v ≡ not r

@@ -139,9 +139,6 @@ module _ (P : TypedProgram) (c x : ℕ) (env : Seen) (clean : Clean P env) (meet
   kept_held true a b f h = f h
   kept_held false a b f h = absurd (cc h)
 
-  no_change : (s a b : Bool) → a ≡ b → (s && a) ≡ false → (s && b) ≡ true → ⊥
-  no_change s a b e h i = cc (h, ap (λ z. s && z) e, i)
-
   differ : (b : Bool) → b ≡ true → b ≡ false → ⊥
   differ b p q = cc (p, q)
 

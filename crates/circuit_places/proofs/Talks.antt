@@ -1,7 +1,7 @@
 -- What a place shows stands in its statement, and so in one of several branches alone.
 use Rattle.std.proofs.Common.{◌≡◌, ℕ, ◌==◌, Bool, true, false, List, refl, ap, ◌∙◌}
 use Rattle.std.specs.Prelude.{◌||◌}
-use Rattle.width_check.specs.Processes.{Choices, and_choice, Process, Processes, and_member}
+use Rattle.width_check.specs.Processes.{Choices, Process, Processes, and_member}
 use Rattle.circuit_places.specs.Lines.{Line, of_channel, of_var, same_line}
 use Rattle.function_blocks.specs.Waves.{out_rail}
 use Rattle.circuit_places.proofs.RailLemmas.{fst_true}

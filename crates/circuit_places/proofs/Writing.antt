@@ -8,7 +8,7 @@ use Rattle.std.specs.Prelude.{not, ◌&&◌, ◌||◌, Option, Some, None, slice
 use Rattle.prs_core.specs.Moves.{bit_value, with_bit}
 use Rattle.env_script.specs.Environment.{is_odd}
 use Rattle.width_check.specs.declared.typed.Var.{Var}
-use Rattle.width_check.specs.Processes.{Formula, Process, Processes, and_member, TypedProgram, Choices, and_choice}
+use Rattle.width_check.specs.Processes.{Formula, Process, Processes, and_member, TypedProgram, Choices}
 use Rattle.width_check.specs.Typing.{var_width}
 use Rattle.chp_meaning.specs.Halves.{IsSizedVar}
 use Rattle.width_check.specs.Values.{one_if}

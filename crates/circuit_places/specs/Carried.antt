@@ -36,8 +36,8 @@ pub record CellsSettled (P : TypedProgram) (x : Whole P.body) (c : Configuration
   pub ended : x.root.next ≡ true → c.term ≡ finished
   pub going : x.root.next ≡ false → c.term ≢ finished
 
--- after so many moves: as many steps of the program at most have passed the same values, and between two steps each
--- node moves twice at most
+-- after so many moves: as many steps of the program at most have passed the same values, and for each step and one more
+-- there are at most twice as many moves as nodes
 pub record IsCarried (P : TypedProgram) (script : List OfferValue) (moves : ℕ) (x : Whole P.body) : Type 0 where
   pub safe : IsSafe P script x
   pub to : Configuration

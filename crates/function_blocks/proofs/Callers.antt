@@ -1,21 +1,19 @@
 -- For callers of `emit_expr`: its conditions, and what it writes, by the variables that the expression reads from.
-use Rattle.std.proofs.Common.{◌≡◌, ℕ, zero, suc, ◌+◌, ◌*◌, ◌<◌, ◌≤◌, Bool, true, false, List, [], ◌∷◌, ◌++◌, length, All, Contains, refl, sym, ap, subst, ◌∙◌, arith}
+use Rattle.std.proofs.Common.{◌≡◌, ℕ, ◌+◌, ◌*◌, ◌<◌, ◌≤◌, List, [], ◌∷◌, ◌++◌, length, refl, sym, ap, ◌∙◌, arith}
 use Rattle.std.specs.Prelude.{slice_index_or}
-use Rattle.std.proofs.lemmas.List.Elements.{All-nil, All-cons, Contains-append_right}
-use Rattle.prs_core.specs.Nets.{NodeRules}
-use Rattle.prs_core.specs.Pairs.{Pair, pair_of, pair_at, rails_of}
+use Rattle.prs_core.specs.Pairs.{Pair, pair_of, pair_at}
 use Rattle.width_check.specs.declared.typed.Var.{Var}
 use Rattle.width_check.specs.Processes.{Formula}
 use Rattle.width_check.specs.Values.{IsWellFormed}
 use Rattle.width_check.specs.Typing.{var_width, ReadsFrom}
 use Rattle.function_blocks.specs.Expressions.{HasBits, read_rail, formula_rules}
 use Rattle.function_blocks.specs.Blocks.{bits_in_blocks}
-use Rattle.function_blocks.specs.BitsRead.{EachRead, bits_read}
+use Rattle.function_blocks.specs.BitsRead.{EachRead}
 use Rattle.function_blocks.specs.Parts.{BlockPart, fixed, read_bit, made, block_parts}
 use Rattle.function_blocks.specs.Listed.{part_rules, rules_listed}
 use Rattle.function_blocks.proofs.GateRest.{Only}
 use Rattle.function_blocks.proofs.Readings.{parts_read}
-use Rattle.function_blocks.proofs.ReadBits.{each_at, each_declared, read_among}
+use Rattle.function_blocks.proofs.ReadBits.{each_declared}
 use Rattle.function_blocks.proofs.GatesTold.{listed}
 use Rattle.function_blocks.proofs.Emission.{block_vars, block_bits, block_reads}
 use Rattle.function_blocks.proofs.Within.{apart_at}
@@ -24,19 +22,6 @@ use Rattle.function_blocks.proofs.Within.{apart_at}
 pub each_of : (P : ℕ → ℕ → Type 0) (vars : List Var) (e : Formula) → IsWellFormed e → ReadsFrom vars e
     → ((x i : ℕ) → x < length vars → i < var_width vars x → i ≤ 63 → P x i) → EachRead P e
 each_of P vars e h r f = each_declared vars P f e h r
-
--- what holds of both rails of each bit that is read holds of the list of these rails
-pub rails_have : (P : ℕ → Type 0) (bits : ℕ → List Pair) (e : Formula) → IsWellFormed e
-    → EachRead (λ x i. P (pair_of (bits x) i).t × P (pair_of (bits x) i).f) e → All P (rails_of (bits_read bits e))
-rails_have P bits e h r =
-    each_rail (bits_read bits e) (λ p among. let b = read_among bits e p h among in subst (λ (p : Pair). P p.t × P p.f) b.is (each_at _ e b.var b.bit r b.read))
-  where
-    each_rail : (ps : List Pair) → ((p : Pair) → Contains ps p → P p.t × P p.f) → All P (rails_of ps)
-    each_rail [] f = All-nil P
-    each_rail (p ∷ ps) f =
-        let here = f p (0, omega arith, refl) in
-        All-cons P p.t (p.f ∷ rails_of ps) here.0 (All-cons P p.f (rails_of ps) here.1
-        (each_rail ps (λ q among. f q (Contains-append_right (p ∷ []) ps q among))))
 
 -- the rules are the same where the bits that are read are
 listed_same : (bits now : ℕ → List Pair) (request from : ℕ) (gs : List BlockPart) → Only (λ x i. pair_of (bits x) i ≡ pair_of (now x) i) gs

@@ -1,7 +1,7 @@
 -- The guards of an expression, part by part: how far they are made, and what is left.
 use Rattle.std.proofs.Common.{◌≡◌, ◌≢◌, ℕ, zero, suc, ◌+◌, ◌-◌, ◌*◌, ◌^◌, ◌<◌, ◌≤◌, List, [], ◌∷◌, ◌++◌, length, take, drop, get_or, All, refl, sym, ap, subst, ◌∙◌, arith, append_assoc, length-append}
 use Rattle.std.proofs.lemmas.List.{append-nil}
-use Rattle.std.specs.Prelude.{slice_index_or, min}
+use Rattle.std.specs.Prelude.{slice_index_or}
 use Rattle.prs_core.specs.Nets.{NodeRules}
 use Rattle.prs_core.specs.Pairs as nodes
 use Rattle.prs_core.specs.Pairs.{Pair, pair_at, pairs_from}
@@ -13,9 +13,9 @@ use Rattle.width_check.specs.declared.typed.Var.{Var}
 use Rattle.width_check.specs.declared.typed.TExpr.{TExpr, Compare}
 use Rattle.width_check.specs.declared.typed.TLink.{TLink}
 use Rattle.width_check.specs.View.{formula_of}
-use Rattle.width_check.specs.Processes.{Formula, constant, reading, joined, inverted, chained, compared, Formulas, no_parts, and_part, Operations, no_operations, and_operation}
+use Rattle.width_check.specs.Processes.{Formula, joined, chained, compared, Formulas, and_part, Operations, and_operation}
 use Rattle.width_check.specs.Values.{width_of, IsWellFormed, AreWellFormed, AreOperations}
-use Rattle.width_check.specs.Typing.{var_width, ReadsFrom, EachReadsFrom, AllReadFrom}
+use Rattle.width_check.specs.Typing.{ReadsFrom}
 use Rattle.handshake_expand.specs.Layout.{operator_size, formula_size, parts_size, operations_size}
 use Rattle.function_blocks.specs.Gates.{operator_rules, operator_result}
 use Rattle.function_blocks.specs.Expressions.{HasBits, bits_between, formula_result, joined_result, chained_result, formula_rules, joined_rules, chained_rules}
@@ -157,9 +157,6 @@ module _ (firsts : List ℕ) (request from : ℕ) where
         room = omega (arith, at, room);
       }
 
-  pub join_end : (old : List NodeRules) (f : Formula) (made : List NodeRules) (bits : List Pair) → Joining old f no_parts made bits → Done old f made bits
-  join_end old f made bits j = record { made_is = sym (append-nil made) ∙ j.made_is; bits_are = j.bits_are }
-
   pub chain_begin : (old : List NodeRules) (f e : Formula) (rest : Operations) (made : List NodeRules) (bits : List Pair) → f ≡ chained e rest → IsWellFormed f
       → Read f → from + length old + formula_size f < 2 ^ 32 → Done old e made bits → Chaining old f rest made bits
   chain_begin old f e rest made bits is h r room d =
@@ -257,10 +254,6 @@ module _ (firsts : List ℕ) (request from : ℕ) where
         some = let s = j.some in omega (arith, same, s);
         most = let s = j.most in omega (arith, same, s);
       }
-
-  pub chain_end : (old : List NodeRules) (f : Formula) (made : List NodeRules) (bits : List Pair) → Chaining old f no_operations made bits
-      → Done old f made bits
-  chain_end old f made bits j = record { made_is = sym (append-nil made) ∙ j.made_is; bits_are = j.bits_are }
 
   -- the left side of a comparison is made, and then the right one
   pub record Second (made : List NodeRules) (g : Formula) : Type 0 where

@@ -1,11 +1,11 @@
 -- Guards of gates and operators while they are made.
 use Rattle.std.proofs.Common.{◌≡◌, ℕ, zero, suc, ◌+◌, ◌-◌, ◌*◌, ◌/◌, ◌%◌, ◌<◌, ◌≤◌, ◌==◌, Bool, true, false, List, [], ◌∷◌, ◌++◌, length, map, take, drop, get_or, refl, sym, ap, ◌∙◌, arith, append_assoc}
-use Rattle.std.specs.Prelude.{not, if◌then◌else◌, filter}
-use Rattle.std.proofs.lemmas.List.{append-nil, drop_more, drop_all}
+use Rattle.std.specs.Prelude.{not, filter}
+use Rattle.std.proofs.lemmas.List.{drop_more}
 use Rattle.prs_core.specs.declared.rule.Literal.{Literal}
-use Rattle.prs_core.specs.Nets.{NodeRules, is_high, is_low}
-use Rattle.prs_core.specs.Pairs.{Pair, pair_at, lows, rails_of}
-use Rattle.function_blocks.specs.Gates.{odd_ones, exclusive, minterm, table, gate, bitwise, ripple, borrow_gates, borrows, conjunctions, equality, all_of_bits, result_pairs, ripple_result, all_one, alike}
+use Rattle.prs_core.specs.Nets.{NodeRules}
+use Rattle.prs_core.specs.Pairs.{Pair, pair_at}
+use Rattle.function_blocks.specs.Gates.{odd_ones, exclusive, minterm, table, gate, bitwise, conjunctions, equality, all_of_bits, result_pairs, ripple_result, all_one, alike}
 use Rattle.function_blocks.specs.Expressions.{constant_bit, constant_bits, read_rail, read_bits}
 use Rattle.function_blocks.specs.Blocks.{bits_apart}
 
@@ -23,89 +23,6 @@ odd_more false false more = refl
 behind : {X : Type 0} (xs : List X) (i : ℕ) (x : X) → i < length xs → x ≡ get_or xs i x → drop i xs ≡ x ∷ drop (i + 1) xs
 behind xs i x within is = drop_more xs i x within ∙ ap (λ y. y ∷ drop (i + 1) xs) (sym is)
 
-pub minterm_step : (inputs : List Pair) (row : List Bool) (i : ℕ) (p : Pair) (b : Bool) (literals now : List Literal) → i < length inputs
-    → length row ≡ length inputs → p ≡ get_or inputs i p → b ≡ get_or row i b → literals ++ minterm (drop i inputs) (drop i row) ≡ minterm inputs row
-    → now ≡ literals ++ is_high (if b then p.t else p.f) ∷ [] → now ++ minterm (drop (i + 1) inputs) (drop (i + 1) row) ≡ minterm inputs row
-minterm_step inputs row i p b literals now within same p_is b_is h is =
-    let left = behind inputs i p within p_is in
-    let right = behind row i b (omega (arith, same, within)) b_is in
-    ap (λ l. l ++ minterm (drop (i + 1) inputs) (drop (i + 1) row)) is
-    ∙ (append_assoc literals (is_high (if b then p.t else p.f) ∷ []) (minterm (drop (i + 1) inputs) (drop (i + 1) row))
-    ∙ (ap (λ ps. literals ++ minterm ps (b ∷ drop (i + 1) row)) (sym left) ∙ (ap (λ bs. literals ++ minterm (drop i inputs) bs) (sym right) ∙ h)))
-
-pub minterm_done : (inputs : List Pair) (row : List Bool) (i : ℕ) (literals : List Literal) → length inputs ≤ i
-    → literals ++ minterm (drop i inputs) (drop i row) ≡ minterm inputs row → literals ≡ minterm inputs row
-minterm_done inputs row i literals all h = sym (append-nil literals) ∙ (ap (λ ps. literals ++ minterm ps (drop i row)) (sym (drop_all i inputs all)) ∙ h)
-
-pub bitwise_step : (f : List Bool → Bool) (left right : List Pair) (i : ℕ) (a b : Pair) (made now old : List NodeRules) → i < length left
-    → length right ≡ length left → a ≡ get_or left i a → b ≡ get_or right i b → made ++ bitwise f (drop i left) (drop i right) ≡ old ++ bitwise f left right
-    → now ≡ made ++ gate (a ∷ b ∷ []) f → now ++ bitwise f (drop (i + 1) left) (drop (i + 1) right) ≡ old ++ bitwise f left right
-bitwise_step f left right i a b made now old within same a_is b_is h is =
-    let xs = behind left i a within a_is in
-    let ys = behind right i b (omega (arith, same, within)) b_is in
-    ap (λ l. l ++ bitwise f (drop (i + 1) left) (drop (i + 1) right)) is
-    ∙ (append_assoc made (gate (a ∷ b ∷ []) f) (bitwise f (drop (i + 1) left) (drop (i + 1) right))
-    ∙ (ap (λ ps. made ++ bitwise f ps (b ∷ drop (i + 1) right)) (sym xs) ∙ (ap (λ ps. made ++ bitwise f (drop i left) ps) (sym ys) ∙ h)))
-
-pub bitwise_done : (f : List Bool → Bool) (left right : List Pair) (i : ℕ) (made old : List NodeRules) → length left ≤ i
-    → made ++ bitwise f (drop i left) (drop i right) ≡ old ++ bitwise f left right → made ≡ old ++ bitwise f left right
-bitwise_done f left right i made old all h = sym (append-nil made) ∙ (ap (λ ps. made ++ bitwise f ps (drop i right)) (sym (drop_all i left all)) ∙ h)
-
--- below the top place
-pub ripple_step : (k : List Bool → Bool) (left right carried : List Pair) (node i : ℕ) (a b : Pair) (made there now old whole : List NodeRules)
-    → i + 1 < length left → length right ≡ length left → a ≡ get_or left i a → b ≡ get_or right i b
-    → made ++ ripple k (drop i left) (drop i right) carried node ≡ whole → there ≡ made ++ gate (a ∷ b ∷ carried) odd_ones
-    → now ≡ there ++ gate (a ∷ b ∷ carried) k → now ++ ripple k (drop (i + 1) left) (drop (i + 1) right) (pair_at (node + 2) ∷ []) (node + 4) ≡ whole
-ripple_step k left right carried node i a b made there now old whole within same a_is b_is h there_is is =
-    let xs = behind left i a (omega (arith, within)) a_is in
-    let ys = behind right i b (omega (arith, same, within)) b_is in
-    let x = get_or left (i + 1) a in
-    let y = get_or right (i + 1) b in
-    let xs2 : drop (i + 1) left ≡ x ∷ drop (i + 1 + 1) left = drop_more left (i + 1) a within in
-    let ys2 : drop (i + 1) right ≡ y ∷ drop (i + 1 + 1) right = drop_more right (i + 1) b (omega (arith, same, within)) in
-    let first = gate (a ∷ b ∷ carried) odd_ones in
-    let second = gate (a ∷ b ∷ carried) k in
-    let rest = ripple k (drop (i + 1) left) (drop (i + 1) right) (pair_at (node + 2) ∷ []) (node + 4) in
-    ap (λ l. l ++ rest) (is ∙ ap (λ l. l ++ second) there_is)
-    ∙ (append_assoc (made ++ first) second rest ∙ (append_assoc made first (second ++ rest)
-    ∙ (ap (λ l. made ++ l) (one (drop (i + 1) left) (drop (i + 1) right) x y (drop (i + 1 + 1) left) (drop (i + 1 + 1) right) xs2 ys2)
-    ∙ (ap (λ ps. made ++ ripple k ps (b ∷ drop (i + 1) right) carried node) (sym xs)
-    ∙ (ap (λ ps. made ++ ripple k (drop i left) ps carried node) (sym ys) ∙ h)))))
-  where
-    one : (us vs : List Pair) (x y : Pair) (us2 vs2 : List Pair) → us ≡ x ∷ us2 → vs ≡ y ∷ vs2
-        → gate (a ∷ b ∷ carried) odd_ones ++ (gate (a ∷ b ∷ carried) k ++ ripple k us vs (pair_at (node + 2) ∷ []) (node + 4)) ≡ ripple k (a ∷ us) (b ∷ vs)
-        carried node
-    one us vs x y us2 vs2 e f =
-        ap (λ l. gate (a ∷ b ∷ carried) odd_ones ++ (gate (a ∷ b ∷ carried) k ++ ripple k l vs (pair_at (node + 2) ∷ []) (node + 4))) e
-        ∙ (ap (λ l. gate (a ∷ b ∷ carried) odd_ones ++ (gate (a ∷ b ∷ carried) k ++ ripple k (x ∷ us2) l (pair_at (node + 2) ∷ []) (node + 4))) f
-        ∙ (ap (λ l. ripple k (a ∷ l) (b ∷ y ∷ vs2) carried node) (sym e) ∙ ap (λ l. ripple k (a ∷ us) (b ∷ l) carried node) (sym f)))
-
--- at the top place
-pub ripple_top : (k : List Bool → Bool) (left right carried : List Pair) (node i : ℕ) (a b : Pair) (made now whole : List NodeRules) → i + 1 ≡ length left
-    → length right ≡ length left → a ≡ get_or left i a → b ≡ get_or right i b → made ++ ripple k (drop i left) (drop i right) carried node ≡ whole
-    → now ≡ made ++ gate (a ∷ b ∷ carried) odd_ones → now ≡ whole
-ripple_top k left right carried node i a b made now whole top same a_is b_is h is =
-    let xs = behind left i a (omega (arith, top)) a_is ∙ ap (λ ps. a ∷ ps) (drop_all (i + 1) left (omega (arith, top))) in
-    let ys = behind right i b (omega (arith, top, same)) b_is ∙ ap (λ ps. b ∷ ps) (drop_all (i + 1) right (omega (arith, top, same))) in
-    is ∙ (ap (λ ps. made ++ ripple k ps (b ∷ []) carried node) (sym xs) ∙ (ap (λ ps. made ++ ripple k (drop i left) ps carried node) (sym ys) ∙ h))
-
-pub borrow_step : (left right carried : List Pair) (node i : ℕ) (a b : Pair) (made now whole : List NodeRules) → i < length left → length right ≡ length left
-    → a ≡ get_or left i a → b ≡ get_or right i b → made ++ borrow_gates (drop i left) (drop i right) carried node ≡ whole
-    → now ≡ made ++ gate (a ∷ b ∷ carried) borrows → now ++ borrow_gates (drop (i + 1) left) (drop (i + 1) right) (pair_at node ∷ []) (node + 2) ≡ whole
-borrow_step left right carried node i a b made now whole within same a_is b_is h is =
-    let xs = behind left i a within a_is in
-    let ys = behind right i b (omega (arith, same, within)) b_is in
-    let rest = borrow_gates (drop (i + 1) left) (drop (i + 1) right) (pair_at node ∷ []) (node + 2) in
-    ap (λ l. l ++ rest) is
-    ∙ (append_assoc made (gate (a ∷ b ∷ carried) borrows) rest
-    ∙ (ap (λ ps. made ++ borrow_gates ps (b ∷ drop (i + 1) right) carried node) (sym xs)
-    ∙ (ap (λ ps. made ++ borrow_gates (drop i left) ps carried node) (sym ys) ∙ h)))
-
-pub borrow_done : (left right carried : List Pair) (node i : ℕ) (made whole : List NodeRules) → length left ≤ i
-    → made ++ borrow_gates (drop i left) (drop i right) carried node ≡ whole → made ≡ whole
-borrow_done left right carried node i made whole all h =
-    sym (append-nil made) ∙ (ap (λ ps. made ++ borrow_gates ps (drop i right) carried node) (sym (drop_all i left all)) ∙ h)
-
 pub conjunction_step : (all p : Pair) (places : List Pair) (node i : ℕ) (made now whole : List NodeRules) → i < length places → p ≡ get_or places i p
     → made ++ conjunctions all (drop i places) node ≡ whole → now ≡ made ++ gate (all ∷ p ∷ []) all_one
     → now ++ conjunctions (pair_at node) (drop (i + 1) places) (node + 2) ≡ whole
@@ -113,10 +30,6 @@ conjunction_step all p places node i made now whole within p_is h is =
     let ps = behind places i p within p_is in
     let rest = conjunctions (pair_at node) (drop (i + 1) places) (node + 2) in
     ap (λ l. l ++ rest) is ∙ (append_assoc made (gate (all ∷ p ∷ []) all_one) rest ∙ (ap (λ l. made ++ conjunctions all l node) (sym ps) ∙ h))
-
-pub conjunction_done : (all : Pair) (places : List Pair) (node i : ℕ) (made whole : List NodeRules) → length places ≤ i
-    → made ++ conjunctions all (drop i places) node ≡ whole → made ≡ whole
-conjunction_done all places node i made whole none h = sym (append-nil made) ∙ (ap (λ l. made ++ conjunctions all l node) (sym (drop_all i places none)) ∙ h)
 
 -- the bits of results
 

@@ -1,6 +1,6 @@
 -- The gates of each operator, tried on all numbers of one bit and of two, and the circuits of some expressions.
-use Rattle.std.proofs.Common.{◌≡◌, ℕ, zero, suc, ◌+◌, ◌-◌, ◌*◌, ◌/◌, ◌%◌, ◌^◌, Bool, true, false, List, [], ◌∷◌, ◌++◌, length, Option, Some, None, refl}
-use Rattle.std.specs.Prelude.{not, ◌&&◌, ◌==◌, if◌then◌else◌, map, fold, flat_map, is_some, slice_index, nat_lt}
+use Rattle.std.proofs.Common.{◌≡◌, ℕ, zero, suc, ◌+◌, ◌*◌, ◌/◌, ◌%◌, ◌^◌, Bool, true, false, List, [], ◌∷◌, ◌++◌, length, Option, Some, None, refl}
+use Rattle.std.specs.Prelude.{not, ◌&&◌, ◌==◌, if◌then◌else◌, map, fold, is_some, slice_index}
 use Rattle.std.specs.List.{list_all, range_with_len}
 use Rattle.chp_base.specs.declared.span.Span.{Span}
 use Rattle.chp_syntax.specs.declared.tree.Op.{Op}

@@ -1,5 +1,5 @@
 -- An expression's circuit keeps its contract: by the law of its waves and the rules that are listed.
-use Rattle.std.proofs.Common.{◌≡◌, ◌≢◌, ℕ, zero, suc, ◌+◌, ◌*◌, ◌/◌, ◌%◌, ◌^◌, ◌<◌, ◌==◌, Bool, true, false, List, [], ◌∷◌, ◌++◌, length, map, get_or, Contains, refl, sym, ap, subst, ◌∙◌, arith, ◌⊎◌, inl, inr}
+use Rattle.std.proofs.Common.{◌≡◌, ◌≢◌, ℕ, zero, suc, ◌+◌, ◌*◌, ◌/◌, ◌%◌, ◌^◌, ◌<◌, ◌==◌, Bool, true, false, List, [], ◌∷◌, length, map, get_or, Contains, refl, sym, ap, subst, ◌∙◌, arith, ◌⊎◌, inl, inr}
 use Rattle.std.specs.Prelude.{not, ◌&&◌, ◌||◌, if◌then◌else◌, Some, is_some}
 use Rattle.std.specs.List.{list_all}
 use Rattle.std.proofs.lemmas.Bool.Decides.{nat_tests}
@@ -8,7 +8,7 @@ use Rattle.prs_core.specs.Nets.{NodeRules}
 use Rattle.prs_core.specs.Pairs as nodes
 use Rattle.prs_core.specs.Moves.{guard_holds, rail_value_of}
 use Rattle.prs_core.specs.Parts as parts
-use Rattle.prs_core.specs.Parts.{Owned, Part, Wire, Moment, owned, owned_from, wire, turned, moment_after, all_low, is_valid, may_move, IsFirstState, IsMove, IsKept, Keeps, Reached}
+use Rattle.prs_core.specs.Parts.{Owned, Part, Wire, Moment, owned, owned_from, wire, turned, all_low, is_valid, may_move, IsFirstState, IsMove, Keeps, Reached}
 use Rattle.prs_core.specs.Keeping.{held_in_each}
 use Rattle.prs_core.specs.Turning.{turned_here, turned_apart, among_cases, none_among, among_mapped, mapped_among}
 use Rattle.prs_core.specs.Deciding.{left_of, right_of, both_of}

@@ -1,7 +1,6 @@
 -- Guards that are given to nodes, one after the other.
-use Rattle.std.proofs.Common.{◌≡◌, ℕ, zero, suc, ◌+◌, ◌<◌, ◌≤◌, List, [], ◌∷◌, length, All, refl, sym, ap, subst, ◌∙◌, arith, length-set}
+use Rattle.std.proofs.Common.{◌≡◌, ℕ, ◌+◌, List, ◌∷◌, length, All, refl, sym, ap, subst, ◌∙◌, arith, length-set}
 use Rattle.std.proofs.lemmas.List.Elements.{All-head, All-tail}
-use Rattle.std.specs.Prelude.{slice_set}
 use Rattle.prs_core.specs.Nets.{NodeRules, RulesValue, IsBelow, with_rules}
 use Rattle.prs_core.specs.Parts.{owned_from, with_owned}
 use Rattle.function_blocks.specs.Blocks.{AreBelow}

@@ -27,10 +27,6 @@ pub above_cross : (c : Bool) (p q : RailLevels) → above p q ≡ true → above
 above_cross true p q h = implies_at _ _ (at_4 (λ a b c d. implies (implies a c && implies b d) (implies b d && implies a c)) refl p.t p.f q.t q.f) h
 above_cross false p q h = h
 
-pub grows_cross : (r c : Bool) (p q : RailLevels) → grows r p q ≡ true → grows r (cross c p) (cross c q) ≡ true
-grows_cross true c p q h = above_cross c p q h
-grows_cross false c p q h = above_cross c q p h
-
 pub single_cross : (c : Bool) (p : RailLevels) → single p ≡ true → single (cross c p) ≡ true
 single_cross true p h = implies_at _ _ (at_2 (λ a b. implies (not (a && b)) (not (b && a))) refl p.t p.f) h
 single_cross false p h = h
@@ -188,10 +184,6 @@ facts r look bits (made f i ins) b s x =
     both_of _ _ (holds_apart f look s (i ∷ ins)) (implies_from _ _ (λ d.
     both_of _ _ (not_false _ (holds_none f _ (inputs_taken look ins) d))
     (both_of _ _ (not_false _ (holds_none (λ bs. not (f bs)) _ (inputs_taken look ins) d)) (not_false _ (wet_none (inputs_taken look (i ∷ ins)) d)))))
-
--- its own move keeps what holds, and goes with the request
-abbrev went : Bool → RailLevels → RailLevels → Bool → Bool
-went r p q one = if side_of p one then not r else (r && not (side_of p (not one)))
 
 pub own_one : (r : Bool) (look : ℕ → RailLevels) (bits : ℕ → Rails) (g : BlockPart) (b : Bool) (p : RailLevels) → ((k : ℕ) → single (look k) ≡ true) →
     Single bits

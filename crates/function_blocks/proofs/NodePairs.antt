@@ -7,7 +7,7 @@ use Rattle.prs_core.specs.Nets.{NodeRules}
 use Rattle.prs_core.specs.Pairs as nodes
 use Rattle.prs_core.specs.Moves.{guard_holds, bit_value, with_bit, rail_value_of}
 use Rattle.prs_core.specs.Parts as parts
-use Rattle.prs_core.specs.Parts.{Owned, owned, owned_from, Wire, wire, Moment, turned, all_low, is_valid}
+use Rattle.prs_core.specs.Parts.{Owned, owned, owned_from, Wire, turned, all_low, is_valid}
 use Rattle.prs_core.specs.Turning.{turned_here, turned_apart, among_cases, none_among}
 use Rattle.prs_core.specs.Deciding.{left_of, right_of, both_of}
 use Rattle.function_blocks.specs.Rails.{levels_of, side_of, single, some, Pairs, low_pairs, pair_in, turned_pairs, Rule, one_rule_fires, Rails, value_on, neutral_on}

@@ -12,10 +12,6 @@ use Rattle.function_blocks.proofs.Guards.{arrived, above, above_cross, single_cr
 use Rattle.function_blocks.proofs.BitNumbers.{number_of}
 
 module _ (look : ℕ → RailLevels) where
-  neutral_told : (us : List Input) → neutral_on (length us) (input_rails us look) ≡ list_all levels_neutral (inputs_taken look us)
-  neutral_told [] = refl
-  neutral_told (i ∷ us) = ap (λ z. levels_neutral (cross i.crossed (look i.at)) && z) (neutral_told us)
-
   pub neutral_arrived : (us : List Input) → neutral_on (length us) (input_rails us look) ≡ true → list_all (arrived false) (inputs_taken look us) ≡ true
   neutral_arrived [] h = refl
   neutral_arrived (i ∷ us) h = both_of _ _ (left_of _ _ h) (neutral_arrived us (right_of (levels_neutral (cross i.crossed (look i.at))) _ h))

@@ -1,16 +1,15 @@
 -- As many rules as nodes, and as many bits of a value as its width.
-use Rattle.std.proofs.Common.{◌≡◌, ℕ, zero, suc, ◌+◌, ◌-◌, ◌*◌, ◌≤◌, Bool, true, false, List, [], ◌∷◌, ◌++◌, length, map, refl, sym, ap, ◌∙◌, arith}
+use Rattle.std.proofs.Common.{◌≡◌, ℕ, suc, ◌+◌, ◌-◌, ◌*◌, ◌≤◌, Bool, true, false, List, [], ◌∷◌, length, refl, sym, ap, ◌∙◌, arith}
 use Rattle.std.proofs.lemmas.List.{length-append, length-map}
 use Rattle.chp_syntax.specs.declared.tree.Op.{Op}
 use Rattle.chp_syntax.specs.declared.tree.Op.TheVariants.{And, Or, Xor, Add, Sub, Eq, Ne, Lt, Le, Gt, Ge}
-use Rattle.prs_core.specs.Nets.{NodeRules}
 use Rattle.prs_core.specs.Pairs.{Pair, pair_at}
 use Rattle.width_check.specs.declared.typed.Var.{Var}
 use Rattle.width_check.specs.Processes.{Formula}
 use Rattle.width_check.specs.Values.{width_of, is_comparison, IsWellFormed}
 use Rattle.width_check.specs.Typing.{ReadsFrom}
 use Rattle.handshake_expand.specs.Layout.{operator_size, formula_size}
-use Rattle.function_blocks.specs.Gates.{all_one, some_one, odd_ones, carries, alike, gate, bitwise, ripple, ripple_result, borrow_gates, borrows, conjunctions, all_of_bits, result_pairs, equality, operator_rules, operator_result}
+use Rattle.function_blocks.specs.Gates.{all_one, some_one, odd_ones, carries, alike, bitwise, ripple, ripple_result, borrow_gates, borrows, conjunctions, all_of_bits, result_pairs, equality, operator_rules, operator_result}
 use Rattle.function_blocks.specs.Expressions.{HasBits, formula_result, formula_rules}
 use Rattle.function_blocks.specs.Parts.{BlockPart, fixed, read_bit, made, outs_of, block_parts}
 use Rattle.function_blocks.specs.Listed.{placed, rules_listed}

@@ -1,6 +1,5 @@
 -- An expression's value is that of the variables that it reads.
-use Rattle.std.proofs.Common.{◌≡◌, ℕ, ◌+◌, ◌*◌, ◌/◌, ◌%◌, ◌^◌, ◌-◌, ◌==◌, Bool, true, refl, ap, ◌∙◌}
-use Rattle.std.proofs.lemmas.Bool.Decides.{nat_tests}
+use Rattle.std.proofs.Common.{◌≡◌, ℕ, ◌+◌, ◌*◌, ◌/◌, ◌%◌, ◌^◌, ◌-◌, true, refl, ap, ◌∙◌}
 use Rattle.width_check.specs.Processes.{Formula, constant, reading, joined, inverted, chained, compared, Formulas, no_parts, and_part, Operations, no_operations, and_operation}
 use Rattle.width_check.specs.Values.{width_of, widths_of, operated, value, joined_value, chained_value}
 use Rattle.width_check.specs.Reads.{reads, reads_in_parts, reads_in_operations}

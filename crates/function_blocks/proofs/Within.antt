@@ -1,6 +1,6 @@
 -- The guards of an expression are over nodes of the rules alone.
-use Rattle.std.proofs.Common.{◌≡◌, ℕ, zero, suc, ◌+◌, ◌-◌, ◌*◌, ◌<◌, ◌≤◌, Bool, true, false, List, [], ◌∷◌, ◌++◌, length, map, All, refl, sym, ap, subst, ◌∙◌, arith}
-use Rattle.std.specs.Prelude.{not, if◌then◌else◌, filter, nat_lt}
+use Rattle.std.proofs.Common.{◌≡◌, ℕ, zero, suc, ◌+◌, ◌*◌, ◌<◌, ◌≤◌, Bool, true, false, List, [], ◌∷◌, length, map, All, sym, ap, subst, ◌∙◌, arith}
+use Rattle.std.specs.Prelude.{not, filter, nat_lt}
 use Rattle.std.proofs.lemmas.List.Elements.{All-nil, All-cons}
 use Rattle.prs_core.specs.declared.rule.Literal.{Literal}
 use Rattle.prs_core.specs.Nets.{NodeRules, IsBelow, is_high, is_low}
@@ -9,10 +9,10 @@ use Rattle.prs_core.specs.Deciding.{left_of, right_of}
 use Rattle.width_check.specs.Processes.{Formula, constant, reading, joined, inverted, chained, compared, Formulas, no_parts, and_part, Operations, no_operations, and_operation}
 use Rattle.width_check.specs.Values.{width_of, IsWellFormed, AreWellFormed, AreOperations}
 use Rattle.handshake_expand.specs.Layout.{formula_size}
-use Rattle.function_blocks.specs.Gates.{table, minterm, gate, gate_rail}
+use Rattle.function_blocks.specs.Gates.{table, minterm, gate_rail}
 use Rattle.function_blocks.specs.Expressions.{following, read_rail, formula_rules}
-use Rattle.function_blocks.specs.Parts.{Input, BlockPart, fixed, read_bit, made, read_parts, operator_parts, operator_inputs, operator_gates, gate_count, outs_of, block_parts, joined_parts, chained_parts}
-use Rattle.function_blocks.specs.Listed.{placed, part_rules, rules_listed}
+use Rattle.function_blocks.specs.Parts.{Input, BlockPart, fixed, read_bit, made, gate_count, block_parts}
+use Rattle.function_blocks.specs.Listed.{placed, rules_listed}
 use Rattle.function_blocks.specs.Blocks.{bits_apart, bits_in_blocks, AreBelow, HasBit}
 use Rattle.function_blocks.specs.BitsRead.{EachRead, EachPart, EachOperation}
 use Rattle.function_blocks.proofs.GateLists.{ordered_one, ordered, is_lt}

@@ -1,8 +1,7 @@
 -- The circuit of an expression: dual-rail bits that rise to its value under a request, and fall when that falls.
-use Rattle.std.specs.Prelude.{◌≡◌, ℕ, ◌<◌, length, zero, suc, ◌+◌, ◌-◌, ◌*◌, ◌/◌, ◌%◌, ◌==◌, Bool, true, false, List, [], ◌∷◌, ◌++◌, map, take, drop}
+use Rattle.std.specs.Prelude.{◌≡◌, ℕ, ◌<◌, length, zero, suc, ◌+◌, ◌-◌, ◌/◌, ◌%◌, ◌==◌, Bool, true, false, List, [], ◌∷◌, ◌++◌, map, take, drop}
 use Rattle.prs_core.specs.Nets.{NodeRules, is_high, is_low, one_term}
 use Rattle.prs_core.specs.Pairs.{Pair, pairs_from, exchanged, no_rules}
-use Rattle.chp_syntax.specs.declared.tree.Op.{Op}
 use Rattle.width_check.specs.declared.typed.Var.{Var}
 use Rattle.width_check.specs.Processes.{Formula, constant, reading, joined, inverted, chained, compared, Formulas, no_parts, and_part, Operations, no_operations, and_operation}
 use Rattle.width_check.specs.Values.{width_of}

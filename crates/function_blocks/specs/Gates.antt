@@ -2,7 +2,7 @@
 -- once all inputs are neutral.
 use Rattle.std.specs.Prelude.{ℕ, zero, suc, ◌+◌, ◌-◌, ◌*◌, Bool, true, false, not, ◌&&◌, ◌||◌, if◌then◌else◌, List, [], ◌∷◌, ◌++◌, map, length, filter, flat_map}
 use Rattle.prs_core.specs.declared.rule.Literal.{Literal}
-use Rattle.prs_core.specs.Nets.{NodeRules, is_high, is_low, one_term}
+use Rattle.prs_core.specs.Nets.{NodeRules, is_high, one_term}
 use Rattle.prs_core.specs.Pairs.{Pair, pair_at, exchanged, rails_of, lows}
 use Rattle.chp_syntax.specs.declared.tree.Op.{Op}
 use Rattle.handshake_expand.specs.Layout.{operator_size}

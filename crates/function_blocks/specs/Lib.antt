@@ -9,3 +9,4 @@ pub mod RailFacts
 pub mod Blocks
 pub mod Functions
 pub mod BitsRead
+pub mod Drivers

@@ -3,11 +3,11 @@
 ghost use Rattle.std.specs.Prelude.{◌≡◌, ◌+◌, ◌<◌, ◌≤◌, [], ◌∷◌, ◌++◌, map, filter, length, true, false, IfOk, OnOk};
 ghost use Rattle.prs_core.specs.Nets.{one_term};
 ghost use Rattle.prs_core.specs.Pairs.{lows, rails_of};
-ghost use Rattle.function_blocks.specs.Gates.{all_one, some_one, odd_ones, carries, borrows, table, minterm, gate_rail, gate};
+ghost use Rattle.function_blocks.specs.Gates.{all_one, some_one, odd_ones, carries, borrows, table, minterm, gate_rail};
 ghost use Rattle.function_blocks.specs.Waves.{rows_of};
 ghost use Rattle.function_blocks.specs.Functions.{truth, carried_on};
 
-use crate::node::{Bit, NodeGuards};
+use crate::node::Bit;
 use prs_core::{Guard, Term, all_of, high, low};
 use std::alloc::{AllocError, Global};
 
@@ -181,52 +181,36 @@ fn all_neutral(alloc: Global, inputs: &[Bit]) -> Result<Guard, AllocError>
     all_of(alloc, &literals)
 }
 
-/// The guards of a gate's rail that rises on the rows on which the function has this value.
-fn gate_rail(
+/// The guard by which a rail of a gate rises: it holds on the rows on which the function has this value. The gate has
+/// two inputs, or three where something is carried on from below.
+pub fn gate_rows(
     alloc: Global,
     function: Function,
-    value: bool,
-    inputs: &[Bit],
-) -> Result<NodeGuards, AllocError>
-    requires some { 2 ≤ length inputs.now }
-    requires most { length inputs.now ≤ 3 }
-    ensures { IfOk result (λ guards. guards ≡ gate_rail inputs.now (rows_of value (truth function))) }
+    one: bool,
+    left: Bit,
+    right: Bit,
+    below: Option<Bit>,
+) -> Result<Guard, AllocError>
+    ensures { IfOk result (λ guard. guard
+        ≡ (gate_rail (left ∷ right ∷ carried_on below) (rows_of one (truth function))).up) }
 {
-    let up = rows_with(alloc, function, value, inputs)?;
-    let down = all_neutral(alloc, inputs)?;
-    Ok(NodeGuards { up, down })
+    match below {
+        None => rows_with(alloc, function, one, &[left, right]),
+        Some(carried) => rows_with(alloc, function, one, &[left, right, carried]),
+    }
 }
 
-/// Adds the guards of a gate's rails.
-fn gate(
+/// The guard by which the rails of a gate fall: all rails of its inputs are low.
+pub fn gate_neutral(
     alloc: Global,
-    function: Function,
-    inputs: &[Bit],
-    guards: &mut Vec<NodeGuards>,
-) -> Result<(), AllocError>
-    requires some { 2 ≤ length inputs.now }
-    requires most { length inputs.now ≤ 3 }
-    ensures { OnOk result (guards.new.items ≡ guards.old.items ++ gate inputs.now (truth function)) }
+    left: Bit,
+    right: Bit,
+    below: Option<Bit>,
+) -> Result<Guard, AllocError>
+    ensures { IfOk result (λ guard. guard ≡ lows (rails_of (left ∷ right ∷ carried_on below)) ∷ []) }
 {
-    guards.push(gate_rail(alloc, function, true, inputs)?)?;
-    guards.push(gate_rail(alloc, function, false, inputs)?)?;
-    Ok(())
-}
-
-/// Adds the guards of the rails of a gate of two inputs, or of three where something is carried on from below.
-pub fn gate_over(
-    alloc: Global,
-    function: Function,
-    left: &Bit,
-    right: &Bit,
-    carried: &Option<Bit>,
-    guards: &mut Vec<NodeGuards>,
-) -> Result<(), AllocError>
-    ensures { OnOk result (guards.new.items
-        ≡ guards.old.items ++ gate (left.now ∷ right.now ∷ carried_on carried.now) (truth function)) }
-{
-    match carried {
-        None => gate(alloc, function, &[*left, *right], guards),
-        Some(below) => gate(alloc, function, &[*left, *right, *below], guards),
+    match below {
+        None => all_neutral(alloc, &[left, right]),
+        Some(carried) => all_neutral(alloc, &[left, right, carried]),
     }
 }

@@ -2,7 +2,7 @@
 
 ghost use Rattle.std.specs.Prelude.{◌≡◌, ◌+◌, ◌*◌, ◌<◌, ◌≤◌, ◌^◌, [], ◌∷◌, if◌then◌else◌, length, IfOk};
 ghost use Rattle.prs_core.specs.Nets.{is_low};
-ghost use Rattle.prs_core.specs.Pairs.{no_rules, pair_at, exchanged};
+ghost use Rattle.prs_core.specs.Pairs.{no_rules, pair_at, exchanged, rails_of};
 ghost use Rattle.function_blocks.specs.Expressions.{following, read_rail};
 ghost use Rattle.function_blocks.specs.Blocks.{bits_apart};
 
@@ -82,6 +82,18 @@ pub fn bits_apart(alloc: Global, step: u32, count: u8, from: u32) -> Result<Vec<
         bits.push(Bit::at(from + step * u32::from(place)))?;
     }
     Ok(bits)
+}
+
+/// The two rails of each bit, in order.
+pub fn rails_of(alloc: Global, bits: &[Bit]) -> Result<Vec<u32>, AllocError>
+    ensures { IfOk result (λ rails. rails.items ≡ rails_of bits.now) }
+{
+    let mut rails = Vec::new(alloc);
+    for bit in bits {
+        rails.push(bit.rail(true))?;
+        rails.push(bit.rail(false))?;
+    }
+    Ok(rails)
 }
 
 /// The guards of a node that no rule moves.

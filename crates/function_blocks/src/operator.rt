@@ -1,29 +1,45 @@
 //! The gates of operators on two numbers of one width.
 
-ghost use Rattle.std.specs.Prelude.{◌≡◌, ◌+◌, ◌-◌, ◌*◌, ◌<◌, ◌≤◌, ◌^◌, [], ◌∷◌, ◌++◌, map, length, IfOk, OnOk};
+ghost use Rattle.std.specs.Prelude.{◌≡◌, ◌+◌, ◌-◌, ◌*◌, ◌<◌, ◌≤◌, ◌^◌, [], ◌∷◌, ◌++◌, length, IfOk, OnOk};
 ghost use Rattle.prs_core.specs.Pairs.{pair_at, exchanged};
 ghost use Rattle.handshake_expand.specs.Layout.{operator_size};
-ghost use Rattle.function_blocks.specs.Gates.{bitwise, result_pairs, ripple, ripple_result, borrow_gates, equality, operator_rules, operator_result};
-ghost use Rattle.function_blocks.specs.Functions.{truth};
+ghost use Rattle.function_blocks.specs.Functions.{truth, carried_on};
+ghost use Rattle.function_blocks.specs.Gates.{gate, bitwise, result_pairs, ripple, ripple_result, borrow_gates, equality, operator_rules, operator_result};
 
-use crate::gate::{Function, gate_over};
-use crate::node::{Bit, NodeGuards, bits_apart};
+use crate::gate::Function;
+use crate::node::{Bit, bits_apart};
+use crate::rail::RailDriver;
 use chp_syntax::Op;
 use std::alloc::{AllocError, Global};
 
+/// Adds the drivers of the rails of a gate of two inputs, or of three where something is carried on from below.
+fn gate_over(
+    function: Function,
+    left: &Bit,
+    right: &Bit,
+    carried: &Option<Bit>,
+    drivers: &mut Vec<RailDriver>,
+) -> Result<(), AllocError>
+    ensures { OnOk result (drivers.new.items
+        ≡ drivers.old.items ++ gate (left.now ∷ right.now ∷ carried_on carried.now) (truth function)) }
+{
+    drivers.push(RailDriver::gate(function, true, *left, *right, *carried))?;
+    drivers.push(RailDriver::gate(function, false, *left, *right, *carried))?;
+    Ok(())
+}
+
 /// Adds a gate for each place of the two numbers.
 fn bitwise(
-    alloc: Global,
     function: Function,
     left: &[Bit],
     right: &[Bit],
-    guards: &mut Vec<NodeGuards>,
+    drivers: &mut Vec<RailDriver>,
 ) -> Result<(), AllocError>
     requires agree { length right.now ≡ length left.now }
-    ensures { OnOk result (guards.new.items ≡ guards.old.items ++ bitwise (truth function) left.now right.now) }
+    ensures { OnOk result (drivers.new.items ≡ drivers.old.items ++ bitwise (truth function) left.now right.now) }
 {
     for place in 0..left.len() {
-        gate_over(alloc, function, &left[place], &right[place], &None, guards)?;
+        gate_over(function, &left[place], &right[place], &None, drivers)?;
     }
     Ok(())
 }
@@ -36,15 +52,16 @@ fn each_place(
     left: &[Bit],
     right: &[Bit],
     from: u32,
-    guards: &mut Vec<NodeGuards>,
+    drivers: &mut Vec<RailDriver>,
 ) -> Result<Vec<Bit>, AllocError>
     requires most { length left.now ≤ 64 }
     requires agree { length right.now ≡ length left.now }
     requires room { from + 2 * length left.now < 2 ^ 32 }
-    ensures made { OnOk result (guards.new.items ≡ guards.old.items ++ bitwise (truth function) left.now right.now) }
+    ensures made { OnOk result (drivers.new.items
+        ≡ drivers.old.items ++ bitwise (truth function) left.now right.now) }
     ensures bits { IfOk result (λ bits. bits.items ≡ result_pairs left.now from) }
 {
-    bitwise(alloc, function, left, right, guards)?;
+    bitwise(function, left, right, drivers)?;
     bits_apart(alloc, 2, left.len() as u8, from)
 }
 
@@ -58,14 +75,14 @@ fn ripple(
     left: &[Bit],
     right: &[Bit],
     from: u32,
-    guards: &mut Vec<NodeGuards>,
+    drivers: &mut Vec<RailDriver>,
 ) -> Result<Vec<Bit>, AllocError>
     requires some { 1 ≤ length left.now }
     requires most { length left.now ≤ 64 }
     requires agree { length right.now ≡ length left.now }
     requires room { from + (4 * length left.now - 2) < 2 ^ 32 }
-    ensures made { OnOk result (guards.new.items
-        ≡ guards.old.items ++ ripple (truth carry) left.now right.now [] from) }
+    ensures made { OnOk result (drivers.new.items
+        ≡ drivers.old.items ++ ripple (truth carry) left.now right.now [] from) }
     ensures bits { IfOk result (λ bits. bits.items ≡ ripple_result left.now from) }
 {
     let top = left.len() - 1;
@@ -73,52 +90,42 @@ fn ripple(
     let mut node = from;
     for place in 0..top {
         gate_over(
-            alloc,
             Function::Xor,
             &left[place],
             &right[place],
             &carried,
-            guards,
+            drivers,
         )?;
-        gate_over(alloc, carry, &left[place], &right[place], &carried, guards)?;
+        gate_over(carry, &left[place], &right[place], &carried, drivers)?;
         carried = Some(Bit::at(node + 2));
         node += 4;
     }
-    gate_over(
-        alloc,
-        Function::Xor,
-        &left[top],
-        &right[top],
-        &carried,
-        guards,
-    )?;
+    gate_over(Function::Xor, &left[top], &right[top], &carried, drivers)?;
     bits_apart(alloc, 4, left.len() as u8, from)
 }
 
 /// Adds the gate of the borrow of each place, and answers the top one: whether the left number is less.
 fn less(
-    alloc: Global,
     left: &[Bit],
     right: &[Bit],
     from: u32,
-    guards: &mut Vec<NodeGuards>,
+    drivers: &mut Vec<RailDriver>,
 ) -> Result<Bit, AllocError>
     requires some { 1 ≤ length left.now }
     requires agree { length right.now ≡ length left.now }
     requires room { from + 2 * length left.now < 2 ^ 32 }
-    ensures made { OnOk result (guards.new.items ≡ guards.old.items ++ borrow_gates left.now right.now [] from) }
+    ensures made { OnOk result (drivers.new.items ≡ drivers.old.items ++ borrow_gates left.now right.now [] from) }
     ensures top { IfOk result (λ bit. bit ≡ pair_at (from + 2 * length left.now - 2)) }
 {
     let mut borrowed = None;
     let mut node = from;
     for place in 0..left.len() {
         gate_over(
-            alloc,
             Function::Borrow,
             &left[place],
             &right[place],
             &borrowed,
-            guards,
+            drivers,
         )?;
         borrowed = Some(Bit::at(node));
         node += 2;
@@ -133,21 +140,21 @@ fn equal(
     left: &[Bit],
     right: &[Bit],
     from: u32,
-    guards: &mut Vec<NodeGuards>,
+    drivers: &mut Vec<RailDriver>,
 ) -> Result<Bit, AllocError>
     requires some { 1 ≤ length left.now }
     requires most { length left.now ≤ 64 }
     requires agree { length right.now ≡ length left.now }
     requires room { from + (4 * length left.now - 2) < 2 ^ 32 }
-    ensures made { OnOk result (guards.new.items ≡ guards.old.items ++ equality left.now right.now from) }
+    ensures made { OnOk result (drivers.new.items ≡ drivers.old.items ++ equality left.now right.now from) }
     ensures last { IfOk result (λ bit. bit ≡ pair_at (from + (4 * length left.now - 2) - 2)) }
 {
-    bitwise(alloc, Function::Equal, left, right, guards)?;
+    bitwise(Function::Equal, left, right, drivers)?;
     let places = bits_apart(alloc, 2, left.len() as u8, from)?;
     let mut node = from + 2 * left.len() as u32;
     let mut all = Bit::at(from);
     for place in 1..places.len() {
-        gate_over(alloc, Function::And, &all, &places[place], &None, guards)?;
+        gate_over(Function::And, &all, &places[place], &None, drivers)?;
         all = Bit::at(node);
         node += 2;
     }
@@ -171,26 +178,26 @@ pub fn operator(
     left: &[Bit],
     right: &[Bit],
     from: u32,
-    guards: &mut Vec<NodeGuards>,
+    drivers: &mut Vec<RailDriver>,
 ) -> Result<Vec<Bit>, AllocError>
     requires some { 1 ≤ length left.now }
     requires most { length left.now ≤ 64 }
     requires agree { length right.now ≡ length left.now }
     requires room { from + operator_size op (length left.now) < 2 ^ 32 }
-    ensures made { OnOk result (guards.new.items ≡ guards.old.items ++ operator_rules op left.now right.now from) }
+    ensures made { OnOk result (drivers.new.items ≡ drivers.old.items ++ operator_rules op left.now right.now from) }
     ensures bits { IfOk result (λ bits. bits.items ≡ operator_result op left.now from) }
 {
     match op {
-        Op::And => each_place(alloc, Function::And, left, right, from, guards),
-        Op::Or => each_place(alloc, Function::Or, left, right, from, guards),
-        Op::Xor => each_place(alloc, Function::Xor, left, right, from, guards),
-        Op::Add => ripple(alloc, Function::Carry, left, right, from, guards),
-        Op::Sub => ripple(alloc, Function::Borrow, left, right, from, guards),
-        Op::Eq => alone(alloc, equal(alloc, left, right, from, guards)?),
-        Op::Ne => alone(alloc, equal(alloc, left, right, from, guards)?.exchanged()),
-        Op::Lt => alone(alloc, less(alloc, left, right, from, guards)?),
-        Op::Gt => alone(alloc, less(alloc, right, left, from, guards)?),
-        Op::Ge => alone(alloc, less(alloc, left, right, from, guards)?.exchanged()),
-        Op::Le => alone(alloc, less(alloc, right, left, from, guards)?.exchanged()),
+        Op::And => each_place(alloc, Function::And, left, right, from, drivers),
+        Op::Or => each_place(alloc, Function::Or, left, right, from, drivers),
+        Op::Xor => each_place(alloc, Function::Xor, left, right, from, drivers),
+        Op::Add => ripple(alloc, Function::Carry, left, right, from, drivers),
+        Op::Sub => ripple(alloc, Function::Borrow, left, right, from, drivers),
+        Op::Eq => alone(alloc, equal(alloc, left, right, from, drivers)?),
+        Op::Ne => alone(alloc, equal(alloc, left, right, from, drivers)?.exchanged()),
+        Op::Lt => alone(alloc, less(left, right, from, drivers)?),
+        Op::Gt => alone(alloc, less(right, left, from, drivers)?),
+        Op::Ge => alone(alloc, less(left, right, from, drivers)?.exchanged()),
+        Op::Le => alone(alloc, less(right, left, from, drivers)?.exchanged()),
     }
 }

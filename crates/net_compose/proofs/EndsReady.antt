@@ -5,20 +5,15 @@ use Rattle.std.proofs.lemmas.List.{append-nil}
 use Rattle.std.proofs.lemmas.List.Elements.{All-nil, All-cons, All-head, All-tail}
 use Rattle.std.proofs.lemmas.List.FromFn.{get_or-map-range_with_len}
 use Rattle.chp_base.specs.declared.channel.Channel.{Channel}
-use Rattle.chp_base.specs.declared.span.Span.{Span}
-use Rattle.prs_core.specs.Nets.{RulesValue}
 use Rattle.prs_core.specs.Pairs.{pairs_from, rails_of}
-use Rattle.prs_core.specs.Parts.{owned_from, with_owned}
 use Rattle.width_check.specs.declared.typed.Var.{Var}
-use Rattle.width_check.specs.Processes.{Formula, TypedProgram, sending, receiving}
+use Rattle.width_check.specs.Processes.{TypedProgram}
 use Rattle.width_check.specs.Typing.{channel_width, var_width, IsDeclaredVar}
 use Rattle.handshake_expand.specs.Layout.{channel_from, var_from, root_request}
 use Rattle.handshake_expand.proofs.Rows.{channel_found, no_channel, var_found, no_var}
-use Rattle.cell_channel.specs.Ends.{end_owned, taken_rails, port_owned}
-use Rattle.cell_variable.specs.Variables.{written_leaves, all_written, write_answer, write_owned}
-use Rattle.function_blocks.specs.Expressions.{formula_rules}
+use Rattle.cell_variable.specs.Variables.{written_leaves, all_written}
 use Rattle.net_compose.specs.Begins.{channel_firsts, var_firsts}
-use Rattle.net_compose.specs.Translation.{rails_at, ack_at, bits_at, written_at, rules_of}
+use Rattle.net_compose.specs.Translation.{rails_at, ack_at, written_at}
 use Rattle.net_compose.proofs.FlatBlocks.{blocks_below}
 use Rattle.net_compose.proofs.FlatWires.{wires_below}
 use Rattle.net_compose.proofs.FormulaReady.{first_at}
@@ -69,10 +64,6 @@ rails_more rails mid more all n node so_far first then =
 pub rails_done : (rails all : List ℕ) (n node : ℕ) → n ≡ 0 → rails ++ rails_of (pairs_from n node) ≡ all → rails ≡ all
 rails_done rails all n node none so_far = sym (append-nil rails) ∙ (ap (λ k. rails ++ rails_of (pairs_from k node)) (sym none) ∙ so_far)
 
-pub rails_counted : (width from : ℕ) → length (rails_of (pairs_from width from)) ≡ 2 * width
-rails_counted zero from = refl
-rails_counted (suc n) from = let e = rails_counted n (from + 2) in omega (arith, e)
-
 pub rails_below : (width from n : ℕ) → from + 2 * width ≤ n → All (λ rail. rail < n) (rails_of (pairs_from width from))
 rails_below zero from n room = All-nil (λ rail. rail < n)
 rails_below (suc w) from n room =
@@ -118,36 +109,3 @@ module _ (p : TypedProgram) (vars : List ℕ) (are : vars ≡ var_firsts p) (x :
       let at : first ≡ var_from p x = is ∙ first_at p vars are x within in
       let below = blocks_below p.vars x within in
       omega (arith, at, wide, below, some)
-
--- what statements write
-
-pub sent_wrote : (p : TypedProgram) (request ack chan from : ℕ) (at : Span) (e : Formula) (old mid new : RulesValue) → ack ≡ ack_at p chan →
-    mid ≡ with_owned (end_owned request ack from) old
-    → new ≡ with_owned (owned_from (from + 1) (formula_rules (bits_at p) e request (from + 1))) mid →
-    new ≡ with_owned (owned_from from (rules_of p (sending chan at e) request from)) old
-sent_wrote p request ack chan from at e old mid new is first then =
-    then ∙ ap (with_owned (owned_from (from + 1) (formula_rules (bits_at p) e request (from + 1)))) (first
-    ∙ ap (λ a. with_owned (end_owned request a from) old) is)
-
-pub assigned_wrote : (p : TypedProgram) (request written x from : ℕ) (e : Formula) (old mid new : RulesValue) → written ≡ written_at p x →
-    mid ≡ with_owned (write_owned request written from) old
-    → new ≡ with_owned (owned_from (from + 1) (formula_rules (bits_at p) e request (from + 1))) mid
-    → new ≡ with_owned (owned_from from (write_answer request (written_at p x) ∷ formula_rules (bits_at p) e request (from + 1))) old
-assigned_wrote p request written x from e old mid new is first then =
-    then ∙ ap (with_owned (owned_from (from + 1) (formula_rules (bits_at p) e request (from + 1)))) (first
-    ∙ ap (λ w. with_owned (write_owned request w from) old) is)
-
-pub received_wrote : (p : TypedProgram) (request ack written chan x from : ℕ) (rails : List ℕ) (chan_at var_at : Span) (old mid next new : RulesValue) →
-    ack ≡ ack_at p chan → written ≡ written_at p x
-    → rails ≡ rails_of (rails_at p chan) → mid ≡ with_owned (end_owned request ack from) old → next ≡ with_owned (write_owned request written (from + 1)) mid
-    → new ≡ with_owned (port_owned request rails (from + 2)) next →
-    new ≡ with_owned (owned_from from (rules_of p (receiving chan chan_at x var_at) request from)) old
-received_wrote p request ack written chan x from rails chan_at var_at old mid next new acked stored are first second third =
-    let two : from + 2 ≡ from + 1 + 1 = omega arith in
-    let ports = taken_rails request (rails_of (rails_at p chan)) in
-    third
-    ∙ (ap (λ rs. with_owned (port_owned request rs (from + 2)) next) are
-    ∙ (ap (λ n. with_owned (owned_from n ports) next) two
-    ∙ ap (with_owned (owned_from (from + 1 + 1) ports))
-    (second ∙ (ap (λ w. with_owned (write_owned request w (from + 1)) mid) stored
-    ∙ ap (with_owned (write_owned request (written_at p x) (from + 1))) (first ∙ ap (λ a. with_owned (end_owned request a from) old) acked)))))

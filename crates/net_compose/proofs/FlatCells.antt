@@ -1,8 +1,8 @@
 -- The cells of a covered circuit as a list of values, in the order of the nodes' numbers.
-use Rattle.std.proofs.Common.{◌≡◌, ◌≢◌, ℕ, zero, suc, ◌+◌, ◌-◌, ◌*◌, ◌<◌, ◌≤◌, ◌==◌, Bool, true, false, List, [], ◌∷◌, ◌++◌, length, get_or, set, replicate, refl, sym, ap, ◌∙◌, arith, length-append, get_or-append-add, ⊎_elim}
+use Rattle.std.proofs.Common.{◌≡◌, ◌≢◌, ℕ, zero, suc, ◌+◌, ◌-◌, ◌*◌, ◌<◌, ◌≤◌, ◌==◌, Bool, true, false, List, [], ◌∷◌, ◌++◌, length, get_or, set, replicate, refl, sym, ap, ◌∙◌, arith, length-append, ⊎_elim}
 use Rattle.std.specs.Prelude.{not, ◌&&◌, if◌then◌else◌}
 use Rattle.std.proofs.lemmas.Bool.{cases_lt, cases_eq, eq-eqb, ne_eqb}
-use Rattle.std.proofs.lemmas.List.{get_or_append_left, set-append_left, set-append_right, replicate-append-replicate}
+use Rattle.std.proofs.lemmas.List.{replicate-append-replicate}
 use Rattle.width_check.specs.Processes.{Formula, Process, skipping, assigning, sending, receiving, in_turn, side_by_side, choosing, repeating, Processes, no_members, and_member, member_count, TypedProgram, Choices, no_choices, and_choice, choice_count}
 use Rattle.width_check.specs.Reads.{reads}
 use Rattle.width_check.specs.Typing.{channel_width, var_width}
@@ -11,7 +11,7 @@ pub use Rattle.function_blocks.specs.Listed.{rail_place}
 use Rattle.function_blocks.proofs.PartSizes.{count_doubled}
 use Rattle.circuit_places.specs.Lines.{Rails}
 use Rattle.chp_meaning.specs.Halves.{ReadsNoTarget, EachReadsNoTarget, ChoicesReadNoTarget}
-use Rattle.circuit_places.specs.Circuit.{same_bit, rails_turned, of_receive, heard, stored, taking, Pairs, gate_count, Cells, TurnCells, BranchCells, joint_count, low_pairs, low, low_turn, low_branches, low_bits as low_tree, Spot, TurnSpot, BranchSpot, of_branch, joint, in_this, in_others, child, latch, next, inner, of_skip, done, gate, of_assign, of_send, in_members, of_loop, ask, in_body, in_last, in_member, in_later, turned_pairs, flipped, turned_turn, turned_branches, GuardCells, ChoiceCells, low_guards, low_choices, GuardSpot, this_gate, other_gate, ChoiceSpot, this_choice, other_choice, of_core, of_guard, of_choice, of_round, turned_guards, turned_choice}
+use Rattle.circuit_places.specs.Circuit.{same_bit, rails_turned, of_receive, heard, stored, taking, Pairs, gate_count, Cells, TurnCells, BranchCells, joint_count, low_pairs, low, low_turn, low_branches, Spot, TurnSpot, BranchSpot, of_branch, joint, in_this, in_others, child, latch, next, inner, of_skip, done, gate, of_assign, of_send, in_members, of_loop, ask, in_body, in_last, in_member, in_later, turned_pairs, flipped, turned_turn, turned_branches, GuardCells, ChoiceCells, low_guards, low_choices, GuardSpot, this_gate, other_gate, ChoiceSpot, this_choice, other_choice, of_core, of_guard, of_choice, of_round, turned_guards, turned_choice, low_bits as low_tree}
 use Rattle.net_compose.proofs.FlatTrees.{joint_count_is, tree_bits, length-tree_bits, tree_turned, tree_low}
 use Rattle.circuit_places.specs.Cores.{turned_own, turned_turning}
 use Rattle.net_compose.proofs.FlatCore.{own_list, own_place, own_place_lt, own_spot_of, own_turned_is, own_guards, own_branches, length-own_list, low_lists, again_list, again_place, round_place, again_place_lt, round_place_lt, again_turned_is, round_turned_is, round_core, length-again_list, AtAgain, a_round, an_own, again_spot_of, set_first, set_second}

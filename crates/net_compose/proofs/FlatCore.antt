@@ -9,7 +9,7 @@ use Rattle.function_blocks.specs.Rails.{Pairs, Rule}
 use Rattle.prs_core.specs.Moves.{guard_holds}
 use Rattle.net_compose.proofs.Templates.{number_of, BitsAt, HeadsAt, SaysSo, joined_told, ask_told, any_told, any_again_told, turn_told, leave_told, answer_told, latch_told, start_told}
 use Rattle.prs_core.specs.Nets.{NodeRules}
-use Rattle.prs_core.specs.Pairs.{no_rules, or_of}
+use Rattle.prs_core.specs.Pairs.{no_rules}
 use Rattle.prs_core.specs.Pairs as net
 use Rattle.cell_select.specs.Selections.{Choosing, Repeating, select_rules, again_rules, only_one_true, latches, starts}
 use Rattle.std.specs.List.{range_with_len}

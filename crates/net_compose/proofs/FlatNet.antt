@@ -17,7 +17,6 @@ use Rattle.chp_base.specs.declared.channel.Kind.{Kind}
 use Rattle.chp_base.specs.declared.channel.Kind.TheVariants.{In, Out, Chan}
 use Rattle.width_check.specs.Typing.{IsProcess, channel_width, kind_at, var_width}
 use Rattle.circuit_places.specs.Lines.{of_channel, of_var, Rails}
-use Rattle.prs_core.specs.Parts.{turned as turned_value}
 use Rattle.prs_core.specs.Turning.{turned_here, turned_apart}
 use Rattle.cell_variable.specs.Variables.{variable_rules}
 use Rattle.net_compose.proofs.FlatBlocks.{Part, a_bit, a_put, a_mark, a_joint, offset, IsPart, offset_lt, part_same, PartAt, part_of, BlockIs, Says, bit_says, put_says, mark_says, joint_says, written_is, bit_number, blocks_below, blocks_apart, Owner, owner, length-vars_rules, vars_rule}
@@ -28,10 +27,11 @@ use Rattle.circuit_places.specs.Circuit.{joint_count, tree_rule, answer, Guarded
 use Rattle.circuit_places.specs.Whole.{Wires, line_ack, bit_rule, wrote_rule, bit_turned, wrote_turned, joint_turned, ack_turned, wires_seen, is_sent, is_heard, rail_turned, Whole, Node, go_node, own_node, rail_node, ack_node, bit_node, wrote_node, joint_node, merged, lows_only, rule_in, answers, offers, brings, number_rail, env_moves, enabled, cells_moved, cells_passed, value_on, neutral_on}
 use Rattle.handshake_expand.specs.Sites.{in_body}
 use Rattle.net_compose.specs.Translation.{translation, all_rules, channels_rules, vars_rules, rules_of, write_site, bits_at, written_at, send_site, receive_site, rails_at, ack_at, wires_from, body_answer}
-use Rattle.net_compose.proofs.FlatCells.{bits, place, IsFine, length-bits, place_lt, rail_place, turned_is, spot_of}
+use Rattle.net_compose.proofs.FlatCells.{bits, place, IsFine, length-bits, place_lt, turned_is, spot_of, rail_place}
 use Rattle.net_compose.proofs.FlatRules.{Stands, one_high, one_low, high_and_low, or_up, or_down, length-rules, answer_is, rule_is}
 use Rattle.net_compose.proofs.FlatSites.{at_site, sites_are, takers_are}
 use Rattle.net_compose.proofs.FlatWires.{Wire, a_rail, an_ack, wire_of, rail_same, ack_same, rail_no_ack, rail_bounds, ack_bounds, length-channels_rules, rail_guards, ack_guards, rail_rules_at, ack_rules_at, value_is, neutral_is, not_listed, is_listed, not_raised, raised_is, wires_at, moves_none, moves_some, quiet_offer, values_none, values_some}
+use Rattle.prs_core.specs.Parts.{turned as turned_value}
 
 -- the two guards of a node of the net are those of its rules
 pub up_told : (xs : List NodeRules) (n : ℕ) → get_or (map (λ (r : NodeRules). r.up) xs) n [] ≡ (get_or xs n no_rules).up
@@ -51,9 +51,6 @@ pub record Given (P : TypedProgram) : Type 0 where
   pub some : (y : ℕ) → y < length P.vars → 1 ≤ var_width P.vars y
 
 module _ (P : TypedProgram) (given : Given P) where
-  abbrev wires_end : ℕ
-  wires_end = wires_before P.channels (length P.channels)
-
   root_is : 2 + wires_before P.channels (length P.channels) ≤ root_request P
   root_is = omega arith
 

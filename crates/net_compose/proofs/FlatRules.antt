@@ -4,42 +4,39 @@ use Rattle.std.specs.Prelude.{not, ◌&&◌, ◌||◌, if◌then◌else◌}
 use Rattle.std.specs.List.{list_any, list_all, range_with_len}
 use Rattle.std.proofs.lemmas.List.{get_or_append_left}
 use Rattle.prs_core.specs.Nets.{NodeRules, is_high, is_low, one_term}
-use Rattle.prs_core.specs.Pairs.{pair_of, pairs_from, no_rules, or_of, lows}
+use Rattle.prs_core.specs.Pairs.{pair_of, pairs_from, no_rules, or_of, lows, Pair as NodePair}
 use Rattle.prs_core.specs.Moves.{term_holds, guard_holds}
 use Rattle.width_check.specs.Processes.{Formula, Process, skipping, assigning, sending, receiving, in_turn, side_by_side, choosing, repeating, Processes, no_members, and_member, member_count, TypedProgram, Choices, no_choices, and_choice, choice_count}
 use Rattle.chp_base.specs.declared.span.Span.{Span}
 use Rattle.width_check.specs.Typing.{channel_width, var_width, ReadsFrom, IsProcess, AreProcesses, AreChoices}
 use Rattle.width_check.specs.Values.{IsWellFormed, width_of}
 use Rattle.width_check.specs.Reads.{reads}
-use Rattle.handshake_expand.specs.Layout.{formula_size, size_of, turn_size, branches_size, channel_from, guards_size, bodies_size}
+use Rattle.handshake_expand.specs.Layout.{formula_size, size_of, turn_size, branches_size, channel_from, guards_size}
 use Rattle.handshake_expand.specs.Answers as number
 use Rattle.cell_variable.specs.Variables.{write_answer}
 use Rattle.cell_channel.specs.Ends.{taken_rail, port_rules}
-use Rattle.function_blocks.specs.Expressions.{formula_rules}
+use Rattle.function_blocks.specs.Expressions.{formula_rules, formula_result}
 use Rattle.function_blocks.specs.Rails.{pair_in}
 use Rattle.function_blocks.specs.Listed.{node_of}
-use Rattle.function_blocks.proofs.Sizes.{rules_length}
+use Rattle.function_blocks.proofs.Sizes.{rules_length, result_length}
 use Rattle.function_blocks.proofs.GatesTold.{listed}
 use Rattle.circuit_places.proofs.Meets.{read_declared}
 use Rattle.cell_parallel.specs.Trees.{tree_rules}
 use Rattle.cell_parallel.specs.Sizes.{tree_length}
 use Rattle.chp_meaning.specs.Halves.{ReadsNoTarget, EachReadsNoTarget, ChoicesReadNoTarget}
 use Rattle.circuit_places.specs.Lines.{of_channel, of_var, Rails, Seen}
-use Rattle.circuit_places.specs.Circuit.{of_receive, heard, stored, taking, Pairs, side_of, gate_count, Cells, TurnCells, BranchCells, cell_bit, joint_count, tree_value, tree_rule, branches_answered as cell_ends, answer, last_answer, Spot, TurnSpot, BranchSpot, of_branch, joint, in_this, in_others, child, latch, next, inner, of_skip, done, gate, of_assign, of_send, in_members, of_loop, ask, in_body, in_last, in_member, in_later, Rule, rule_of, gate_rule, rule, turn_rule, branch_rule, GuardCells, ChoiceCells, GuardSpot, this_gate, other_gate, ChoiceSpot, this_choice, other_choice, of_core, of_guard, of_choice, of_round, guard_head, heads, guards_rule, choice_answers, choice_rule}
+use Rattle.circuit_places.specs.Circuit.{of_receive, heard, stored, taking, Pairs, side_of, gate_count, Cells, TurnCells, BranchCells, cell_bit, joint_count, tree_value, tree_rule, answer, last_answer, Spot, TurnSpot, BranchSpot, of_branch, joint, in_this, in_others, child, latch, next, inner, of_skip, done, gate, of_assign, of_send, in_members, of_loop, ask, in_body, in_last, in_member, in_later, Rule, rule_of, gate_rule, rule, turn_rule, branch_rule, GuardCells, ChoiceCells, GuardSpot, this_gate, other_gate, ChoiceSpot, this_choice, other_choice, of_core, of_guard, of_choice, of_round, heads, guards_rule, choice_answers, choice_rule, branches_answered as cell_ends}
 use Rattle.circuit_places.specs.Whole.{lows_only}
-use Rattle.net_compose.specs.Translation.{through_rules, rules_of, turn_rules, branches_rules, branch_ends, branches_end, bits_at, ack_at, written_at, guards_rules as net_guards, bodies_rules, guard_pairs, branch_answers, choosing_at, repeating_at}
+use Rattle.net_compose.specs.Translation.{through_rules, rules_of, turn_rules, branches_rules, branch_ends, branches_end, bits_at, ack_at, written_at, bodies_rules, guard_pairs, branch_answers, choosing_at, repeating_at, guards_rules as net_guards}
 use Rattle.net_compose.proofs.Sizes.{has_bits, Counted, statement_length, latches_and_starts, guards_length}
 use Rattle.net_compose.proofs.FlatTrees.{joint_count_is, tree_bits, length-tree_bits, tree_bit, value_node, value_leaf, answer_value, Alike, tree_alike}
-use Rattle.net_compose.proofs.FlatCells.{plain_size, pair_bits, rail_bits, rail_place, bits, turn_bits, branch_bits, place, turn_place, branch_place, IsFine, IsFineTurn, IsFineBranch, length-bits, length-branch_bits, place_lt, branch_place_lt, guard_bits, choice_bits, guard_place, choice_place, IsFineGuard, IsFineChoice, length-guard_bits, length-choice_bits, guard_place_lt, choice_place_lt, rail_place_lt, length-pair_bits}
-use Rattle.prs_core.specs.Pairs.{Pair as NodePair}
+use Rattle.net_compose.proofs.FlatCells.{plain_size, pair_bits, rail_bits, bits, turn_bits, branch_bits, place, turn_place, branch_place, IsFine, IsFineTurn, IsFineBranch, length-bits, length-branch_bits, place_lt, branch_place_lt, guard_bits, choice_bits, guard_place, choice_place, IsFineGuard, IsFineChoice, length-guard_bits, guard_place_lt, rail_place_lt, length-pair_bits, rail_place}
 use Rattle.handshake_expand.specs.Answers.{guards_from, bodies_from, select_own, again_own}
 use Rattle.cell_select.specs.Selections.{select_rules, again_rules}
 use Rattle.function_blocks.specs.Waves.{out_rail}
-use Rattle.function_blocks.specs.Expressions.{formula_result}
-use Rattle.function_blocks.proofs.Sizes.{result_length}
 use Rattle.circuit_places.specs.Heads.{Bits}
 use Rattle.circuit_places.specs.Cores.{OwnSpot, RoundSpot, core_rule, turning_rule}
-use Rattle.net_compose.proofs.Templates.{BitsAt, HeadsAt, SaysSo}
+use Rattle.net_compose.proofs.Templates.{BitsAt, HeadsAt}
 use Rattle.net_compose.proofs.FlatCore.{list_of, length-list_of, own_list, own_place, own_place_lt, length-own_list, own_now, select_told, again_list, again_place, round_place, again_place_lt, round_place_lt, length-again_list, again_now, round_now, round_told, again_told, bits_at_range, some_range}
 use Rattle.function_blocks.proofs.PartSizes.{count_doubled}
 

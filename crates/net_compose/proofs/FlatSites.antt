@@ -18,7 +18,7 @@ use Rattle.chp_base.specs.declared.span.Span.{Span}
 use Rattle.circuit_places.specs.Circuit.{gate_count, Site, rails_of_site, Port, rails_of_port, Cells, TurnCells, BranchCells, site_rails, turn_rails, branch_rails, takers_of_port, takers, turn_takers, branch_takers, ChoiceCells, choice_rails, choice_takers}
 use Rattle.handshake_expand.specs.Sites.{Sites, sites_in, sites_in_turn, sites_in_branches, sites_in_bodies}
 use Rattle.net_compose.specs.Translation.{write_site, assigned_rails, read_back, through_at, bits_at, send_site, receive_site}
-use Rattle.net_compose.proofs.FlatCells.{pair_bits, rail_bits, rail_place, bits, turn_bits, branch_bits, choice_bits}
+use Rattle.net_compose.proofs.FlatCells.{pair_bits, rail_bits, bits, turn_bits, branch_bits, choice_bits, rail_place}
 use Rattle.net_compose.proofs.FlatRules.{Stands, stands_after, gate_value, rail_value, stands_member, stands_later, stands_body, stands_branches, stands_this, stands_others, stands_choices, again_choices, stands_this_choice, stands_other_choice}
 use Rattle.handshake_expand.specs.Answers.{bodies_from, select_own, again_own}
 

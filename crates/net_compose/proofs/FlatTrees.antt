@@ -10,7 +10,7 @@ use Rattle.prs_core.specs.Pairs.{no_rules}
 use Rattle.prs_core.specs.Moves.{guard_holds}
 use Rattle.cell_parallel.specs.Trees.{level_rules, next_level, levels_rules, tree_rules, tree_top}
 use Rattle.cell_parallel.specs.Sizes.{level_length, tree_length}
-use Rattle.circuit_places.specs.Circuit.{Bits, cell_bit, turned_bits, low_bits as low_tree, joint_count, tree_value, tree_answer}
+use Rattle.circuit_places.specs.Circuit.{Bits, cell_bit, turned_bits, joint_count, tree_value, tree_answer, low_bits as low_tree}
 
 -- one node fewer than leaves
 pub joint_count_is : (n : ℕ) → joint_count n ≡ n - 1

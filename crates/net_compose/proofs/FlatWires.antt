@@ -9,7 +9,6 @@ use Rattle.std.proofs.lemmas.List.Sums.{position_or_len_is}
 use Rattle.chp_base.specs.declared.channel.Channel.{Channel}
 use Rattle.chp_base.specs.declared.channel.Kind.{Kind}
 use Rattle.chp_base.specs.declared.channel.Kind.TheVariants.{In, Out, Chan}
-use Rattle.prs_core.specs.declared.wires.Wires.{Wires as NetWires}
 use Rattle.prs_core.specs.Nets.{NodeRules}
 use Rattle.prs_core.specs.Moves.{bit_value, with_bit, rail_value_of, neutral}
 use Rattle.prs_core.specs.Pairs.{Pair, pairs_from, rails_of, no_rules, or_of}
@@ -24,8 +23,9 @@ use Rattle.circuit_places.specs.Whole.{number_rail, value_on, neutral_on, cells_
 use Rattle.circuit_places.specs.Circuit.{same_bit}
 use Rattle.handshake_expand.specs.Sites.{in_body}
 use Rattle.net_compose.specs.Translation.{rails_at, ack_at, send_site, receive_site, rail_rules, channel_rules, channels_rules, wires_from}
-use Rattle.net_compose.proofs.FlatCells.{rail_place, rail_place_lt, rail_of}
+use Rattle.net_compose.proofs.FlatCells.{rail_place_lt, rail_of, rail_place}
 use Rattle.net_compose.proofs.FlatSites.{at_site}
+use Rattle.prs_core.specs.declared.wires.Wires.{Wires as NetWires}
 
 -- where the wires of channels begin
 

@@ -1,25 +1,18 @@
 -- The conditions of `emit_expr` at an expression of a program, and what it writes.
-use Rattle.std.proofs.Common.{◌≡◌, ◌≢◌, ℕ, zero, suc, ◌+◌, ◌*◌, ◌<◌, ◌≤◌, List, ◌∷◌, length, All, sym, ap, subst, ◌∙◌, arith}
+use Rattle.std.proofs.Common.{◌≡◌, ℕ, zero, suc, ◌+◌, ◌*◌, ◌<◌, ◌≤◌, List, length, ap, ◌∙◌, arith}
 use Rattle.std.specs.Prelude.{slice_index_or}
-use Rattle.std.proofs.lemmas.List.Elements.{All-cons}
 use Rattle.std.proofs.lemmas.List.FromFn.{get_or-map-range_with_len, length-map-range_with_len}
-use Rattle.prs_core.specs.Nets.{RulesValue}
-use Rattle.prs_core.specs.Pairs.{Pair, pair_of, pair_at}
-use Rattle.prs_core.specs.Parts.{owned_from, with_owned}
+use Rattle.prs_core.specs.Pairs.{pair_of, pair_at}
 use Rattle.width_check.specs.Processes.{Formula, TypedProgram}
 use Rattle.width_check.specs.Values.{IsWellFormed}
 use Rattle.width_check.specs.Typing.{var_width, ReadsFrom}
-use Rattle.handshake_expand.specs.Layout.{formula_size, var_from, root_request}
-use Rattle.function_blocks.specs.Expressions.{formula_rules}
-use Rattle.function_blocks.specs.Blocks.{bits_in_blocks, HasBit}
+use Rattle.handshake_expand.specs.Layout.{var_from, root_request}
+use Rattle.function_blocks.specs.Blocks.{HasBit}
 use Rattle.function_blocks.specs.BitsRead.{EachRead}
-use Rattle.function_blocks.specs.ExpressionParts.{IsOutside, expression_owned, rails_read}
-use Rattle.function_blocks.proofs.Callers.{each_of, rails_have, rules_in_blocks}
-use Rattle.function_blocks.proofs.Within.{apart_at}
+use Rattle.function_blocks.proofs.Callers.{each_of}
 use Rattle.net_compose.specs.Begins.{var_firsts}
-use Rattle.net_compose.specs.Translation.{block_bits, bits_at}
+use Rattle.net_compose.specs.Translation.{block_bits}
 use Rattle.net_compose.proofs.FlatBlocks.{blocks_below}
-use Rattle.net_compose.proofs.Sizes.{has_bits}
 
 -- a bit of a block
 pub bit_pair : (n from i : ℕ) → i < n → pair_of (block_bits n from) i ≡ pair_at (from + 5 * i)
@@ -52,26 +45,3 @@ module _ (p : TypedProgram) (vars : List ℕ) (are : vars ≡ var_firsts p) wher
 
     abbrev IsBefore : ℕ → Type 0
     IsBefore rail = rail < root_request p
-
-    rails_before : All IsBefore (rails_read vars e)
-    rails_before =
-        rails_have IsBefore (bits_in_blocks vars) e formed
-        (each_of (λ x i. IsBefore (pair_of (bits_in_blocks vars x) i).t × IsBefore (pair_of (bits_in_blocks vars x) i).f) p.vars e formed read
-        (λ x i l m small. subst (λ (q : Pair). IsBefore q.t × IsBefore q.f) (sym (apart_at 5 64 (slice_index_or vars x 0) i (omega (arith, small))))
-        (let b = bit_before x i l m in (omega (arith, b), b))))
-
-    pub rails_apart : (request from : ℕ) → root_request p ≤ request → request < from → All (IsOutside from (formula_size e)) (request ∷ rails_read vars e)
-    rails_apart request from asked before =
-        All-cons (IsOutside from (formula_size e)) request (rails_read vars e) (λ k l is. absurd (omega (arith, is, before)))
-        (λ i d l k m is. let b = rails_before i d l in absurd (omega (arith, b, is, asked, before)))
-
-    pub rails_unasked : (request : ℕ) → root_request p ≤ request → All (λ rail. rail ≢ request) (rails_read vars e)
-    rails_unasked request asked = λ i d l is. let b = rails_before i d l in absurd (omega (arith, b, is, asked))
-
-    pub wrote_formula : (request from : ℕ) (r : RulesValue) →
-        with_owned (expression_owned vars e request from) r ≡ with_owned (owned_from from (formula_rules (bits_at p) e request from)) r
-    wrote_formula request from r =
-        ap (λ rs. with_owned (owned_from from rs) r)
-        (rules_in_blocks p.vars (bits_at p) vars (has_bits p)
-        (λ x i l m. bit_pair (var_width p.vars x) _ i m ∙ ap (λ n. pair_at (n + 5 * i)) (sym (first_at x l)))
-        e formed read request from)

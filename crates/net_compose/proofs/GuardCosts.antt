@@ -14,10 +14,8 @@ use Rattle.width_check.specs.Values.{width_of, widths_of, IsWellFormed, AreWellF
 use Rattle.width_check.proofs.Bounds.{width_some}
 use Rattle.handshake_expand.specs.Layout.{operator_size, formula_size, parts_size}
 use Rattle.cell_parallel.specs.Trees.{level_rules, next_level, levels_rules, tree_rules}
-use Rattle.cell_channel.specs.Ends.{port_rules}
-use Rattle.function_blocks.specs.Gates.{table, minterm, gate, all_one, some_one, odd_ones, carries, borrows, alike, bitwise, ripple, borrow_gates, conjunctions, all_of_bits, equality, result_pairs, operator_rules}
+use Rattle.function_blocks.specs.Gates.{table, minterm, gate, all_one, some_one, odd_ones, carries, borrows, alike, bitwise, ripple, borrow_gates, conjunctions, all_of_bits, equality, result_pairs, operator_rules, operator_result}
 use Rattle.function_blocks.specs.Expressions.{constant_bit, constant_bits, read_bits, bits_between, formula_result, formula_rules, joined_rules, chained_rules}
-use Rattle.function_blocks.specs.Gates.{operator_result}
 
 -- the literals of a guard, of a node's two guards, and of the guards of some nodes
 abbrev pub literals_in : GuardValue → ℕ
@@ -249,10 +247,6 @@ levels_cheap (suc n) ls from = cheap-append (level_rules ls) (levels_rules n (ne
 
 pub tree_cheap : (leaves : List ℕ) (from : ℕ) → Cheap (tree_rules leaves from)
 tree_cheap leaves from = levels_cheap (length leaves) leaves from
-
-pub ports_cheap : (request : ℕ) (xs : List Pair) → Cheap (port_rules request xs)
-ports_cheap request [] = omega arith
-ports_cheap request (x ∷ xs) = let e = ports_cheap request xs in omega (arith, e)
 
 -- the OR of some nodes has two literals for each
 pub singles_cost : (ns : List ℕ) → literals_in (map (λ k. is_high k ∷ []) ns) ≡ length ns

@@ -15,7 +15,7 @@ use Rattle.width_check.specs.Reads.{reads}
 use Rattle.width_check.specs.Values.{width_of}
 use Rattle.width_check.proofs.Bounds.{width_some}
 use Rattle.width_check.specs.Typing.{channel_width, var_width, IsOfWidth, IsProcess, AreProcesses, AreChoices}
-use Rattle.handshake_expand.specs.Layout.{formula_size, block_size, blocks_before, size_of, branches_size, channel_from, vars_from, var_from, root_request, through_size, guards_size, bodies_size}
+use Rattle.handshake_expand.specs.Layout.{formula_size, block_size, blocks_before, size_of, branches_size, channel_from, vars_from, var_from, root_request, through_size, guards_size}
 use Rattle.handshake_expand.specs.Answers.{answer_of, turn_answer, second_answer, guards_from, bodies_from, select_own, again_own}
 use Rattle.cell_sequence.specs.Sequence.{loop_request}
 use Rattle.cell_parallel.specs.Trees.{tree_rules}
@@ -33,8 +33,8 @@ use Rattle.net_compose.proofs.FlatTrees.{Alike, RulesAlike, rules_append, tree_r
 use Rattle.net_compose.proofs.FlatRules.{branches_end_is, plain_rules, length-branch_ends}
 use Rattle.net_compose.proofs.FlatWires.{ack_bounds, rail_bounds}
 use Rattle.net_compose.proofs.FlatBlocks.{blocks_below, length-variable_rules}
-use Rattle.net_compose.proofs.HalvedNumbers.{blocks, blocks_append, halved_size, branches_halved, each_count, bodies_halved, choices_count, guards_same}
-use Rattle.net_compose.proofs.HalvedNodes.{Numbered, numbered, length-numbered, own, own_turn, own_branches, own_assign, hidden, hidden_turn, hidden_branches, hidden_assign, behind_block, hidden_rules, own_all, branches_all, branches_long, own_bodies, hidden_bodies, select_front, again_front, select_long, again_long, bodies_long, bodies_all}
+use Rattle.net_compose.proofs.HalvedNumbers.{blocks, blocks_append, halved_size, branches_halved, each_count, choices_count, guards_same}
+use Rattle.net_compose.proofs.HalvedNodes.{Numbered, numbered, length-numbered, own, own_turn, own_branches, own_assign, hidden, hidden_turn, hidden_branches, hidden_assign, behind_block, hidden_rules, own_all, branches_all, branches_long, own_bodies, hidden_bodies, select_front, again_front, select_long, again_long}
 use Rattle.net_compose.proofs.SameValues.{same_high, same_low, same_mixed, answers_alike, elements_alike, formulas_alike, same_written, same_bit_rails, reads_alike, ports_alike, results_alike}
 
 -- nodes in order, and those that are numbered from a number on elsewhere, have the same values
@@ -165,18 +165,6 @@ module _ (counted : Counted) (P : TypedProgram) where
       let d = branches_long counted P members t r from in
       let e = branches_halved P Q refl n members t plain in
       let f = hidden_branches_long members t from in
-      omega (arith, a, b, c, d, e, f)
-
-  pub own_bodies_long : (n : ℕ) (choices : Choices) → AreChoices P.channels P.vars choices → ChoicesReadNoTarget (halved_choices n choices) → (start from : ℕ)
-      → length (own_bodies P choices start from) ≡ bodies_size Q (halved_choices n choices)
-  own_bodies_long n choices t plain start from =
-      let a = length_permutation (own_bodies P choices start from ++ hidden_bodies P choices from) (numbered from (bodies_rules P choices start from))
-      (bodies_all counted P choices t start from) in
-      let b = length-append (own_bodies P choices start from) (hidden_bodies P choices from) in
-      let c = length-numbered from (bodies_rules P choices start from) in
-      let d = bodies_long counted P choices t start from in
-      let e = bodies_halved P Q refl n choices t plain in
-      let f = hidden_bodies_long choices t from in
       omega (arith, a, b, c, d, e, f)
 
   -- where some hidden variables and their blocks are in the program in halves

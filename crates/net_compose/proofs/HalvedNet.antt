@@ -45,11 +45,6 @@ rules_in_at [] i = refl
 rules_in_at (x ∷ xs) zero = refl
 rules_in_at (x ∷ xs) (suc i) = rules_in_at xs i
 
-pub node_there : (from : ℕ) (rs : List NodeRules) (i : ℕ) → i < length rs → (get_or (numbered from rs) i nowhere).node ≡ from + i
-node_there from [] i l = absurd (omega (arith, l))
-node_there from (r ∷ rs) zero l = omega arith
-node_there from (r ∷ rs) (suc i) l = let e = node_there (suc from) rs i (omega (arith, l)) in omega (arith, e)
-
 pub values_from : {A : Type 0} (v u : ℕ → A) (to : ℕ) (xs : List Numbered) → ((i : ℕ) → i < length xs → v (get_or xs i nowhere).node ≡ u (to + i)) →
     Values v u to xs
 values_from v u to [] h = tt

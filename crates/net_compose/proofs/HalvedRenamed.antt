@@ -18,8 +18,7 @@ use Rattle.handshake_expand.specs.Layout.{block_size, size_of, channel_from, var
 use Rattle.handshake_expand.specs.Named.{node_names}
 use Rattle.cell_variable.specs.Variables.{high_first}
 use Rattle.function_blocks.specs.Expressions.{formula_result}
-use Rattle.chp_meaning.specs.Halves.{ReadsNoTarget}
-use Rattle.chp_meaning.specs.Halves.{hidden_of, hidden_vars, hidden_in_each, halved, halved_program, ReadsNoTarget, hidden_in_choices}
+use Rattle.chp_meaning.specs.Halves.{ReadsNoTarget, hidden_of, hidden_vars, hidden_in_each, halved, halved_program, hidden_in_choices}
 use Rattle.handshake_expand.specs.Answers.{bodies_from, select_own, again_own}
 use Rattle.handshake_expand.specs.Sites.{in_body, sites_in, sites_in_turn, sites_in_branches, sites_in_bodies}
 use Rattle.net_compose.specs.Translation.{translation, composed, all_rules, hidden_high, vars_high, first_values, wires_from, rails_at, ack_at}

@@ -16,15 +16,15 @@ use Rattle.width_check.specs.Values.{width_of}
 use Rattle.width_check.proofs.Bounds.{width_some}
 use Rattle.width_check.specs.Typing.{channel_width, var_width, IsOfWidth, IsProcess, AreProcesses, AreChoices}
 use Rattle.handshake_expand.specs.Layout.{formula_size, block_size, size_of, branches_size, channel_from, through_size, guards_size}
-use Rattle.handshake_expand.specs.Answers.{answer_of, guards_from, bodies_from, select_own, again_own}
+use Rattle.handshake_expand.specs.Answers.{answer_of, bodies_from, select_own, again_own}
 use Rattle.function_blocks.specs.Expressions.{read_bits, formula_rules, formula_result}
 use Rattle.function_blocks.specs.Listed.{rail_place}
 use Rattle.function_blocks.proofs.Sizes.{rules_length}
 use Rattle.circuit_places.specs.Lines.{Line, of_channel, of_var, line_width}
-use Rattle.chp_meaning.specs.Halves.{hidden_vars, read_through, in_halves, halved_assign, halved, halved_each, halved_program, ReadsNoTarget, EachReadsNoTarget, hidden_in_choices, halved_choices, ChoicesReadNoTarget}
+use Rattle.chp_meaning.specs.Halves.{hidden_vars, read_through, in_halves, halved_assign, halved, halved_each, halved_program, ReadsNoTarget, EachReadsNoTarget, halved_choices, ChoicesReadNoTarget}
 use Rattle.net_compose.proofs.HalvedNumbers.{choices_count, guards_same}
-use Rattle.handshake_expand.specs.Sites.{sites_in, sites_in_turn, sites_in_branches, Sites, in_body, sites_in_bodies}
-use Rattle.net_compose.specs.Translation.{bits_at, q_rules, branch_ends, branches_end, block_bits, ack_at, rules_of, send_site, receive_site, write_site, assigned_rails, through_at, vars_rules}
+use Rattle.handshake_expand.specs.Sites.{sites_in, sites_in_turn, sites_in_branches, Sites, sites_in_bodies}
+use Rattle.net_compose.specs.Translation.{bits_at, q_rules, branch_ends, branches_end, block_bits, ack_at, rules_of, receive_site, assigned_rails, through_at}
 use Rattle.net_compose.specs.Translation as net
 use Rattle.net_compose.proofs.Sizes.{Counted, block_length, has_bits}
 use Rattle.net_compose.proofs.FlatSites.{at_sites, at_append, mapped_append, line_site, pair_place}

@@ -11,15 +11,15 @@ use Rattle.width_check.specs.Processes.{Formula, Process, skipping, assigning, s
 use Rattle.width_check.specs.Reads.{reads}
 use Rattle.width_check.specs.Values.{width_of}
 use Rattle.width_check.specs.Typing.{channel_width, var_width, IsOfWidth, IsProcess, AreProcesses, AreChoices}
-use Rattle.handshake_expand.specs.Layout.{formula_size, block_size, size_of, branches_size, var_from, guards_size}
-use Rattle.handshake_expand.specs.Answers.{answer_of, guards_from, bodies_from, select_own, again_own}
+use Rattle.handshake_expand.specs.Layout.{formula_size, block_size, size_of, branches_size, var_from}
+use Rattle.handshake_expand.specs.Answers.{answer_of, bodies_from, select_own, again_own}
 use Rattle.cell_sequence.specs.Sequence.{loop_request}
 use Rattle.cell_parallel.specs.Trees.{tree_rules}
 use Rattle.cell_variable.specs.Variables.{variable_rules}
 use Rattle.function_blocks.specs.Expressions.{formula_result}
 use Rattle.chp_meaning.specs.Halves.{hidden_of, hidden_vars, hidden_in_each, read_through, in_halves, halved_assign, halved, halved_each, halved_program, ReadsNoTarget, EachReadsNoTarget, hidden_in_choices, halved_choices, ChoicesReadNoTarget}
 use Rattle.handshake_expand.specs.Sites.{sites_in, sites_in_turn, sites_in_branches, in_body, sites_in_bodies}
-use Rattle.net_compose.specs.Translation.{q_rules, branch_ends, branches_end, write_site, assigned_rails, through_at, read_back as read_rails, vars_rules}
+use Rattle.net_compose.specs.Translation.{q_rules, branch_ends, branches_end, write_site, assigned_rails, through_at, vars_rules, read_back as read_rails}
 use Rattle.net_compose.proofs.Sizes.{Counted}
 use Rattle.net_compose.proofs.FlatTrees.{RulesAlike, rules_append}
 use Rattle.net_compose.proofs.FlatSites.{at_site}

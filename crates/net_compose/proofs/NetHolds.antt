@@ -21,8 +21,8 @@ use Rattle.cell_variable.specs.Variables.{high_first}
 use Rattle.handshake_expand.specs.Sites.{in_body, sites_in, sites_in_turn, sites_in_branches, sites_in_bodies}
 use Rattle.net_compose.specs.Translation.{rails_at, ack_at, hidden_high, send_site, rail_rules, channel_rules, channels_rules, vars_rules, vars_high, first_values, wires_from, all_rules, composed, translation}
 use Rattle.net_compose.specs.NamesTo.{names_to}
-use Rattle.net_compose.proofs.FlatCells.{rail_place, rail_place_lt}
-use Rattle.net_compose.proofs.FlatFirst.{member, raised_is, length-raised}
+use Rattle.net_compose.proofs.FlatCells.{rail_place_lt, rail_place}
+use Rattle.net_compose.proofs.FlatFirst.{member, raised_is}
 use Rattle.net_compose.proofs.FlatWires.{wires_below}
 use Rattle.net_compose.proofs.Sizes.{Counted, all_counted, all_length, root_and_body, wires_length, rails_length, pairs_of_guards}
 use Rattle.net_compose.proofs.NetLiterals.{few_literals}
@@ -333,9 +333,6 @@ module _ (p : TypedProgram) (typed : IsTyped p.channels p.vars p.body) (small : 
 
   wire_within : (k m : ℕ) → k < length p.channels → m < wires_size (channel_width p.channels k) → channel_from p k + m < vars_from p
   wire_within k m h lt = let e = wires_below p.channels k h in omega (arith, e, lt)
-
-  first_count : length (first_values p) ≡ nodes_of p
-  first_count = length-raised (vars_high p 0 p.vars ++ in_body p (hidden_high p)) (replicate (nodes_of p) false) ∙ length-replicate (nodes_of p) false
 
   rule_at : (k m : ℕ) → k < length p.channels → m < wires_size (channel_width p.channels k) →
       get_or (all_rules p) (channel_from p k + m) no_rules ≡ get_or (channel_rules p k (channel_width p.channels k) (kind_at p.channels k)) m no_rules

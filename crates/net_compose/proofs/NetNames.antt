@@ -21,9 +21,9 @@ use Rattle.handshake_expand.specs.Named.{numbered, numbered_from, wire_names, bi
 use Rattle.circuit_places.specs.Lines.{Line, of_channel, of_var}
 use Rattle.net_compose.specs.Translation.{ack_at}
 use Rattle.net_compose.specs.NamesTo.{names_to}
-use Rattle.net_compose.proofs.FlatCells.{rail_place, rail_place_is, rail_place_lt}
+use Rattle.net_compose.proofs.FlatCells.{rail_place_is, rail_place_lt, rail_place}
 use Rattle.net_compose.proofs.FlatWires.{Wire, a_rail, an_ack, wire_of}
-use Rattle.net_compose.proofs.FlatBlocks.{Owner, owner, Part, PartAt, part_of, IsPart, offset, blocks_below}
+use Rattle.net_compose.proofs.FlatBlocks.{owner, Part, PartAt, part_of, IsPart, offset, blocks_below}
 use Rattle.net_compose.proofs.FlatBlocks as b
 use Rattle.net_compose.proofs.FlatTrees.{joint_count_is}
 use Rattle.net_compose.proofs.NameLemmas.{numbered_is_name, parts_are, all_append, wire_is_name, go_is_name, done_is_name}
@@ -545,13 +545,6 @@ module _ (p : TypedProgram) (typed : IsTyped p.channels p.vars p.body) (count : 
                 ∙ ack_named k h;
             node_is = omega (arith, e);
           }
-
-  -- a node of a block
-  part_key : (x : ℕ) → Part → Key
-  part_key x (b.a_bit i one) = dotted (of_var x) (a_bit i (rail_side one))
-  part_key x (b.a_put i one) = dotted (of_var x) (a_bit i (2 + rail_side one))
-  part_key x (b.a_mark i) = dotted (of_var x) (a_bit i 4)
-  part_key x (b.a_joint k) = plain (var_from p x + (5 * var_width p.vars x + k))
 
   block_bit : (x i r : ℕ) → x < length p.vars → i < var_width p.vars x → r < 5 →
       get_or (block_named (var_name p.vars x) (var_width p.vars x) (vars_from p + blocks_before p.vars x)) (5 * i + r) [] ≡

@@ -11,7 +11,7 @@ use Rattle.width_check.specs.Typing.{var_width, IsProcess}
 use Rattle.handshake_expand.specs.Layout.{size_of, root_request, body_from, nodes_of}
 use Rattle.handshake_expand.specs.Named.{node_names}
 use Rattle.chp_meaning.specs.Halves.{halved, halved_program, ReadsNoTarget, HalvesArePlain}
-use Rattle.circuit_places.specs.Within.{PartOf, InTurns, Phased, CircuitsTakeTurns}
+use Rattle.circuit_places.specs.Within.{PartOf, InTurns, Phased, CircuitsTakeTurns, part_spot}
 use Rattle.net_compose.specs.Translation.{translation, composed, first_values, wires_from, rules_of}
 use Rattle.net_compose.specs.PartNumbers.{first_of_part, request_of_part, answer_of_part, PartsInTurns, TranslationTakesTurns}
 use Rattle.net_compose.proofs.Sizes.{statement_length}
@@ -24,7 +24,6 @@ use Rattle.net_compose.proofs.Renamed.{IsRenaming, Mirrors, enabled_same, moved_
 use Rattle.net_compose.proofs.PartStands.{part_free, part_typed, part_place, part_fine}
 use Rattle.net_compose.proofs.PartHalves.{plain_hidden, none_stored, part_n, there, in_turns_there, own_plain, PartThere, walk, same_size}
 use Rattle.net_compose.proofs.PartRuns.{plain_parts}
-use Rattle.circuit_places.specs.Within.{part_spot}
 
 module _ (P : TypedProgram) (typed : IsProcess P.channels P.vars P.body) (plain : ReadsNoTarget (halved (length P.vars) P.body))
     (some : (y : ℕ) → y < length P.vars → 1 ≤ var_width P.vars y)

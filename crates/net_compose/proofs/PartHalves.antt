@@ -12,7 +12,7 @@ use Rattle.cell_select.specs.Selections.{select_rules, again_rules}
 use Rattle.cell_parallel.specs.Trees.{tree_rules}
 use Rattle.cell_variable.specs.Variables.{write_answer}
 use Rattle.function_blocks.specs.Expressions.{formula_rules}
-use Rattle.chp_meaning.specs.Halves.{hidden_of, hidden_vars, hidden_in_each, hidden_in_choices, halved_assign, halved, halved_each, halved_choices, halved_program, ReadsNoTarget, EachReadsNoTarget, ChoicesReadNoTarget}
+use Rattle.chp_meaning.specs.Halves.{hidden_of, hidden_vars, hidden_in_each, hidden_in_choices, halved, halved_each, halved_choices, halved_program, ReadsNoTarget, EachReadsNoTarget, ChoicesReadNoTarget}
 use Rattle.circuit_places.specs.Within.{PartOf, whole, of_member, of_side, of_body, of_arm, ArmPart, this_arm, other_arm, SidePart, this_side, other_side, TurnPart, last_part, first_part, later_part, InTurns, ArmsInTurns, SidesInTurns, MembersInTurns}
 use Rattle.net_compose.specs.Translation.{bits_at, written_at, q_rules, through_rules, rules_of, turn_rules, branches_rules, bodies_rules, guards_rules, choosing_at, repeating_at, branch_ends, branches_end}
 use Rattle.net_compose.specs.PartNumbers.{part_from, arm_part_from, side_part_from, turn_part_from, part_ask, arm_part_ask, side_part_ask, turn_part_ask}
@@ -40,30 +40,6 @@ mutual
   choices_hidden : (choices : Choices) → ChoicesReadNoTarget choices → hidden_in_choices choices ≡ []
   choices_hidden no_choices c = refl
   choices_hidden (and_choice g p more) c = ap (λ l. l ++ hidden_in_choices more) (plain_hidden p c.0) ∙ choices_hidden more c.1
-
--- and is the same in halves
-mutual
-  pub plain_halved : (n : ℕ) (q : Process) → ReadsNoTarget q → halved n q ≡ q
-  plain_halved n skipping c = refl
-  plain_halved n (assigning x at e) c = ap (λ b. halved_assign b n x at e) c
-  plain_halved n (sending k at e) c = refl
-  plain_halved n (receiving k at x to) c = refl
-  plain_halved n (in_turn members) c = ap (λ l. in_turn l) (each_halved n members c)
-  plain_halved n (side_by_side members) c = ap (λ l. side_by_side l) (each_halved n members c)
-  plain_halved n (choosing again choices) c = ap (λ l. choosing again l) (choices_halved n choices c)
-  plain_halved n (repeating p) c = ap (λ p. repeating p) (plain_halved n p c)
-
-  each_halved : (n : ℕ) (members : Processes) → EachReadsNoTarget members → halved_each n members ≡ members
-  each_halved n no_members c = refl
-  each_halved n (and_member p more) c =
-      ap (λ z. and_member z (halved_each (n + length (hidden_vars p)) more)) (plain_halved n p c.0)
-      ∙ ap (λ l. and_member p l) (each_halved (n + length (hidden_vars p)) more c.1)
-
-  choices_halved : (n : ℕ) (choices : Choices) → ChoicesReadNoTarget choices → halved_choices n choices ≡ choices
-  choices_halved n no_choices c = refl
-  choices_halved n (and_choice g p more) c =
-      ap (λ z. and_choice g z (halved_choices (n + length (hidden_vars p)) more)) (plain_halved n p c.0)
-      ∙ ap (λ l. and_choice g p l) (choices_halved (n + length (hidden_vars p)) more c.1)
 
 module _ (P : TypedProgram) where
   mutual

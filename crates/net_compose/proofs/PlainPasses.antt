@@ -5,13 +5,12 @@ use Rattle.std.proofs.lemmas.Bool.{cases_lt, eqb-true, and_from}
 use Rattle.std.proofs.lemmas.Bool.Decides.{nat_tests}
 use Rattle.chp_base.specs.declared.channel.Channel.{Channel}
 use Rattle.chp_base.specs.declared.channel.Kind.TheVariants.{In}
-use Rattle.prs_core.specs.declared.wires.Wires.{Wires as NetWires}
 use Rattle.prs_core.specs.Pairs.{rails_of}
 use Rattle.prs_core.specs.Moves.{high, both_ways, neutral}
 use Rattle.env_script.specs.Scripts.{OfferValue, IsScript}
 use Rattle.env_script.specs.Environment.{valid}
 use Rattle.env_script.specs.Phases.{rail_keeps, rails_keep, ack_keeps, phases_keep, phase_fault}
-use Rattle.env_script.specs.Runs.{RunState, move_enabled, moved as moved_flat, IsRun, after, begin_at, IsAtRest as IsAtRestFlat, IsApart, IsSafeRun}
+use Rattle.env_script.specs.Runs.{RunState, move_enabled, IsRun, after, begin_at, IsApart, IsSafeRun, moved as moved_flat, IsAtRest as IsAtRestFlat}
 use Rattle.width_check.specs.Processes.{Process, skipping, assigning, sending, receiving, in_turn, side_by_side, choosing, repeating, Processes, no_members, and_member, member_count, TypedProgram, Choices, no_choices, and_choice}
 use Rattle.width_check.specs.Typing.{channel_width, var_width}
 use Rattle.width_check.specs.declared.typed.Var.{Var}
@@ -30,10 +29,11 @@ use Rattle.handshake_expand.specs.Sites.{sites_in, sites_in_turn, sites_in_branc
 use Rattle.net_compose.specs.Translation.{translation, hidden_high, vars_high, first_values, rails_at, ack_at, wires_from}
 use Rattle.cell_variable.specs.Variables.{high_first}
 use Rattle.net_compose.proofs.Passing.{IsPassing, IsPassingRun, Passes, IsPaid}
-use Rattle.net_compose.proofs.FlatCells.{length-bits, low_bits, IsFine, IsFineTurn, IsFineBranch, rail_place, IsFineGuard, IsFineChoice}
+use Rattle.net_compose.proofs.FlatCells.{length-bits, low_bits, IsFine, IsFineTurn, IsFineBranch, IsFineGuard, IsFineChoice, rail_place}
 use Rattle.net_compose.proofs.FlatWires.{rail_bounds, ack_bounds, value_is, neutral_is, rails_kept, position_none, length-wires_from, wires_are}
 use Rattle.net_compose.proofs.FlatNet.{part_bounds, same_var, same_part, part_value, Given, Shows, number_of, Fine, node_at, enabled_is, apart_is, past_apart, past_end, after_move}
 use Rattle.handshake_expand.specs.Answers.{bodies_from, select_own, again_own}
+use Rattle.prs_core.specs.declared.wires.Wires.{Wires as NetWires}
 
 -- a node that stands is one of the net's
 

@@ -1,5 +1,5 @@
 -- The rails of a variable are raised, bit by bit.
-use Rattle.std.proofs.Common.{◌≡◌, ℕ, suc, ◌+◌, ◌/◌, ◌%◌, ◌==◌, ◌≤◌, Bool, true, false, List, sym, ap, ◌∙◌, arith}
+use Rattle.std.proofs.Common.{◌≡◌, ℕ, suc, ◌+◌, ◌/◌, ◌%◌, ◌==◌, Bool, true, List, sym, ap, ◌∙◌}
 use Rattle.std.specs.Prelude.{if◌then◌else◌, fold, slice_set}
 use Rattle.cell_variable.specs.Variables.{high_first}
 
@@ -14,7 +14,3 @@ raise_step left n value node rail now all more is so_far =
 
 pub raise_end : (left value node : ℕ) (now all : List Bool) → left ≡ 0 → with_raised now (high_first left value node) ≡ all → now ≡ all
 raise_end left value node now all none so_far = ap (λ k. with_raised now (high_first k value node)) (sym none) ∙ so_far
-
-pub rail_low : (b : Bool) (node : ℕ) → (if b then node else node + 1) ≤ node + 1
-rail_low true node = omega arith
-rail_low false node = omega arith

@@ -1,12 +1,12 @@
 -- Selections and guarded repetitions whose nodes have the same values: their rules say the same.
 use Rattle.std.proofs.Common.{◌≡◌, ℕ, zero, suc, ◌+◌, ◌<◌, Bool, true, false, List, [], ◌∷◌, ◌++◌, map, length, refl, sym, ap, ◌∙◌, arith}
-use Rattle.std.specs.Prelude.{not, ◌&&◌, ◌||◌, if◌then◌else◌}
+use Rattle.std.specs.Prelude.{not, ◌&&◌, ◌||◌}
 use Rattle.std.specs.List.{range_with_len}
 use Rattle.prs_core.specs.declared.rule.Literal.{Literal}
 use Rattle.prs_core.specs.Nets.{NodeRules, is_high, is_low, one_term}
-use Rattle.prs_core.specs.Pairs.{Pair, pair_of, rails_of, lows, or_of}
+use Rattle.prs_core.specs.Pairs.{Pair, pair_of, rails_of, lows}
 use Rattle.prs_core.specs.Moves.{literal_holds, term_holds, guard_holds}
-use Rattle.cell_select.specs.Selections.{all_false, only_one_true, latches, started, starts, evaluation, joined_answer, Choosing, select_rules, turn_request, leave_latch, leave_answer, Repeating, again_rules}
+use Rattle.cell_select.specs.Selections.{all_false, only_one_true, latches, starts, Choosing, select_rules, leave_latch, Repeating, again_rules}
 use Rattle.function_blocks.specs.Listed.{node_of}
 use Rattle.net_compose.proofs.FlatTrees.{Alike, RulesAlike, rules_append}
 use Rattle.net_compose.proofs.SameValues.{same_high, same_low, same_mixed, merges_alike}

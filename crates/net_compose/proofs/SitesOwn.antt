@@ -12,8 +12,8 @@ use Rattle.handshake_expand.specs.Layout.{formula_size, block_size, through_size
 use Rattle.handshake_expand.specs.Answers.{bodies_from, select_own, again_own}
 use Rattle.function_blocks.specs.Expressions.{formula_result}
 use Rattle.function_blocks.proofs.Sizes.{result_length}
-use Rattle.net_compose.specs.EverySite.{SiteValue, sent, taken, written, every_site}
-use Rattle.net_compose.specs.SortedSites.{sent_on, taken_on, written_to, IsDeclaredSite}
+use Rattle.net_compose.specs.Contacts.{ContactValue, sends, takes, writes, every_contact, sent_by, taken_by, written_by}
+use Rattle.net_compose.specs.SortedContacts.{IsDeclaredContact}
 use Rattle.handshake_expand.specs.Sites.{sites_in, sites_in_turn, sites_in_branches, sites_in_bodies, in_body}
 use Rattle.net_compose.specs.Translation.{read_back, through_at, assigned_rails}
 use Rattle.net_compose.proofs.ResultsOwn.{LieIn, lie_from, result_own, rails_lie}
@@ -44,26 +44,26 @@ rails_of_pairs ps width low high count lies = record {
 }
 
 module _ (p : TypedProgram) where
-  abbrev pub IsSite : (low high : ℕ) → SiteValue → Type 0
-  IsSite low high (sent k rails) = (k < length p.channels) × AreRails (channel_width p.channels k) low high rails
-  IsSite low high (taken k node) = (k < length p.channels) × (low ≤ node) × (node < high)
-  IsSite low high (written x rails) = (x < length p.vars) × AreRails (var_width p.vars x) low high rails
+  abbrev pub IsSite : (low high : ℕ) → ContactValue → Type 0
+  IsSite low high (sends k bits) = (k < length p.channels) × AreRails (channel_width p.channels k) low high (rails_of bits)
+  IsSite low high (takes k node) = (k < length p.channels) × (low ≤ node) × (node < high)
+  IsSite low high (writes x bits) = (x < length p.vars) × AreRails (var_width p.vars x) low high (rails_of bits)
 
-  site_wider : (low high from to : ℕ) (v : SiteValue) → from ≤ low → high ≤ to → IsSite low high v → IsSite from to v
-  site_wider low high from to (sent k rails) down up h = (h.0, rails_wider (channel_width p.channels k) low high from to rails down up h.1)
-  site_wider low high from to (taken k node) down up h = let b = h.1 in let c = h.2 in (h.0, omega (arith, b, down), omega (arith, c, up))
-  site_wider low high from to (written x rails) down up h = (h.0, rails_wider (var_width p.vars x) low high from to rails down up h.1)
+  site_wider : (low high from to : ℕ) (v : ContactValue) → from ≤ low → high ≤ to → IsSite low high v → IsSite from to v
+  site_wider low high from to (sends k bits) down up h = (h.0, rails_wider (channel_width p.channels k) low high from to (rails_of bits) down up h.1)
+  site_wider low high from to (takes k node) down up h = let b = h.1 in let c = h.2 in (h.0, omega (arith, b, down), omega (arith, c, up))
+  site_wider low high from to (writes x bits) down up h = (h.0, rails_wider (var_width p.vars x) low high from to (rails_of bits) down up h.1)
 
-  abbrev AreSites : (low high : ℕ) → List SiteValue → Type 0
+  abbrev AreSites : (low high : ℕ) → List ContactValue → Type 0
   AreSites low high vs = All (IsSite low high) vs
 
-  sites_wider : (low high from to : ℕ) (vs : List SiteValue) → from ≤ low → high ≤ to → AreSites low high vs → AreSites from to vs
+  sites_wider : (low high from to : ℕ) (vs : List ContactValue) → from ≤ low → high ≤ to → AreSites low high vs → AreSites from to vs
   sites_wider low high from to vs down up h = λ i d inside. site_wider low high from to (get_or vs i d) down up (h i d inside)
 
-  one_site : (low high : ℕ) (v : SiteValue) → IsSite low high v → AreSites low high (v ∷ [])
+  one_site : (low high : ℕ) (v : ContactValue) → IsSite low high v → AreSites low high (v ∷ [])
   one_site low high v h = All-cons (IsSite low high) v [] h (All-nil (IsSite low high))
 
-  two_parts : (low high : ℕ) (vs ws : List SiteValue) → AreSites low high vs → AreSites low high ws → AreSites low high (vs ++ ws)
+  two_parts : (low high : ℕ) (vs ws : List ContactValue) → AreSites low high vs → AreSites low high ws → AreSites low high (vs ++ ws)
   two_parts low high vs ws h k = All-append (IsSite low high) vs ws h k
 
   value_rails : (width from : ℕ) (e : Formula) → IsOfWidth p.vars width e → AreRails width from (from + formula_size e) (rails_of (formula_result e from))
@@ -86,13 +86,13 @@ module _ (p : TypedProgram) where
       (value_rails (var_width p.vars x) (from + 1) e h)
 
   mutual
-    pub sites_own : (s : Process) (from : ℕ) → IsProcess p.channels p.vars s → AreSites from (from + size_of p s) (sites_in p (every_site p) s from)
+    pub sites_own : (s : Process) (from : ℕ) → IsProcess p.channels p.vars s → AreSites from (from + size_of p s) (sites_in p (every_contact p) s from)
     sites_own skipping from h = All-nil (IsSite from (from + 1))
     sites_own (assigning x at e) from h =
-        one_site from (from + size_of p (assigning x at e)) (written x (rails_of (assigned_rails p x e from))) (h.0, assigned_own (reads x e) x e from h.1)
+        one_site from (from + size_of p (assigning x at e)) (writes x (assigned_rails p x e from)) (h.0, assigned_own (reads x e) x e from h.1)
     sites_own (sending chan at e) from h =
         let w = channel_width p.channels chan in
-        one_site from (from + (1 + formula_size e)) (sent chan (rails_of (formula_result e (from + 1)))) (
+        one_site from (from + (1 + formula_size e)) (sends chan (formula_result e (from + 1))) (
           h.within,
           rails_wider w (from + 1) (from + 1 + formula_size e) from (from + (1 + formula_size e)) (rails_of (formula_result e (from + 1))) (omega arith)
               (omega arith)
@@ -102,108 +102,111 @@ module _ (p : TypedProgram) where
         let w = channel_width p.channels chan in
         let rails = rails_of (pairs_from w (from + 2)) in
         let own = rails_wider w (from + 2) (from + 2 + 2 * w) from (from + (2 + 2 * w)) rails (omega arith) (omega arith) (plain_rails w (from + 2)) in
-        All-cons (IsSite from (from + (2 + 2 * w))) (taken chan (from + 1)) (written x rails ∷ []) (h.within, omega arith, omega arith)
-        (one_site from (from + (2 + 2 * w)) (written x rails) (h.target, subst (λ n. AreRails n from (from + (2 + 2 * w)) rails) (sym h.widths) own))
+        All-cons (IsSite from (from + (2 + 2 * w))) (takes chan (from + 1)) (writes x (pairs_from w (from + 2)) ∷ []) (h.within, omega arith, omega arith)
+        (one_site from (from + (2 + 2 * w)) (writes x (pairs_from w (from + 2))) (
+          h.target,
+          subst (λ n. AreRails n from (from + (2 + 2 * w)) rails) (sym h.widths) own,
+        ))
     sites_own (in_turn members) from h = turn_own members from h.1
     sites_own (side_by_side members) from h =
-        sites_wider from (from + branches_size p members) from (from + size_of p (side_by_side members)) (sites_in_branches p (every_site p) members from)
+        sites_wider from (from + branches_size p members) from (from + size_of p (side_by_side members)) (sites_in_branches p (every_contact p) members from)
         (omega arith) (omega arith) (branches_own members from h.1)
     sites_own (choosing false choices) from h =
         let to = bodies_from choices select_own from in
-        sites_wider to (to + bodies_size p choices) from (from + size_of p (choosing false choices)) (sites_in_bodies p (every_site p) choices to)
+        sites_wider to (to + bodies_size p choices) from (from + size_of p (choosing false choices)) (sites_in_bodies p (every_contact p) choices to)
         (omega arith) (omega arith) (bodies_own choices to h.2)
     sites_own (choosing true choices) from h =
         let to = bodies_from choices again_own from in
-        sites_wider to (to + bodies_size p choices) from (from + size_of p (choosing true choices)) (sites_in_bodies p (every_site p) choices to)
+        sites_wider to (to + bodies_size p choices) from (from + size_of p (choosing true choices)) (sites_in_bodies p (every_contact p) choices to)
         (omega arith) (omega arith) (bodies_own choices to h.2)
     sites_own (repeating s) from h =
-        sites_wider (from + 2) (from + 2 + size_of p s) from (from + (2 + size_of p s)) (sites_in p (every_site p) s (from + 2)) (omega arith) (omega arith)
+        sites_wider (from + 2) (from + 2 + size_of p s) from (from + (2 + size_of p s)) (sites_in p (every_contact p) s (from + 2)) (omega arith) (omega arith)
         (sites_own s (from + 2) h)
 
     turn_own : (members : Processes) (from : ℕ) → AreProcesses p.channels p.vars members → AreSites from (from + turn_size p members) (sites_in_turn p
-        (every_site p) members from)
+        (every_contact p) members from)
     turn_own no_members from h = All-nil (IsSite from (from + 0))
     turn_own (and_member s no_members) from h = sites_own s from h.0
     turn_own (and_member s (and_member t more)) from h =
         let to = from + 3 + size_of p s in
         let end = from + turn_size p (and_member s (and_member t more)) in
-        two_parts from end (sites_in p (every_site p) s (from + 3)) (sites_in_turn p (every_site p) (and_member t more) to)
-        (sites_wider (from + 3) (from + 3 + size_of p s) from end (sites_in p (every_site p) s (from + 3)) (omega arith) (omega arith) (sites_own s
+        two_parts from end (sites_in p (every_contact p) s (from + 3)) (sites_in_turn p (every_contact p) (and_member t more) to)
+        (sites_wider (from + 3) (from + 3 + size_of p s) from end (sites_in p (every_contact p) s (from + 3)) (omega arith) (omega arith) (sites_own s
         (from + 3) h.0))
-        (sites_wider to (to + turn_size p (and_member t more)) from end (sites_in_turn p (every_site p) (and_member t more) to) (omega arith) (omega arith)
+        (sites_wider to (to + turn_size p (and_member t more)) from end (sites_in_turn p (every_contact p) (and_member t more) to) (omega arith) (omega arith)
         (turn_own (and_member t more) (from + 3 + size_of p s) h.1))
 
     branches_own : (members : Processes) (from : ℕ) → AreProcesses p.channels p.vars members → AreSites from (from + branches_size p members)
-        (sites_in_branches p (every_site p) members from)
+        (sites_in_branches p (every_contact p) members from)
     branches_own no_members from h = All-nil (IsSite from (from + 0))
     branches_own (and_member s more) from h =
         let to = from + 3 + size_of p s in
         let end = from + branches_size p (and_member s more) in
-        two_parts from end (sites_in p (every_site p) s (from + 3)) (sites_in_branches p (every_site p) more to)
-        (sites_wider (from + 3) (from + 3 + size_of p s) from end (sites_in p (every_site p) s (from + 3)) (omega arith) (omega arith) (sites_own s
+        two_parts from end (sites_in p (every_contact p) s (from + 3)) (sites_in_branches p (every_contact p) more to)
+        (sites_wider (from + 3) (from + 3 + size_of p s) from end (sites_in p (every_contact p) s (from + 3)) (omega arith) (omega arith) (sites_own s
         (from + 3) h.0))
-        (sites_wider to (to + branches_size p more) from end (sites_in_branches p (every_site p) more to) (omega arith) (omega arith) (branches_own more
+        (sites_wider to (to + branches_size p more) from end (sites_in_branches p (every_contact p) more to) (omega arith) (omega arith) (branches_own more
         (from + 3 + size_of p s) h.1))
 
     bodies_own : (choices : Choices) (from : ℕ) → AreChoices p.channels p.vars choices → AreSites from (from + bodies_size p choices) (sites_in_bodies p
-        (every_site p) choices from)
+        (every_contact p) choices from)
     bodies_own no_choices from h = All-nil (IsSite from (from + 0))
     bodies_own (and_choice g s more) from h =
         let to = from + size_of p s in
         let end = from + bodies_size p (and_choice g s more) in
-        two_parts from end (sites_in p (every_site p) s from) (sites_in_bodies p (every_site p) more to)
-        (sites_wider from (from + size_of p s) from end (sites_in p (every_site p) s from) (omega arith) (omega arith) (sites_own s from h.1))
-        (sites_wider to (to + bodies_size p more) from end (sites_in_bodies p (every_site p) more to) (omega arith) (omega arith) (bodies_own more
+        two_parts from end (sites_in p (every_contact p) s from) (sites_in_bodies p (every_contact p) more to)
+        (sites_wider from (from + size_of p s) from end (sites_in p (every_contact p) s from) (omega arith) (omega arith) (sites_own s from h.1))
+        (sites_wider to (to + bodies_size p more) from end (sites_in_bodies p (every_contact p) more to) (omega arith) (omega arith) (bodies_own more
         (from + size_of p s) h.2))
 
-  pub all_own : IsProcess p.channels p.vars p.body → All (IsSite (body_from p) (nodes_of p)) (in_body p (every_site p))
+  pub all_own : IsProcess p.channels p.vars p.body → All (IsSite (body_from p) (nodes_of p)) (in_body p (every_contact p))
   all_own h = sites_own p.body (body_from p) h
 
-  pub site_of : (low high : ℕ) (v : SiteValue) → IsSite low high v → IsDeclaredSite (length p.channels) (length p.vars) v
-  site_of low high (sent k rails) h = h.0
-  site_of low high (taken k node) h = h.0
-  site_of low high (written x rails) h = h.0
+  pub site_of : (low high : ℕ) (v : ContactValue) → IsSite low high v → IsDeclaredContact (length p.channels) (length p.vars) v
+  site_of low high (sends k bits) h = h.0
+  site_of low high (takes k node) h = h.0
+  site_of low high (writes x bits) h = h.0
 
   -- those of one channel and of one variable
 
   module _ (low high k : ℕ) where
-    abbrev RailsOf : ℕ → List ℕ → Type 0
-    RailsOf width rails = AreRails width low high rails
+    abbrev RailsOf : ℕ → List Pair → Type 0
+    RailsOf width bits = AreRails width low high (rails_of bits)
 
-    sent_if : (chan : ℕ) (rails : List ℕ) (b : Bool) → (chan == k) ≡ b → RailsOf (channel_width p.channels chan) rails → All (RailsOf
-        (channel_width p.channels k)) (if b then rails ∷ [] else [])
-    sent_if chan rails true is h =
-        All-cons (RailsOf (channel_width p.channels k)) rails [] (subst (λ c. RailsOf (channel_width p.channels c) rails) (eqb-true chan k is) h) (All-nil
+    sent_if : (chan : ℕ) (bits : List Pair) (b : Bool) → (chan == k) ≡ b → RailsOf (channel_width p.channels chan) bits → All (RailsOf
+        (channel_width p.channels k)) (if b then bits ∷ [] else [])
+    sent_if chan bits true is h =
+        All-cons (RailsOf (channel_width p.channels k)) bits [] (subst (λ c. RailsOf (channel_width p.channels c) bits) (eqb-true chan k is) h) (All-nil
         (RailsOf (channel_width p.channels k)))
-    sent_if chan rails false is h = All-nil (RailsOf (channel_width p.channels k))
+    sent_if chan bits false is h = All-nil (RailsOf (channel_width p.channels k))
 
-    sent_one : (v : SiteValue) → IsSite low high v → All (RailsOf (channel_width p.channels k)) (sent_on k v)
-    sent_one (sent chan rails) h = sent_if chan rails (chan == k) refl h.1
-    sent_one (taken chan node) h = All-nil (RailsOf (channel_width p.channels k))
-    sent_one (written x rails) h = All-nil (RailsOf (channel_width p.channels k))
+    sent_bye : (v : ContactValue) → IsSite low high v → All (RailsOf (channel_width p.channels k)) (sent_by k v)
+    sent_bye (sends chan bits) h = sent_if chan bits (chan == k) refl h.1
+    sent_bye (takes chan node) h = All-nil (RailsOf (channel_width p.channels k))
+    sent_bye (writes x bits) h = All-nil (RailsOf (channel_width p.channels k))
 
-    pub sent_own : (vs : List SiteValue) → AreSites low high vs → All (RailsOf (channel_width p.channels k)) (flat_map (sent_on k) vs)
+    pub sent_own : (vs : List ContactValue) → AreSites low high vs → All (RailsOf (channel_width p.channels k)) (flat_map (sent_by k) vs)
     sent_own [] h = All-nil (RailsOf (channel_width p.channels k))
     sent_own (v ∷ vs) h =
-        All-append (RailsOf (channel_width p.channels k)) (sent_on k v) (flat_map (sent_on k) vs) (sent_one v (All-head (IsSite low high) v vs h))
+        All-append (RailsOf (channel_width p.channels k)) (sent_by k v) (flat_map (sent_by k) vs) (sent_bye v (All-head (IsSite low high) v vs h))
         (sent_own vs (All-tail (IsSite low high) v vs h))
 
-    written_if : (x : ℕ) (rails : List ℕ) (b : Bool) → (x == k) ≡ b → RailsOf (var_width p.vars x) rails → All (RailsOf (var_width p.vars k))
-        (if b then rails ∷ [] else [])
-    written_if x rails true is h =
-        All-cons (RailsOf (var_width p.vars k)) rails [] (subst (λ c. RailsOf (var_width p.vars c) rails) (eqb-true x k is) h) (All-nil (RailsOf
+    written_if : (x : ℕ) (bits : List Pair) (b : Bool) → (x == k) ≡ b → RailsOf (var_width p.vars x) bits → All (RailsOf (var_width p.vars k))
+        (if b then bits ∷ [] else [])
+    written_if x bits true is h =
+        All-cons (RailsOf (var_width p.vars k)) bits [] (subst (λ c. RailsOf (var_width p.vars c) bits) (eqb-true x k is) h) (All-nil (RailsOf
         (var_width p.vars k)))
-    written_if x rails false is h = All-nil (RailsOf (var_width p.vars k))
+    written_if x bits false is h = All-nil (RailsOf (var_width p.vars k))
 
-    written_one : (v : SiteValue) → IsSite low high v → All (RailsOf (var_width p.vars k)) (written_to k v)
-    written_one (sent chan rails) h = All-nil (RailsOf (var_width p.vars k))
-    written_one (taken chan node) h = All-nil (RailsOf (var_width p.vars k))
-    written_one (written x rails) h = written_if x rails (x == k) refl h.1
+    written_one : (v : ContactValue) → IsSite low high v → All (RailsOf (var_width p.vars k)) (written_by k v)
+    written_one (sends chan bits) h = All-nil (RailsOf (var_width p.vars k))
+    written_one (takes chan node) h = All-nil (RailsOf (var_width p.vars k))
+    written_one (writes x bits) h = written_if x bits (x == k) refl h.1
 
-    pub written_own : (vs : List SiteValue) → AreSites low high vs → All (RailsOf (var_width p.vars k)) (flat_map (written_to k) vs)
+    pub written_own : (vs : List ContactValue) → AreSites low high vs → All (RailsOf (var_width p.vars k)) (flat_map (written_by k) vs)
     written_own [] h = All-nil (RailsOf (var_width p.vars k))
     written_own (v ∷ vs) h =
-        All-append (RailsOf (var_width p.vars k)) (written_to k v) (flat_map (written_to k) vs) (written_one v (All-head (IsSite low high) v vs h))
+        All-append (RailsOf (var_width p.vars k)) (written_by k v) (flat_map (written_by k) vs) (written_one v (All-head (IsSite low high) v vs h))
         (written_own vs (All-tail (IsSite low high) v vs h))
 
     abbrev LiesHere : ℕ → Type 0
@@ -213,12 +216,12 @@ module _ (p : TypedProgram) where
     taken_if node true h = All-cons LiesHere node [] h (All-nil LiesHere)
     taken_if node false h = All-nil LiesHere
 
-    taken_one : (v : SiteValue) → IsSite low high v → All LiesHere (taken_on k v)
-    taken_one (sent chan rails) h = All-nil LiesHere
-    taken_one (taken chan node) h = taken_if node (chan == k) (h.1, h.2)
-    taken_one (written x rails) h = All-nil LiesHere
+    taken_one : (v : ContactValue) → IsSite low high v → All LiesHere (taken_by k v)
+    taken_one (sends chan bits) h = All-nil LiesHere
+    taken_one (takes chan node) h = taken_if node (chan == k) (h.1, h.2)
+    taken_one (writes x bits) h = All-nil LiesHere
 
-    pub taken_own : (vs : List SiteValue) → AreSites low high vs → All (λ node. (low ≤ node) × (node < high)) (flat_map (taken_on k) vs)
+    pub taken_own : (vs : List ContactValue) → AreSites low high vs → All (λ node. (low ≤ node) × (node < high)) (flat_map (taken_by k) vs)
     taken_own [] h = All-nil LiesHere
-    taken_own (v ∷ vs) h = All-append LiesHere (taken_on k v) (flat_map (taken_on k) vs) (taken_one v (All-head (IsSite low high) v vs h)) (taken_own vs
+    taken_own (v ∷ vs) h = All-append LiesHere (taken_by k v) (flat_map (taken_by k) vs) (taken_one v (All-head (IsSite low high) v vs h)) (taken_own vs
         (All-tail (IsSite low high) v vs h))

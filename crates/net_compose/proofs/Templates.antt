@@ -7,7 +7,7 @@ use Rattle.prs_core.specs.Nets.{NodeRules, is_high, is_low, one_term}
 use Rattle.prs_core.specs.Pairs.{no_rules, or_of, lows, rails_of}
 use Rattle.prs_core.specs.Pairs as net
 use Rattle.prs_core.specs.Moves.{term_holds, guard_holds}
-use Rattle.cell_select.specs.Selections.{only_one_true, latches, started, starts, evaluation, joined_answer, turn_request, leave_latch, leave_answer}
+use Rattle.cell_select.specs.Selections.{only_one_true, latches, starts, evaluation, joined_answer, turn_request, leave_latch, leave_answer}
 use Rattle.cell_select.specs.Selections as template
 use Rattle.circuit_places.specs.Heads.{Index, top, under, Bits, bit_of, some_bit, each_false, all_neutral, alone}
 use Rattle.circuit_places.specs.Cores.{Core, Turning, of_joined, of_ask, of_any, of_latch, of_start, of_answer, of_turn, of_leave, core_rule, turning_rule}

@@ -1,5 +1,5 @@
 -- The three points of carrying a program, each by itself, and what holds of the nets of programs.
-use Rattle.std.specs.Prelude.{ℕ, ◌≤◌, List, length}
+use Rattle.std.specs.Prelude.{ℕ, List, length}
 use Rattle.prs_core.specs.Nets.{NetValue}
 use Rattle.env_script.specs.Scripts.{OfferValue, IsScript}
 use Rattle.env_script.specs.Runs.{begin_at, after, IsRun, IsSafeRun, IsAtRest}

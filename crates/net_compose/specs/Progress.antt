@@ -23,13 +23,13 @@ pub record IsLevel (st : RunState) (c : Configuration) : Type 0 where
   pub whole : (k : ℕ) → history_at st.histories k ≡ history_at c.histories k
   pub answer : (high st.values done_node ≡ true) ↔ (c.term ≡ finished)
 
--- how many moves of a run count: all, or of a net with a reset node those after its fall
+-- how many moves of a run are counted: all, or of a net with a reset node those after its fall
 abbrev pub counted_moves : (reset : Option ℕ) → List ℕ → ℕ
 counted_moves None moves = length moves
 counted_moves (Some node) moves = moves_since_reset (Some node) moves
 
--- Each run from these values has passed what some run of the program has, of m steps, and of its moves no more count
--- than the most for m steps.
+-- Each run from these values has passed what some run of the program has, of m steps, and no more of its moves are
+-- counted than the most for m steps.
 abbrev pub KeepsPace : NetValue → TypedProgram → (most : ℕ → ℕ) → (values : List Bool) → Type 0
 KeepsPace net p most values =
     (script : List OfferValue) → IsScript p.channels script

@@ -1,40 +1,35 @@
-//! The rules of statements: those of a statement's own nodes, and of the statements in it.
+//! The drivers of statements: those of a statement's own nodes, and of the statements in it.
 
-ghost use Rattle.std.specs.Prelude.{◌≡◌, ℕ, ◌+◌, ◌*◌, ◌^◌, ◌<◌, ◌≤◌, ◌++◌, true, fold, length, slice_set, IfOk, OnOk};
-ghost use Rattle.prs_core.specs.Parts.{owned_from, with_owned};
-ghost use Rattle.width_check.specs.Processes.{Process, TypedProgram, Processes, Choices, in_turn, side_by_side, choosing};
+ghost use Rattle.std.specs.Prelude.{◌≡◌, ℕ, ◌+◌, ◌≤◌, ◌<◌, ◌++◌, ◌∷◌, [], true, fold, length, slice_set, IfOk, OnOk};
+ghost use Rattle.prs_core.specs.Pairs.{no_rules};
+ghost use Rattle.width_check.specs.Processes.{Process, Processes, Choices, TypedProgram, in_turn, side_by_side, choosing};
 ghost use Rattle.width_check.specs.Typed.{program_of};
-ghost use Rattle.width_check.specs.Typing.{IsProcess, AreProcesses, AreChoices};
+ghost use Rattle.width_check.specs.Typing.{IsProcess, AreChoices};
 ghost use Rattle.width_check.specs.View.{process_of, members_in, choices_in};
-ghost use Rattle.handshake_expand.specs.Layout.{size_of, branches_size, bodies_size, nodes_of, root_request, body_from};
-ghost use Rattle.net_compose.specs.Begins.{channel_firsts, var_firsts};
-ghost use Rattle.net_compose.specs.EverySite.{every_site};
-ghost use Rattle.net_compose.specs.SiteLists.{site_values};
+ghost use Rattle.handshake_expand.specs.Layout.{size_of, bodies_size, nodes_of, root_request, body_from};
+ghost use Rattle.handshake_expand.specs.Answers.{answer_of};
 ghost use Rattle.handshake_expand.specs.Sites.{sites_in, in_body};
-ghost use Rattle.net_compose.specs.Translation.{rules_of, branches_rules, bodies_rules, hidden_high};
+ghost use Rattle.cell_sequence.specs.Sequence.{skip_answer, loop_request};
+ghost use Rattle.net_compose.specs.Begins.{channel_firsts, var_firsts};
+ghost use Rattle.net_compose.specs.Translation.{rules_of, bodies_rules, hidden_high};
+ghost use Rattle.net_compose.specs.Contacts.{every_contact};
 
-use crate::arms::{body_answers, guards_nodes, own_nodes};
-use crate::choice::emit_choice;
-use crate::elements::{emit_element, emit_repeated};
+use crate::choice::{choice, join_answers, own_nodes};
+use crate::contact::Contact;
+use crate::driver::Driver;
 use crate::firsts::Firsts;
+use crate::formula::{begin_element, close_element};
 use crate::leaves::{assign, receive, send};
-use crate::site::Site;
-use cell_parallel::emit_tree;
-use cell_sequence::emit_skip;
-use handshake_expand::{answer_node, count_nodes, statement_nodes};
-use prs_core::Rules;
+use crate::tree::tree;
+use handshake_expand::{count_nodes, statement_nodes};
 use std::alloc::{AllocError, Global};
 use width_check::{TArm, TStmt, Typed};
 
-/// Law: a statement, some branches and some bodies have a pair of guards for each node that the layout counts.
+/// Law: a statement and the bodies of a selection have a driver for each node that the layout counts.
 fn statements_counted()
-    ensures statements { (p : TypedProgram) (s : Process) (request from : ℕ)
-        → IsProcess p.channels p.vars s → length (rules_of p s request from) ≡ size_of p s }
-    ensures branches { (p : TypedProgram) (members : Processes) (request from : ℕ)
-        → AreProcesses p.channels p.vars members
-        → length (branches_rules p members request from) ≡ branches_size p members }
-    ensures bodies { (p : TypedProgram) (choices : Choices) (start from : ℕ)
-        → AreChoices p.channels p.vars choices
+    ensures statements { (p : TypedProgram) (s : Process) (request from : ℕ) → IsProcess p.channels p.vars s
+        → length (rules_of p s request from) ≡ size_of p s }
+    ensures bodies { (p : TypedProgram) (choices : Choices) (start from : ℕ) → AreChoices p.channels p.vars choices
         → length (bodies_rules p choices start from) ≡ bodies_size p choices }
 {
     function_blocks::laws::bits_counted();
@@ -42,8 +37,35 @@ fn statements_counted()
     cell_parallel::laws::tree_counted();
 }
 
-/// Writes the rules of a sequence. Each member but the last stands behind a Q-element of three nodes: its request, the
-/// latch, and the request of what follows.
+/// Adds the driver of a skip's answer, its only node, and answers that node.
+fn skip(request: u32, from: u32, drivers: &mut Vec<Driver>) -> Result<u32, AllocError>
+    ensures made { OnOk result (drivers.new.items ≡ drivers.old.items ++ skip_answer request ∷ []) }
+    ensures answer { IfOk result (λ answer. answer ≡ from) }
+{
+    drivers.push(Driver::skip(request))?;
+    Ok(from)
+}
+
+/// Adds a loop's own nodes: its answer, which never rises, and the request of its body, which isn't driven until the
+/// body's answer is known.
+fn begin_loop(drivers: &mut Vec<Driver>) -> Result<(), AllocError>
+    ensures { OnOk result (drivers.new.items ≡ drivers.old.items ++ no_rules ∷ no_rules ∷ []) }
+{
+    drivers.push(Driver::undriven())?;
+    drivers.push(Driver::undriven())?;
+    Ok(())
+}
+
+/// Sets the request of a loop's body (Burns and Martin). The loop's own drivers begin at `place`.
+fn close_loop(place: usize, request: u32, body_answer: u32, drivers: &mut Vec<Driver>)
+    requires { place + 1 < length drivers.old.items }
+    ensures { drivers.new.items ≡ slice_set drivers.old.items (place + 1) (loop_request request body_answer) }
+{
+    drivers[place + 1] = Driver::child(request, body_answer);
+}
+
+/// Adds the drivers of a sequence, and answers the node that answers its request. Each member but the last stands
+/// behind a Q-element of three nodes: its request, the latch, and the request of what follows.
 #[cycle(statements)]
 fn sequence(
     alloc: Global,
@@ -53,54 +75,51 @@ fn sequence(
     from: u32,
     firsts: &Firsts,
     first: &mut [bool],
-    sites: &mut Vec<Site>,
-    rules: &mut Rules,
-) -> Result<(), AllocError>
+    contacts: &mut Vec<Contact>,
+    drivers: &mut Vec<Driver>,
+) -> Result<u32, AllocError>
     requires channels { firsts.now.channels.items ≡ channel_firsts (program_of program.now) }
     requires vars { firsts.now.vars.items ≡ var_firsts (program_of program.now) }
     requires process { IsProcess program.now.channels program.now.vars (in_turn (members_in members.now)) }
-    requires asked { root_request (program_of program.now) ≤ request }
-    requires before { request < from }
-    requires own { from + size_of (program_of program.now) (in_turn (members_in members.now)) ≤ length rules.old.up }
-    requires values { length first.old ≡ length rules.old.up }
-    ensures made { OnOk result (rules.new ≡ with_owned (owned_from from
-        (rules_of (program_of program.now) (in_turn (members_in members.now)) request from)) rules.old) }
-    ensures sites { OnOk result (site_values sites.new.items ≡ site_values sites.old.items
-        ++ sites_in (program_of program.now) (every_site (program_of program.now))
+    requires root { root_request (program_of program.now) ≤ from }
+    requires own { from + size_of (program_of program.now) (in_turn (members_in members.now)) ≤ length first.old }
+    requires few { length first.old ≤ 65536 }
+    ensures made { OnOk result (drivers.new.items ≡ drivers.old.items
+        ++ rules_of (program_of program.now) (in_turn (members_in members.now)) request from) }
+    ensures answer { IfOk result (λ answer. answer ≡ answer_of (program_of program.now)
+        (in_turn (members_in members.now)) from) }
+    ensures contacts { OnOk result (contacts.new.items ≡ contacts.old.items
+        ++ sites_in (program_of program.now) (every_contact (program_of program.now))
         (in_turn (members_in members.now)) from) }
     ensures first { OnOk result (first.new ≡ fold (λ values node. slice_set values node true) first.old
         (sites_in (program_of program.now) (hidden_high (program_of program.now))
         (in_turn (members_in members.now)) from)) }
-    ensures nodes { length rules.new.up ≡ length rules.old.up }
     ensures count { length first.new ≡ length first.old }
 {
     statements_counted();
-    // tells the proof that there are fewer than 2^32 nodes
-    let _count = rules.nodes();
     let last = members.len() - 1;
     let mut asked = request;
     let mut next = from;
     for place in 0..last {
+        let begun = drivers.len();
         let member = &members[place];
-        let size = statement_nodes(program, member) as u32;
         let own = next + 3;
-        let answer = answer_node(program, member, own);
-        emit_element(alloc, asked, answer, next, rules)?;
-        statement(
-            alloc, program, member, next, own, firsts, first, sites, rules,
+        begin_element(asked, next + 1, drivers)?;
+        let answer = statement(
+            alloc, program, member, next, own, firsts, first, contacts, drivers,
         )?;
+        close_element(begun, asked, next + 1, answer, drivers);
         asked = next + 2;
-        next = own + size;
+        next += (drivers.len() - begun) as u32;
     }
     let member = &members[last];
     statement(
-        alloc, program, member, asked, next, firsts, first, sites, rules,
-    )?;
-    Ok(())
+        alloc, program, member, asked, next, firsts, first, contacts, drivers,
+    )
 }
 
-/// Writes the rules of a parallel composition. Each branch stands behind a Q-element under the common request; a
-/// completion tree over the next requests of these comes last.
+/// Adds the drivers of a parallel composition, and answers the node that answers its request, its last one. Each branch
+/// stands behind a Q-element under the common request; a completion tree over the next requests of these comes last.
 #[cycle(statements)]
 fn parallel(
     alloc: Global,
@@ -110,49 +129,49 @@ fn parallel(
     from: u32,
     firsts: &Firsts,
     first: &mut [bool],
-    sites: &mut Vec<Site>,
-    rules: &mut Rules,
-) -> Result<(), AllocError>
+    contacts: &mut Vec<Contact>,
+    drivers: &mut Vec<Driver>,
+) -> Result<u32, AllocError>
     requires channels { firsts.now.channels.items ≡ channel_firsts (program_of program.now) }
     requires vars { firsts.now.vars.items ≡ var_firsts (program_of program.now) }
     requires process { IsProcess program.now.channels program.now.vars (side_by_side (members_in branches.now)) }
-    requires asked { root_request (program_of program.now) ≤ request }
-    requires before { request < from }
+    requires root { root_request (program_of program.now) ≤ from }
     requires own { from + size_of (program_of program.now) (side_by_side (members_in branches.now))
-        ≤ length rules.old.up }
-    requires values { length first.old ≡ length rules.old.up }
-    ensures made { OnOk result (rules.new ≡ with_owned (owned_from from
-        (rules_of (program_of program.now) (side_by_side (members_in branches.now)) request from)) rules.old) }
-    ensures sites { OnOk result (site_values sites.new.items ≡ site_values sites.old.items
-        ++ sites_in (program_of program.now) (every_site (program_of program.now))
+        ≤ length first.old }
+    requires few { length first.old ≤ 65536 }
+    ensures made { OnOk result (drivers.new.items ≡ drivers.old.items
+        ++ rules_of (program_of program.now) (side_by_side (members_in branches.now)) request from) }
+    ensures answer { IfOk result (λ answer. answer ≡ answer_of (program_of program.now)
+        (side_by_side (members_in branches.now)) from) }
+    ensures contacts { OnOk result (contacts.new.items ≡ contacts.old.items
+        ++ sites_in (program_of program.now) (every_contact (program_of program.now))
         (side_by_side (members_in branches.now)) from) }
     ensures first { OnOk result (first.new ≡ fold (λ values node. slice_set values node true) first.old
         (sites_in (program_of program.now) (hidden_high (program_of program.now))
         (side_by_side (members_in branches.now)) from)) }
-    ensures nodes { length rules.new.up ≡ length rules.old.up }
     ensures count { length first.new ≡ length first.old }
 {
     statements_counted();
-    // tells the proof that there are fewer than 2^32 nodes
-    let _count = rules.nodes();
+    let whole = drivers.len();
     let mut ends = Vec::new(alloc);
     let mut next = from;
     for branch in branches {
-        let size = statement_nodes(program, branch) as u32;
+        let begun = drivers.len();
         let own = next + 3;
-        let answer = answer_node(program, branch, own);
-        emit_element(alloc, request, answer, next, rules)?;
-        statement(
-            alloc, program, branch, next, own, firsts, first, sites, rules,
+        begin_element(request, next + 1, drivers)?;
+        let answer = statement(
+            alloc, program, branch, next, own, firsts, first, contacts, drivers,
         )?;
+        close_element(begun, request, next + 1, answer, drivers);
         ends.push(next + 2)?;
-        next = own + size;
+        next += (drivers.len() - begun) as u32;
     }
-    emit_tree(alloc, &ends, next, rules)?;
-    Ok(())
+    tree(alloc, &ends, next, drivers)?;
+    let count = (drivers.len() - whole) as u32;
+    Ok(from + count - 1)
 }
 
-/// Writes the rules of a selection or a guarded repetition: its own nodes, the guards, and the branches, each under its
+/// Adds the drivers of a selection or a guarded repetition: its own nodes, the guards, and the branches, each under its
 /// start.
 #[cycle(statements)]
 fn selection(
@@ -164,52 +183,50 @@ fn selection(
     from: u32,
     firsts: &Firsts,
     first: &mut [bool],
-    sites: &mut Vec<Site>,
-    rules: &mut Rules,
-) -> Result<(), AllocError>
+    contacts: &mut Vec<Contact>,
+    drivers: &mut Vec<Driver>,
+) -> Result<u32, AllocError>
     requires channels { firsts.now.channels.items ≡ channel_firsts (program_of program.now) }
     requires vars { firsts.now.vars.items ≡ var_firsts (program_of program.now) }
     requires process { IsProcess program.now.channels program.now.vars (choosing again (choices_in arms.now)) }
-    requires asked { root_request (program_of program.now) ≤ request }
-    requires before { request < from }
-    requires own { from + size_of (program_of program.now) (choosing again (choices_in arms.now))
-        ≤ length rules.old.up }
-    requires values { length first.old ≡ length rules.old.up }
-    ensures made { OnOk result (rules.new ≡ with_owned (owned_from from
-        (rules_of (program_of program.now) (choosing again (choices_in arms.now)) request from)) rules.old) }
-    ensures sites { OnOk result (site_values sites.new.items ≡ site_values sites.old.items
-        ++ sites_in (program_of program.now) (every_site (program_of program.now))
+    requires root { root_request (program_of program.now) ≤ from }
+    requires own { from + size_of (program_of program.now) (choosing again (choices_in arms.now)) ≤ length first.old }
+    requires few { length first.old ≤ 65536 }
+    ensures made { OnOk result (drivers.new.items ≡ drivers.old.items
+        ++ rules_of (program_of program.now) (choosing again (choices_in arms.now)) request from) }
+    ensures answer { IfOk result (λ answer. answer ≡ answer_of (program_of program.now)
+        (choosing again (choices_in arms.now)) from) }
+    ensures contacts { OnOk result (contacts.new.items ≡ contacts.old.items
+        ++ sites_in (program_of program.now) (every_contact (program_of program.now))
         (choosing again (choices_in arms.now)) from) }
     ensures first { OnOk result (first.new ≡ fold (λ values node. slice_set values node true) first.old
         (sites_in (program_of program.now) (hidden_high (program_of program.now))
         (choosing again (choices_in arms.now)) from)) }
-    ensures nodes { length rules.new.up ≡ length rules.old.up }
     ensures count { length first.new ≡ length first.old }
 {
     statements_counted();
-    // tells the proof that there are fewer than 2^32 nodes
-    let _count = rules.nodes();
-    let guards = arms.len() as u32;
-    let mut start = from + own_nodes(again) + guards;
-    let mut next = start + guards + guards_nodes(arms);
-    let answers = body_answers(alloc, program, arms, next)?;
+    let whole = drivers.len();
     let vars = &firsts.vars;
-    emit_choice(
-        alloc, program, again, arms, &answers, request, from, vars, rules,
-    )?;
+    choice(alloc, program, again, arms, request, from, vars, drivers)?;
+    let mut start = from + own_nodes(again) + arms.len() as u32;
+    let mut next = from + (drivers.len() - whole) as u32;
+    let mut answers = Vec::new(alloc);
     for arm in arms {
-        let size = statement_nodes(program, &arm.body) as u32;
-        statement(
-            alloc, program, &arm.body, start, next, firsts, first, sites, rules,
+        let begun = drivers.len();
+        let answer = statement(
+            alloc, program, &arm.body, start, next, firsts, first, contacts, drivers,
         )?;
+        answers.push(answer)?;
         start += 1;
-        next += size;
+        next += (drivers.len() - begun) as u32;
     }
-    Ok(())
+    join_answers(whole, again, from, answers, drivers);
+    Ok(from)
 }
 
-/// Writes the rules of a statement whose own nodes are numbered from `from` on and which this node asks. Its sites are
-/// listed in text order, and the nodes of hidden variables that are high at first are raised.
+/// Adds the drivers of a statement whose own nodes are numbered from `from` on and which this node asks, and answers
+/// the node that answers the request. Where it meets channels and variables is listed in text order, and the nodes of
+/// hidden variables that are high at first are raised.
 #[cycle(statements)]
 fn statement(
     alloc: Global,
@@ -219,90 +236,88 @@ fn statement(
     from: u32,
     firsts: &Firsts,
     first: &mut [bool],
-    sites: &mut Vec<Site>,
-    rules: &mut Rules,
-) -> Result<(), AllocError>
+    contacts: &mut Vec<Contact>,
+    drivers: &mut Vec<Driver>,
+) -> Result<u32, AllocError>
     requires channels { firsts.now.channels.items ≡ channel_firsts (program_of program.now) }
     requires vars { firsts.now.vars.items ≡ var_firsts (program_of program.now) }
     requires process { IsProcess program.now.channels program.now.vars (process_of s.now) }
-    requires asked { root_request (program_of program.now) ≤ request }
-    requires before { request < from }
-    requires own { from + size_of (program_of program.now) (process_of s.now) ≤ length rules.old.up }
-    requires values { length first.old ≡ length rules.old.up }
-    ensures made { OnOk result (rules.new ≡ with_owned (owned_from from
-        (rules_of (program_of program.now) (process_of s.now) request from)) rules.old) }
-    ensures sites { OnOk result (site_values sites.new.items ≡ site_values sites.old.items
-        ++ sites_in (program_of program.now) (every_site (program_of program.now))
+    requires root { root_request (program_of program.now) ≤ from }
+    requires own { from + size_of (program_of program.now) (process_of s.now) ≤ length first.old }
+    requires few { length first.old ≤ 65536 }
+    ensures made { OnOk result (drivers.new.items ≡ drivers.old.items
+        ++ rules_of (program_of program.now) (process_of s.now) request from) }
+    ensures answer { IfOk result (λ answer. answer ≡ answer_of (program_of program.now) (process_of s.now) from) }
+    ensures contacts { OnOk result (contacts.new.items ≡ contacts.old.items
+        ++ sites_in (program_of program.now) (every_contact (program_of program.now))
         (process_of s.now) from) }
     ensures first { OnOk result (first.new ≡ fold (λ values node. slice_set values node true) first.old
         (sites_in (program_of program.now) (hidden_high (program_of program.now))
         (process_of s.now) from)) }
-    ensures nodes { length rules.new.up ≡ length rules.old.up }
     ensures count { length first.new ≡ length first.old }
 {
-    // tells the proof that there are fewer than 2^32 nodes
-    let _count = rules.nodes();
+    let vars = &firsts.vars;
     match s {
-        TStmt::Skip => emit_skip(alloc, request, from, rules),
-        TStmt::Assign { var, at, value } => assign(
-            alloc, program, *var, *at, value, request, from, firsts, first, sites, rules,
+        TStmt::Skip => skip(request, from, drivers),
+        TStmt::Assign { var, value, .. } => assign(
+            alloc, program, *var, value, request, from, vars, first, contacts, drivers,
         ),
         TStmt::Send { chan, value, .. } => send(
-            alloc, program, *chan, value, request, from, firsts, sites, rules,
+            alloc, program, *chan, value, request, from, firsts, contacts, drivers,
         ),
         TStmt::Receive { chan, var, .. } => receive(
-            alloc, program, *chan, *var, request, from, firsts, sites, rules,
+            alloc, program, *chan, *var, request, from, firsts, contacts, drivers,
         ),
         TStmt::Then { parts } => sequence(
-            alloc, program, parts, request, from, firsts, first, sites, rules,
+            alloc, program, parts, request, from, firsts, first, contacts, drivers,
         ),
         TStmt::Beside { parts } => parallel(
-            alloc, program, parts, request, from, firsts, first, sites, rules,
+            alloc, program, parts, request, from, firsts, first, contacts, drivers,
         ),
         TStmt::Select { again, arms } => selection(
-            alloc, program, *again, arms, request, from, firsts, first, sites, rules,
+            alloc, program, *again, arms, request, from, firsts, first, contacts, drivers,
         ),
         TStmt::Repeat { body } => {
+            let place = drivers.len();
             let start = from + 1;
             let next = from + 2;
-            let answer = answer_node(program, body, next);
-            emit_repeated(alloc, request, answer, from, rules)?;
-            statement(
-                alloc, program, body, start, next, firsts, first, sites, rules,
+            begin_loop(drivers)?;
+            let answer = statement(
+                alloc, program, body, start, next, firsts, first, contacts, drivers,
             )?;
-            Ok(())
+            close_loop(place, request, answer, drivers);
+            Ok(from)
         }
     }
 }
 
-/// Writes the rules of a program's body, raises the nodes of its hidden variables that are high at first, and answers
-/// its sites in text order.
-pub(crate) fn emit_body(
+/// The drivers of a program's body, and where it meets channels and variables in text order. The nodes of its hidden
+/// variables that are high at first are raised.
+pub(crate) fn body(
     alloc: Global,
     program: &Typed,
     firsts: &Firsts,
     first: &mut [bool],
-    rules: &mut Rules,
-) -> Result<Vec<Site>, AllocError>
+    contacts: &mut Vec<Contact>,
+) -> Result<Vec<Driver>, AllocError>
     requires channels { firsts.now.channels.items ≡ channel_firsts (program_of program.now) }
     requires vars { firsts.now.vars.items ≡ var_firsts (program_of program.now) }
-    requires own { nodes_of (program_of program.now) ≤ length rules.old.up }
-    requires values { length first.old ≡ length rules.old.up }
-    ensures made { OnOk result (rules.new ≡ with_owned (owned_from (body_from (program_of program.now))
-        (rules_of (program_of program.now) (process_of program.now.body) (root_request (program_of program.now))
-        (body_from (program_of program.now)))) rules.old) }
-    ensures sites { IfOk result (λ sites. site_values sites.items
-        ≡ in_body (program_of program.now) (every_site (program_of program.now))) }
+    requires own { nodes_of (program_of program.now) ≡ length first.old }
+    requires few { length first.old ≤ 65536 }
+    requires none { contacts.old.items ≡ [] }
+    ensures made { IfOk result (λ drivers. drivers.items ≡ rules_of (program_of program.now)
+        (process_of program.now.body) (root_request (program_of program.now)) (body_from (program_of program.now))) }
+    ensures contacts { OnOk result (contacts.new.items
+        ≡ in_body (program_of program.now) (every_contact (program_of program.now))) }
     ensures first { OnOk result (first.new ≡ fold (λ values node. slice_set values node true) first.old
         (in_body (program_of program.now) (hidden_high (program_of program.now)))) }
-    ensures nodes { length rules.new.up ≡ length rules.old.up }
     ensures count { length first.new ≡ length first.old }
 {
-    // tells the proof that there are fewer than 2^32 nodes
-    let _count = rules.nodes();
     let body = program.body();
-    let from = (count_nodes(program) - statement_nodes(program, body)) as u32;
-    let mut sites = Vec::new(alloc);
+    let count = count_nodes(program);
+    let from = (count - statement_nodes(program, body)) as u32;
+    // with room for those of the declared nodes and of a reset node
+    let mut drivers = Vec::with_capacity(alloc, count as usize + 1)?;
     statement(
         alloc,
         program,
@@ -311,8 +326,8 @@ pub(crate) fn emit_body(
         from,
         firsts,
         first,
-        &mut sites,
-        rules,
+        contacts,
+        &mut drivers,
     )?;
-    Ok(sites)
+    Ok(drivers)
 }

@@ -1,57 +1,280 @@
-//! The rules of the own nodes of a selection or a guarded repetition, and of its guards.
+//! The drivers of the own nodes of selections and guarded repetitions, and of their guards.
 
-ghost use Rattle.std.specs.Prelude.{◌≡◌, ◌+◌, ◌<◌, ◌≤◌, ◌++◌, true, false, length, OnOk};
-ghost use Rattle.prs_core.specs.Parts.{owned_from, with_owned};
+ghost use Rattle.std.specs.Prelude.{◌≡◌, ◌+◌, ◌*◌, ◌^◌, ◌<◌, ◌≤◌, ◌++◌, if◌then◌else◌, true, false, length, slice_set, IfOk, OnOk};
+ghost use Rattle.std.specs.List.{range_with_len};
 ghost use Rattle.width_check.specs.Processes.{choosing};
 ghost use Rattle.width_check.specs.Typed.{program_of};
-ghost use Rattle.width_check.specs.Typing.{IsProcess};
-ghost use Rattle.width_check.specs.View.{choices_in};
+ghost use Rattle.width_check.specs.Typing.{IsProcess, AreChoices};
+ghost use Rattle.handshake_expand.specs.Layout.{guards_size, size_of, root_request};
 ghost use Rattle.handshake_expand.specs.Answers.{guards_from, bodies_from, select_own, again_own};
-ghost use Rattle.handshake_expand.specs.Layout.{size_of, root_request};
 ghost use Rattle.handshake_expand.specs.PartTree.{own_before};
-ghost use Rattle.cell_select.specs.Selections.{select_rules, again_rules};
+ghost use Rattle.cell_select.specs.Selections.{joined_answer, latches, starts, select_rules, again_rules};
+ghost use Rattle.width_check.specs.View.{choices_in};
 ghost use Rattle.net_compose.specs.Begins.{var_firsts};
-ghost use Rattle.net_compose.specs.Translation.{branch_answers, guards_rules, choosing_at, repeating_at};
+ghost use Rattle.net_compose.specs.Translation.{branch_answers, guard_pairs, guards_rules, choosing_at, repeating_at};
+ghost use Rattle.net_compose.specs.Wanted.{one_wanted, all_unwanted};
 
-use crate::select::{emit_guarded_repetition, emit_selection};
-use prs_core::Rules;
+use crate::driver::Driver;
+use crate::formula::formula;
+use function_blocks::laws::rules_counted;
+use function_blocks::{Bit, rails_of};
 use std::alloc::{AllocError, Global};
 use width_check::{TArm, Typed};
 
-/// Writes the rules of the own nodes of a selection or a guarded repetition, and of its guards. The answers are those
-/// of the branches.
-pub(crate) fn emit_choice(
+/// How many nodes stand before the latches: 3 of a selection, and 6, where `again`, of a guarded repetition.
+pub(crate) fn own_nodes(again: bool) -> u32
+    ensures { result ≡ own_before again }
+{
+    if again { 6 } else { 3 }
+}
+
+/// So many nodes, numbered from `from` on.
+fn numbered_nodes(alloc: Global, from: u32, count: u32) -> Result<Vec<u32>, AllocError>
+    requires room { from + count < 2 ^ 32 }
+    ensures { IfOk result (λ nodes. nodes.items ≡ range_with_len from count) }
+{
+    let mut nodes = Vec::new(alloc);
+    for place in 0..count {
+        nodes.push(from + place)?;
+    }
+    Ok(nodes)
+}
+
+/// The rails that want all guards false.
+fn all_unwanted(alloc: Global, guards: &[Bit]) -> Result<Vec<u32>, AllocError>
+    ensures { IfOk result (λ rails. rails.items ≡ all_unwanted guards.now) }
+{
+    let mut rails = Vec::new(alloc);
+    for guard in guards {
+        rails.push(guard.rail(false))?;
+    }
+    Ok(rails)
+}
+
+/// The rails that want one guard true and all others false.
+fn one_wanted(alloc: Global, guards: &[Bit], place: usize) -> Result<Vec<u32>, AllocError>
+    requires { place < length guards.now }
+    ensures { IfOk result (λ rails. rails.items ≡ one_wanted guards.now place) }
+{
+    let mut rails = all_unwanted(alloc, guards)?;
+    let guard = &guards[place];
+    rails[place] = guard.rail(true);
+    Ok(rails)
+}
+
+/// Adds the latches of the guards.
+fn add_latches(
+    alloc: Global,
+    guards: &[Bit],
+    request: u32,
+    drivers: &mut Vec<Driver>,
+) -> Result<(), AllocError>
+    ensures { OnOk result (drivers.new.items ≡ drivers.old.items ++ latches request guards.now) }
+{
+    for place in 0..guards.len() {
+        let wanted = one_wanted(alloc, guards, place)?;
+        drivers.push(Driver::wanted(request, wanted))?;
+    }
+    Ok(())
+}
+
+/// Adds the starts of the branches, whose latches are numbered from `latched` on.
+fn add_starts(
+    alloc: Global,
+    guards: &[Bit],
+    latched: u32,
+    count: u32,
+    drivers: &mut Vec<Driver>,
+) -> Result<(), AllocError>
+    requires { latched + count < 2 ^ 32 }
+    ensures { OnOk result (drivers.new.items
+        ≡ drivers.old.items ++ starts (range_with_len latched count) guards.now) }
+{
+    for place in 0..count {
+        let rails = rails_of(alloc, guards)?;
+        let latch = latched + place;
+        drivers.push(Driver::started(latch, latch, rails))?;
+    }
+    Ok(())
+}
+
+/// Adds the drivers of the guards, whose nodes are numbered from `from` on, and answers their bits.
+fn guards(
+    alloc: Global,
+    program: &Typed,
+    arms: &[TArm],
+    request: u32,
+    from: u32,
+    vars: &[u32],
+    drivers: &mut Vec<Driver>,
+) -> Result<Vec<Bit>, AllocError>
+    requires vars { vars.now ≡ var_firsts (program_of program.now) }
+    requires choices { AreChoices program.now.channels program.now.vars (choices_in arms.now) }
+    requires root { root_request (program_of program.now) < 2 ^ 32 }
+    requires room { from + guards_size (choices_in arms.now) < 2 ^ 32 }
+    ensures made { OnOk result (drivers.new.items ≡ drivers.old.items
+        ++ guards_rules (program_of program.now) (choices_in arms.now) request from) }
+    ensures bits { IfOk result (λ bits. bits.items ≡ guard_pairs (choices_in arms.now) from) }
+{
+    rules_counted();
+    let mut bits = Vec::new(alloc);
+    let mut next = from;
+    for arm in arms {
+        let begun = drivers.len();
+        let bit = formula(alloc, program, &arm.guard, request, next, vars, drivers)?;
+        bits.extend_from_slice(&bit)?;
+        next += (drivers.len() - begun) as u32;
+    }
+    Ok(bits)
+}
+
+/// Adds the drivers of a selection's own nodes, numbered from `from` on, and of its guards behind them. The joined
+/// answer isn't driven until the answers of the branches are known: `join_answers` sets it.
+#[tactic(auto, using(handshake_expand::proofs::Branches::choosing_size, handshake_expand::proofs::Rows::arms_counted))]
+fn selection(
+    alloc: Global,
+    program: &Typed,
+    arms: &[TArm],
+    request: u32,
+    from: u32,
+    vars: &[u32],
+    drivers: &mut Vec<Driver>,
+) -> Result<(), AllocError>
+    requires vars { vars.now ≡ var_firsts (program_of program.now) }
+    requires process { IsProcess program.now.channels program.now.vars (choosing false (choices_in arms.now)) }
+    requires root { root_request (program_of program.now) ≤ from }
+    requires room { from + size_of (program_of program.now) (choosing false (choices_in arms.now)) < 2 ^ 32 }
+    ensures { OnOk result (slice_set drivers.new.items (length drivers.old.items)
+        (joined_answer (from + 2) (branch_answers (program_of program.now) (choices_in arms.now)
+        (bodies_from (choices_in arms.now) select_own from))) ≡ drivers.old.items
+        ++ (select_rules (choosing_at (program_of program.now) (choices_in arms.now) request (from + 2) select_own from)
+        ++ guards_rules (program_of program.now) (choices_in arms.now) (from + 1)
+        (guards_from (choices_in arms.now) select_own from))) }
+{
+    let count = arms.len() as u32;
+    let any = from + 2;
+    let latched = from + 3;
+    let mut inner = Vec::new(alloc);
+    let bits = guards(
+        alloc,
+        program,
+        arms,
+        from + 1,
+        latched + 2 * count,
+        vars,
+        &mut inner,
+    )?;
+    drivers.push(Driver::undriven())?;
+    drivers.push(Driver::child(request, any))?;
+    drivers.push(Driver::any(numbered_nodes(alloc, latched, count)?))?;
+    add_latches(alloc, &bits, request, drivers)?;
+    add_starts(alloc, &bits, latched, count, drivers)?;
+    drivers.append(&mut inner)?;
+    Ok(())
+}
+
+/// The same of a guarded repetition.
+#[tactic(auto, using(handshake_expand::proofs::Branches::choosing_size, handshake_expand::proofs::Rows::arms_counted))]
+fn repetition(
+    alloc: Global,
+    program: &Typed,
+    arms: &[TArm],
+    request: u32,
+    from: u32,
+    vars: &[u32],
+    drivers: &mut Vec<Driver>,
+) -> Result<(), AllocError>
+    requires vars { vars.now ≡ var_firsts (program_of program.now) }
+    requires process { IsProcess program.now.channels program.now.vars (choosing true (choices_in arms.now)) }
+    requires root { root_request (program_of program.now) ≤ from }
+    requires room { from + size_of (program_of program.now) (choosing true (choices_in arms.now)) < 2 ^ 32 }
+    ensures { OnOk result (slice_set drivers.new.items (length drivers.old.items + 2)
+        (joined_answer (from + 4) (branch_answers (program_of program.now) (choices_in arms.now)
+        (bodies_from (choices_in arms.now) again_own from))) ≡ drivers.old.items
+        ++ (again_rules (repeating_at (program_of program.now) (choices_in arms.now) request from)
+        ++ guards_rules (program_of program.now) (choices_in arms.now) (from + 3)
+        (guards_from (choices_in arms.now) again_own from))) }
+{
+    let count = arms.len() as u32;
+    let turn = from + 1;
+    let any = from + 4;
+    let leave = from + 5;
+    let latched = from + 6;
+    let mut inner = Vec::new(alloc);
+    let bits = guards(
+        alloc,
+        program,
+        arms,
+        from + 3,
+        latched + 2 * count,
+        vars,
+        &mut inner,
+    )?;
+    drivers.push(Driver::started(leave, any, rails_of(alloc, &bits)?))?;
+    drivers.push(Driver::turn(request, from + 2))?;
+    drivers.push(Driver::undriven())?;
+    drivers.push(Driver::child(turn, any))?;
+    drivers.push(Driver::any(numbered_nodes(alloc, leave, count + 1)?))?;
+    drivers.push(Driver::wanted(turn, all_unwanted(alloc, &bits)?))?;
+    add_latches(alloc, &bits, turn, drivers)?;
+    add_starts(alloc, &bits, latched, count, drivers)?;
+    drivers.append(&mut inner)?;
+    Ok(())
+}
+
+/// The same of either.
+pub(crate) fn choice(
     alloc: Global,
     program: &Typed,
     again: bool,
     arms: &[TArm],
-    answers: &[u32],
     request: u32,
     from: u32,
     vars: &[u32],
-    rules: &mut Rules,
+    drivers: &mut Vec<Driver>,
 ) -> Result<(), AllocError>
     requires vars { vars.now ≡ var_firsts (program_of program.now) }
     requires process { IsProcess program.now.channels program.now.vars (choosing again (choices_in arms.now)) }
-    requires answers { answers.now ≡ branch_answers (program_of program.now) (choices_in arms.now)
-        (bodies_from (choices_in arms.now) (own_before again) from) }
-    requires asked { root_request (program_of program.now) ≤ request }
-    requires before { request < from }
-    requires own { from + size_of (program_of program.now) (choosing again (choices_in arms.now))
-        ≤ length rules.old.up }
-    ensures once { OnOk result (again ≡ false → rules.new ≡ with_owned (owned_from from
-        (select_rules (choosing_at (program_of program.now) (choices_in arms.now) request (from + 2) select_own from)
+    requires root { root_request (program_of program.now) ≤ from }
+    requires room { from + size_of (program_of program.now) (choosing again (choices_in arms.now)) < 2 ^ 32 }
+    ensures once { OnOk result (again ≡ false → slice_set drivers.new.items (length drivers.old.items)
+        (joined_answer (from + 2) (branch_answers (program_of program.now) (choices_in arms.now)
+        (bodies_from (choices_in arms.now) select_own from))) ≡ drivers.old.items
+        ++ (select_rules (choosing_at (program_of program.now) (choices_in arms.now) request (from + 2) select_own from)
         ++ guards_rules (program_of program.now) (choices_in arms.now) (from + 1)
-        (guards_from (choices_in arms.now) select_own from))) rules.old) }
-    ensures repeated { OnOk result (again ≡ true → rules.new ≡ with_owned (owned_from from
-        (again_rules (repeating_at (program_of program.now) (choices_in arms.now) request from)
+        (guards_from (choices_in arms.now) select_own from))) }
+    ensures repeated { OnOk result (again ≡ true → slice_set drivers.new.items (length drivers.old.items + 2)
+        (joined_answer (from + 4) (branch_answers (program_of program.now) (choices_in arms.now)
+        (bodies_from (choices_in arms.now) again_own from))) ≡ drivers.old.items
+        ++ (again_rules (repeating_at (program_of program.now) (choices_in arms.now) request from)
         ++ guards_rules (program_of program.now) (choices_in arms.now) (from + 3)
-        (guards_from (choices_in arms.now) again_own from))) rules.old) }
-    ensures nodes { length rules.new.up ≡ length rules.old.up }
+        (guards_from (choices_in arms.now) again_own from))) }
 {
     if again {
-        emit_guarded_repetition(alloc, program, arms, answers, request, from, vars, rules)
+        repetition(alloc, program, arms, request, from, vars, drivers)
     } else {
-        emit_selection(alloc, program, arms, answers, request, from, vars, rules)
+        selection(alloc, program, arms, request, from, vars, drivers)
+    }
+}
+
+/// Sets the joined answer of either, whose own nodes are numbered from `from` on and whose drivers begin at `place`:
+/// the first one of a selection, and the third one, where `again`, of a guarded repetition. `answers` are the nodes
+/// that answer the branches.
+pub(crate) fn join_answers(
+    place: usize,
+    again: bool,
+    from: u32,
+    answers: Vec<u32>,
+    drivers: &mut Vec<Driver>,
+)
+    requires room { from + 4 < 2 ^ 32 }
+    requires within { place + 2 < length drivers.old.items }
+    ensures { drivers.new.items ≡ slice_set drivers.old.items (place + (if again then 2 else 0))
+        (joined_answer (from + (if again then 4 else 2)) answers.items) }
+{
+    if again {
+        drivers[place + 2] = Driver::joined(from + 4, answers);
+    } else {
+        drivers[place] = Driver::joined(from + 2, answers);
     }
 }

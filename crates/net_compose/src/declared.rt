@@ -1,150 +1,158 @@
-//! The rules of declared channels and variables.
+//! The drivers of all nodes of a program's circuit.
 
-ghost use Rattle.std.specs.Prelude.{◌≡◌, ◌+◌, ◌*◌, ◌<◌, ◌≤◌, length, replicate, IfOk, OnOk};
-ghost use Rattle.prs_core.specs.Pairs.{no_rules};
-ghost use Rattle.prs_core.specs.Parts.{owned_from, with_owned};
+ghost use Rattle.std.specs.Prelude.{◌≡◌, ◌<◌, ◌≤◌, ◌++◌, true, fold, length, slice_set, IfOk, OnOk};
 ghost use Rattle.width_check.specs.Typed.{program_of};
 ghost use Rattle.width_check.specs.Typing.{channel_width, kind_at, var_width};
-ghost use Rattle.handshake_expand.specs.Layout.{channel_from, vars_from, var_from, nodes_of};
-ghost use Rattle.net_compose.specs.Begins.{channel_firsts, var_firsts};
-ghost use Rattle.net_compose.specs.SortedSites.{AreSorted};
+ghost use Rattle.handshake_expand.specs.Layout.{nodes_of, var_from};
 ghost use Rattle.handshake_expand.specs.Sites.{in_body};
-ghost use Rattle.net_compose.specs.Translation.{channel_rules, channels_rules, vars_rules, write_site};
 ghost use Rattle.cell_variable.specs.Variables.{variable_rules};
+ghost use Rattle.net_compose.specs.Begins.{channel_firsts, var_firsts};
+ghost use Rattle.net_compose.specs.Translation.{all_rules, channel_rules, channels_rules, vars_rules, write_site, hidden_high};
+ghost use Rattle.net_compose.specs.SortedContacts.{AreSortedContacts};
 
-use crate::merges::{emit_block, emit_rails};
-use crate::sorted::Sorted;
-use cell_variable::emit_or;
+use crate::block::{block, rails, silent};
+use crate::body::body;
+use crate::contact::Site;
+use crate::driver::{Driver, add};
+use crate::firsts::Firsts;
+use crate::sorted::{Sorted, sort_contacts};
 use chp_base::Kind;
-use prs_core::Rules;
+use handshake_expand::{answer_node, count_nodes, statement_nodes};
 use std::alloc::{AllocError, Global};
 use width_check::Typed;
 
-/// Leaves so many nodes, numbered from `from` on, without rules: the environment moves them.
-fn emit_silent(alloc: Global, count: u32, from: u32, rules: &mut Rules) -> Result<(), AllocError>
-    requires { from + count ≤ length rules.old.up }
-    ensures made { OnOk result (rules.new ≡ with_owned (owned_from from (replicate count no_rules)) rules.old) }
-    ensures nodes { length rules.new.up ≡ length rules.old.up }
-{
-    // tells the proof that there are fewer than 2^32 nodes
-    let _count = rules.nodes();
-    for place in 0..count {
-        emit_or(alloc, &[], from + place, rules)?;
-    }
-    Ok(())
-}
-
-/// Writes the rules of a channel's wires: its rails merge those of the sends, its acknowledge is the OR of the nodes by
-/// which receives have stored the value, and the environment moves the rails of an `in` channel and the acknowledge of
-/// an `out` channel.
-fn emit_channel(
+/// Adds the wires of a channel: its rails merge those of the sends, its acknowledge is the OR of the nodes by which
+/// receives have stored the value, and the environment moves the rails of an `in` channel and the acknowledge of an
+/// `out` channel.
+fn channel(
     alloc: Global,
     program: &Typed,
     chan: usize,
-    firsts: &[u32],
     sorted: &Sorted,
-    rules: &mut Rules,
+    drivers: &mut Vec<Driver>,
 ) -> Result<(), AllocError>
-    requires firsts { firsts.now ≡ channel_firsts (program_of program.now) }
-    requires sorted { AreSorted (program_of program.now) sorted.now }
+    requires sorted { AreSortedContacts (program_of program.now) sorted.now }
     requires within { chan < length program.now.channels }
-    requires nodes { length rules.old.up ≡ nodes_of (program_of program.now) }
-    ensures made { OnOk result (rules.new ≡ with_owned (owned_from (channel_from (program_of program.now) chan)
-        (channel_rules (program_of program.now) chan
-        (channel_width program.now.channels chan) (kind_at program.now.channels chan))) rules.old) }
-    ensures nodes { length rules.new.up ≡ length rules.old.up }
+    ensures { OnOk result (drivers.new.items ≡ drivers.old.items
+        ++ channel_rules (program_of program.now) chan
+        (channel_width program.now.channels chan) (kind_at program.now.channels chan)) }
 {
     // what the program's type keeps is told of its body
     let _kept = program.body();
-    // tells the proof that there are fewer than 2^32 nodes
-    let _count = rules.nodes();
     let channels = program.channels();
-    let channel = &channels[chan];
-    let sent: &[Vec<u32>] = &sorted.sent[chan];
-    let taken: &[u32] = &sorted.taken[chan];
-    let from = firsts[chan];
-    let ack = from + 2 * u32::from(channel.width);
-    match channel.kind {
+    let declared = &channels[chan];
+    let sites: &[Site] = &sorted.sent[chan];
+    let taken = Vec::from_slice(alloc, &sorted.taken[chan])?;
+    match declared.kind {
         Kind::In => {
-            emit_silent(alloc, 2 * u32::from(channel.width), from, rules)?;
-            emit_or(alloc, taken, ack, rules)
+            silent(2 * u32::from(declared.width), drivers)?;
+            add(Driver::any(taken), drivers)
         }
         Kind::Out => {
-            emit_rails(alloc, sent, channel.width, from, rules)?;
-            emit_or(alloc, &[], ack, rules)
+            rails(alloc, sites, declared.width, drivers)?;
+            add(Driver::undriven(), drivers)
         }
         Kind::Chan => {
-            emit_rails(alloc, sent, channel.width, from, rules)?;
-            emit_or(alloc, taken, ack, rules)
+            rails(alloc, sites, declared.width, drivers)?;
+            add(Driver::any(taken), drivers)
         }
     }
 }
 
-/// Writes the rules of all channels' wires.
-pub(crate) fn emit_channels(
+/// Adds the wires of all channels.
+fn channels(
     alloc: Global,
     program: &Typed,
-    firsts: &[u32],
     sorted: &Sorted,
-    rules: &mut Rules,
+    drivers: &mut Vec<Driver>,
 ) -> Result<(), AllocError>
-    requires firsts { firsts.now ≡ channel_firsts (program_of program.now) }
-    requires sorted { AreSorted (program_of program.now) sorted.now }
-    requires nodes { length rules.old.up ≡ nodes_of (program_of program.now) }
-    ensures made { OnOk result (rules.new
-        ≡ with_owned (owned_from 2 (channels_rules (program_of program.now) 0 program.now.channels)) rules.old) }
-    ensures nodes { length rules.new.up ≡ length rules.old.up }
+    requires sorted { AreSortedContacts (program_of program.now) sorted.now }
+    ensures { OnOk result (drivers.new.items ≡ drivers.old.items
+        ++ channels_rules (program_of program.now) 0 program.now.channels) }
 {
     for chan in 0..program.channels().len() {
-        emit_channel(alloc, program, chan, firsts, sorted, rules)?;
+        channel(alloc, program, chan, sorted, drivers)?;
     }
     Ok(())
 }
 
-/// Writes the rules of a variable's block.
-fn emit_var(
+/// Adds the block of a variable.
+fn var(
     alloc: Global,
     program: &Typed,
-    var: usize,
+    number: usize,
     firsts: &[u32],
     sorted: &Sorted,
-    rules: &mut Rules,
+    drivers: &mut Vec<Driver>,
 ) -> Result<(), AllocError>
     requires firsts { firsts.now ≡ var_firsts (program_of program.now) }
-    requires sorted { AreSorted (program_of program.now) sorted.now }
-    requires within { var < length program.now.vars }
-    requires nodes { length rules.old.up ≡ nodes_of (program_of program.now) }
-    ensures made { OnOk result (rules.new ≡ with_owned (owned_from (var_from (program_of program.now) var)
-        (variable_rules (var_width program.now.vars var) (var_from (program_of program.now) var)
-        (in_body (program_of program.now) (write_site (program_of program.now) var)))) rules.old) }
-    ensures nodes { length rules.new.up ≡ length rules.old.up }
+    requires sorted { AreSortedContacts (program_of program.now) sorted.now }
+    requires within { number < length program.now.vars }
+    requires few { nodes_of (program_of program.now) ≤ 65536 }
+    ensures { OnOk result (drivers.new.items ≡ drivers.old.items
+        ++ variable_rules (var_width program.now.vars number) (var_from (program_of program.now) number)
+        (in_body (program_of program.now) (write_site (program_of program.now) number))) }
 {
     // what the program's type keeps is told of its body
     let _kept = program.body();
     let vars = program.vars();
-    let declared = &vars[var];
-    let written = &sorted.written[var];
-    let from = firsts[var];
-    emit_block(alloc, written, declared.width, from, rules)
+    let declared = &vars[number];
+    let sites: &[Site] = &sorted.written[number];
+    block(alloc, sites, declared.width, firsts[number], drivers)
 }
 
-/// Writes the rules of all variables' blocks.
-pub(crate) fn emit_vars(
+/// Adds the blocks of all variables.
+fn vars(
     alloc: Global,
     program: &Typed,
     firsts: &[u32],
     sorted: &Sorted,
-    rules: &mut Rules,
+    drivers: &mut Vec<Driver>,
 ) -> Result<(), AllocError>
     requires firsts { firsts.now ≡ var_firsts (program_of program.now) }
-    requires sorted { AreSorted (program_of program.now) sorted.now }
-    requires nodes { length rules.old.up ≡ nodes_of (program_of program.now) }
-    ensures made { OnOk result (rules.new ≡ with_owned (owned_from (vars_from (program_of program.now))
-        (vars_rules (program_of program.now) 0 program.now.vars)) rules.old) }
-    ensures nodes { length rules.new.up ≡ length rules.old.up }
+    requires sorted { AreSortedContacts (program_of program.now) sorted.now }
+    requires few { nodes_of (program_of program.now) ≤ 65536 }
+    ensures { OnOk result (drivers.new.items ≡ drivers.old.items
+        ++ vars_rules (program_of program.now) 0 program.now.vars) }
 {
-    for var in 0..program.vars().len() {
-        emit_var(alloc, program, var, firsts, sorted, rules)?;
+    for number in 0..program.vars().len() {
+        var(alloc, program, number, firsts, sorted, drivers)?;
     }
     Ok(())
+}
+
+/// The drivers of all nodes, in order of their numbers. The rails of hidden variables that are high at first are
+/// raised.
+pub(crate) fn drivers_of(
+    alloc: Global,
+    program: &Typed,
+    firsts: &Firsts,
+    first: &mut [bool],
+) -> Result<Vec<Driver>, AllocError>
+    requires channels { firsts.now.channels.items ≡ channel_firsts (program_of program.now) }
+    requires vars { firsts.now.vars.items ≡ var_firsts (program_of program.now) }
+    requires own { nodes_of (program_of program.now) ≡ length first.old }
+    requires few { length first.old ≤ 65536 }
+    ensures made { IfOk result (λ drivers. drivers.items ≡ all_rules (program_of program.now)) }
+    ensures first { OnOk result (first.new ≡ fold (λ values node. slice_set values node true) first.old
+        (in_body (program_of program.now) (hidden_high (program_of program.now)))) }
+    ensures count { length first.new ≡ length first.old }
+{
+    let mut contacts = Vec::new(alloc);
+    // What drives the declared nodes is known behind the body alone, and they come first.
+    let mut drivers = body(alloc, program, firsts, first, &mut contacts)?;
+    let own = drivers.len();
+    let statement = program.body();
+    let from = (count_nodes(program) - statement_nodes(program, statement)) as u32;
+    let latch = from - 1;
+    let answer = answer_node(program, statement, from);
+    drivers.push(Driver::undriven())?;
+    drivers.push(Driver::next(latch, answer))?;
+    let sorted = sort_contacts(alloc, program, contacts)?;
+    channels(alloc, program, &sorted, &mut drivers)?;
+    vars(alloc, program, &firsts.vars, &sorted, &mut drivers)?;
+    drivers.push(Driver::child(0, latch))?;
+    drivers.push(Driver::latch(0, answer))?;
+    drivers.rotate_left(own);
+    Ok(drivers)
 }

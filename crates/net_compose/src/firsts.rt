@@ -10,7 +10,7 @@ use width_check::Typed;
 
 /// The first wire of each channel, and the first node of the block of each variable.
 #[derive(Debug, Drop)]
-pub struct Firsts {
+pub(crate) struct Firsts {
     /// Rail t of the lowest bit of each channel, in order of declaration.
     pub channels: Vec<u32>,
     /// Rail t of the lowest bit of each variable, in order of declaration.
@@ -50,14 +50,14 @@ fn var_firsts(alloc: Global, program: &Typed, from: u32) -> Result<(Vec<u32>, u3
 }
 
 /// How many nodes the block of a variable of the width has.
-pub fn block_nodes(width: u8) -> u32
+pub(crate) fn block_nodes(width: u8) -> u32
     ensures { result ≡ block_size width }
 {
     (6 * u32::from(width)).saturating_sub(1)
 }
 
 /// Where the wires of channels and the blocks of variables begin.
-pub fn firsts_of(alloc: Global, program: &Typed) -> Result<Firsts, AllocError>
+pub(crate) fn firsts_of(alloc: Global, program: &Typed) -> Result<Firsts, AllocError>
     requires { root_request (program_of program.now) < 2 ^ 32 }
     ensures channels { IfOk result (λ firsts. firsts.channels.items ≡ channel_firsts (program_of program.now)) }
     ensures vars { IfOk result (λ firsts. firsts.vars.items ≡ var_firsts (program_of program.now)) }

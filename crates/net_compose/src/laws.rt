@@ -141,6 +141,17 @@ pub fn nets_hold()
     cell_parallel::laws::tree_counted();
 }
 
+/// Law: the net of each typed program of at most 65,536 nodes is one that a rule file can hold: its guards are over its
+/// own nodes alone.
+pub fn whole_nets()
+    ensures { (p : TypedProgram) → IsTyped p.channels p.vars p.body → nodes_of p ≤ 65536 → IsNet (translation p) }
+{
+    function_blocks::laws::bits_counted();
+    function_blocks::laws::rules_counted();
+    cell_parallel::laws::tree_counted();
+    nets_hold();
+}
+
 /// Law: in each state of each run of the net of a typed program that meets the sharing rule, the statements in it take
 /// turns, those that hold no assignment which reads its own target. One that has answered moves no node of its own
 /// before its request falls; one whose request and answer are low has all its nodes low and moves none; of two that

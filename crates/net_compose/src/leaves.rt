@@ -1,110 +1,34 @@
-//! Statements in which no other stands: their rules, their sites, and which nodes are high at first.
+//! The drivers of statements in which no other stands.
 
-ghost use Rattle.std.specs.Prelude.{◌≡◌, ◌+◌, ◌*◌, ◌^◌, ◌<◌, ◌≤◌, ◌++◌, true, fold, length, slice_set, IfOk, OnOk};
+ghost use Rattle.std.specs.Prelude.{◌≡◌, ◌+◌, ◌*◌, ◌^◌, ◌<◌, ◌≤◌, ◌++◌, ◌∷◌, [], length, fold, slice_set, true, IfOk, OnOk};
 ghost use Rattle.chp_base.specs.declared.span.Span.{Span};
-ghost use Rattle.prs_core.specs.Pairs.{rails_of};
-ghost use Rattle.prs_core.specs.Parts.{owned_from, with_owned};
-ghost use Rattle.width_check.specs.Processes.{assigning, sending, receiving};
+ghost use Rattle.prs_core.specs.Pairs.{pairs_from};
+ghost use Rattle.width_check.specs.Processes.{assigning};
 ghost use Rattle.width_check.specs.Typed.{program_of};
 ghost use Rattle.width_check.specs.Typing.{channel_width, var_width, IsOfWidth, IsSend, IsReceive};
 ghost use Rattle.width_check.specs.View.{formula_of};
+ghost use Rattle.handshake_expand.specs.Answers.{answer_of};
 ghost use Rattle.handshake_expand.specs.Layout.{assign_size, formula_size, root_request};
+ghost use Rattle.cell_channel.specs.Ends.{end_answer, port_rules};
+ghost use Rattle.cell_variable.specs.Variables.{write_answer};
+ghost use Rattle.function_blocks.specs.Expressions.{formula_rules, formula_result};
 ghost use Rattle.net_compose.specs.Begins.{channel_firsts, var_firsts};
-ghost use Rattle.net_compose.specs.EverySite.{every_site};
-ghost use Rattle.net_compose.specs.SiteLists.{site_values};
-ghost use Rattle.net_compose.specs.Translation.{assigned_rails, hidden_high, rules_of};
+ghost use Rattle.net_compose.specs.Translation.{ack_at, assigned_rails, bits_at, hidden_high, rails_at, rules_of, written_at};
+ghost use Rattle.net_compose.specs.Contacts.{sends, takes, writes};
 
-use crate::ends::{channel_bits, emit_assign, emit_receive, emit_send, rails_from, var_bits};
+use crate::contact::Contact;
+use crate::driver::Driver;
+use crate::ends::{ack_node, channel_bits, first_of, var_bits, written_node};
 use crate::first::raise;
 use crate::firsts::Firsts;
-use crate::site::Site;
-use crate::through::emit_through;
-use chp_base::Span;
+use crate::formula::{formula, port};
+use crate::through::through;
+use function_blocks::{Bit, bits_apart};
 use handshake_expand::reads;
-use prs_core::Rules;
 use std::alloc::{AllocError, Global};
 use width_check::{TExpr, Typed};
 
-/// Writes the rules of an assignment, and answers the rails by which the variable is written. One that reads its own
-/// target goes through a hidden variable, which is 0 at first.
-fn emit_assigned(
-    alloc: Global,
-    program: &Typed,
-    var: u32,
-    at: Span,
-    value: &TExpr,
-    request: u32,
-    from: u32,
-    vars: &[u32],
-    first: &mut [bool],
-    rules: &mut Rules,
-) -> Result<Vec<u32>, AllocError>
-    requires vars { vars.now ≡ var_firsts (program_of program.now) }
-    requires within { var < length program.now.vars }
-    requires width { IsOfWidth program.now.vars (var_width program.now.vars var) (formula_of value.now) }
-    requires asked { root_request (program_of program.now) ≤ request }
-    requires before { request < from }
-    requires own { from + assign_size (program_of program.now) var (formula_of value.now) ≤ length rules.old.up }
-    requires values { length first.old ≡ length rules.old.up }
-    ensures made { OnOk result (rules.new ≡ with_owned (owned_from from
-        (rules_of (program_of program.now) (assigning var at (formula_of value.now)) request from)) rules.old) }
-    ensures rails { IfOk result (λ rails. rails.items
-        ≡ rails_of (assigned_rails (program_of program.now) var (formula_of value.now) from)) }
-    ensures first { OnOk result (first.new ≡ fold (λ values node. slice_set values node true) first.old
-        (hidden_high (program_of program.now) (assigning var at (formula_of value.now)) from)) }
-    ensures nodes { length rules.new.up ≡ length rules.old.up }
-    ensures count { length first.new ≡ length first.old }
-{
-    // tells the proof that there are fewer than 2^32 nodes
-    let _count = rules.nodes();
-    if reads(value, var) {
-        let width = var_bits(program, var);
-        raise(first, width, 0, from);
-        emit_through(alloc, program, var, at, value, request, from, vars, rules)
-    } else {
-        emit_assign(alloc, program, var, value, request, from, vars, rules)
-    }
-}
-
-/// Writes the rules of an assignment, and lists its site.
-pub(crate) fn assign(
-    alloc: Global,
-    program: &Typed,
-    var: u32,
-    at: Span,
-    value: &TExpr,
-    request: u32,
-    from: u32,
-    firsts: &Firsts,
-    first: &mut [bool],
-    sites: &mut Vec<Site>,
-    rules: &mut Rules,
-) -> Result<(), AllocError>
-    requires vars { firsts.now.vars.items ≡ var_firsts (program_of program.now) }
-    requires within { var < length program.now.vars }
-    requires width { IsOfWidth program.now.vars (var_width program.now.vars var) (formula_of value.now) }
-    requires asked { root_request (program_of program.now) ≤ request }
-    requires before { request < from }
-    requires own { from + assign_size (program_of program.now) var (formula_of value.now) ≤ length rules.old.up }
-    requires values { length first.old ≡ length rules.old.up }
-    ensures made { OnOk result (rules.new ≡ with_owned (owned_from from
-        (rules_of (program_of program.now) (assigning var at (formula_of value.now)) request from)) rules.old) }
-    ensures sites { OnOk result (site_values sites.new.items ≡ site_values sites.old.items
-        ++ every_site (program_of program.now) (assigning var at (formula_of value.now)) from) }
-    ensures first { OnOk result (first.new ≡ fold (λ values node. slice_set values node true) first.old
-        (hidden_high (program_of program.now) (assigning var at (formula_of value.now)) from)) }
-    ensures nodes { length rules.new.up ≡ length rules.old.up }
-    ensures count { length first.new ≡ length first.old }
-{
-    let vars = &firsts.vars;
-    let rails = emit_assigned(
-        alloc, program, var, at, value, request, from, vars, first, rules,
-    )?;
-    sites.push(Site::Written { var, rails })?;
-    Ok(())
-}
-
-/// Writes the rules of a send, and lists its site.
+/// Adds the drivers of a send, whose nodes are numbered from `from` on, and answers the first of these, its answer.
 pub(crate) fn send(
     alloc: Global,
     program: &Typed,
@@ -113,27 +37,38 @@ pub(crate) fn send(
     request: u32,
     from: u32,
     firsts: &Firsts,
-    sites: &mut Vec<Site>,
-    rules: &mut Rules,
-) -> Result<(), AllocError>
+    contacts: &mut Vec<Contact>,
+    drivers: &mut Vec<Driver>,
+) -> Result<u32, AllocError>
     requires channels { firsts.now.channels.items ≡ channel_firsts (program_of program.now) }
     requires vars { firsts.now.vars.items ≡ var_firsts (program_of program.now) }
     requires process { IsSend program.now.channels program.now.vars chan (formula_of value.now) }
-    requires asked { root_request (program_of program.now) ≤ request }
-    requires before { request < from }
-    requires own { from + 1 + formula_size (formula_of value.now) ≤ length rules.old.up }
-    ensures made { OnOk result ((at : Span) → rules.new ≡ with_owned (owned_from from
-        (rules_of (program_of program.now) (sending chan at (formula_of value.now)) request from)) rules.old) }
-    ensures sites { OnOk result ((at : Span) → site_values sites.new.items ≡ site_values sites.old.items
-        ++ every_site (program_of program.now) (sending chan at (formula_of value.now)) from) }
-    ensures nodes { length rules.new.up ≡ length rules.old.up }
+    requires root { root_request (program_of program.now) ≤ from }
+    requires room { from + 1 + formula_size (formula_of value.now) < 2 ^ 32 }
+    ensures made { OnOk result (drivers.new.items ≡ drivers.old.items
+        ++ end_answer request (ack_at (program_of program.now) chan)
+        ∷ formula_rules (bits_at (program_of program.now)) (formula_of value.now) request (from + 1)) }
+    ensures answer { IfOk result (λ answer. answer ≡ from) }
+    ensures contacts { OnOk result (contacts.new.items ≡ contacts.old.items
+        ++ sends chan (formula_result (formula_of value.now) (from + 1)) ∷ []) }
 {
-    let rails = emit_send(alloc, program, chan, value, request, from, firsts, rules)?;
-    sites.push(Site::Sent { chan, rails })?;
-    Ok(())
+    let ack = ack_node(program, chan, &firsts.channels);
+    drivers.push(Driver::site(request, ack))?;
+    let bits = formula(
+        alloc,
+        program,
+        value,
+        request,
+        from + 1,
+        &firsts.vars,
+        drivers,
+    )?;
+    contacts.push(Contact::send(chan, bits))?;
+    Ok(from)
 }
 
-/// Writes the rules of a receive, and lists its two sites: it takes from the channel, and it writes the variable.
+/// Adds the drivers of a receive, whose nodes are numbered from `from` on: its answer, the node that says that the
+/// value is stored, and its port. Answers the first of these.
 pub(crate) fn receive(
     alloc: Global,
     program: &Typed,
@@ -142,28 +77,133 @@ pub(crate) fn receive(
     request: u32,
     from: u32,
     firsts: &Firsts,
-    sites: &mut Vec<Site>,
-    rules: &mut Rules,
-) -> Result<(), AllocError>
+    contacts: &mut Vec<Contact>,
+    drivers: &mut Vec<Driver>,
+) -> Result<u32, AllocError>
     requires channels { firsts.now.channels.items ≡ channel_firsts (program_of program.now) }
     requires vars { firsts.now.vars.items ≡ var_firsts (program_of program.now) }
     requires process { IsReceive program.now.channels program.now.vars chan var }
-    requires asked { root_request (program_of program.now) ≤ request }
-    requires before { request < from }
-    requires own { from + 2 + 2 * channel_width program.now.channels chan ≤ length rules.old.up }
-    ensures made { OnOk result ((chan_at var_at : Span) → rules.new ≡ with_owned (owned_from from
-        (rules_of (program_of program.now) (receiving chan chan_at var var_at) request from)) rules.old) }
-    ensures sites { OnOk result ((chan_at var_at : Span) → site_values sites.new.items ≡ site_values sites.old.items
-        ++ every_site (program_of program.now) (receiving chan chan_at var var_at) from) }
-    ensures nodes { length rules.new.up ≡ length rules.old.up }
+    requires root { root_request (program_of program.now) ≤ from }
+    requires room { from + 2 + 2 * channel_width program.now.channels chan < 2 ^ 32 }
+    ensures made { OnOk result (drivers.new.items ≡ drivers.old.items
+        ++ end_answer request (ack_at (program_of program.now) chan)
+        ∷ write_answer request (written_at (program_of program.now) var)
+        ∷ port_rules request (rails_at (program_of program.now) chan)) }
+    ensures answer { IfOk result (λ answer. answer ≡ from) }
+    ensures contacts { OnOk result (contacts.new.items ≡ contacts.old.items
+        ++ takes chan (from + 1) ∷ writes var (pairs_from (channel_width program.now.channels chan) (from + 2)) ∷ []) }
 {
-    // tells the proof that there are fewer than 2^32 nodes
-    let _count = rules.nodes();
-    emit_receive(alloc, program, chan, var, request, from, firsts, rules)?;
+    let ack = ack_node(program, chan, &firsts.channels);
+    let written = written_node(program, var, &firsts.vars);
     let width = channel_bits(program, chan);
-    let rails = rails_from(alloc, width, from + 2)?;
-    let node = from + 1;
-    sites.push(Site::Taken { chan, node })?;
-    sites.push(Site::Written { var, rails })?;
-    Ok(())
+    let first = first_of(&firsts.channels, chan);
+    drivers.push(Driver::site(request, ack))?;
+    drivers.push(Driver::site(request, written))?;
+    port(request, width, first, drivers)?;
+    let bits = bits_apart(alloc, 2, width, from + 2)?;
+    contacts.push(Contact::take(chan, from + 1))?;
+    contacts.push(Contact::write(var, bits))?;
+    Ok(from)
+}
+
+/// Adds the drivers of an assignment to a variable that its own expression doesn't read, and answers the bits.
+fn plain(
+    alloc: Global,
+    program: &Typed,
+    var: u32,
+    value: &TExpr,
+    request: u32,
+    from: u32,
+    vars: &[u32],
+    drivers: &mut Vec<Driver>,
+) -> Result<Vec<Bit>, AllocError>
+    requires vars { vars.now ≡ var_firsts (program_of program.now) }
+    requires within { var < length program.now.vars }
+    requires width { IsOfWidth program.now.vars (var_width program.now.vars var) (formula_of value.now) }
+    requires root { root_request (program_of program.now) ≤ from }
+    requires room { from + 1 + formula_size (formula_of value.now) < 2 ^ 32 }
+    ensures made { OnOk result (drivers.new.items ≡ drivers.old.items
+        ++ write_answer request (written_at (program_of program.now) var)
+        ∷ formula_rules (bits_at (program_of program.now)) (formula_of value.now) request (from + 1)) }
+    ensures bits { IfOk result (λ bits. bits.items ≡ formula_result (formula_of value.now) (from + 1)) }
+{
+    let written = written_node(program, var, vars);
+    drivers.push(Driver::site(request, written))?;
+    formula(alloc, program, value, request, from + 1, vars, drivers)
+}
+
+/// Adds the drivers of an assignment, and answers the node that answers its request and the bits by which the variable
+/// is written. One that reads its own target goes through a hidden variable, which is 0 at first.
+fn assigned(
+    alloc: Global,
+    program: &Typed,
+    var: u32,
+    value: &TExpr,
+    request: u32,
+    from: u32,
+    vars: &[u32],
+    first: &mut [bool],
+    drivers: &mut Vec<Driver>,
+) -> Result<(u32, Vec<Bit>), AllocError>
+    requires vars { vars.now ≡ var_firsts (program_of program.now) }
+    requires within { var < length program.now.vars }
+    requires width { IsOfWidth program.now.vars (var_width program.now.vars var) (formula_of value.now) }
+    requires root { root_request (program_of program.now) ≤ from }
+    requires own { from + assign_size (program_of program.now) var (formula_of value.now) ≤ length first.old }
+    requires few { length first.old < 2 ^ 32 }
+    ensures made { OnOk result ((at : Span) → drivers.new.items ≡ drivers.old.items
+        ++ rules_of (program_of program.now) (assigning var at (formula_of value.now)) request from) }
+    ensures answer { IfOk result (λ written. (at : Span) → written.0
+        ≡ answer_of (program_of program.now) (assigning var at (formula_of value.now)) from) }
+    ensures bits { IfOk result (λ written. written.1.items
+        ≡ assigned_rails (program_of program.now) var (formula_of value.now) from) }
+    ensures first { OnOk result ((at : Span) → first.new ≡ fold (λ values node. slice_set values node true) first.old
+        (hidden_high (program_of program.now) (assigning var at (formula_of value.now)) from)) }
+    ensures count { length first.new ≡ length first.old }
+{
+    if reads(value, var) {
+        let width = var_bits(program, var);
+        raise(first, width, 0, from);
+        through(alloc, program, var, value, request, from, vars, drivers)
+    } else {
+        let bits = plain(alloc, program, var, value, request, from, vars, drivers)?;
+        Ok((from, bits))
+    }
+}
+
+/// Adds the drivers of an assignment, whose nodes are numbered from `from` on, and answers the node that answers its
+/// request.
+pub(crate) fn assign(
+    alloc: Global,
+    program: &Typed,
+    var: u32,
+    value: &TExpr,
+    request: u32,
+    from: u32,
+    vars: &[u32],
+    first: &mut [bool],
+    contacts: &mut Vec<Contact>,
+    drivers: &mut Vec<Driver>,
+) -> Result<u32, AllocError>
+    requires vars { vars.now ≡ var_firsts (program_of program.now) }
+    requires within { var < length program.now.vars }
+    requires width { IsOfWidth program.now.vars (var_width program.now.vars var) (formula_of value.now) }
+    requires root { root_request (program_of program.now) ≤ from }
+    requires own { from + assign_size (program_of program.now) var (formula_of value.now) ≤ length first.old }
+    requires few { length first.old < 2 ^ 32 }
+    ensures made { OnOk result ((at : Span) → drivers.new.items ≡ drivers.old.items
+        ++ rules_of (program_of program.now) (assigning var at (formula_of value.now)) request from) }
+    ensures answer { IfOk result (λ answer. (at : Span) → answer
+        ≡ answer_of (program_of program.now) (assigning var at (formula_of value.now)) from) }
+    ensures contacts { OnOk result (contacts.new.items ≡ contacts.old.items
+        ++ writes var (assigned_rails (program_of program.now) var (formula_of value.now) from) ∷ []) }
+    ensures first { OnOk result ((at : Span) → first.new ≡ fold (λ values node. slice_set values node true) first.old
+        (hidden_high (program_of program.now) (assigning var at (formula_of value.now)) from)) }
+    ensures count { length first.new ≡ length first.old }
+{
+    let (answer, bits) = assigned(
+        alloc, program, var, value, request, from, vars, first, drivers,
+    )?;
+    contacts.push(Contact::write(var, bits))?;
+    Ok(answer)
 }

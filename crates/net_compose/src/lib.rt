@@ -1,32 +1,32 @@
-//! The composition of a program's circuit.
+//! The circuits of programs: what drives each node, and the net.
 #![tactic(auto)]
 
-mod arms;
+mod block;
 mod body;
 mod choice;
-mod compose;
+mod circuit;
+mod contact;
 mod declared;
-mod elements;
+mod driver;
+mod ending;
 mod ends;
 mod first;
 mod firsts;
 mod formula;
-mod guards;
+mod guard;
 pub mod laws;
 mod leaves;
-mod merges;
 mod names;
 mod net;
-mod select;
-mod site;
+mod shape;
 mod sorted;
 mod through;
+mod tree;
 mod wires;
 
-pub use arms::{body_answers, guards_nodes, own_nodes};
-pub use compose::declared_values;
-pub use ends::{ack_node, channel_bits, first_of, var_bits, written_node};
-pub use first::raise;
-pub use firsts::{Firsts, block_nodes, firsts_of};
+pub use circuit::{Circuit, circuit_of};
+pub use driver::{Driver, Pattern};
+pub use ending::Ending;
+pub use names::Names;
 pub use net::{NetError, translate};
-pub use wires::wires_of;
+pub use shape::Shape;

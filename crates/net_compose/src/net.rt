@@ -1,6 +1,8 @@
 //! The net of a program.
 
-ghost use Rattle.std.specs.Prelude.{◌≡◌, ◌<◌, ◌≤◌, IfOk, OnOk, IfErr};
+ghost use Rattle.std.specs.Prelude.{◌≡◌, ◌<◌, ◌≤◌, None, IfOk, OnOk, IfErr};
+ghost use Rattle.chp_base.specs.Names.{IsNodeName};
+ghost use Rattle.prs_core.specs.Nets.{net_rules};
 ghost use Rattle.width_check.specs.Typed.{program_of};
 ghost use Rattle.handshake_expand.specs.Layout.{node_count, nodes_of};
 ghost use Rattle.net_compose.specs.Carries.{Carries};
@@ -8,13 +10,16 @@ ghost use Rattle.net_compose.specs.Errors.{IfTooMany};
 ghost use Rattle.net_compose.specs.Progress.{Progresses};
 ghost use Rattle.net_compose.specs.Translation.{translation};
 
-use crate::compose::compose;
+use crate::circuit::{Circuit, circuit_of};
+use crate::guard::guard_of;
 use crate::laws::{carries, runs_end};
+use chp_base::{Name, node_name_of};
 use handshake_expand::count_nodes;
-use prs_core::Net;
+use prs_core::{Net, Rules};
 use sharing_check::Disjoint;
 use std::alloc::{AllocError, Global};
 use thiserror::Error;
+use width_check::Typed;
 
 /// How many nodes a net has at most that a rule file can hold.
 const MOST_NODES: u64 = 65_536;
@@ -27,6 +32,57 @@ pub enum NetError {
     TooManyNodes(u64),
     #[error("no memory")]
     NoMemory(AllocError),
+}
+
+/// The node's name that these bytes are.
+fn name_from(alloc: Global, text: &[u8]) -> Result<Name, AllocError>
+    requires { IsNodeName text.now }
+    ensures { IfOk result (λ name. name ≡ text.now) }
+{
+    match node_name_of(alloc, text)? {
+        Some(name) => Ok(name),
+        None => unreachable!(),
+    }
+}
+
+/// The names of a circuit's nodes.
+fn names_of(alloc: Global, circuit: &Circuit) -> Result<Vec<Name>, AllocError>
+    ensures { IfOk result (λ names. names.items ≡ circuit.now.names) }
+{
+    let count = circuit.first().len() as u32;
+    let mut names = Vec::new(alloc);
+    for node in 0..count {
+        names.push(name_from(alloc, circuit.name(node))?)?;
+    }
+    Ok(names)
+}
+
+/// The guards of a circuit's nodes.
+fn rules_of(alloc: Global, circuit: &Circuit) -> Result<Rules, AllocError>
+    requires { circuit.now.reset ≡ None }
+    ensures { IfOk result (λ rules. rules ≡ net_rules circuit.now) }
+{
+    let count = circuit.first().len() as u32;
+    let mut rules = Rules::new(alloc, count)?;
+    for node in 0..count {
+        let driver = circuit.driver(node);
+        let up = guard_of(alloc, driver, true)?;
+        let down = guard_of(alloc, driver, false)?;
+        rules.set_up(node, up);
+        rules.set_down(node, down);
+    }
+    Ok(rules)
+}
+
+/// The net of a program that has at most 65,536 nodes.
+fn net_of(alloc: Global, program: &Typed) -> Result<Net, AllocError>
+    requires { nodes_of (program_of program.now) ≤ 65536 }
+    ensures { IfOk result (λ net. net ≡ translation (program_of program.now)) }
+{
+    let circuit = circuit_of(alloc, program, false)?;
+    let names = names_of(alloc, &circuit)?;
+    let rules = rules_of(alloc, &circuit)?;
+    Ok(Net::new(names, circuit.first, rules, circuit.channels))
 }
 
 /// The net of a program, with the layout and the rules of its circuit (Martin). One that would have more than 65,536
@@ -49,7 +105,7 @@ pub fn translate(alloc: Global, program: &Disjoint) -> Result<Net, NetError>
     if count > MOST_NODES {
         return Err(NetError::TooManyNodes(count));
     }
-    match compose(alloc, typed) {
+    match net_of(alloc, typed) {
         Ok(net) => Ok(net),
         Err(e) => Err(NetError::NoMemory(e)),
     }

@@ -1,31 +1,29 @@
-//! The sites of a program by channel and by variable.
+//! The contacts of a program by channel and by variable.
 
 ghost use Rattle.std.specs.Prelude.{◌≡◌, ℕ, ◌<◌, ◌==◌, ◌++◌, [], ◌∷◌, if◌then◌else◌, length, IfOk, OnOk};
 ghost use Rattle.width_check.specs.Typed.{program_of};
-ghost use Rattle.net_compose.specs.EverySite.{every_site};
-ghost use Rattle.net_compose.specs.SiteLists.{site_value, site_values};
-ghost use Rattle.net_compose.specs.SortedSites.{sent_on, taken_on, written_to, rails_listed, nodes_listed};
-ghost use Rattle.net_compose.specs.SortedSites.{IsDeclaredSite, HasLists, AreSorted};
 ghost use Rattle.handshake_expand.specs.Sites.{in_body};
+ghost use Rattle.net_compose.specs.Contacts.{every_contact, sent_by, taken_by, written_by};
+ghost use Rattle.net_compose.specs.SortedContacts.{listed_at, IsDeclaredContact, HasContactLists, AreSortedContacts};
 
-use crate::site::Site;
+use crate::contact::{Contact, Meeting, Site};
 use std::alloc::{AllocError, Global};
 use width_check::Typed;
 
-/// What the sites contribute, in text order.
+/// What the contacts contribute, in text order.
 #[derive(Debug, Drop)]
 pub(crate) struct Sorted {
-    /// Of each channel the rails of each send.
-    pub sent: Vec<Vec<Vec<u32>>>,
+    /// Of each channel what each send on it sends.
+    pub sent: Vec<Vec<Site>>,
     /// Of each channel the node by which each receive has stored the value.
     pub taken: Vec<Vec<u32>>,
-    /// Of each variable the rails of each write.
-    pub written: Vec<Vec<Vec<u32>>>,
+    /// Of each variable what each write writes.
+    pub written: Vec<Vec<Site>>,
 }
 
-/// So many empty lists of rails.
-fn no_rails(alloc: Global, count: usize) -> Result<Vec<Vec<Vec<u32>>>, AllocError>
-    ensures none { IfOk result (λ lists. (k : ℕ) → rails_listed lists.items k ≡ []) }
+/// So many empty lists.
+fn no_lists<T: Drop>(alloc: Global, count: usize) -> Result<Vec<Vec<T>>, AllocError>
+    ensures none { IfOk result (λ lists. (k : ℕ) → listed_at lists.items k ≡ []) }
     ensures count { IfOk result (λ lists. length lists.items ≡ count) }
 {
     let mut lists = Vec::new(alloc);
@@ -35,81 +33,57 @@ fn no_rails(alloc: Global, count: usize) -> Result<Vec<Vec<Vec<u32>>>, AllocErro
     Ok(lists)
 }
 
-/// So many empty lists of nodes.
-fn no_nodes(alloc: Global, count: usize) -> Result<Vec<Vec<u32>>, AllocError>
-    ensures none { IfOk result (λ lists. (k : ℕ) → nodes_listed lists.items k ≡ []) }
-    ensures count { IfOk result (λ lists. length lists.items ≡ count) }
-{
-    let mut lists = Vec::new(alloc);
-    for _number in 0..count {
-        lists.push(Vec::new(alloc))?;
-    }
-    Ok(lists)
-}
-
-/// Appends rails to the list of a number.
-fn add_rails(lists: &mut [Vec<Vec<u32>>], number: u32, rails: Vec<u32>) -> Result<(), AllocError>
+/// Appends an item to the list of a number.
+fn add_item<T: Drop>(lists: &mut [Vec<T>], number: u32, item: T) -> Result<(), AllocError>
     requires { number < length lists.old }
-    ensures added { OnOk result ((k : ℕ) → rails_listed lists.new k
-        ≡ rails_listed lists.old k ++ (if number == k then rails.items ∷ [] else [])) }
+    ensures added { OnOk result ((k : ℕ) → listed_at lists.new k
+        ≡ listed_at lists.old k ++ (if number == k then item ∷ [] else [])) }
     ensures count { length lists.new ≡ length lists.old }
 {
-    lists[number as usize].push(rails)?;
+    lists[number as usize].push(item)?;
     Ok(())
 }
 
-/// Appends a node to the list of a number.
-fn add_node(lists: &mut [Vec<u32>], number: u32, node: u32) -> Result<(), AllocError>
-    requires { number < length lists.old }
-    ensures added { OnOk result ((k : ℕ) → nodes_listed lists.new k
-        ≡ nodes_listed lists.old k ++ (if number == k then node ∷ [] else [])) }
-    ensures count { length lists.new ≡ length lists.old }
-{
-    lists[number as usize].push(node)?;
-    Ok(())
-}
-
-/// Appends a site to its list.
-fn add_site(sorted: &mut Sorted, site: Site) -> Result<(), AllocError>
+/// Appends what a contact contributes to its list.
+fn add_contact(sorted: &mut Sorted, contact: Contact) -> Result<(), AllocError>
     requires taken { length sorted.old.taken.items ≡ length sorted.old.sent.items }
-    requires number { IsDeclaredSite (length sorted.old.sent.items) (length sorted.old.written.items)
-        (site_value site) }
-    ensures sent { OnOk result ((k : ℕ) → rails_listed sorted.new.sent.items k
-        ≡ rails_listed sorted.old.sent.items k ++ sent_on k (site_value site)) }
-    ensures taken { OnOk result ((k : ℕ) → nodes_listed sorted.new.taken.items k
-        ≡ nodes_listed sorted.old.taken.items k ++ taken_on k (site_value site)) }
-    ensures written { OnOk result ((x : ℕ) → rails_listed sorted.new.written.items x
-        ≡ rails_listed sorted.old.written.items x ++ written_to x (site_value site)) }
-    ensures lists { HasLists (length sorted.old.sent.items) (length sorted.old.written.items) sorted.new }
+    requires number { IsDeclaredContact (length sorted.old.sent.items) (length sorted.old.written.items) contact }
+    ensures sent { OnOk result ((k : ℕ) → listed_at sorted.new.sent.items k
+        ≡ listed_at sorted.old.sent.items k ++ sent_by k contact) }
+    ensures taken { OnOk result ((k : ℕ) → listed_at sorted.new.taken.items k
+        ≡ listed_at sorted.old.taken.items k ++ taken_by k contact) }
+    ensures written { OnOk result ((x : ℕ) → listed_at sorted.new.written.items x
+        ≡ listed_at sorted.old.written.items x ++ written_by x contact) }
+    ensures lists { HasContactLists (length sorted.old.sent.items) (length sorted.old.written.items) sorted.new }
 {
-    match site {
-        Site::Sent { chan, rails } => add_rails(&mut sorted.sent, chan, rails),
-        Site::Taken { chan, node } => add_node(&mut sorted.taken, chan, node),
-        Site::Written { var, rails } => add_rails(&mut sorted.written, var, rails),
+    match contact.meeting {
+        Meeting::Sends { chan, site } => add_item(&mut sorted.sent, chan, site),
+        Meeting::Takes { chan, node } => add_item(&mut sorted.taken, chan, node),
+        Meeting::Writes { var, site } => add_item(&mut sorted.written, var, site),
     }
 }
 
-/// The sites of a program by channel and by variable.
-pub(crate) fn sort_sites(
+/// The contacts of a program by channel and by variable.
+pub(crate) fn sort_contacts(
     alloc: Global,
     program: &Typed,
-    sites: Vec<Site>,
+    contacts: Vec<Contact>,
 ) -> Result<Sorted, AllocError>
-    requires { site_values sites.items ≡ in_body (program_of program.now) (every_site (program_of program.now)) }
-    ensures { IfOk result (λ sorted. AreSorted (program_of program.now) sorted) }
+    requires { contacts.items ≡ in_body (program_of program.now) (every_contact (program_of program.now)) }
+    ensures { IfOk result (λ sorted. AreSortedContacts (program_of program.now) sorted) }
 {
     // what the program's type keeps is told of its body
     let _kept = program.body();
-    let sent = no_rails(alloc, program.channels().len())?;
-    let taken = no_nodes(alloc, program.channels().len())?;
-    let written = no_rails(alloc, program.vars().len())?;
+    let sent = no_lists(alloc, program.channels().len())?;
+    let taken = no_lists(alloc, program.channels().len())?;
+    let written = no_lists(alloc, program.vars().len())?;
     let mut sorted = Sorted {
         sent,
         taken,
         written,
     };
-    for site in sites {
-        add_site(&mut sorted, site)?;
+    for contact in contacts {
+        add_contact(&mut sorted, contact)?;
     }
     Ok(sorted)
 }

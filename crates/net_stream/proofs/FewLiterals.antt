@@ -12,12 +12,15 @@ use Rattle.reset_net.specs.Resets.{has_rules, held, forced, reset_guard, reset_l
 use Rattle.function_blocks.specs.Functions.{truth, carried_on}
 use Rattle.function_blocks.specs.Gates.{minterm, table, gate_rail}
 use Rattle.function_blocks.specs.Waves.{rows_of}
-use Rattle.net_stream.specs.declared.driver.Pattern.{Pattern}
-use Rattle.net_stream.specs.declared.driver.Pattern.TheVariants.{Undriven, Follow, Until, Latch, Behind, Site, Read, Both, Kept, Written, Any, Gate, Joined, Wanted, Started, Turn}
-use Rattle.net_stream.specs.Circuits.{reset_rules, each_reset, circuit_rules, circuit_net, side}
-use Rattle.net_stream.specs.Drivers.{driven}
+use Rattle.function_blocks.specs.declared.rail.RailPattern.{RailPattern}
+use Rattle.function_blocks.specs.declared.rail.RailPattern.TheVariants.{Undriven, Follow, Read, Gate}
+use Rattle.function_blocks.specs.Drivers.{rail_driven}
+use Rattle.net_compose.specs.declared.driver.Pattern.{Pattern}
+use Rattle.net_compose.specs.declared.driver.Pattern.TheVariants.{Rail, Until, Latch, Behind, Site, Both, Kept, Written, Any, Joined, Wanted, Started, Turn}
+use Rattle.net_compose.specs.Circuits.{reset_rules, each_reset, circuit_rules, circuit_net, side}
+use Rattle.net_compose.specs.Drivers.{driven}
 use Rattle.net_stream.specs.Rooms.{IsFew, IsRoomFor, HasRoom}
-use Rattle.net_stream.specs.Shapes.{listed}
+use Rattle.net_compose.specs.Shapes.{listed}
 use Rattle.net_stream.proofs.Puts.{one_count}
 
 cons_count : (t : List Literal) (g : GuardValue) → guard_literals (t ∷ g) ≡ length t + guard_literals g
@@ -106,14 +109,20 @@ module _ (most : ℕ) where
       (subst (IsSmall most) (sym e) (one_small most t (omega (arith, few, some)) (omega (arith, some))))
       (subst (IsSmall most) (sym f) (one_small most u (omega (arith, least, some)) (omega (arith, some))))
 
+few_rail_is : (r : RailPattern) → IsFew 24 (rail_driven r)
+few_rail_is Undriven = few_of 24 no_rules (none_small 24) (none_small 24)
+few_rail_is (Follow request) = short 24 _ _ (is_high request ∷ []) (is_low request ∷ []) refl refl (omega arith) (omega arith) (omega arith)
+few_rail_is (Read request rail) = short 24 _ _ (is_high request ∷ is_high rail ∷ []) (is_low request ∷ []) refl refl (omega arith) (omega arith) (omega arith)
+few_rail_is (Gate function one left right below) =
+    let both = gate_small left right below (rows_of one (truth function)) 24 (omega arith) in
+    few_of 24 (rail_driven (Gate function one left right below)) both.0 both.1
+
 pub few_is : (d : Pattern) → IsFew (length (listed d) + 24) (driven d)
-few_is Undriven = few_of 24 no_rules (none_small 24) (none_small 24)
-few_is (Follow request) = short 24 _ _ (is_high request ∷ []) (is_low request ∷ []) refl refl (omega arith) (omega arith) (omega arith)
+few_is (Rail rail) = few_rail_is rail
 few_is (Until request over) = short 24 _ _ (is_high request ∷ is_low over ∷ []) (is_high over ∷ []) refl refl (omega arith) (omega arith) (omega arith)
 few_is (Latch set held) = short 24 _ _ (is_high set ∷ []) (is_low held ∷ []) refl refl (omega arith) (omega arith) (omega arith)
 few_is (Behind latch answer) = short 24 _ _ (is_high latch ∷ is_low answer ∷ []) (is_low latch ∷ []) refl refl (omega arith) (omega arith) (omega arith)
 few_is (Site request ack) = short 24 _ _ (is_high request ∷ is_high ack ∷ []) (is_low ack ∷ []) refl refl (omega arith) (omega arith) (omega arith)
-few_is (Read request rail) = short 24 _ _ (is_high request ∷ is_high rail ∷ []) (is_low request ∷ []) refl refl (omega arith) (omega arith) (omega arith)
 few_is (Both left right) =
     short 24 _ _ (is_high left ∷ is_high right ∷ []) (is_low left ∷ is_low right ∷ []) refl refl (omega arith) (omega arith) (omega arith)
 few_is (Kept set other reset) = short 24 _ _ (is_high set ∷ is_low other ∷ []) (is_high reset ∷ []) refl refl (omega arith) (omega arith) (omega arith)
@@ -125,9 +134,6 @@ few_is (Any inputs) =
     let most = length inputs.items + 24 in
     let both = or_small inputs.items most (omega arith) in
     few_of most (or_of inputs.items) both.0 both.1
-few_is (Gate function one left right below) =
-    let both = gate_small left right below (rows_of one (truth function)) 24 (omega arith) in
-    few_of 24 (driven (Gate function one left right below)) both.0 both.1
 few_is (Joined any answers) =
     let most = length answers.items + 24 in
     let count = length-map answers.items is_low in

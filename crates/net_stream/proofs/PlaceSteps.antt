@@ -1,12 +1,12 @@
 -- From one line of a rule file to the next.
-use Rattle.std.proofs.Common.{◌≡◌, ◌∙◌, ℕ, suc, ◌+◌, ◌-◌, ◌<◌, ◌≤◌, true, false, List, [], ◌∷◌, ◌++◌, length, get_or, drop, refl, sym, ap, arith}
+use Rattle.std.proofs.Common.{◌≡◌, ◌∙◌, ℕ, suc, ◌+◌, ◌-◌, ◌<◌, ◌≤◌, true, false, List, [], ◌++◌, length, sym, ap, arith}
 use Rattle.std.specs.List.{flat_map, range_with_len}
-use Rattle.std.proofs.lemmas.List.{append_assoc, append-nil, drop_more, drop_all}
+use Rattle.std.proofs.lemmas.List.{append_assoc, append-nil}
 use Rattle.prs_core.specs.declared.wires.Wires.{Wires}
 use Rattle.prs_core.specs.Nets.{NetValue, name_at, first_at, up_of, down_of}
 use Rattle.prs_file.specs.Spelling.{version_of, head_spelling, node_spelling, channel_spelling, rule_spelling, rules_spelling, spelling}
 use Rattle.net_stream.specs.declared.place.Place.{Place}
-use Rattle.net_stream.specs.declared.place.Place.TheVariants.{Head, Node, Channel, Up, Down}
+use Rattle.net_stream.specs.declared.place.Place.TheVariants.{Node, Up, Down}
 use Rattle.net_stream.specs.Places.{node_lines_from, channel_lines_from, rule_lines_from, text_from, IsMadeAt}
 
 range_front : (f : ℕ → List ℕ) (count k : ℕ) → k < count →

@@ -9,8 +9,8 @@ use Rattle.prs_core.specs.Nets.{GuardValue, NetValue, name_at, guard_literals}
 use Rattle.prs_file.specs.declared.forms.Lead.{Lead}
 use Rattle.prs_file.specs.declared.forms.Lead.TheVariants.{Rule, And, Or}
 use Rattle.prs_file.specs.Spelling.{literal_behind}
-use Rattle.net_stream.specs.declared.ending.Ending.{Ending}
-use Rattle.net_stream.specs.Circuits.{term_end, with_ends}
+use Rattle.net_compose.specs.declared.ending.Ending.{Ending}
+use Rattle.net_compose.specs.Circuits.{term_end, with_ends}
 use Rattle.net_stream.specs.Led.{literals_behind, terms_behind, and_behind, lead_behind, IsTermPut, IsPut}
 
 -- leads

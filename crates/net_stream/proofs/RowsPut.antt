@@ -8,8 +8,8 @@ use Rattle.prs_core.specs.Nets.{IsBelow, is_high}
 use Rattle.prs_core.specs.Pairs.{Pair, rails_of}
 use Rattle.function_blocks.specs.Gates.{minterm, table}
 use Rattle.function_blocks.specs.Waves.{rows_of}
-use Rattle.net_stream.specs.declared.ending.Ending.{Ending}
-use Rattle.net_stream.specs.Circuits.{with_ends}
+use Rattle.net_compose.specs.declared.ending.Ending.{Ending}
+use Rattle.net_compose.specs.Circuits.{with_ends}
 use Rattle.net_stream.specs.Led.{on_row, on_rows, row_at}
 use Rattle.net_stream.proofs.Puts.{ends_more}
 

@@ -45,10 +45,6 @@ pub record IsPut (net : NetValue) (lead next : Lead) (g : GuardValue) (before no
   pub leads : next ≡ lead_behind lead g
   pub long : end ≤ start + 64 * guard_literals g
 
--- nodes that are all wanted high, or low
-abbrev pub all_wanted : (high : Bool) → List ℕ → List Literal
-all_wanted high nodes = map (λ n. record { node = n; high = high }) nodes
-
 -- the row of this number in a truth table of so many inputs: an input's value is the number's bit at its place
 abbrev pub row_at : (inputs number : ℕ) → List Bool
 row_at zero number = []

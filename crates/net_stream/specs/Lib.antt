@@ -1,11 +1,4 @@
 pub mod Places
 pub mod Rooms
 pub mod Cursors
-pub mod Drivers
-pub mod Shapes
-pub mod Contacts
-pub mod SortedContacts
-pub mod Wanted
-pub mod Cuts
 pub mod Led
-pub mod Circuits

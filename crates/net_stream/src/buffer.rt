@@ -3,8 +3,7 @@
 ghost use Rattle.std.specs.Prelude.{◌≡◌, ◌+◌, ◌*◌, ◌≤◌, [], All, IfOk, IfSome, vec_len, vec_capacity};
 ghost use Rattle.net_stream.specs.Rooms.{HasRoom, IsFew};
 
-use crate::circuit::Circuit;
-use crate::driver::Driver;
+use net_compose::{Circuit, Driver};
 use std::alloc::{AllocError, Global};
 
 /// As many literals as the terms of a gate of three inputs have together.

@@ -4,9 +4,9 @@ ghost use Rattle.std.specs.Prelude.{◌≡◌, ◌<◌, ◌≤◌, [], ◌++◌,
 ghost use Rattle.net_stream.specs.Places.{IsPlaceOf, places_left, text_from};
 ghost use Rattle.net_stream.specs.Cursors.{IsCursor, text_left};
 
-use crate::circuit::Circuit;
 use crate::line::make_line;
 use crate::place::Place;
+use net_compose::Circuit;
 
 /// The line in the buffer, how many of its bytes were given out, and the place of the next line.
 #[derive(Debug, Drop)]

@@ -7,9 +7,9 @@ ghost use Rattle.net_stream.specs.Places.{IsMadeAt, IsPlaceOf, places_left};
 ghost use Rattle.net_stream.specs.Rooms.{HasRoom};
 ghost use Rattle.net_stream.specs.declared.place.Place.TheVariants.{Head, Node, Channel, Up, Down};
 
-use crate::circuit::Circuit;
 use crate::guard::rule_line;
 use crate::place::Place;
+use net_compose::Circuit;
 use prs_file::{channel_line, head_line, node_line};
 use std::alloc::AllocError;
 

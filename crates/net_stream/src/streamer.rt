@@ -12,13 +12,11 @@ ghost use Rattle.net_compose.specs.Progress.{Progresses, ProgressesReset};
 ghost use Rattle.net_compose.specs.Translation.{translation};
 
 use crate::buffer::line_buffer;
-use crate::circuit::{Circuit, circuit_of};
 use crate::cursor::{Cursor, give};
-use crate::laws::whole_nets;
 use crate::place::Place;
 use handshake_expand::count_nodes;
-use net_compose::NetError;
-use net_compose::laws::{carries, carries_reset, runs_end, runs_end_reset};
+use net_compose::laws::{carries, carries_reset, runs_end, runs_end_reset, whole_nets};
+use net_compose::{Circuit, NetError, circuit_of};
 use sharing_check::Disjoint;
 use std::alloc::{AllocError, Global};
 use std::marker::Model;

@@ -1,4 +1,4 @@
-use Rattle.std.proofs.Common.{◌≡◌, ◌+◌, ◌*◌, ap, ◌∙◌, arith}
+use Rattle.std.proofs.Common.{◌≡◌, ◌+◌, ◌*◌, ap, ◌∙◌}
 use Rattle.prs_core.specs.Pairs.{pair_at}
 use Rattle.function_blocks.proofs.Emitted.{apart_step}
 use Rattle.function_blocks.proofs.node.bits_apart.Goals as goal

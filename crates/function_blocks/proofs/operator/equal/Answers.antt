@@ -6,7 +6,7 @@ use Rattle.function_blocks.proofs.operator.equal.Goals as goal
 
 pub loop-place-init : goal.loop-place-init
 loop-place-init c = record {
-  made = equality_begin c.args.left.now c.args.right.now c.args.from _ _ c.args.guards.now.items _ c.requires.some c.in_ok-bitwise.ensures
+  made = equality_begin c.args.left.now c.args.right.now c.args.from _ _ c.args.drivers.now.items _ c.requires.some c.in_ok-bitwise.ensures
       c.in_ok-places.ensures c.at-all.ensures;
   at = refl;
   within = c.requires.some;

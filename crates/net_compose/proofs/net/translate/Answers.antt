@@ -1,5 +1,4 @@
 use Rattle.std.proofs.Common.{subst}
-use Rattle.width_check.specs.Sharing.{MeetsSharing}
 use Rattle.width_check.specs.Typed.{TypedValue, program_of}
 use Rattle.width_check.specs.Typing.{IsTyped}
 use Rattle.width_check.specs.View.{process_of}

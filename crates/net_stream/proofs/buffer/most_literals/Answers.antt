@@ -1,5 +1,5 @@
 use Rattle.std.proofs.Common.{◌+◌, List, ℕ, length, ap, sym, subst}
-use Rattle.net_stream.specs.Drivers.{driven}
+use Rattle.net_compose.specs.Drivers.{driven}
 use Rattle.net_stream.specs.Rooms.{IsFew}
 use Rattle.net_stream.proofs.FewLiterals.{few_is}
 use Rattle.net_stream.proofs.buffer.most_literals.Goals as goal

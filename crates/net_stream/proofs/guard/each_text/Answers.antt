@@ -1,10 +1,10 @@
-use Rattle.net_stream.proofs.ShapesDriven.{one_near}
+use Rattle.net_compose.proofs.ShapesDriven.{one_near}
 use Rattle.std.proofs.Common.{length, ◌+◌, ◌∷◌, [], ℕ, List, get_or, drop, map, ap, refl, arith}
 use Rattle.std.proofs.lemmas.Result.{err_from_is_err_and}
 use Rattle.std.proofs.lemmas.List.{drop_more, drop_all}
 use Rattle.prs_core.specs.Nets.{GuardValue, is_high}
 use Rattle.prs_file.specs.declared.forms.Lead.TheVariants.{Rule}
-use Rattle.net_stream.specs.Circuits.{with_ends}
+use Rattle.net_compose.specs.Circuits.{with_ends}
 use Rattle.net_stream.proofs.Puts.{begins, left_more, left_over, left_room}
 use Rattle.net_stream.proofs.guard.each_text.Goals as goal
 

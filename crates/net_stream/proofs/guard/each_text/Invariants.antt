@@ -1,7 +1,7 @@
 use Rattle.std.proofs.Common.{◌≤◌, [], ◌∷◌, drop, map, vec_len, vec_capacity}
 use Rattle.prs_core.specs.Nets.{is_high}
 use Rattle.prs_file.specs.declared.forms.Lead.TheVariants.{Rule}
-use Rattle.net_stream.specs.Circuits.{with_ends}
+use Rattle.net_compose.specs.Circuits.{with_ends}
 use Rattle.net_stream.proofs.Puts.{IsLeft}
 use Rattle.net_stream.proofs.guard.each_text.Given as goal
 

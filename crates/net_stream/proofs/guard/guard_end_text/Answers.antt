@@ -1,7 +1,7 @@
 use Rattle.std.proofs.Common.{[], ◌∷◌, sym, subst, vec_len}
 use Rattle.prs_core.specs.Nets.{is_high}
 use Rattle.prs_file.specs.declared.forms.Lead.TheVariants.{And, Or}
-use Rattle.net_stream.specs.Circuits.{guard_end}
+use Rattle.net_compose.specs.Circuits.{guard_end}
 use Rattle.net_stream.specs.Led.{IsPut}
 use Rattle.net_stream.proofs.Puts.{no_terms, one_put}
 use Rattle.net_stream.proofs.guard.guard_end_text.Goals as goal

@@ -2,11 +2,11 @@ use Rattle.std.proofs.Common.{◌≡◌, ◌∙◌, ◌+◌, ◌*◌, ◌<◌, l
 use Rattle.std.proofs.lemmas.Result.{IfOk-weaker, on_err_weaker, err_from_is_err_and}
 use Rattle.prs_core.specs.Nets.{IsBelow, NodeRules, guard_literals}
 use Rattle.prs_file.specs.declared.forms.Lead.TheVariants.{Rule}
-use Rattle.net_stream.specs.Circuits.{with_ends, guard_end, side}
+use Rattle.net_compose.specs.Circuits.{with_ends, guard_end, side}
 use Rattle.net_stream.specs.Led.{IsPut}
-use Rattle.net_stream.specs.Shapes.{shaped, shape_of}
+use Rattle.net_compose.specs.Shapes.{shaped, shape_of}
 use Rattle.net_stream.proofs.Puts.{put_more, room_first, room_second}
-use Rattle.net_stream.proofs.ShapesDriven.{shape_is, shape_near}
+use Rattle.net_compose.proofs.ShapesDriven.{shape_is, shape_near}
 use Rattle.net_stream.proofs.guard.guard_text.Goals as goal
 
 pub shape_text-requires-clause-within : goal.shape_text-requires-clause-within

@@ -4,9 +4,10 @@ use Rattle.prs_core.specs.Pairs.{Pair, rails_of}
 use Rattle.prs_core.specs.Nets.{IsBelow}
 use Rattle.prs_file.specs.declared.forms.Lead.TheVariants.{Rule}
 use Rattle.function_blocks.specs.Functions.{carried_on}
-use Rattle.net_stream.specs.Circuits.{with_ends}
-use Rattle.net_stream.specs.Led.{IsPut, all_wanted}
-use Rattle.net_stream.proofs.ShapesDriven.{lows_below}
+use Rattle.net_compose.specs.Circuits.{with_ends}
+use Rattle.net_stream.specs.Led.{IsPut}
+use Rattle.net_compose.specs.Shapes.{all_wanted}
+use Rattle.net_compose.proofs.ShapesDriven.{lows_below}
 use Rattle.net_stream.proofs.guard.neutral_text.Goals as goal
 
 three_rails : (l m n left right carried : Pair) (below : Option Pair) → l ≡ left → m ≡ right → n ≡ carried → carried_on below ≡ carried ∷ []

@@ -1,9 +1,9 @@
 use Rattle.prs_core.specs.declared.rule.Literal.{Literal}
-use Rattle.net_stream.proofs.ShapesDriven.{all_back}
+use Rattle.net_compose.proofs.ShapesDriven.{all_back}
 use Rattle.std.proofs.Common.{◌<◌, length, ◌+◌, ◌∷◌, [], get_or, drop, ap, refl, arith}
 use Rattle.std.proofs.lemmas.Result.{err_from_is_err_and}
 use Rattle.std.proofs.lemmas.List.{drop_more, drop_all}
-use Rattle.net_stream.specs.Led.{all_wanted}
+use Rattle.net_compose.specs.Shapes.{all_wanted}
 use Rattle.net_stream.proofs.Puts.{term_begins, term_left, term_over, term_room}
 use Rattle.net_stream.proofs.guard.nodes_text.Goals as goal
 

@@ -1,5 +1,5 @@
 use Rattle.std.proofs.Common.{◌≤◌, drop, vec_len, vec_capacity}
-use Rattle.net_stream.specs.Led.{all_wanted}
+use Rattle.net_compose.specs.Shapes.{all_wanted}
 use Rattle.net_stream.proofs.Puts.{IsTermLeft}
 use Rattle.net_stream.proofs.guard.nodes_text.Given as goal
 

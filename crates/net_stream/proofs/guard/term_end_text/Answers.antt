@@ -1,5 +1,5 @@
 use Rattle.std.proofs.Common.{sym, subst, vec_len}
-use Rattle.net_stream.specs.Circuits.{term_end}
+use Rattle.net_compose.specs.Circuits.{term_end}
 use Rattle.net_stream.specs.Led.{IsTermPut, and_behind}
 use Rattle.net_stream.proofs.Puts.{no_literals}
 use Rattle.net_stream.proofs.guard.term_end_text.Goals as goal

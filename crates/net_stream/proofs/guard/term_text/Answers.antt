@@ -2,8 +2,8 @@ use Rattle.std.proofs.Common.{◌<◌, List, length, [], ◌++◌, All, arith}
 use Rattle.std.proofs.lemmas.Result.{err_from_is_err_and}
 use Rattle.std.proofs.lemmas.List.Elements.{All-head}
 use Rattle.prs_core.specs.declared.rule.Literal.{Literal}
-use Rattle.net_stream.specs.Circuits.{term_end}
-use Rattle.net_stream.specs.Led.{all_wanted}
+use Rattle.net_compose.specs.Circuits.{term_end}
+use Rattle.net_compose.specs.Shapes.{all_wanted}
 use Rattle.net_stream.proofs.Puts.{term_more, one_put, front_all, behind_all, term_count}
 use Rattle.net_stream.proofs.guard.term_text.Goals as goal
 

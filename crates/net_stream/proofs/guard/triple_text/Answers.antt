@@ -1,7 +1,7 @@
 use Rattle.std.proofs.Common.{[], ◌∷◌, length, sym, subst, vec_len}
 use Rattle.function_blocks.specs.Functions.{truth}
 use Rattle.function_blocks.specs.Waves.{rows_of}
-use Rattle.net_stream.specs.Circuits.{with_ends}
+use Rattle.net_compose.specs.Circuits.{with_ends}
 use Rattle.net_stream.specs.Led.{IsPut, row_at}
 use Rattle.net_stream.proofs.Puts.{no_terms}
 use Rattle.net_stream.proofs.RowsPut.{row_holds, row_fails, has_value, has_another, minterm_below}

@@ -5,7 +5,7 @@ use Rattle.prs_file.specs.declared.forms.Lead.TheVariants.{Rule}
 use Rattle.function_blocks.specs.Functions.{truth}
 use Rattle.function_blocks.specs.Gates.{gate_rail, table}
 use Rattle.function_blocks.specs.Waves.{rows_of}
-use Rattle.net_stream.specs.Circuits.{with_ends}
+use Rattle.net_compose.specs.Circuits.{with_ends}
 use Rattle.net_stream.specs.Led.{on_row, on_rows, row_at}
 use Rattle.net_stream.proofs.Puts.{begins, left_more, left_over, left_room}
 use Rattle.net_stream.proofs.RowsPut.{next_triple, row_more}

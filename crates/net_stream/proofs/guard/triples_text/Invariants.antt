@@ -3,7 +3,7 @@ use Rattle.prs_file.specs.declared.forms.Lead.TheVariants.{Rule}
 use Rattle.function_blocks.specs.Functions.{truth}
 use Rattle.function_blocks.specs.Gates.{gate_rail, table}
 use Rattle.function_blocks.specs.Waves.{rows_of}
-use Rattle.net_stream.specs.Circuits.{with_ends}
+use Rattle.net_compose.specs.Circuits.{with_ends}
 use Rattle.net_stream.specs.Led.{on_rows}
 use Rattle.net_stream.proofs.Puts.{IsLeft}
 use Rattle.net_stream.proofs.guard.triples_text.Given as goal

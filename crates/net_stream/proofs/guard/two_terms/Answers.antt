@@ -3,7 +3,7 @@ use Rattle.std.proofs.lemmas.List.Elements.{All-nil, All-cons, All-head, All-tai
 use Rattle.std.proofs.lemmas.Result.{IfOk-weaker, on_err_weaker, err_from_is_err_and}
 use Rattle.prs_core.specs.declared.rule.Literal.{Literal}
 use Rattle.prs_file.specs.declared.forms.Lead.TheVariants.{Rule}
-use Rattle.net_stream.specs.Circuits.{with_ends}
+use Rattle.net_compose.specs.Circuits.{with_ends}
 use Rattle.net_stream.proofs.Puts.{put_more, room_first, room_second}
 use Rattle.net_stream.proofs.guard.two_terms.Goals as goal
 

@@ -1,9 +1,0 @@
-use Rattle.std.proofs.Common.{◌≡◌, ℕ, [], length}
-use Rattle.net_compose.specs.SortedSites.{nodes_listed}
-use Rattle.net_compose.proofs.sorted.no_nodes.Given as goal
-
-abbrev pub invariant-loop-number : goal.invariant-loop-number
-invariant-loop-number l = record {
-  none : (k : ℕ) → nodes_listed l.lists.items k ≡ [];
-  count : length l.lists.items ≡ l._number;
-}
