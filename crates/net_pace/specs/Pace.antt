@@ -1,5 +1,6 @@
 -- How soon a net passes what its program passes, counted in sweeps. (To read it by, and proved nowhere: where each
--- enabled move is made within a delay, a sweep takes no longer; where each is made within so many moves, it has no more.)
+-- enabled move is made within a delay, a sweep takes no longer; where each is made within so many moves, it has no
+-- more.)
 use Rattle.std.specs.Prelude.{◌≡◌, ◌*◌, ℕ, List, ◌++◌}
 use Rattle.prs_core.specs.Nets.{NetValue, IsNet}
 use Rattle.env_script.specs.Scripts.{OfferValue, IsScript}

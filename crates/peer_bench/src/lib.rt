@@ -1,0 +1,12 @@
+//! A bench of devices: a circuit is run against a device that reacts to what it takes.
+#![tactic(auto)]
+
+mod echo;
+mod note;
+mod peer;
+mod ramp;
+
+pub use echo::Echo;
+pub use note::Note;
+pub use peer::Peer;
+pub use ramp::Ramp;

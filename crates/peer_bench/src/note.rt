@@ -1,0 +1,13 @@
+//! What a device notes.
+
+/// What passed between a bench and its device: when, as the number of moves that were made by then, and on which
+/// channel.
+#[derive(Clone, Copy, Debug, PartialEq, Eq)]
+pub enum Note {
+    /// The device offered a value on an `in` channel.
+    Offered { at: u32, chan: u32, value: u64 },
+    /// It was ready to take one value on an `out` channel.
+    Ready { at: u32, chan: u32 },
+    /// It was told that it took a value on an `out` channel.
+    Took { at: u32, chan: u32, value: u64 },
+}
