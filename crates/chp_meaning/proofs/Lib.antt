@@ -5,6 +5,7 @@ pub mod Fitting
 pub mod Moves
 pub mod Meeting
 pub mod RoundRuns
+pub mod RoundsAhead
 pub mod OneEnd
 pub mod Rows
 pub mod Guards

@@ -24,7 +24,7 @@ pub taken_is : {c d : Configuration} {at : Place} → Fits c.term → Step c at 
 taken_is {c = c} f s = ap (λ o. unwrap_or o c) (found f s)
 
 -- steps at different places, one after the other
-all_taken : (ps : List Place) (c : Configuration) → Fits c.term → Distinct ps → ((q : Place) → In ps q → Can c q) → Leads c (length ps) (fold taken c ps)
+pub all_taken : (ps : List Place) (c : Configuration) → Fits c.term → Distinct ps → ((q : Place) → In ps q → Can c q) → Leads c (length ps) (fold taken c ps)
 all_taken [] c f d each = no_step
 all_taken (p ∷ ps) c f d each =
     let r = each p (inl refl) in

@@ -22,6 +22,7 @@ use Rattle.circuit_places.specs.Lines.{Line, of_channel, of_var, line_width}
 use Rattle.circuit_places.specs.Circuit.{low, joint_count, tree_answer, same_bit, QElementCells, Cells, turns, one_rule_fires, no_rule, is_apart, guarded_rule, site_rails, takers}
 use Rattle.circuit_places.specs.Whole.{wires_seen, line_ack, is_sent, is_heard, is_merged, merged, brings, drives, offers, bit_rule, wrote_rule, number_rail, first_bits, Whole, Node, go_node, own_node, rail_node, ack_node, bit_node, wrote_node, joint_node, is_node, rule_in, answers, enabled, wires_after, go_after, root_after, cells_moved, first_cells, Reaches, at_first, by_move}
 use Rattle.chp_meaning.specs.Halves.{IsSized, IsSizedVar, IsPlain}
+use Rattle.chp_meaning.specs.Steps.{Configuration, start_of}
 use Rattle.circuit_places.specs.Carried.{IsSafe, IsCarried, CircuitsCarry}
 use Rattle.circuit_places.proofs.Places.{Mode, idle, running, answered, returning, asks, is_idle, GuardedAt, g_rests, guarded_cells, guarded_shown, guarded_writing, guarded_can_is}
 use Rattle.circuit_places.proofs.Writing.{first_numbers}
@@ -121,7 +122,7 @@ module _ (P : TypedProgram) (script : List OfferValue) (typed : IsSized P.channe
   suits : (k : ℕ) (o : OfferValue) → offer_at script k ≡ o → o ≢ nothing → Suits (kind_at P.channels k) (channel_width P.channels k) o
   suits k o e ne = subst (Suits (kind_at P.channels k) (channel_width P.channels k)) e (suited P.channels script s k (within k (λ z. ne (sym e ∙ z))))
 
-  fits : Fitted P script
+  pub fits : Fitted P script
   fits = record {
     within = within;
     wide = has_bits P.channels typed.each_channel;
@@ -137,7 +138,7 @@ module _ (P : TypedProgram) (script : List OfferValue) (typed : IsSized P.channe
   }
 
 -- where a state stands
-pub record Reached (P : TypedProgram) (script : List OfferValue) (moves : ℕ) (x : Whole P.body) : Type 0 where
+pub record Reached (P : TypedProgram) (script : List OfferValue) (from : Configuration) (moves : ℕ) (x : Whole P.body) : Type 0 where
   pub mode : Mode
   pub place : GuardedAt P.body mode
   pub root : mode ≢ returning
@@ -145,7 +146,7 @@ pub record Reached (P : TypedProgram) (script : List OfferValue) (moves : ℕ) (
   pub same : x.root ≡ guarded_cells place
   pub good : Good P mode place x.wires
   pub brought : Arriving P script x.histories x.wires
-  pub followed : Followed P script moves x.histories (root_left (line_ack P x.wires) place) x.wires.bit (guarded_writing (line_ack P x.wires) place)
+  pub followed : Followed P script from moves x.histories (root_left (line_ack P x.wires) place) x.wires.bit (guarded_writing (line_ack P x.wires) place)
       (circuit_due P place x.wires)
 
 or_false : (b : Bool) → (b || false) ≡ b
@@ -162,7 +163,7 @@ go_is running ne = refl
 go_is answered ne = refl
 go_is returning ne = absurd (ne refl)
 
-module _ (P : TypedProgram) (script : List OfferValue) {moves : ℕ} {x : Whole P.body} (r : Reached P script moves x) where
+module _ (P : TypedProgram) (script : List OfferValue) {from : Configuration} {moves : ℕ} {x : Whole P.body} (r : Reached P script from moves x) where
   rail_is : (k : Line) (i : ℕ) (one : Bool) →
       one_rule_fires (rule_in P x (rail_node k i one)) ≡ sent_turns P x.wires k i one ((guarded_shown r.place).offer k i one)
   rail_is k i one = here (is_merged P k) refl
@@ -212,10 +213,10 @@ module _ (P : TypedProgram) (script : List OfferValue) {moves : ℕ} {x : Whole 
   enabled_is (wrote_node v i) = or_false (one_rule_fires (rule_in P x (wrote_node v i)))
   enabled_is (joint_node v k) = or_false (one_rule_fires (rule_in P x (joint_node v k)))
 
-  may : (n : Node P.body) → enabled P script x n ≡ true → can P script r.place x.wires x.histories n ≡ true
+  pub may : (n : Node P.body) → enabled P script x n ≡ true → can P script r.place x.wires x.histories n ≡ true
   may n e = sym (enabled_is n) ∙ e
 
-  ack_may : (n : Node P.body) → enabled P script x n ≡ true → (k : ℕ) → n ≡ ack_node k → is_heard (kind_at P.channels k) ≡ false
+  pub ack_may : (n : Node P.body) → enabled P script x n ≡ true → (k : ℕ) → n ≡ ack_node k → is_heard (kind_at P.channels k) ≡ false
       → answers (channel_width P.channels k) x.wires k (completed x.histories k) (offer_at script k) ≡ true
   ack_may n e k is unheard =
       sym (ap (λ b. (b && turns (x.wires.ack k) ((guarded_shown r.place).take k) (not ((guarded_shown r.place).take k))) || answers
@@ -250,7 +251,7 @@ module _ (P : TypedProgram) (script : List OfferValue) {moves : ℕ} {x : Whole 
   apart (joint_node v k) = joint_apart (var_width P.vars v) (x.wires.wrote v) (x.wires.joint v) k
 
 -- what isn't a node of the circuit doesn't move
-module _ (P : TypedProgram) (script : List OfferValue) (fitted : Fitted P script) {moves : ℕ} {x : Whole P.body} (r : Reached P script moves x) where
+module _ (P : TypedProgram) (script : List OfferValue) (fitted : Fitted P script) {from : Configuration} {moves : ℕ} {x : Whole P.body} (r : Reached P script from moves x) where
   not_there : (i n : ℕ) → nat_lt i n ≡ false → i < n → ⊥
   not_there i n h below = let g : nat_lt i n ≡ true = grind (arith, nat_tests) in cc (g, h)
 
@@ -326,7 +327,7 @@ module _ (P : TypedProgram) (script : List OfferValue) (fitted : Fitted P script
       here false u = refl
       here true u = ap (λ a. turns a ((guarded_shown r.place).take k) (not ((guarded_shown r.place).take k))) (low_ack u) ∙ no_take
 
-  absent : (n : Node P.body) → is_node P n ≡ false → enabled P script x n ≡ false
+  pub absent : (n : Node P.body) → is_node P n ≡ false → enabled P script x n ≡ false
   absent go_node h = absurd (cc h)
   absent (own_node s) h = enabled_is P script r (own_node s) ∙ guarded_absent P (wires_seen P x.wires) (clean_of r.good) r.place r.good.meets r.good.fits s h
   absent (rail_node k i one) h = no_rail k i one h
@@ -340,11 +341,11 @@ module _ (P : TypedProgram) (script : List OfferValue) (fitted : Fitted P script
   all_rest none n = sym (enabled_is P script r n) ∙ cases (is_node P n) (λ (h : is_node P n ≡ true). none n h) (λ (h : is_node P n ≡ false). absent n h)
 
 -- a state after one more move
-module _ (P : TypedProgram) (script : List OfferValue) (fitted : Fitted P script) {moves : ℕ} {x : Whole P.body} (r : Reached P script moves x) where
-  present : (n : Node P.body) → enabled P script x n ≡ true → is_node P n ≡ true
+module _ (P : TypedProgram) (script : List OfferValue) (fitted : Fitted P script) {from : Configuration} {moves : ℕ} {x : Whole P.body} (r : Reached P script from moves x) where
+  pub present : (n : Node P.body) → enabled P script x n ≡ true → is_node P n ≡ true
   present n e = cases (is_node P n) (λ (h : is_node P n ≡ true). h) (λ (h : is_node P n ≡ false). absurd (not_both (absent P script fitted r n h) e))
 
-  abbrev next_reached : (n : Node P.body) → enabled P script x n ≡ true → Reached P script (suc moves) (cells_moved P x n)
+  abbrev pub next_reached : (n : Node P.body) → enabled P script x n ≡ true → Reached P script from (suc moves) (cells_moved P x n)
   next_reached n e =
       let y = next_of P script fitted x.histories r.good n (may P script r n e) in
       record {
@@ -361,13 +362,13 @@ module _ (P : TypedProgram) (script : List OfferValue) (fitted : Fitted P script
             (λ stays. circuit_falls P script r.place x.wires x.histories r.good n r.root (present n e) (may P script r n e) y stays) (y.term r.root);
       }
 
-stable : (P : TypedProgram) (script : List OfferValue) → Fitted P script → {moves : ℕ} (x : Whole P.body) → Reached P script moves x → (n m : Node P.body)
+pub stable : (P : TypedProgram) (script : List OfferValue) → Fitted P script → {from : Configuration} {moves : ℕ} (x : Whole P.body) → Reached P script from moves x → (n m : Node P.body)
     → n ≢ m → enabled P script x n ≡ true → enabled P script x m ≡ true → enabled P script (cells_moved P x m) n ≡ true
 stable P script fitted x r n m ne hn hm =
     let y = next_of P script fitted x.histories r.good m (may P script r m hm) in
     enabled_is P script (next_reached P script fitted r m hm) n ∙ y.keeps n ne (may P script r n hn)
 
-safe : (P : TypedProgram) (script : List OfferValue) → Fitted P script → {moves : ℕ} (x : Whole P.body) → Reached P script moves x → IsSafe P script x
+pub safe : (P : TypedProgram) (script : List OfferValue) → Fitted P script → {from : Configuration} {moves : ℕ} (x : Whole P.body) → Reached P script from moves x → IsSafe P script x
 safe P script fitted x r = record {
   stable = stable P script fitted x r;
   apart = apart P script r;
@@ -436,7 +437,7 @@ first_block law P x some =
       tree = settling_low n (tree_over n law some) (λ i. false) (λ k. false) (λ i. refl) (λ k. refl);
     }
 
-first_reached : TreesSettle → (P : TypedProgram) (script : List OfferValue) → Fitted P script → Meets P P.body → Reached P script 0 (first_cells P)
+pub first_reached : TreesSettle → (P : TypedProgram) (script : List OfferValue) → Fitted P script → Meets P P.body → Reached P script (start_of P script) 0 (first_cells P)
 first_reached law P script fitted meets = record {
   mode = idle;
   place = g_rests;
@@ -466,11 +467,11 @@ first_reached law P script fitted meets = record {
 }
 
 reach : TreesSettle → (P : TypedProgram) (script : List OfferValue) → Fitted P script → Meets P P.body → (moves : ℕ) (x : Whole P.body)
-    → Reaches P script moves x → Reached P script moves x
+    → Reaches P script moves x → Reached P script (start_of P script) moves x
 reach law P script fitted meets _ _ at_first = first_reached law P script fitted meets
 reach law P script fitted meets _ _ (by_move {k = k} {x = x} n run e) = next_reached P script fitted (reach law P script fitted meets k x run) n e
 
-carried : (P : TypedProgram) (script : List OfferValue) → Fitted P script → {moves : ℕ} (x : Whole P.body) → Reached P script moves x
+carried : (P : TypedProgram) (script : List OfferValue) → Fitted P script → {moves : ℕ} (x : Whole P.body) → Reached P script (start_of P script) moves x
     → IsCarried P script moves x
 carried P script fitted x r = record {
   safe = safe P script fitted x r;
@@ -491,7 +492,7 @@ carried P script fitted x r = record {
 
 -- each state that is reached stands somewhere
 pub reached : TreesSettle → ExpressionsHold → (P : TypedProgram) → IsPlain P → (script : List OfferValue) → IsScript P.channels script → (moves : ℕ)
-    (x : Whole P.body) → Reaches P script moves x → Reached P script moves x
+    (x : Whole P.body) → Reaches P script moves x → Reached P script (start_of P script) moves x
 reached law hold P is script s moves x run =
     let there = meets law hold P (var_bits P.vars is.sized.each_var) P.body unshared is.sized.body_is is.plain in
     reach law P script (fits P script is.sized s) there moves x run

@@ -36,12 +36,12 @@ use Rattle.circuit_places.proofs.CircuitDue.{over, root_due, channel_due, vars_d
 use Rattle.circuit_places.proofs.Unrisen.{Unrisen, Stays}
 
 -- what has a bit is there
-channel_there : (cs : List Channel) (c i : ℕ) → i < channel_width cs c → c < length cs
+pub channel_there : (cs : List Channel) (c i : ℕ) → i < channel_width cs c → c < length cs
 channel_there [] c i h = absurd (omega (arith, h))
 channel_there (x ∷ xs) zero i h = omega arith
 channel_there (x ∷ xs) (suc c) i h = let e = channel_there xs c i h in omega (arith, e)
 
-var_there : (vs : List Var) (x i : ℕ) → i < var_width vs x → x < length vs
+pub var_there : (vs : List Var) (x i : ℕ) → i < var_width vs x → x < length vs
 var_there [] x i h = absurd (omega (arith, h))
 var_there (v ∷ vs) zero i h = omega arith
 var_there (v ∷ vs) (suc x) i h = let e = var_there vs x i h in omega (arith, e)

@@ -299,7 +299,7 @@ module _ (P : TypedProgram) {script : List OfferValue} (fitted : Fitted P script
       not_there n v l (λ i less. some_side (w.rail (of_channel n)) i (each_bit (channel_width P.channels n) (w.rail (of_channel n)) (sent_there n here) i less))
 
   -- what waits has no acceptance left, or no value
-  refused : {most due : ℕ} {t : Term} (r : Followed P script most hs t w.bit (guarded_writing (line_ack P w) g) due) (s : Process)
+  refused : {from : Configuration} {most due : ℕ} {t : Term} (r : Followed P script from most hs t w.bit (guarded_writing (line_ack P w) g) due) (s : Process)
       → Blocked P s (wires_seen P w) (guarded_shown g) → Refused r.to s
   refused r s (a_choice again choices b is) =
       no_choice again choices is (λ p e. b.one (slice_index r.to.store) agree p (sym (open_is r.to choices) ∙ e))
@@ -345,7 +345,7 @@ module _ (P : TypedProgram) {script : List OfferValue} (fitted : Fitted P script
 
 waits : (P : TypedProgram) {script : List OfferValue} (fitted : Fitted P script) (w : Wires) (hs : List (List ℕ)) (g : GuardedAt P.body running)
     → (guarded_cells g).next ≡ false → Good P running g w → ((n : Node P.body) → can P script g w hs n ≡ false)
-    → {most due : ℕ} (r : Followed P script most hs (guarded_left (line_ack P w) g) w.bit (guarded_writing (line_ack P w) g) due)
+    → {from : Configuration} {most due : ℕ} (r : Followed P script from most hs (guarded_left (line_ack P w) g) w.bit (guarded_writing (line_ack P w) g) due)
     → Waiting P (guarded_left (line_ack P w) g) (wires_seen P w) (guarded_shown g) → AtEnd g r.to
 waits P fitted w hs g low good none r x = record {
   still = no_step r.to (λ at s e. refused P fitted w hs g good none r s (stands at s e))
@@ -359,7 +359,7 @@ waits P fitted w hs g low good none r x = record {
 
 pub at_end : (P : TypedProgram) {script : List OfferValue} (fitted : Fitted P script) (w : Wires) (hs : List (List ℕ)) {m : Mode} (g : GuardedAt P.body m)
     → m ≢ returning → Good P m g w → ((n : Node P.body) → can P script g w hs n ≡ false)
-    → {most due : ℕ} (r : Followed P script most hs (root_left (line_ack P w) g) w.bit (guarded_writing (line_ack P w) g) due) → AtEnd g r.to
+    → {from : Configuration} {most due : ℕ} (r : Followed P script from most hs (root_left (line_ack P w) g) w.bit (guarded_writing (line_ack P w) g) due) → AtEnd g r.to
 at_end P fitted w hs g_rests ne good none r = absurd (cc (none go_node))
 at_end P {script = script} fitted w hs (g_in u a h) ne good none r = here
     (guarded_rest P (wires_seen P w) (clean_of good) (valid P fitted w hs (g_in u a h) good none) (g_in u a h) good.meets good.fits (λ s. none (own_node s)))

@@ -57,13 +57,13 @@ behind_none [] (suc n) e = refl
 behind_none (x ∷ xs) zero e = absurd (cc e)
 behind_none (x ∷ xs) (suc n) e = behind_none xs n e
 
-pub record Followed (P : TypedProgram) (script : List OfferValue) (most : ℕ) (hs : List (List ℕ)) (t : Term) (bits : ℕ → Rails) (busy : ℕ → Bool)
+pub record Followed (P : TypedProgram) (script : List OfferValue) (from : Configuration) (most : ℕ) (hs : List (List ℕ)) (t : Term) (bits : ℕ → Rails) (busy : ℕ → Bool)
     (due : ℕ) : Type 0 where
   pub to : Configuration
   pub steps : ℕ
   pub within : steps ≤ most
   pub paid : most + due ≤ circuit_most P * suc steps
-  pub leads : Leads (start_of P script) steps to
+  pub leads : Leads from steps to
   pub term : to.term ≡ t
   pub passed : to.histories ≡ hs
   pub rests : (k : ℕ) → offer_at to.rests k ≡ left_over (offer_at script k) (completed hs k)
@@ -73,7 +73,7 @@ pub record Followed (P : TypedProgram) (script : List OfferValue) (most : ℕ) (
   pub stored : (x : ℕ) → x < length P.vars → busy x ≡ false → number_on (var_width P.vars x) (bits x) ≡ slice_index to.store x
 
 -- one more step at a run's end
-leads_on : {c d e : Configuration} {at : Place} {n : ℕ} → Leads c n d → Step d at e → Leads c (suc n) e
+pub leads_on : {c d e : Configuration} {at : Place} {n : ℕ} → Leads c n d → Step d at e → Leads c (suc n) e
 leads_on no_step s = one_step s no_step
 leads_on (one_step r l) s = one_step r (leads_on l s)
 
@@ -89,7 +89,7 @@ whole_yet (gives values) n e = ap (λ k. gives (behind values k)) (sym e)
 whole_yet nothing n e = refl
 
 pub started : (P : TypedProgram) (script : List OfferValue) → Fitted P script → (due : ℕ) → due ≤ circuit_most P
-    → Followed P script 0 (replicate (length P.channels) []) (opened P.body) (first_bits P.vars) (λ x. false) due
+    → Followed P script (start_of P script) 0 (replicate (length P.channels) []) (opened P.body) (first_bits P.vars) (λ x. false) due
 started P script fitted due few = record {
   to = start_of P script;
   steps = 0;
@@ -118,14 +118,14 @@ pub open_is : (c : Configuration) (choices : Choices) → open_branches c choice
 open_is c no_choices = refl
 open_is c (and_choice g p more) = ap (λ (ps : List Process). if value (slice_index c.store) g == 1 then p ∷ ps else ps) (open_is c more)
 
-module _ {P : TypedProgram} {script : List OfferValue} {most : ℕ} {hs : List (List ℕ)} {t : Term} {bits : ℕ → Rails} {busy : ℕ → Bool} {due : ℕ}
-    (r : Followed P script most hs t bits busy due) (left_due : ℕ) (now : ℕ → Rails) (after : ℕ → Bool)
+module _ {P : TypedProgram} {script : List OfferValue} {from : Configuration} {most : ℕ} {hs : List (List ℕ)} {t : Term} {bits : ℕ → Rails} {busy : ℕ → Bool} {due : ℕ}
+    (r : Followed P script from most hs t bits busy due) (left_due : ℕ) (now : ℕ → Rails) (after : ℕ → Bool)
     (free : (x : ℕ) → after x ≡ false → (now x ≡ bits x) × (busy x ≡ false)) where
-  kept_so : (x : ℕ) → x < length P.vars → after x ≡ false → number_on (var_width P.vars x) (now x) ≡ slice_index r.to.store x
+  pub kept_so : (x : ℕ) → x < length P.vars → after x ≡ false → number_on (var_width P.vars x) (now x) ≡ slice_index r.to.store x
   kept_so x less e = ap (number_on (var_width P.vars x)) (free x e).0 ∙ r.stored x less (free x e).1
 
   -- no step
-  stays : suc left_due ≤ due → (y : Term) → y ≡ t → Followed P script (suc most) hs y now after left_due
+  stays : suc left_due ≤ due → (y : Term) → y ≡ t → Followed P script from (suc most) hs y now after left_due
   stays less y e = record {
     to = r.to;
     steps = r.steps;
@@ -143,7 +143,7 @@ module _ {P : TypedProgram} {script : List OfferValue} {most : ℕ} {hs : List (
 
   -- a step that no channel sees
   leaves : suc left_due ≤ circuit_most P → (s : Process) (left y : Term) (a : Act t s left y) → Step r.to a.at (leaving r.to a.at left)
-      → Followed P script (suc most) hs y now after left_due
+      → Followed P script from (suc most) hs y now after left_due
   leaves few s left y a step = record {
     to = leaving r.to a.at left;
     steps = suc r.steps;
@@ -163,15 +163,15 @@ module _ {P : TypedProgram} {script : List OfferValue} {most : ℕ} {hs : List (
   stands s left y a = ap (λ x. statement_at x a.at) r.term ∙ a.stands
 
   -- the branches that are open
-  decided : (choices : Choices) (ps : List Process) → Decided P bits busy choices ps → open_branches r.to choices ≡ ps
+  pub decided : (choices : Choices) (ps : List Process) → Decided P bits busy choices ps → open_branches r.to choices ≡ ps
   decided choices ps d = open_is r.to choices ∙ d (slice_index r.to.store) r.stored
 
   silent : (step : Bool) → suc left_due ≤ circuit_most P → (step ≡ false → suc left_due ≤ due) → (y : Term) → Follows (Decided P bits busy) step t y
-      → Followed P script (suc most) hs y now after left_due
+      → Followed P script from (suc most) hs y now after left_due
   silent step few less y (inl e) = stays (less e.0) y e.1
   silent step few less y (inr s) = by s.statement s.rest s.goes s.act
     where
-      by : (s : Process) (l : Term) → Goes (Decided P bits busy) s l → Act t s l y → Followed P script (suc most) hs y now after left_due
+      by : (s : Process) (l : Term) → Goes (Decided P bits busy) s l → Act t s l y → Followed P script from (suc most) hs y now after left_due
       by _ _ skips a = leaves few skipping finished y a (a_skip (stands skipping finished y a))
       by _ _ (goes_on {p = p}) a = leaves few (repeating p) _ y a (a_repetition (stands (repeating p) _ y a))
       by _ _ (chooses {again = false} {choices = choices} i d) a =
@@ -197,8 +197,8 @@ one_longer : (xs : List ℕ) (v : ℕ) → length (xs ++ v ∷ []) ≡ suc (leng
 one_longer [] v = refl
 one_longer (x ∷ xs) v = ap (λ k. suc k) (one_longer xs v)
 
-module _ {P : TypedProgram} {script : List OfferValue} {most : ℕ} {hs : List (List ℕ)} {t : Term} (w : Wires) {busy : ℕ → Bool} {due : ℕ}
-    (fitted : Fitted P script) (r : Followed P script most hs t w.bit busy due) (left_due : ℕ) (few : suc left_due ≤ circuit_most P) (now : ℕ → Rails)
+module _ {P : TypedProgram} {script : List OfferValue} {from : Configuration} {most : ℕ} {hs : List (List ℕ)} {t : Term} (w : Wires) {busy : ℕ → Bool} {due : ℕ}
+    (fitted : Fitted P script) (r : Followed P script from most hs t w.bit busy due) (left_due : ℕ) (few : suc left_due ≤ circuit_most P) (now : ℕ → Rails)
     (after : ℕ → Bool) (free : (x : ℕ) → after x ≡ false → (now x ≡ w.bit x) × (busy x ≡ false))
     (k : ℕ) where
   -- a value passes
@@ -241,8 +241,8 @@ module _ {P : TypedProgram} {script : List OfferValue} {most : ℕ} {hs : List (
         ∙ (r.rests c ∙ sym (ap (λ h. left_over (offer_at script c) (length h))
         (get_or-set_other hs k c (history_at hs k ++ value_in r.to pass.expression ∷ []) [] ne))))
 
-    passes_on : Followed P script (suc most) (cells_passed hs k (value_on (channel_width P.channels k) (w.rail (of_channel k)))) y now after left_due
-    passes_on = subst (λ (o : Option ℕ). Followed P script (suc most) (cells_passed hs k o) y now after left_due) (sym read) (record {
+    passes_on : Followed P script from (suc most) (cells_passed hs k (value_on (channel_width P.channels k) (w.rail (of_channel k)))) y now after left_due
+    passes_on = subst (λ (o : Option ℕ). Followed P script from (suc most) (cells_passed hs k o) y now after left_due) (sym read) (record {
       to = passing (offering (leaving r.to pass.act.at finished) k (takes (one_fewer (fewer count (completed hs k))))) k (value_in r.to pass.expression);
       steps = suc r.steps;
       within = omega (arith, r.within);
@@ -260,15 +260,15 @@ module _ {P : TypedProgram} {script : List OfferValue} {most : ℕ} {hs : List (
   acknowledged : (w.ack k ≡ true → suc left_due ≤ due) → (y : Term) → answers (channel_width P.channels k) w k (completed hs k) (offer_at script k) ≡ true
       → (b : Bool) → w.ack k ≡ b
       → Passing P (wires_seen P w) busy (of_channel k) b t y
-      → Followed P script (suc most) (if b then hs else cells_passed hs k (value_on (channel_width P.channels k) (w.rail (of_channel k)))) y now after
+      → Followed P script from (suc most) (if b then hs else cells_passed hs k (value_on (channel_width P.channels k) (w.rail (of_channel k)))) y now after
       left_due
   acknowledged less y e true h move = stays r left_due now after free (less h) y move
   acknowledged less y e false h move =
       let o = takes_of (channel_width P.channels k) w k (completed hs k) (offer_at script k) e in
       passes_on y o.count o.is (may_low (channel_width P.channels k) w k (is_over o.count (completed hs k)) h o.may).1 move
 
-module _ {P : TypedProgram} {script : List OfferValue} {most : ℕ} {hs : List (List ℕ)} {t : Term} (w : Wires) {busy : ℕ → Bool} {due : ℕ}
-    (fitted : Fitted P script) (r : Followed P script most hs t w.bit busy due) (left_due : ℕ) (few : suc left_due ≤ circuit_most P) (now : ℕ → Rails)
+module _ {P : TypedProgram} {script : List OfferValue} {from : Configuration} {most : ℕ} {hs : List (List ℕ)} {t : Term} (w : Wires) {busy : ℕ → Bool} {due : ℕ}
+    (fitted : Fitted P script) (r : Followed P script from most hs t w.bit busy due) (left_due : ℕ) (few : suc left_due ≤ circuit_most P) (now : ℕ → Rails)
     (after : ℕ → Bool) (k : ℕ) where
   -- a value lands in a variable
   landed : (var v : ℕ) → Lands P busy after k var w → value_on (channel_width P.channels k) (w.rail (of_channel k)) ≡ Some v
@@ -318,8 +318,8 @@ module _ {P : TypedProgram} {script : List OfferValue} {most : ℕ} {hs : List (
         get_or-set_other r.to.rests k c (gives (behind values (suc (completed hs k)))) nothing ne
         ∙ (r.rests c ∙ sym (ap (λ h. left_over (offer_at script c) (length h)) (get_or-set_other hs k c (history_at hs k ++ v ∷ []) [] ne))))
 
-    arrives_on : Followed P script (suc most) (cells_passed hs k (value_on (channel_width P.channels k) (w.rail (of_channel k)))) y now after left_due
-    arrives_on = subst (λ (o : Option ℕ). Followed P script (suc most) (cells_passed hs k o) y now after left_due) (sym told) (record {
+    arrives_on : Followed P script from (suc most) (cells_passed hs k (value_on (channel_width P.channels k) (w.rail (of_channel k)))) y now after left_due
+    arrives_on = subst (λ (o : Option ℕ). Followed P script from (suc most) (cells_passed hs k o) y now after left_due) (sym told) (record {
       to = passing (storing (offering (leaving r.to a.act.at finished) k (gives (behind values (suc (completed hs k))))) a.var v) k v;
       steps = suc r.steps;
       within = omega (arith, r.within);
@@ -362,8 +362,8 @@ module _ {P : TypedProgram} {script : List OfferValue} {most : ℕ} {hs : List (
         let ne : c ≡ k → ⊥ = λ (same : c ≡ k). absurd (cc (e, ap (λ x. x == k) same, self_number k)) in
         sym (ap (λ h. left_over (offer_at script c) (length h)) (get_or-set_other hs k c (history_at hs k ++ sent ∷ []) [] ne)))
 
-    exchanges_on : Followed P script (suc most) (cells_passed hs k (value_on (channel_width P.channels k) (w.rail (of_channel k)))) y now after left_due
-    exchanges_on = subst (λ (o : Option ℕ). Followed P script (suc most) (cells_passed hs k o) y now after left_due) (sym given) (record {
+    exchanges_on : Followed P script from (suc most) (cells_passed hs k (value_on (channel_width P.channels k) (w.rail (of_channel k)))) y now after left_due
+    exchanges_on = subst (λ (o : Option ℕ). Followed P script from (suc most) (cells_passed hs k o) y now after left_due) (sym given) (record {
       to = passing (storing (leaving (leaving r.to a.act.at finished) a.act.other finished) a.var sent) k sent;
       steps = suc r.steps;
       within = omega (arith, r.within);
@@ -379,7 +379,7 @@ module _ {P : TypedProgram} {script : List OfferValue} {most : ℕ} {hs : List (
     })
 
 -- where no variable's acknowledge rises
-calm : {P : TypedProgram} (w now : Wires) (before after : ℕ → Bool) → ((x : ℕ) → line_ack P now (of_var x) ≡ line_ack P w (of_var x))
+pub calm : {P : TypedProgram} (w now : Wires) (before after : ℕ → Bool) → ((x : ℕ) → line_ack P now (of_var x) ≡ line_ack P w (of_var x))
     → ((x : ℕ) → Freed P w now (before x) (after x) x ⊥) → (x : ℕ) → after x ≡ false → (now.bit x ≡ w.bit x) × (before x ≡ false)
 calm {P = P} w now before after same frees x e = ((frees x e).0, here (frees x e).1)
   where
@@ -389,8 +389,8 @@ calm {P = P} w now before after same frees x e = ((frees x e).0, here (frees x e
     here (inr (inr z)) = absurd z
 
 -- a variable's acknowledge turns over, or it stays: where it rises the value is stored
-module _ {P : TypedProgram} {script : List OfferValue} {most : ℕ} {hs : List (List ℕ)} {t : Term} (x : ℕ) (w now : Wires) (busy after : ℕ → Bool)
-    {due : ℕ} (r : Followed P script most hs t w.bit busy due) (left_due : ℕ) (few : suc left_due ≤ circuit_most P)
+module _ {P : TypedProgram} {script : List OfferValue} {from : Configuration} {most : ℕ} {hs : List (List ℕ)} {t : Term} (x : ℕ) (w now : Wires) (busy after : ℕ → Bool)
+    {due : ℕ} (r : Followed P script from most hs t w.bit busy due) (left_due : ℕ) (few : suc left_due ≤ circuit_most P)
     (less : Unrisen P x w now after → suc left_due ≤ due) (others : Others P x w now) (frees : (y : ℕ) → Freed P w now (busy y) (after y) y ⊥) where
   all_same : line_ack P now (of_var x) ≡ line_ack P w (of_var x) → (y : ℕ) → line_ack P now (of_var y) ≡ line_ack P w (of_var y)
   all_same e y = cases (y == x)
@@ -410,7 +410,7 @@ module _ {P : TypedProgram} {script : List OfferValue} {most : ℕ} {hs : List (
       here (inr (inl z)) = absurd (none y z)
       here (inr (inr z)) = absurd z
 
-  kept : (y : Term) → Stored P busy after x w now t y → Followed P script (suc most) hs y now.bit after left_due
+  kept : (y : Term) → Stored P busy after x w now t y → Followed P script from (suc most) hs y now.bit after left_due
   kept y (no_store e s) = stays r left_due now.bit after (calm w now busy after (all_same e) frees) (less (inl e)) y s
   kept y (cleared e h s) = stays r left_due now.bit after (free_of (never_rises h)) (less (inr (inl h))) y s
   kept y (takes_in e h under s) = stays r left_due now.bit after free (less (inr (inr under))) y s
@@ -459,40 +459,40 @@ module _ {P : TypedProgram} {script : List OfferValue} {most : ℕ} {hs : List (
           still h (inr (inr q)) = absurd q
 
 -- an acknowledge moves
-acks : {P : TypedProgram} {script : List OfferValue} {most : ℕ} {hs : List (List ℕ)} {t : Term} (w : Wires) (busy after : ℕ → Bool) (fitted : Fitted P script)
-    {due : ℕ} (r : Followed P script most hs t w.bit busy due) (left_due : ℕ) → suc left_due ≤ circuit_most P → (y : Term) (k : ℕ)
+acks : {P : TypedProgram} {script : List OfferValue} {from : Configuration} {most : ℕ} {hs : List (List ℕ)} {t : Term} (w : Wires) (busy after : ℕ → Bool) (fitted : Fitted P script)
+    {due : ℕ} (r : Followed P script from most hs t w.bit busy due) (left_due : ℕ) → suc left_due ≤ circuit_most P → (y : Term) (k : ℕ)
     → (w.ack k ≡ true → suc left_due ≤ due)
     → (is_heard (kind_at P.channels k) ≡ false → answers (channel_width P.channels k) w k (completed hs k) (offer_at script k) ≡ true) → Arriving P script hs w
     → Acks P busy after k w t y
-    → Followed P script (suc most) (if w.ack k then hs else cells_passed hs k (value_on (channel_width P.channels k) (w.rail (of_channel k)))) y w.bit after
+    → Followed P script from (suc most) (if w.ack k then hs else cells_passed hs k (value_on (channel_width P.channels k) (w.rail (of_channel k)))) y w.bit after
     left_due
 acks w busy after fitted r left_due few y k less e brought (taken_out out move free) =
     acknowledged w fitted r left_due few w.bit after (λ x f. (refl, free x f)) k less y (e out)
     (w.ack k) refl move
-acks {P = P} {script = script} {most = most} {hs = hs} w busy after fitted r left_due few y k less e brought (released heard high same free) =
-    subst (λ (b : Bool). Followed P script (suc most) (if b then hs else cells_passed hs k
+acks {P = P} {script = script} {from = from} {most = most} {hs = hs} w busy after fitted r left_due few y k less e brought (released heard high same free) =
+    subst (λ (b : Bool). Followed P script from (suc most) (if b then hs else cells_passed hs k
     (value_on (channel_width P.channels k) (w.rail (of_channel k)))) y w.bit after left_due) (sym high)
     (stays r left_due w.bit after (λ x f. (refl, free x f)) (less high) y same)
-acks {P = P} {script = script} {most = most} {hs = hs} w busy after fitted r left_due few y k less e brought (taken_in heard alone a) =
+acks {P = P} {script = script} {from = from} {most = most} {hs = hs} w busy after fitted r left_due few y k less e brought (taken_in heard alone a) =
     let o = fitted.hears k a.lands.within alone heard in
     let v = next_value (channel_width P.channels k) (completed hs k) (w.rail (of_channel k)) o.0 (fitted.wide k a.lands.within) (fitted.bounded k o.0 o.1)
     (brought k o.0 o.1 a.lands.low) a.lands.some in
-    subst (λ (b : Bool). Followed P script (suc most) (if b then hs else cells_passed hs k
+    subst (λ (b : Bool). Followed P script from (suc most) (if b then hs else cells_passed hs k
     (value_on (channel_width P.channels k) (w.rail (of_channel k)))) y w.bit after left_due) (sym a.lands.low)
     (arrives_on w fitted r left_due few w.bit after k y o.0 o.1 a v.next v.is v.told (λ x f. refl))
-acks {P = P} {script = script} {most = most} {hs = hs} w busy after fitted r left_due few y k less e brought (taken_over heard merged a) =
-    subst (λ (b : Bool). Followed P script (suc most) (if b then hs else cells_passed hs k
+acks {P = P} {script = script} {from = from} {most = most} {hs = hs} w busy after fitted r left_due few y k less e brought (taken_over heard merged a) =
+    subst (λ (b : Bool). Followed P script from (suc most) (if b then hs else cells_passed hs k
     (value_on (channel_width P.channels k) (w.rail (of_channel k)))) y w.bit after left_due) (sym a.lands.low)
     (exchanges_on w fitted r left_due few w.bit after k y (fitted.inside k a.lands.within merged heard) a (λ x f. refl))
 
 -- each move of the circuit is a step of the program or none
-pub follows : {P : TypedProgram} {script : List OfferValue} {most : ℕ} {hs : List (List ℕ)} {t : Term} (w : Wires) (busy after : ℕ → Bool) → Fitted P script
-    → {due : ℕ} → Followed P script most hs t w.bit busy due → Arriving P script hs w → (y : Term) (n : Node P.body)
+pub follows : {P : TypedProgram} {script : List OfferValue} {from : Configuration} {most : ℕ} {hs : List (List ℕ)} {t : Term} (w : Wires) (busy after : ℕ → Bool) → Fitted P script
+    → {due : ℕ} → Followed P script from most hs t w.bit busy due → Arriving P script hs w → (y : Term) (n : Node P.body)
     → ((k : ℕ) → n ≡ ack_node k → is_heard (kind_at P.channels k) ≡ false
     → answers (channel_width P.channels k) w k (completed hs k) (offer_at script k) ≡ true)
     → ((x : ℕ) → Freed P w (wires_after w n) (busy x) (after x) x (Arrival P w n)) → (left_due : ℕ) → suc left_due ≤ circuit_most P → (step : Bool)
     → (Stays P w after step n → suc left_due ≤ due) → Moves P w busy after step t y n
-    → Followed P script (suc most) (passed_after P.channels w hs n) y (wires_after w n).bit after left_due
+    → Followed P script from (suc most) (passed_after P.channels w hs n) y (wires_after w n).bit after left_due
 follows w busy after fitted r brought y go_node e frees left_due few step less move =
     silent r left_due w.bit after (calm w w busy after (λ x. refl) frees) step few less y move
 follows w busy after fitted r brought y (own_node s) e frees left_due few step less move =

@@ -129,7 +129,7 @@ followed_follows Told more step x y (inr s) = inr (record {
 })
 
 -- what is told by less is told by more
-wider : (T U : Choices → List Process → Type 0) → ((choices : Choices) (ps : List Process) → T choices ps → U choices ps) → (s : Process) (l : Term)
+pub wider : (T U : Choices → List Process → Type 0) → ((choices : Choices) (ps : List Process) → T choices ps → U choices ps) → (s : Process) (l : Term)
     → Goes T s l → Goes U s l
 wider T U f _ _ skips = skips
 wider T U f _ _ goes_on = goes_on
@@ -270,7 +270,7 @@ none_open (idle ∷ ks) h = absurd (cc h)
 none_open (answered ∷ ks) h = (λ e. cc e, none_open ks h)
 none_open (returning ∷ ks) h = (λ e. cc e, none_open ks h)
 
-side_done : (n : ℕ) (m : Mode) (ks : List Mode) (t : Bits (joint_count n)) → SideMay n m ks t → (m ≡ running → ⊥) → NoneRuns ks
+pub side_done : (n : ℕ) (m : Mode) (ks : List Mode) (t : Bits (joint_count n)) → SideMay n m ks t → (m ≡ running → ⊥) → NoneRuns ks
 side_done n idle ks t h o = absurd (cc h.awake)
 side_done n running ks t h o = absurd (o refl)
 side_done n answered ks t h o = none_open ks (h.all refl)

@@ -17,6 +17,7 @@ use Rattle.circuit_places.proofs.Trees.{TreesSettle}
 use Rattle.circuit_places.proofs.System.{clean_of}
 use Rattle.circuit_places.proofs.PartFacts.{PartAt, guarded_part_at, part_still, part_low, part_rests, part_rule}
 use Rattle.circuit_places.proofs.PartPhases.{guarded_one_rests, guarded_phase}
+use Rattle.chp_meaning.specs.Steps.{Configuration}
 use Rattle.circuit_places.proofs.Carry.{Reached, enabled_is, reached}
 
 own_branches : {n : ℕ} {G B : Type 0} (x : Core n G B) (s : OwnSpot n) → (turned_own x s).branches ≡ x.branches
@@ -156,7 +157,7 @@ or_false : (b : Bool) → (b || false) ≡ b
 or_false true = refl
 or_false false = refl
 
-module _ (P : TypedProgram) (script : List OfferValue) {moves : ℕ} {x : Whole P.body} (r : Reached P script moves x) where
+module _ (P : TypedProgram) (script : List OfferValue) {from : Configuration} {moves : ℕ} {x : Whole P.body} (r : Reached P script from moves x) where
   abbrev seen : Seen
   seen = wires_seen P x.wires
 

@@ -98,7 +98,7 @@ pub data Rest (P : TypedProgram) (m : Mode) (t : Term) (env : Seen) (x : Shown) 
   waiting : m ≡ running → Waiting P t env x → Rest P m t env x
   hanging : Hanging P env x → Rest P m t env x
 
-then_going : (more : Processes) (t : Term) → t ≢ finished → followed t more ≢ finished
+pub then_going : (more : Processes) (t : Term) → t ≢ finished → followed t more ≢ finished
 then_going more finished ne = absurd (ne refl)
 then_going more (active p) ne = λ e. cc e
 then_going more (in_sequence t rest) ne = λ e. cc e
@@ -139,7 +139,7 @@ flip false e = absurd (cc e)
 
 -- a site that runs or returns
 module _ (P : TypedProgram) (env : Seen) (valid : Valid P env) (k : Line) (e : Formula) (u : Pairs (gate_count e)) where
-  site_full : SiteMay e running u → SiteMeets P k e → SiteFits k e running u env → ((s : SiteSpot e) → site_moves env k e running u s ≡ false)
+  pub site_full : SiteMay e running u → SiteMeets P k e → SiteFits k e running u env → ((s : SiteSpot e) → site_moves env k e running u s ≡ false)
       → Full P k env (site_shown k e u)
   site_full h meets f n =
       let whole = h.known.rest_up P.vars env.bit u meets.reads (λ v i r less. valid v i less) f.1 (λ i one. n (gate i one)) in
@@ -153,7 +153,7 @@ module _ (P : TypedProgram) (env : Seen) (valid : Valid P env) (k : Line) (e : F
             (λ i one. ap (λ b. b && out_rail e u i one) (self_line k))) ∙ (ap (λ w. is_some (value_on w (out_rail e u))) (sym meets.agrees) ∙ whole);
       }
 
-  site_hangs : SiteMay e returning u → SiteFits k e returning u env → ((s : SiteSpot e) → site_moves env k e returning u s ≡ false)
+  pub site_hangs : SiteMay e returning u → SiteFits k e returning u env → ((s : SiteSpot e) → site_moves env k e returning u s ≡ false)
       → Hanging P env (site_shown k e u)
   site_hangs h f n =
       let gone = h.known.rest_down env.bit u f.1 (λ i one. n (gate i one)) in
@@ -188,7 +188,7 @@ send_rest P env valid c at e returning u h meets f n = hanging (site_hangs P env
 
 -- a receive that runs or returns
 module _ (P : TypedProgram) (env : Seen) (c x : ℕ) (l : Bool) (q : Rails) (meets : PortMeets P c x) where
-  port_waits : ((s : PortSpot) → port_moves env c x running l q s ≡ false) → Listening P c x env (port_shown c x l q)
+  pub port_waits : ((s : PortSpot) → port_moves env c x running l q s ≡ false) → Listening P c x env (port_shown c x l q)
   port_waits n = record {
     meets = meets;
     low = n heard;
@@ -245,7 +245,7 @@ receive_rest P env c x at to running l q h meets n =
 
 -- What one of several branches shows, all show, and no more of its line.
 module _ {p : Process} {more : Processes} (P : TypedProgram) (env : Seen) (x y : Shown) (s : Beside p more x y) where
-  this_full : (k : Line) → Full P k env x → Full P k env (both_shown x y)
+  pub this_full : (k : Line) → Full P k env x → Full P k env (both_shown x y)
   this_full k b = record {
     within = b.within;
     merged = b.merged;
@@ -256,7 +256,7 @@ module _ {p : Process} {more : Processes} (P : TypedProgram) (env : Seen) (x y :
         (λ i one. or_false_right (x.offer k i one) (y.offer k i one) (s.none_theirs k i one (s.mine k b.talks)))) ∙ b.whole;
   }
 
-  others_full : (k : Line) → Full P k env y → Full P k env (both_shown x y)
+  pub others_full : (k : Line) → Full P k env y → Full P k env (both_shown x y)
   others_full k b = record {
     within = b.within;
     merged = b.merged;
@@ -340,11 +340,11 @@ data BranchesRest (P : TypedProgram) (ks : List Mode) (ts : Terms) (env : Seen) 
   some_wait : WaitingInside P ts env x → BranchesRest P ks ts env x
   one_hangs : Hanging P env x → BranchesRest P ks ts env x
 
-never : (b : Bool) → (b && false) ≡ false
+pub never : (b : Bool) → (b && false) ≡ false
 never true = refl
 never false = refl
 
-not_finished : (t : Term) → t ≢ finished → is_finished t ≡ false
+pub not_finished : (t : Term) → t ≢ finished → is_finished t ≡ false
 not_finished finished ne = absurd (ne refl)
 not_finished (active p) ne = refl
 not_finished (in_sequence t more) ne = refl
@@ -426,7 +426,7 @@ ends_gone env (and_at {k = running} g b) h n i = absurd (cc h)
 ends_gone env (and_at {k = answered} g b) h n i = absurd (cc h)
 
 -- the end of a branch that rests under the request
-guarded_over : {p : Process} {k : Mode} (ack : Line → Bool) (g : GuardedAt p k) → asks k ≡ true → acks k ≡ asks k → guarded_left ack g ≡ finished
+pub guarded_over : {p : Process} {k : Mode} (ack : Line → Bool) (g : GuardedAt p k) → asks k ≡ true → acks k ≡ asks k → guarded_left ack g ≡ finished
 guarded_over {k = answered} ack g a e = guarded_left_past ack g
 guarded_over {k = running} ack g a e = absurd (cc e)
 guarded_over {k = idle} ack g a e = absurd (cc a)
@@ -445,7 +445,7 @@ still_choice P env again choices x b = record { going = λ e. cc e; blocked = bl
     blocked (in_first place) s e = absurd (cc e)
     blocked (in_branch k place) s e = absurd (cc e)
 
-control_rest : (P : TypedProgram) {m : Mode} (env : Seen) (clean : Clean P env) → Valid P env → (again : Bool) (choices : Choices) → 1 ≤ choice_count choices
+pub control_rest : (P : TypedProgram) {m : Mode} (env : Seen) (clean : Clean P env) → Valid P env → (again : Bool) (choices : Choices) → 1 ≤ choice_count choices
     → GuardsMeet P choices → (c : Control again (choice_count choices) (GuardCells choices) (heads choices) m)
     → guards_good choices env.bit (control_ask c) (control_guards (low_guards choices) c) ≡ true
     → ((s : OwnSpot (choice_count choices)) → control_moves c s ≡ false)

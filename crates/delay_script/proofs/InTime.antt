@@ -21,7 +21,7 @@ delay_within most delays n all = by (cases_lt n (length delays))
     by (inl within) = All-get_or (λ delay. delay ≤ most) delays n 0 within all
     by (inr past) = let none : slice_index delays n ≡ 0 = get_or_past delays n 0 past in omega (arith, none)
 
-next_within : (most : ℕ) (d : DelayTable) → TakesAtMost most d → (v : ℕ → Bool) (n : ℕ) → next_delay d v n ≤ most
+pub next_within : (most : ℕ) (d : DelayTable) → TakesAtMost most d → (v : ℕ → Bool) (n : ℕ) → next_delay d v n ≤ most
 next_within most d few v n = by (v n)
   where
     by : (b : Bool) → (if b then fall_delay d n else rise_delay d n) ≤ most

@@ -9,3 +9,4 @@ pub mod Queued
 pub mod OnTheWay
 pub mod OneTimed
 pub mod InTime
+pub mod TimedSweeps

@@ -9,11 +9,11 @@ use Rattle.env_script.specs.Runs.{RunState, move_enabled, moved, after, IsRun, I
 use Rattle.env_script.specs.OneLength.{AllSafe, times_moved, IsAlike, EndsAll}
 use Rattle.env_script.proofs.Commuting.{commute}
 
-safe_move : (net : NetValue) (script : List OfferValue) (st : RunState) (n : ℕ) → AllSafe net script st → move_enabled net script st n ≡ true →
+pub safe_move : (net : NetValue) (script : List OfferValue) (st : RunState) (n : ℕ) → AllSafe net script st → move_enabled net script st n ≡ true →
     IsSafeMove net script st n
 safe_move net script st n all enabled = (all (n ∷ []) (enabled, tt)).1
 
-safe_behind : (net : NetValue) (script : List OfferValue) (st : RunState) (n : ℕ) → AllSafe net script st → move_enabled net script st n ≡ true →
+pub safe_behind : (net : NetValue) (script : List OfferValue) (st : RunState) (n : ℕ) → AllSafe net script st → move_enabled net script st n ≡ true →
     AllSafe net script (moved net st n)
 safe_behind net script st n all enabled ns run = (all (n ∷ ns) (enabled, run)).2
 
@@ -24,7 +24,7 @@ times_more : (node n : ℕ) (ns : List ℕ) → times_moved node (n ∷ ns) ≡ 
 unfolding once_more
 times_more node n ns = sum_by-cons (λ m. cond (m == node) 1 0) n ns
 
-times_behind : (node a b : ℕ) (ns rest : List ℕ) → times_moved node ns ≡ times_moved node (a ∷ rest) →
+pub times_behind : (node a b : ℕ) (ns rest : List ℕ) → times_moved node ns ≡ times_moved node (a ∷ rest) →
     times_moved node (b ∷ ns) ≡ times_moved node (a ∷ b ∷ rest)
 times_behind node a b ns rest same =
     omega (arith, times_more node b ns, times_more node a (b ∷ rest), times_more node b rest, times_more node a rest)
@@ -34,12 +34,12 @@ times_same : (node m : ℕ) (ms ns rest : List ℕ) → times_moved node ns ≡ 
 times_same node m ms ns rest one two = omega (arith, times_more node m rest, times_more node m ms)
 
 -- the run with the move at its front, without it
-record Fronted (net : NetValue) (script : List OfferValue) (st : RunState) (a : ℕ) (ns : List ℕ) : Type 0 where
-  rest : List ℕ
-  run : IsRun net script (moved net st a) rest
-  ends : after net (moved net st a) rest ≡ after net st ns
-  moves : length ns ≡ suc (length rest)
-  each : (node : ℕ) → times_moved node ns ≡ times_moved node (a ∷ rest)
+pub record Fronted (net : NetValue) (script : List OfferValue) (st : RunState) (a : ℕ) (ns : List ℕ) : Type 0 where
+  pub rest : List ℕ
+  pub run : IsRun net script (moved net st a) rest
+  pub ends : after net (moved net st a) rest ≡ after net st ns
+  pub moves : length ns ≡ suc (length rest)
+  pub each : (node : ℕ) → times_moved node ns ≡ times_moved node (a ∷ rest)
 
 bring_front : (net : NetValue) (script : List OfferValue) → IsNet net → (a : ℕ) (ns : List ℕ) (st : RunState) → AllSafe net script st →
     move_enabled net script st a ≡ true → IsRun net script st ns → IsAtRest net script (after net st ns) → Fronted net script st a ns

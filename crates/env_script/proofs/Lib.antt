@@ -10,4 +10,6 @@ pub mod Sayings
 pub mod Comments
 pub mod Commuting
 pub mod Fronts
+pub mod Overtakes
+mod SweepExamples
 pub mod MovesWithin

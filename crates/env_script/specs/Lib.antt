@@ -6,6 +6,7 @@ pub mod Runs
 pub mod Hazards
 pub mod Wired
 pub mod OneLength
+pub mod Sweeps
 pub mod Numbers
 pub mod Cutting
 pub mod ScriptText

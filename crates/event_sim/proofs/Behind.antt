@@ -168,7 +168,7 @@ retested_one passes n old new before now ready within is made told = record {
 
 -- whom a move concerns
 
-turned : (m : ℕ) (xs : List ℕ) → list_any (λ r. r == m) xs ≡ false → list_any (λ r. m == r) xs ≡ false
+pub turned : (m : ℕ) (xs : List ℕ) → list_any (λ r. r == m) xs ≡ false → list_any (λ r. m == r) xs ≡ false
 turned m [] none = refl
 turned m (x ∷ xs) none =
     let parts = or_parts (x == m) (list_any (λ r. r == m) xs) none in
@@ -283,7 +283,7 @@ unruled false free false on none = absurd (cc on)
 abbrev free_at : IndexedValue → List ℕ → List Bool → ℕ → Bool
 free_at x done values m = raises_go (high values) m || channels_move (high values) (offer_at x.script) (slice_index done) 0 x.net.channels m
 
-ready_off : (x : IndexedValue) (done : List ℕ) (values : List Bool) (m : ℕ) → in_reset x.net.reset (high values) ≡ false →
+pub ready_off : (x : IndexedValue) (done : List ℕ) (values : List Bool) (m : ℕ) → in_reset x.net.reset (high values) ≡ false →
     has_move x.net x.script done values m ≡ is_ready x done values m
 ready_off x done values m off =
     same_off (rule_enabled x.net (high values) m) (is_reset x.net.reset m) (rules_rest x.net (high values)) (free_at x done values m)

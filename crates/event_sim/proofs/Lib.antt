@@ -15,4 +15,6 @@ pub mod HomeLemmas
 pub mod Members
 pub mod Behind
 pub mod HomesMade
+pub mod Asked
+pub mod Added
 pub mod Concerning

@@ -32,7 +32,7 @@ env_agrees net script d e v n agree =
     ap (λ b. if in_reset net.reset v then is_reset net.reset n && rules_rest net v else raises_go v n || b)
     (channels_agree v (offer_at script) d e agree 0 net.channels n)
 
-counts_are : (hs : List (List ℕ)) (k : ℕ) → slice_index (map (λ (h : List ℕ). length h) hs) k ≡ completed hs k
+pub counts_are : (hs : List (List ℕ)) (k : ℕ) → slice_index (map (λ (h : List ℕ). length h) hs) k ≡ completed hs k
 counts_are [] zero = refl
 counts_are [] (suc k) = refl
 counts_are (h ∷ hs) zero = refl
@@ -51,6 +51,15 @@ pub passing_same : (net : NetValue) (script : List OfferValue) (st : RunState) (
 passing_same net script st done marks counted passing = record {
   count_is = passing.count_is;
   each = λ n less. passing.each n less ∙ enabled_same net script st.values st.histories done n counted;
+}
+
+-- and the other way
+pub passing_back : (net : NetValue) (script : List OfferValue) (st : RunState) (done : List ℕ) (marks : List Bool) →
+    done ≡ map (λ (h : List ℕ). length h) st.histories → IsPassing (length net.first) (move_enabled net script st) marks →
+    IsPassing (length net.first) (has_move net script done st.values) marks
+passing_back net script st done marks counted passing = record {
+  count_is = passing.count_is;
+  each = λ n less. passing.each n less ∙ sym (enabled_same net script st.values st.histories done n counted);
 }
 
 -- the list of the set is that of the definition

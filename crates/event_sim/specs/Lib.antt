@@ -6,4 +6,5 @@ pub mod Asking
 pub mod Ages
 pub mod Simulating
 pub mod Locality
+pub mod Standings
 pub mod Stages

@@ -1,19 +1,20 @@
 //! A net under a script, with an index of what a move may concern.
 
-ghost use Rattle.std.specs.Prelude.{◌≡◌, ◌<◌, length, slice_index, IfOk};
+ghost use Rattle.std.specs.Prelude.{◌≡◌, ◌<◌, ◌^◌, length, slice_index, IfOk, IfSome, IsSome};
 ghost use Rattle.prs_core.specs.Nets.{IsNet};
 ghost use Rattle.prs_core.specs.Moves.{high};
 ghost use Rattle.prs_core.specs.Fans.{readers_below};
 ghost use Rattle.env_script.specs.Scripts.{IsScript, offer_at};
-ghost use Rattle.env_script.specs.Offers.{offered};
 ghost use Rattle.env_script.specs.Environment.{net_channels, channels_move};
 ghost use Rattle.env_script.specs.Phases.{phase_fault};
-ghost use Rattle.event_sim.specs.Passing.{completion};
-ghost use Rattle.event_sim.specs.Locality.{is_ready, has_no_part, IsHome, IsShared};
+ghost use Rattle.event_sim.specs.Passing.{channel_acknowledged, completion};
+ghost use Rattle.event_sim.specs.Locality.{is_ready, IsHome, IsShared};
+ghost use Rattle.event_sim.specs.Standings.{number_of, is_done, script_and};
 
 use crate::homes::homes_of;
 use crate::moves::{completes, in_reset};
-use env_script::{Offer, Script, offer_moves, phases_keep};
+use crate::offers::Offers;
+use env_script::{Script, phases_keep};
 use prs_core::{Fan, Net, State, enabled, fan_of};
 use std::alloc::{AllocError, Global};
 use std::marker::Model;
@@ -22,7 +23,7 @@ use std::marker::Model;
 #[derive(Debug, Drop)]
 pub(crate) struct IndexedNet {
     net: Net,
-    script: Script,
+    offers: Offers,
     fan: Fan,
     homes: Vec<Option<u32>>,
 }
@@ -32,19 +33,9 @@ impl Model for IndexedNet {
 
     ghost Value = { IndexedValue };
 
-    ghost view = { λ x. record { net = x.net; script = x.script } };
+    ghost view = { λ x. record { net = x.net; script = x.offers } };
 
-    ghost invariant = { λ x. IsNetIndex (record { net = x.net; script = x.script }) x.fan x.homes.items };
-}
-
-/// Whether the environment has no part in the channel of this offer.
-fn is_nothing(offer: &Offer) -> bool
-    ensures { result ≡ has_no_part (offered offer.now) }
-{
-    match offer {
-        Offer::Nothing => true,
-        Offer::Values(_) | Offer::Accept(_) => false,
-    }
+    ghost invariant = { λ x. IsNetIndex (record { net = x.net; script = x.offers }) x.fan x.homes.items };
 }
 
 impl IndexedNet {
@@ -58,9 +49,10 @@ impl IndexedNet {
         let _first = net.first();
         let fan = fan_of(alloc, &net)?;
         let homes = homes_of(alloc, &net)?;
+        let offers = Offers::new(alloc, script)?;
         Ok(IndexedNet {
             net,
-            script,
+            offers,
             fan,
             homes,
         })
@@ -105,7 +97,7 @@ impl IndexedNet {
         ensures { IsShared self.now.net self.now.script node result }
     {
         match self.home(node) {
-            Some(chan) if !is_nothing(self.script.offer(chan)) => Some(chan),
+            Some(chan) if !self.offers.is_nothing(chan) => Some(chan),
             _ => None,
         }
     }
@@ -122,8 +114,8 @@ impl IndexedNet {
             None => false,
             Some(chan) => {
                 let wires = &self.net.channels()[chan as usize];
-                let offer = self.script.offer(chan);
-                offer_moves(state, wires, offer, done[chan as usize], node)
+                self.offers
+                    .moves(chan, wires, state, done[chan as usize], node)
             }
         }
     }
@@ -158,6 +150,43 @@ impl IndexedNet {
                 Some(value) => Some((chan, value)),
             },
         }
+    }
+
+    /// The channel whose acknowledge the node is.
+    pub(crate) fn acknowledged(&self, node: u32) -> Option<u32>
+        requires { node < length self.now.net.first }
+        ensures { result ≡ channel_acknowledged self.now.net.channels node }
+    {
+        match self.home(node) {
+            None => None,
+            Some(chan) => {
+                if node == self.net.channels()[chan as usize].ack {
+                    Some(chan)
+                } else {
+                    None
+                }
+            }
+        }
+    }
+
+    /// How many values or acceptances are offered on the channel, where that is a number.
+    pub(crate) fn number(&self, chan: u32) -> Option<u64>
+        requires { chan < length self.now.net.channels }
+        ensures { result ≡ number_of (offer_at self.now.script chan) }
+    {
+        let _homes = self.homes.len();
+        self.offers.number(chan)
+    }
+
+    /// Offers one more value on the channel, which stands for those before it too, or makes one more acceptance.
+    pub(crate) fn add(&mut self, chan: u32, value: u64)
+        requires chan { chan < length self.old.net.channels }
+        requires number { IsSome (number_of (offer_at self.old.script chan)) }
+        requires few { IfSome (number_of (offer_at self.old.script chan)) (λ n. n < 2 ^ 63) }
+        requires script { IsScript (net_channels self.old.net) (script_and chan value self.old.script) }
+        ensures { self.new ≡ record self.old { script = script_and chan value self.old.script } }
+    {
+        self.offers.add(chan, value);
     }
 
     /// The channel whose phases a move of the node breaks.

@@ -2,6 +2,7 @@
 
 ghost use Rattle.std.specs.Prelude.{◌≡◌, ℕ, ◌<◌, not, ◌&&◌, if◌then◌else◌, List, Bool, All, length};
 ghost use Rattle.event_sim.specs.Locality.{has_move, is_ready, lesser, IsPassing, IsRetested, IsRetestedNear, IsCountedMove, IsListedBehind, IsRelisted};
+ghost use Rattle.event_sim.specs.Standings.{IsRetestedOn};
 
 use crate::indexed::IndexedNet;
 use crate::moves::is_reset;
@@ -152,4 +153,23 @@ pub(crate) fn relist(
     let lost = retest_behind(indexed, done, state, node, moves);
     add_reset(indexed, state, moves);
     lost
+}
+
+/// Tests again the wires of the channel.
+pub(crate) fn retest_channel(
+    indexed: &IndexedNet,
+    done: &[u64],
+    state: &State,
+    chan: u32,
+    moves: &mut NodeSet,
+)
+    requires done { length done.now ≡ length indexed.now.net.channels }
+    requires state { length state.now ≡ length indexed.now.net.first }
+    requires moves { length moves.old ≡ length indexed.now.net.first }
+    requires chan { chan < length indexed.now.net.channels }
+    ensures { IsRetestedOn indexed.now done.now state.now chan moves.old moves.new }
+{
+    let wires = &indexed.net().channels()[chan as usize];
+    let lost = retest(indexed, done, state, wires.rails.nodes(), moves, None);
+    retest(indexed, done, state, &[wires.ack], moves, lost);
 }

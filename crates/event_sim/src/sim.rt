@@ -43,7 +43,7 @@ impl Model for Sim {
 }
 
 /// Makes one pick.
-fn choose(picker: &mut Box<dyn Picker>, enabled: &[u32]) -> usize
+pub fn choose(picker: &mut Box<dyn Picker>, enabled: &[u32]) -> usize
     requires list { IsChoiceList (nodes picker.old) enabled.now }
     requires room { 1 ≤ spare picker.old }
     ensures choice { result ≡ choice picker.old enabled.now }
@@ -69,7 +69,7 @@ pub fn end_from(hazard: Hazard) -> End
 }
 
 /// How the run has ended where fewer moves were made than are allowed.
-fn early_end(hazard: Option<Hazard>, enabled: &[u32]) -> Option<End>
+pub fn early_end(hazard: Option<Hazard>, enabled: &[u32]) -> Option<End>
     ensures { result ≡ end_with hazard enabled.now false }
 {
     match hazard {
@@ -80,7 +80,7 @@ fn early_end(hazard: Option<Hazard>, enabled: &[u32]) -> Option<End>
 }
 
 /// How the run has ended where as many moves were made as are allowed.
-fn last_end(hazard: Option<Hazard>, enabled: &[u32]) -> End
+pub fn last_end(hazard: Option<Hazard>, enabled: &[u32]) -> End
     ensures { end_with hazard enabled.now true ≡ Some result }
 {
     match hazard {

@@ -4,15 +4,16 @@ ghost use Rattle.std.specs.Prelude.{◌≡◌, ◌<◌, ◌≤◌, ◌+◌, ◌+
 ghost use Rattle.prs_core.specs.Nets.{IsNet};
 ghost use Rattle.prs_core.specs.Moves.{high};
 ghost use Rattle.env_script.specs.Scripts.{IsScript};
-ghost use Rattle.env_script.specs.Environment.{net_channels, is_reset};
+ghost use Rattle.env_script.specs.Environment.{net_channels, in_reset, is_reset};
 ghost use Rattle.env_script.specs.Runs.{moved, move_enabled};
 ghost use Rattle.env_script.specs.Hazards.{first_hazard, hazard_of};
-ghost use Rattle.event_sim.specs.Passing.{completion, channel_histories};
+ghost use Rattle.event_sim.specs.Passing.{channel_acknowledged, completion, channel_histories};
+ghost use Rattle.event_sim.specs.Standings.{is_idle, script_and};
 
 use crate::hazards::{first_pulled, pulled_behind, worst_cause};
 use crate::indexed::IndexedNet;
-use crate::listing::{add_reset, list_ready, relist};
-use crate::moves::is_reset;
+use crate::listing::{add_reset, list_ready, relist, retest_channel};
+use crate::moves::{in_reset, is_reset};
 use crate::node_set::NodeSet;
 use crate::ran::{End, Ran};
 use env_script::{Hazard, Script};
@@ -131,6 +132,22 @@ impl Stage {
         })
     }
 
+    /// The net.
+    pub fn net(&self) -> &Net
+        ensures net { result.now ≡ self.now.net }
+        ensures is_net { IsNet self.now.net }
+        ensures script { IsScript (net_channels self.now.net) self.now.script }
+    {
+        self.indexed.net()
+    }
+
+    /// Whether the net has a reset node and it is high.
+    pub fn in_reset(&self) -> bool
+        ensures { result ≡ in_reset self.now.net.reset (high self.now.values) }
+    {
+        in_reset(self.indexed.net(), &self.state)
+    }
+
     /// The enabled moves, in ascending order.
     pub fn moves(&self) -> &[u32]
         ensures { result.now ≡ moves_now self.now }
@@ -217,6 +234,56 @@ impl Stage {
         );
         self.pulled = pulled_behind(&self.indexed, &self.state, node, self.pulled);
         worst_cause(self.pulled, lost, broken)
+    }
+
+    /// The channel whose acknowledge the node is.
+    pub fn acknowledged(&self, node: u32) -> Option<u32>
+        requires { node < length self.now.net.first }
+        ensures { result ≡ channel_acknowledged self.now.net.channels node }
+    {
+        self.indexed.acknowledged(node)
+    }
+
+    /// The channel and the value that a move of the node would complete.
+    pub fn completion(&self, node: u32) -> Option<(u32, u64)>
+        requires { node < length self.now.net.first }
+        ensures { result ≡ completion self.now.net (high self.now.values) node }
+    {
+        self.indexed.completion(&self.state, node)
+    }
+
+    /// Whether the acknowledge of the channel is low and all that is offered on it has completed.
+    pub fn is_idle(&self, chan: u32) -> bool
+        requires { chan < length self.now.net.channels }
+        ensures { result ≡ is_idle self.now.net self.now.script (now_of self.now) chan }
+    {
+        let ack = self.indexed.net().channels()[chan as usize].ack;
+        if self.state.is_high(ack) {
+            return false;
+        }
+        match self.indexed.number(chan) {
+            None => false,
+            Some(number) => number <= self.done[chan as usize],
+        }
+    }
+
+    /// Offers one more value on an idle channel, which stands for those before it too, or makes one more acceptance.
+    /// No reset is on.
+    pub fn add(&mut self, chan: u32, value: u64)
+        requires chan { chan < length self.old.net.channels }
+        requires idle { is_idle self.old.net self.old.script (now_of self.old) chan ≡ true }
+        requires low { in_reset self.old.net.reset (high self.old.values) ≡ false }
+        requires script { IsScript (net_channels self.old.net) (script_and chan value self.old.script) }
+        ensures { self.new ≡ record self.old { script = script_and chan value self.old.script } }
+    {
+        self.indexed.add(chan, value);
+        retest_channel(
+            &self.indexed,
+            &self.done,
+            &self.state,
+            chan,
+            &mut self.moves,
+        );
     }
 
     /// Whether the node is high.

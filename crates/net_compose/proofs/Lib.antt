@@ -22,6 +22,10 @@ pub mod HalvedNumbers
 pub mod CircuitSizes
 pub mod HalvedCarried
 pub mod RunsOn
+pub mod TimeKept
+pub mod PlainTime
+pub mod RenamedLayers
+pub mod TranslationTime
 pub mod RunsEnd
 pub mod OnceEach
 pub mod ResetProgress

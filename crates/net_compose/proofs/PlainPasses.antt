@@ -100,7 +100,7 @@ has_bit (v ∷ vs) (suc x) i h = let r = has_bit vs x i h in omega (arith, r)
 has_joint : (vs : List Var) (x k : ℕ) → k < joint_count (var_width vs x) → x < length vs
 has_joint vs x k h = has_bit vs x 0 (let e = joint_count_is (var_width vs x) in omega (arith, h, e))
 
-fine_node : (P : TypedProgram) (given : Given P) (n : Node P.body) → is_node P n ≡ true → Fine P given n
+pub fine_node : (P : TypedProgram) (given : Given P) (n : Node P.body) → is_node P n ≡ true → Fine P given n
 fine_node P given go_node h = tt
 fine_node P given (own_node child) h = tt
 fine_node P given (own_node latch) h = tt
@@ -218,7 +218,7 @@ module _ (P : TypedProgram) (given : Given P) where
       by true e = sym (found (high_member P 0 P.vars (var_from P y + offset (var_width P.vars y) b) e))
       by false e = sym (none b e)
 
-  starts : Shows P given (begin_at (translation P) (translation P).first) (first_cells P)
+  pub starts : Shows P given (begin_at (translation P) (translation P).first) (first_cells P)
   starts = record {
     count = ap length first_is ∙ (length-raised (vars_high P 0 P.vars) (replicate (nodes_of P) false) ∙ length-replicated (nodes_of P));
     go = low_there 0 (omega arith) (inl (omega arith));

@@ -275,7 +275,7 @@ module _ (names more_names : List (List ℕ)) (firsts more_firsts : List Bool) (
         let p = is.past n le in
         still_past names firsts rules ws low is.wires is.some script st n (omega (arith, le, w)) p.0 p.1
 
-    past_other : (st : RunState) (n : ℕ) → count ≤ n → move_enabled B script st n ≡ false
+    pub past_other : (st : RunState) (n : ℕ) → count ≤ n → move_enabled B script st n ≡ false
     past_other st n le =
         let w = is.within in
         let p = is.past_there n le in

@@ -3,6 +3,7 @@ pub mod Translation
 pub mod Carries
 pub mod Points
 pub mod Progress
+pub mod Time
 pub mod Sized
 pub mod Begins
 pub mod WiresBelow

@@ -5,6 +5,7 @@ ghost use Rattle.prs_core.specs.Nets.{NetValue, IsRules, IsNet};
 ghost use Rattle.width_check.specs.Processes.{TypedProgram};
 ghost use Rattle.width_check.specs.Typing.{IsTyped};
 ghost use Rattle.handshake_expand.specs.Layout.{nodes_of};
+ghost use Rattle.chp_meaning.specs.Halves.{halved_program, ReadsNoTarget};
 ghost use Rattle.net_compose.specs.Translation.{composed, translation};
 ghost use Rattle.net_compose.specs.Carries.{Carries, ResetCarries};
 ghost use Rattle.net_compose.specs.Points.{
@@ -22,12 +23,15 @@ ghost use Rattle.net_compose.specs.Progress.{
 };
 ghost use Rattle.net_compose.specs.Sized.{IsOfSize};
 ghost use Rattle.net_compose.specs.PartNumbers.{TranslationTakesTurns};
+ghost use Rattle.net_compose.specs.Time.{KeepsTime, sweeps_for_round};
 
+use cell_parallel::laws::tree_settles;
 use chp_meaning::laws::{
     halves_are_plain, halves_follow, halves_keep_pace, one_end, one_history, rounds_hold,
     runs_append, steps_taken,
 };
 use circuit_places::laws::{circuits_carry, parts_take_turns};
+use function_blocks::laws::expressions_hold;
 use reset_runs::reset_runs;
 
 /// Law: the net of each typed program that meets the sharing rule carries it, whatever it is made of: skip, sends of
@@ -150,6 +154,33 @@ pub fn whole_nets()
     function_blocks::laws::rules_counted();
     cell_parallel::laws::tree_counted();
     nets_hold();
+}
+
+/// Law: the net of each such program, no assignment of which reads its own target, keeps time. A sweep of a run is a
+/// stretch of it in which each node moves that was enabled when it began. Every run whose moves begin with 2 nodes + 1
+/// sweeps for each of n rounds of the program has passed what these pass, under every script and in whatever order the
+/// nodes switch: so no part of the program waits for ever on another one that goes on.
+pub fn plain_nets_keep_time()
+    ensures { (p : TypedProgram) → IsTranslated p → ReadsNoTarget p.body → nodes_of p ≤ 65536 → IsRules (composed p) →
+        KeepsTime (translation p) p (sweeps_for_round p) }
+{
+    carries();
+    nets_hold();
+    tree_settles();
+    expressions_hold();
+}
+
+/// Law: the net of each such program, whatever it is made of, does so with the rounds of the program in halves, in
+/// which an assignment that reads its own target takes two steps.
+pub fn nets_keep_time()
+    ensures { (p : TypedProgram) → IsTranslated p → nodes_of p ≤ 65536 → IsRules (composed p) →
+        KeepsTime (translation p) (halved_program p) (sweeps_for_round p) }
+{
+    carries();
+    nets_hold();
+    halves_are_plain();
+    tree_settles();
+    expressions_hold();
 }
 
 /// Law: in each state of each run of the net of a typed program that meets the sharing rule, the statements in it take

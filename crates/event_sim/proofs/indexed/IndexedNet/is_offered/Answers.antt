@@ -9,14 +9,14 @@ use Rattle.event_sim.specs.Locality.{IndexedValue}
 use Rattle.event_sim.proofs.HomeLemmas.{home_within, offered_nowhere, offered_there}
 use Rattle.event_sim.proofs.indexed.IndexedNet.is_offered.Goals as goal
 
-pub offer-offer-requires : goal.offer-offer-requires
-offer-offer-requires c =
+pub moves-requires-clause-chan : goal.moves-requires-clause-chan
+moves-requires-clause-chan c =
     let s = c.args.self.now in
     let within = home_within s.net c.args.node c.in-Some.chan (Some c.in-Some.chan) c.in-Some.ensures.home refl in
     omega (arith, within, one_each s.net s.script c.in-Some.ensures.script, ap (λ (x : IndexedValue). length x.script) c.self.view_is)
 
-pub offer_moves-requires-clause-wired : goal.offer_moves-requires-clause-wired
-offer_moves-requires-clause-wired c =
+pub moves-requires-clause-wired : goal.moves-requires-clause-wired
+moves-requires-clause-wired c =
     let net = c.args.self.now.net in
     let all : c.channels.result.now ≡ net.channels = c.channels.ensures.channels ∙ ap (λ (x : IndexedValue). x.net.channels) c.self.view_is in
     let within = home_within net c.args.node c.in-Some.chan (Some c.in-Some.chan) c.in-Some.ensures.home refl in
@@ -36,6 +36,6 @@ returns-in-Some c =
     let w = c.index-channels-chan.result in
     let all : c.channels.result.now ≡ s.net.channels = c.channels.ensures.channels ∙ ap (λ (x : IndexedValue). x.net.channels) c.self.view_is in
     let here : w ≡ get_or s.net.channels k w = c.index-channels-chan.is ∙ ap (λ (ws : List Wires). get_or ws k w) all in
-    let offer = c.offer-offer.ensures ∙ ap (λ (x : IndexedValue). offer_at x.script k) c.self.view_is in
-    c.offer_moves.ensures ∙ ap (λ (o : OfferValue). offer_moves (high c.args.state.now) w o (slice_index c.args.done.now k) n) offer
+    let offer = ap (λ (x : IndexedValue). offer_at x.script k) c.self.view_is in
+    c.moves.ensures ∙ ap (λ (o : OfferValue). offer_moves (high c.args.state.now) w o (slice_index c.args.done.now k) n) offer
     ∙ offered_there s.net s.script (slice_index c.args.done.now) (high c.args.state.now) n k w (Some k) c.in-Some.ensures.home refl here

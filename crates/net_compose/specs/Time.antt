@@ -1,0 +1,35 @@
+-- How soon a net passes what its program passes, counted in sweeps. No time stands in it, and both kinds follow: where each
+-- enabled move is made within a delay, a sweep takes no longer; where each is made within so many moves, it has no more.
+use Rattle.std.specs.Prelude.{◌≡◌, ◌*◌, ℕ, suc, List, ◌++◌}
+use Rattle.prs_core.specs.Nets.{NetValue}
+use Rattle.env_script.specs.Scripts.{OfferValue, IsScript}
+use Rattle.env_script.specs.Runs.{RunState, history_at, begin_at, after, IsRun}
+use Rattle.env_script.specs.Sweeps.{Sweeps, Layers}
+use Rattle.width_check.specs.Processes.{TypedProgram}
+use Rattle.handshake_expand.specs.Layout.{nodes_of}
+use Rattle.chp_meaning.specs.Steps.{Configuration}
+use Rattle.chp_meaning.specs.Rounds.{rounds}
+
+-- on each channel the circuit has passed all that the program has, and maybe more
+abbrev pub HasPassed : RunState → Configuration → Type 0
+HasPassed st c = (k : ℕ) → (rest : List ℕ) × (history_at st.histories k ≡ history_at c.histories k ++ rest)
+
+-- Each run from the net's first values, under every script and in every order, whose moves begin with so many sweeps for each
+-- of n rounds of the program, has passed what these pass.
+abbrev pub KeepsTime : NetValue → TypedProgram → (sweeps : ℕ) → Type 0
+KeepsTime net p sweeps =
+    (script : List OfferValue) → IsScript p.channels script
+    → (moves : List ℕ) → IsRun net script (begin_at net net.first) moves
+    → (n : ℕ) → Sweeps net script (begin_at net net.first) (n * sweeps) moves
+    → HasPassed (after net (begin_at net net.first) moves) (rounds p script n)
+
+-- For each number of rounds there is one run of as many layers for each that has passed what they pass.
+abbrev pub HasLayers : NetValue → TypedProgram → (layers : ℕ) → Type 0
+HasLayers net p layers =
+    (script : List OfferValue) → IsScript p.channels script → (n : ℕ)
+    → (moves : List ℕ) × Layers net script (begin_at net net.first) (n * layers) moves
+    × HasPassed (after net (begin_at net net.first) moves) (rounds p script n)
+
+-- two sweeps for each node and one more, for each round
+abbrev pub sweeps_for_round : TypedProgram → ℕ
+sweeps_for_round p = suc (2 * nodes_of p)
