@@ -5,8 +5,8 @@ use Rattle.prs_core.specs.Nets.{RulesValue, NodeRules, IsAlone}
 use Rattle.prs_core.specs.Parts.{Owned, owned, owned_from, with_owned}
 use Rattle.cell_parallel.specs.Trees.{level_rules, next_level, levels_rules, tree_rules, tree_owned}
 use Rattle.cell_parallel.specs.Sizes.{level_length, next_length}
-use Rattle.prs_core.specs.Writing.{IsOther, alone_same, alone_on, with_append, other_left, other_right}
-use Rattle.prs_core.specs.Partly.{IsPartly, partly_none, partly_of, partly_on}
+use Rattle.prs_core.specs.Writing.{IsOther, alone_on, with_append, other_left, other_right}
+use Rattle.prs_core.specs.Partly.{IsPartly, partly_of, partly_on}
 use Rattle.cell_parallel.proofs.Levels.{short_rules}
 
 -- more levels than are needed are none
@@ -58,20 +58,6 @@ pub record Grown (leaves : List ℕ) (from : ℕ) (old : RulesValue) (level : Li
   pub partly : IsPartly (tree_owned leaves from) old now
   pub among : (o : Owned) → Contains (tree_owned level next) o → Contains (tree_owned leaves from) o
 
-pub grown_begin : (leaves : List ℕ) (from : ℕ) (old : RulesValue) → 0 < length leaves → All (λ n. n < length old.up) leaves →
-    Grown leaves from old leaves from old
-grown_begin leaves from old some within = record {
-  some = some;
-  within = within;
-  place = refl;
-  written = refl;
-  count = refl;
-  others = λ node o. alone_same old node;
-  rest = λ node o. o;
-  partly = partly_none (tree_owned leaves from) old old refl;
-  among = λ o k. k;
-}
-
 -- also where memory runs out in a level
 pub grown_partly : (leaves : List ℕ) (from : ℕ) (old : RulesValue) (level : List ℕ) (next : ℕ) (now later : RulesValue) → Grown leaves from old level next now →
     IsPartly (owned_from next (level_rules level)) now later → IsPartly (tree_owned leaves from) old later
@@ -111,9 +97,3 @@ grown_alone leaves from old level next now later so_far far node o =
     let us : List Owned = tree_owned (next_level level next) (next + length level / 2) in
     alone_on old now later node (so_far.others node o)
     (far node (other_left node (owned_from next (level_rules level)) us (subst (IsOther node) (tree_parts level next) (so_far.rest node o))))
-
-pub grown_end : (leaves : List ℕ) (from : ℕ) (old : RulesValue) (level : List ℕ) (next : ℕ) (now : RulesValue) → Grown leaves from old level next now →
-    length level ≤ 1 → now ≡ with_owned (tree_owned leaves from) old
-grown_end leaves from old [] next now so_far short = so_far.written
-grown_end leaves from old (p ∷ []) next now so_far short = so_far.written
-grown_end leaves from old (p ∷ q ∷ level) next now so_far short = absurd (omega arith)

@@ -4,8 +4,8 @@ use Rattle.std.proofs.lemmas.List.{length_push, take_all}
 use Rattle.std.proofs.lemmas.List.Elements.{All-head, All-tail, Contains-append_left, Contains-append_right}
 use Rattle.prs_core.specs.Nets.{RulesValue, IsAlone, with_rules}
 use Rattle.prs_core.specs.Parts.{Owned, owned, owned_from, with_owned}
-use Rattle.prs_core.specs.Writing.{IsOther, alone_same, alone_on}
-use Rattle.prs_core.specs.Partly.{IsPartly, partly_none, partly_all, partly_of, partly_on}
+use Rattle.prs_core.specs.Writing.{IsOther, alone_on}
+use Rattle.prs_core.specs.Partly.{IsPartly, partly_all, partly_of, partly_on}
 use Rattle.cell_parallel.specs.Trees.{c_element, level_rules, next_level}
 
 -- while a level is joined: what is left of it, and the nodes of the level above so far
@@ -19,20 +19,6 @@ pub record Joined (nodes : List ℕ) (from : ℕ) (old : RulesValue) (left above
   pub rest : (node : ℕ) → IsOther node (owned_from from (level_rules nodes)) → IsOther node (owned_from (from + length above) (level_rules left))
   pub partly : IsPartly (owned_from from (level_rules nodes)) old now
   pub among : (o : Owned) → Contains (owned_from (from + length above) (level_rules left)) o → Contains (owned_from from (level_rules nodes)) o
-
-pub joined_begin : (nodes : List ℕ) (from : ℕ) (old : RulesValue) → All (λ n. n < length old.up) nodes → Joined nodes from old nodes [] old
-joined_begin nodes from old h =
-    let e : from + 0 ≡ from = omega arith in record {
-      within = h;
-      place = omega arith;
-      upper = ap (next_level nodes) e;
-      written = ap (λ k. with_owned (owned_from k (level_rules nodes)) old) e;
-      count = refl;
-      others = λ node o. alone_same old node;
-      rest = λ node o. subst (λ k. IsOther node (owned_from k (level_rules nodes))) (sym e) o;
-      partly = partly_none (owned_from from (level_rules nodes)) old old refl;
-      among = λ o k. subst (λ n. Contains (owned_from n (level_rules nodes)) o) e k;
-    }
 
 -- one C-element more
 pub joined_one : (nodes : List ℕ) (from : ℕ) (old : RulesValue) (p q : ℕ) (rest above : List ℕ) (now later : RulesValue) →
@@ -106,21 +92,7 @@ joined_after nodes from old (p ∷ []) above node now later so_far long at is = 
 joined_after nodes from old (p ∷ q ∷ left) above node now later so_far long at is =
     joined_one nodes from old p q left above now later so_far (is ∙ ap (λ k. with_rules k (c_element p q) now) at)
 
-pub short_next : (ls : List ℕ) (from : ℕ) → length ls ≤ 1 → next_level ls from ≡ ls
-short_next [] from h = refl
-short_next (p ∷ []) from h = refl
-short_next (p ∷ q ∷ ls) from h = absurd (omega arith)
-
 pub short_rules : (ls : List ℕ) → length ls ≤ 1 → level_rules ls ≡ []
 short_rules [] h = refl
 short_rules (p ∷ []) h = refl
 short_rules (p ∷ q ∷ ls) h = absurd (omega arith)
-
-pub joined_above : (nodes : List ℕ) (from : ℕ) (old : RulesValue) (left above : List ℕ) (now : RulesValue) → Joined nodes from old left above now →
-    length left ≤ 1 → above ++ left ≡ next_level nodes from
-joined_above nodes from old left above now so_far few = ap (λ l. above ++ l) (sym (short_next left (from + length above) few)) ∙ so_far.upper
-
-pub joined_rules : (nodes : List ℕ) (from : ℕ) (old : RulesValue) (left above : List ℕ) (now : RulesValue) → Joined nodes from old left above now →
-    length left ≤ 1 → now ≡ with_owned (owned_from from (level_rules nodes)) old
-joined_rules nodes from old left above now so_far few = ap (λ l. with_owned (owned_from (from + length above) l) now) (sym (short_rules left few))
-    ∙ so_far.written

@@ -103,10 +103,6 @@ settled_same t c p q t' c' p' q' et ec ep eq s =
 settled_both : (t c p q : Bool) → c ≡ t → settled t c p q ≡ true
 settled_both t c p q e = subst (λ x. settled t x p q ≡ true) (sym e) (settled_top t p q)
 
-each_from : (P : ℕ → Type 0) (ns : List ℕ) → ((n : ℕ) → Contains ns n → P n) → Each P ns
-each_from P [] f = tt
-each_from P (n ∷ ns) f = (f n (0, omega arith, refl), each_from P ns (λ k among. f k (Contains-append_right (n ∷ []) ns k among)))
-
 each_weaker : (P Q : ℕ → Type 0) (ns : List ℕ) → ((n : ℕ) → Contains ns n → P n → Q n) → Each P ns → Each Q ns
 each_weaker P Q [] f e = tt
 each_weaker P Q (n ∷ ns) f e = (f n (0, omega arith, refl) e.0, each_weaker P Q ns (λ k among. f k (Contains-append_right (n ∷ []) ns k among)) e.1)

@@ -1,8 +1,8 @@
 -- The guards of a merge are over its inputs alone.
-use Rattle.std.proofs.Common.{◌≡◌, ℕ, ◌<◌, List, [], ◌∷◌, All, map, sym, subst}
+use Rattle.std.proofs.Common.{◌≡◌, ℕ, ◌<◌, List, [], ◌∷◌, All, map}
 use Rattle.std.proofs.lemmas.List.Elements.{All-nil, All-cons, All-head, All-tail}
 use Rattle.prs_core.specs.declared.rule.Literal.{Literal}
-use Rattle.prs_core.specs.Nets.{GuardValue, IsBelow, is_high, is_low}
+use Rattle.prs_core.specs.Nets.{IsBelow, is_high, is_low}
 use Rattle.prs_core.specs.Pairs.{lows}
 
 term_below : (count n : ℕ) → n < count → All (λ (l : Literal). l.node < count) (is_high n ∷ [])
@@ -23,7 +23,3 @@ literals_below count (n ∷ ns) h =
 pub lows_below : (count : ℕ) (ns : List ℕ) → All (λ n. n < count) ns → IsBelow count (lows ns ∷ [])
 lows_below count ns h = All-cons (λ t. All (λ (l : Literal). l.node < count) t) (lows ns) [] (literals_below count ns h)
     (All-nil (λ t. All (λ (l : Literal). l.node < count) t))
-
--- the same where the rules have had a guard replaced
-pub lows_within : (count later : ℕ) (ns : List ℕ) (g : GuardValue) → g ≡ lows ns ∷ [] → later ≡ count → All (λ n. n < count) ns → IsBelow later g
-lows_within count later ns g is same h = subst (λ k. IsBelow k g) (sym same) (subst (IsBelow count) (sym is) (lows_below count ns h))

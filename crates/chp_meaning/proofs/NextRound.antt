@@ -1,10 +1,8 @@
 -- The plan of a round is the round.
-use Rattle.std.proofs.Common.{◌≡◌, ◌⊎◌, ℕ, zero, suc, ◌+◌, ◌<◌, ◌≤◌, Bool, true, false, cond, List, [], ◌∷◌, ◌++◌, length, get_or, drop, map, set, replicate, refl, sym, ap, ◌∙◌, subst, inl, inr, arith}
+use Rattle.std.proofs.Common.{◌≡◌, ◌⊎◌, ℕ, zero, suc, ◌+◌, ◌<◌, ◌≤◌, Bool, true, false, cond, List, [], ◌∷◌, ◌++◌, length, get_or, map, set, replicate, refl, sym, ap, ◌∙◌, subst, inl, inr, arith}
 use Rattle.std.specs.Prelude.{if◌then◌else◌, fold, All, is_some, option_to_list, slice_index_or, count_by, Option, Some, None}
 use Rattle.std.proofs.lemmas.Bool.{lt-ltb, ltb-true}
-use Rattle.std.proofs.lemmas.List.{length-map, length-set, length-append, drop_more, drop_all}
-use Rattle.std.specs.declared.alloc.Global.{Global}
-use Rattle.std.specs.declared.vec.Vec.{Vec}
+use Rattle.std.proofs.lemmas.List.{length-map, length-set, length-append}
 use Rattle.std.proofs.lemmas.List.Sums.{sum_by-cons}
 use Rattle.chp_base.specs.declared.span.Span.{Span}
 use Rattle.env_script.specs.Scripts.{OfferValue, gives, takes, nothing, offer_at, is_over}
@@ -21,7 +19,7 @@ use Rattle.chp_meaning.specs.Steps.{Configuration, Step}
 use Rattle.chp_meaning.specs.Rounds.{round}
 use Rattle.chp_meaning.specs.Remaining.{remains_of, term_of, CanRemain, IsRunnable}
 use Rattle.chp_meaning.specs.AtOnce.{Outset, plain_move, sent_move, meeting_move, next_of, received_move, choosing_move, true_guards, guards_counted, move_of, moves_of, noted_send, noted_receive, statements, written, written_in, less, used, used_on, passed, passed_on, is_below, number_below, held_values}
-use Rattle.chp_meaning.specs.Standing.{offer_of_rest, items_of, histories_of, configuration_of, IsStanding, IsUnchanged, IsPlan, HaveMoved, AreWithin, next_outset, next_moves}
+use Rattle.chp_meaning.specs.Standing.{offer_of_rest, histories_of, configuration_of, IsStanding, IsUnchanged, IsPlan, HaveMoved, AreWithin, next_outset, next_moves}
 use Rattle.chp_meaning.proofs.Places.{In, in_either}
 use Rattle.chp_meaning.proofs.Fitting.{Fits}
 use Rattle.chp_meaning.proofs.Settling.{all_passed_length}
@@ -242,20 +240,6 @@ pub unchanged_same : (body : Process) (c d : Config) → IsUnchanged c d → con
 unchanged_same body c d u = same_parts (configuration_of body d) (configuration_of body c) (ap (λ l. term_of body (remains_of l)) u.left_is) u.store
     (ap (λ v. map offer_of_rest v.items) u.rests) u.histories
 
-pub unchanged_stands : (body : Process) (c d : Config) → IsStanding body c → IsUnchanged c d → IsStanding body d
-unchanged_stands body c d s u =
-    let n : length d.rests.items ≡ length c.rests.items = ap (λ v. length v.items) u.rests in
-    let m : length d.store.items ≡ length c.store.items = ap (λ (xs : List ℕ). length xs) u.store in
-    let h : length d.histories.items ≡ length c.histories.items = sym (length-map d.histories.items (λ x. x.items))
-    ∙ (ap (λ (xs : List (List ℕ)). length xs) u.histories ∙ length-map c.histories.items (λ x. x.items)) in
-    record {
-      runnable = subst (λ k. IsRunnable k (length d.store.items) body) (sym n) (subst (λ k. IsRunnable (length c.rests.items) k body) (sym m) s.runnable);
-      remains = subst (λ l. CanRemain body (remains_of l)) (sym u.left_is) s.remains;
-      histories = h ∙ (s.histories ∙ sym n);
-      sends = u.sends ∙ (s.sends ∙ ap (λ k. replicate k false) (sym n));
-      receives = u.receives ∙ (s.receives ∙ ap (λ k. replicate k None) (sym n));
-    }
-
 -- how many values have passed
 
 pub held_set : (hs : List (List ℕ)) (k : ℕ) (h : List ℕ) → k < length hs → held_values (set hs k (get_or hs k [] ++ h)) ≡ held_values hs + length h
@@ -329,16 +313,6 @@ unchanged_after c d e u v = record {
 
 pub planned_of : (body : Process) (c : Config) (left : Left) (all some : List Move) → some ≡ all → IsPlan body c left all → IsPlan body c left some
 planned_of body c left all some e p = record { left_is = p.left_is; moves_are = e ∙ p.moves_are }
-
--- the histories from a place on
-pub held_next : (hs : List (Vec ℕ Global)) (i : ℕ) (h : Vec ℕ Global) → i < length hs → h ≡ get_or hs i h →
-    held_values (items_of (drop i hs)) ≡ length h.items + held_values (items_of (drop (i + 1) hs))
-held_next hs i h lt at =
-    ap (λ xs. held_values (items_of xs)) (drop_more hs i h lt) ∙ (ap (λ (x : Vec ℕ Global). held_values (x.items ∷ items_of (drop (i + 1) hs))) (sym at)
-    ∙ sum_by-cons length h.items (items_of (drop (i + 1) hs)))
-
-pub held_last : (hs : List (Vec ℕ Global)) (i : ℕ) → length hs ≤ i → held_values (items_of (drop i hs)) ≡ 0
-held_last hs i le = ap (λ xs. held_values (items_of xs)) (drop_all i hs le)
 
 pub planned_held : (body : Process) (c : Config) (left : Left) (moves : List Move) → IsStanding body c → Fits (configuration_of body c).term →
     IsPlan body c left moves → held_values (round (configuration_of body c)).histories ≡ held_values (histories_of c) + passing moves

@@ -139,10 +139,6 @@ torn_put false = refl
 
 -- what is noted
 
-pub fold_append : {A B : Type 0} (f : B → A → B) (b : B) (xs ys : List A) → fold f b (xs ++ ys) ≡ fold f (fold f b xs) ys
-fold_append f b [] ys = refl
-fold_append f b (x ∷ xs) ys = fold_append f (f b x) xs ys
-
 pub send_length : (w : Bool) (sends : List Bool) (p : Process) → length (noted_send w sends p) ≡ length sends
 send_length w sends skipping = refl
 send_length w sends (assigning x s e) = refl
@@ -178,22 +174,10 @@ statements_more p xs i x lt at =
     ap (each_statements p i) (left_more xs i x lt at) ∙ ap (λ k. statements (part_of p i) (remains_of x) ++ each_statements p k (several_of (drop (i + 1) xs)))
     e
 
-pub folded_more : {B : Type 0} (f : B → Process → B) (p : Process) (xs : List Left) (i : ℕ) (x : Left) (before after all : B) → i < length xs →
-    x ≡ get_or xs i x → after ≡ fold f before (statements (part_of p i) (remains_of x))
-    → fold f before (each_statements p i (several_of (drop i xs))) ≡ all → fold f after (each_statements p (i + 1) (several_of (drop (i + 1) xs))) ≡ all
-folded_more f p xs i x before after all lt at is so_far =
-    ap (λ b. fold f b (each_statements p (i + 1) (several_of (drop (i + 1) xs)))) is
-    ∙ (sym (fold_append f before (statements (part_of p i) (remains_of x)) (each_statements p (i + 1) (several_of (drop (i + 1) xs))))
-    ∙ (ap (fold f before) (sym (statements_more p xs i x lt at)) ∙ so_far))
-
 pub folded_start : {B : Type 0} (f : B → Process → B) (p : Process) (l : Left) (v : Vec Left Global) (xs : List Left) (b : B) → l ≡ Branches v → xs ≡ v.items
     → fold f b (each_statements p 0 (several_of (drop 0 xs))) ≡ fold f b (statements p (remains_of l))
 folded_start f p l v xs b is same = ap (λ (ys : List Left). fold f b (each_statements p 0 (several_of ys))) same
     ∙ ap (λ r. fold f b (statements p r)) (sym (branches_said l v is))
-
-pub folded_end : {B : Type 0} (f : B → Process → B) (p : Process) (xs : List Left) (i : ℕ) (b all : B) → length xs ≤ i →
-    fold f b (each_statements p i (several_of (drop i xs))) ≡ all → b ≡ all
-folded_end f p xs i b all le so_far = ap (λ s. fold f b (each_statements p i s)) (sym (no_left_more xs i le)) ∙ so_far
 
 pub remains_start : (l : Left) (v : Vec Left Global) (xs : List Left) (p : Process) → l ≡ Branches v → xs ≡ v.items → CanRemain p (remains_of l) →
     (length xs ≡ part_count p) × EachCanRemain p 0 (several_of (drop 0 xs))

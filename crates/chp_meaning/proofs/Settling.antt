@@ -2,7 +2,7 @@
 use Rattle.std.proofs.Common.{◌≡◌, ℕ, zero, suc, ◌+◌, ◌-◌, ◌<◌, ◌≤◌, true, List, [], ◌∷◌, ◌++◌, length, get_or, take, drop, map, refl, sym, ap, ◌∙◌, arith, length-append}
 use Rattle.std.specs.Prelude.{slice_set, fold, Option, Some, None, Result, Ok, Err, OnErr}
 use Rattle.std.proofs.lemmas.Bool.{ltb-true}
-use Rattle.std.proofs.lemmas.List.{map-set, set-get_or, set-set, get_or-set_same, length-set, take_more, take_at, take_all, drop_more, drop_all}
+use Rattle.std.proofs.lemmas.List.{map-set, set-get_or, set-set, get_or-set_same, length-set, take_more, take_at, drop_more}
 use Rattle.std.specs.declared.alloc.Global.{Global}
 use Rattle.std.specs.declared.vec.Vec.{Vec}
 use Rattle.env_script.specs.Scripts.{gives, offer_at}
@@ -65,10 +65,6 @@ passed_length : (hs : List (List ℕ)) (pass : Option (ℕ × ℕ)) → length (
 passed_length hs None = refl
 passed_length hs (Some w) = length-set hs w.0 (history_at hs w.0 ++ w.1 ∷ [])
 
-withdrawn_length : (hs : List (List ℕ)) (pass : Option (ℕ × ℕ)) → length (withdrawn_on hs pass) ≡ length hs
-withdrawn_length hs None = refl
-withdrawn_length hs (Some w) = length-set hs w.0 (shorter (history_at hs w.0))
-
 pub all_passed_length : (hs : List (List ℕ)) (ms : List Move) → length (fold passed hs ms) ≡ length hs
 all_passed_length hs [] = refl
 all_passed_length hs (m ∷ ms) = all_passed_length (passed hs m) ms ∙ passed_length hs m.pass
@@ -83,9 +79,6 @@ fold_more f b xs i d lt = ap (fold f b) (take_more xs i d lt) ∙ fold_push f b 
 
 pub less_given : (vs : List ℕ) (i : ℕ) → i < length vs → gives (drop (i + 1) vs) ≡ less (gives (drop i vs))
 less_given vs i lt = sym (ap (λ xs. less (gives xs)) (drop_more vs i 0 lt))
-
-pub less_none : (vs : List ℕ) (i : ℕ) → length vs ≤ i → gives (drop i vs) ≡ less (gives (drop i vs))
-less_none vs i le = ap gives (drop_all i vs le) ∙ sym (ap (λ xs. less (gives xs)) (drop_all i vs le))
 
 pub in_range : (n : ℕ) (pass : Option (ℕ × ℕ)) (k v : ℕ) → pass ≡ Some (k, v) → is_below n pass ≡ true → k < n
 in_range n pass k v is b = below_is n (k, v) (sym (ap (is_below n) is) ∙ b)
@@ -117,6 +110,3 @@ used_one rs k d new step lt is e =
 
 pub number_in_range : (n : ℕ) (uses : Option ℕ) (k : ℕ) → uses ≡ Some k → number_below n uses ≡ true → k < n
 number_in_range n uses k is b = ltb-true k n (sym (ap (number_below n) is) ∙ b)
-
-pub given_all : (before : List (List ℕ)) (now : List (List ℕ)) (ms : List Move) → now ≡ fold passed before ms → now ≡ fold passed before (take (length ms) ms)
-given_all before now ms e = e ∙ ap (fold passed before) (sym (take_all (length ms) ms (omega arith)))

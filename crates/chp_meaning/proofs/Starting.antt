@@ -1,5 +1,5 @@
 -- A program before its first step.
-use Rattle.std.proofs.Common.{◌≡◌, ℕ, zero, suc, ◌≤◌, false, List, [], ◌∷◌, length, map, replicate, refl, sym, ap, ◌∙◌, subst, arith}
+use Rattle.std.proofs.Common.{◌≡◌, ℕ, suc, ◌≤◌, false, List, [], ◌∷◌, length, map, replicate, refl, sym, ap, ◌∙◌, subst, arith}
 use Rattle.std.specs.Prelude.{None, Result, Ok, Err, IfOk}
 use Rattle.std.proofs.lemmas.List.{length-map, length-replicate}
 use Rattle.chp_base.specs.declared.channel.Channel.{Channel}
@@ -13,9 +13,7 @@ use Rattle.chp_meaning.specs.declared.config.Config.{Config}
 use Rattle.chp_meaning.specs.Terms.{opened}
 use Rattle.chp_meaning.specs.Steps.{Configuration, no_step, start_of}
 use Rattle.chp_meaning.specs.Remaining.{remains_of, term_of, begun, IsRunnable, AreRunnable, ChoicesRunnable}
-use Rattle.chp_meaning.specs.Standing.{offer_of_rest, items_of, histories_of, configuration_of, IsStanding}
-use Rattle.chp_meaning.specs.AtOnce.{held_values}
-use Rattle.std.proofs.lemmas.List.Sums.{sum_by-cons}
+use Rattle.chp_meaning.specs.Standing.{offer_of_rest, items_of, configuration_of, IsStanding}
 use Rattle.chp_meaning.specs.Ends.{seen, IsReached, IsOf}
 use Rattle.chp_meaning.proofs.Remainders.{begins}
 use Rattle.chp_meaning.proofs.RoundAnswers.{reached_channels}
@@ -98,12 +96,3 @@ pub program_runs : (t : TypedValue) (n m : ℕ) → IsProcess t.channels t.vars 
     IsRunnable n m (process_of t.body)
 program_runs t n m is e f = subst (λ k. IsRunnable k m (process_of t.body)) (sym e)
     (subst (λ k. IsRunnable (length t.channels) k (process_of t.body)) (sym f) (process_runs t.channels t.vars (process_of t.body) is))
-
--- before the first step no value has passed
-none_held : (n : ℕ) → held_values (replicate n []) ≡ 0
-none_held zero = refl
-none_held (suc n) = let none : List ℕ = [] in omega (arith, sum_by-cons length none (replicate n none), none_held n)
-
-pub held_at_first : (body : Process) (c : Config) (store : List ℕ) (script : List OfferValue) (n most : ℕ) →
-    configuration_of body c ≡ record { term = opened body; store = store; rests = script; histories = replicate n [] } → held_values (histories_of c) ≤ most
-held_at_first body c store script n most e = omega (arith, ap (λ (x : Configuration). held_values x.histories) e, none_held n)

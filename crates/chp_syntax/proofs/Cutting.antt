@@ -181,10 +181,6 @@ gap_within n text (inr c) = (omega (arith, c.ends), omega (arith, c.ends, ap len
 pub token_within : (n : ℕ) (text : List ℕ) (kind : TokenKind) → IsToken kind n text → (0 < n) × (n ≤ length text)
 token_within n text kind is = (piece_size n text is.longest.piece, is.longest.within)
 
-pub bad_within : (n : ℕ) (text : List ℕ) → IsNoToken n text → (0 < n) × (n ≤ length text)
-bad_within n text (inl h) = (piece_size n text h.0.piece, h.0.within)
-bad_within n text (inr h) = (omega (arith, h.0), omega (arith, h.0, h.1))
-
 pub cut_end : (text : List ℕ) (ts : List Token) (i : ℕ) → i ≤ length text → length text ≤ i → Cuts 0 ts text i (drop i text) → Tokens text ts
 cut_end text ts i le ge h =
     let e : i ≡ length text = omega arith in

@@ -63,13 +63,6 @@ pub channel_seen : (k : DeclKind) (t : Option Token) → decl_front t ≡ decl.C
 channel_seen k None h = absurd (cc h)
 channel_seen k (Some t) h = channel_kind t.kind k h
 
-pub channel_within : (k : DeclKind) (all : List Token) (at : ℕ) → decl_front (sees (drop at all)) ≡ decl.Channel k → at + 1 ≤ length all
-channel_within k all at h = omega (arith, some (drop at all) h, length-drop at all)
-  where
-    some : (xs : List Token) → decl_front (sees xs) ≡ decl.Channel k → 0 < length xs
-    some [] h = absurd (cc h)
-    some (x ∷ xs) h = omega arith
-
 semicolon_ends : (d : Item) → Ends (Semicolon_then d)
 semicolon_ends d = ends_then (ends_exactly (Sign mark.Semicolon)) (λ e. ends_done d)
 

@@ -348,11 +348,6 @@ exit {T} {P} {Q} r e h f w =
     let p = err_from_is_err_and r h in
     subst (λ (s : Result T Stop). IfErr s (λ d. WhenFault d Q)) (sym p.1) (subst (λ (d : Stop). WhenFault d Q) (sym p.2) (fault_by e f w))
 
--- a token that is seen is there
-pub seen_within : (xs : List Token) (t : Token) → sees xs ≡ Some t → 0 < length xs
-seen_within [] t h = absurd (cc h)
-seen_within (x ∷ xs) t h = omega arith
-
 pub kind_within : (k : TokenKind) (all : List Token) (at : ℕ) → IsKind k (sees (drop at all)) → at + 1 ≤ length all
 kind_within k all at h = omega (arith, some (drop at all) h, length-drop at all)
   where

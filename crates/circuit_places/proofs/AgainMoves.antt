@@ -1,12 +1,12 @@
 -- The core as a port, and the guarded repetition round it.
 use Rattle.std.proofs.Common.{◌≡◌, ◌≢◌, ℕ, Bool, true, false, refl, sym, ap, ◌∙◌, subst}
-use Rattle.function_blocks.specs.Rails.{Pairs, is_apart}
-use Rattle.circuit_places.specs.Heads.{Bits, low_bits, nothing_true, all_neutral, over}
+use Rattle.function_blocks.specs.Rails.{Pairs}
+use Rattle.circuit_places.specs.Heads.{low_bits, nothing_true, all_neutral, over}
 use Rattle.circuit_places.specs.Cores.{Core, Turning, of_joined, of_ask, of_any, of_latch, of_start, RoundSpot, of_answer, of_turn, of_leave, turned_turning, core_of, turning_of}
 use Rattle.circuit_places.proofs.Modes.{goes_asks}
 use Rattle.circuit_places.proofs.HeadFacts.{snd_true, both_true, false_none, over_false, neutral_over, over_alone}
-use Rattle.circuit_places.proofs.CoreControl.{Mode, idle, running, answered, returning, asks, goes, noted, spread, freed, lock_may, uncalled, called, evaluating, latched, leaving, works, worked, reported, letting, backs, Closing, told_all, lets_turn, lets_leave, lets_any, lets_answer, closing_leave, closing_any, closing_cells, closing_own, closing_moves, core_apart}
-use Rattle.circuit_places.proofs.CoreMoves.{core_steps, core_round_steps, Guards, Branches, Story, CoreAt, in_control, in_branch, CoreSpot, own, guard, branch, core_turned, whole_rule, core_cells, core_leave, core_moves, core_turning, CoreFits, core_shown, core_left, CoreStep, stays, ends, low_still, CoreAfter}
+use Rattle.circuit_places.proofs.CoreControl.{Mode, idle, running, answered, returning, asks, goes, noted, spread, freed, lock_may, uncalled, called, evaluating, latched, leaving, works, worked, reported, letting, backs, Closing, told_all, lets_turn, lets_leave, lets_any, lets_answer, closing_cells, closing_own, closing_moves}
+use Rattle.circuit_places.proofs.CoreMoves.{core_steps, core_round_steps, Guards, Branches, Story, CoreAt, in_control, in_branch, CoreSpot, own, guard, branch, core_turned, core_cells, core_leave, core_moves, core_turning, CoreFits, core_shown, core_left, CoreStep, stays, ends, low_still, CoreAfter}
 
 abbrev pub low_core : {n : ℕ} {G Q B C S T : Type 0} → Guards n G Q → Branches n B C S T → Core n G B
 low_core {n = n} W K = core_of false false false (low_bits n) (low_bits n) W.low K.low
@@ -72,21 +72,6 @@ module _ {n : ℕ} {G Q B C S T : Type 0} (W : Guards n G Q) (K : Branches n B C
   abbrev pub again_left : {m : Mode} → Story T → AgainAt n G W.heads K.At m → T
   again_left y (turning x) = core_left W K y x
   again_left y _ = y.gone
-
-  low_apart : (r v : Bool) (x : Core n G B) → x.guards ≡ W.low → x.ask ≡ false → x.branches ≡ K.low → x.started ≡ low_bits n → (s : CoreSpot n Q C)
-      → is_apart (whole_rule W K r v x s) ≡ true
-  low_apart r v x g e b t (own s) =
-      core_apart r v (W.heads x.guards) (K.answers x.branches) x (λ z. ap (λ (g : G). all_neutral n (W.heads g)) g ∙ W.low_neutral) s
-  low_apart r v x g e b t (guard q) =
-      ap (λ (g : G). is_apart (W.rule x.ask g q)) g ∙ (ap (λ e. is_apart (W.rule e W.low q)) e ∙ W.apart false W.low q (W.begins false))
-  low_apart r v x g e b t (branch c) = ap (λ (b : B). is_apart (K.rule x.started b c)) b ∙ (ap (λ (t : Bits n). is_apart (K.rule t K.low c)) t ∙ K.low_apart c)
-
-  closing_known : {m : Mode} (c : Closing m) → closing_leave c ≡ true → closing_any c ≡ true
-  closing_known told_all e = refl
-  closing_known lets_turn e = refl
-  closing_known lets_leave e = refl
-  closing_known lets_any e = refl
-  closing_known lets_answer e = absurd (cc e)
 
 module _ {n : ℕ} {G Q B C S T : Type 0} (W : Guards n G Q) (K : Branches n B C S T) (y : Story T) where
   pub record AgainAfter {m : Mode} (x : AgainAt n G W.heads K.At m) (s : AgainSpot n Q C) : Type 0 where

@@ -10,12 +10,12 @@ use Rattle.circuit_places.specs.Heads.{Index, under}
 use Rattle.circuit_places.specs.Cores.{OwnSpot, RoundSpot}
 use Rattle.circuit_places.specs.Circuit.{Cells, GuardCells, ChoiceCells, low, low_choices, choice_answers, GuardSpot, Spot, ChoiceSpot, this_choice, other_choice, of_core, of_guard, of_choice, of_round, guards_read, heads, choice_rule, flipped, turned_choice}
 use Rattle.circuit_places.proofs.CoreControl.{Mode, idle, running, answered, isnt_running, uncalled, called, evaluating, latched, leaving, Way, Closing}
-use Rattle.circuit_places.proofs.CoreMoves.{core_steps, Guards, Branches, Begun, Lowered, Stepped, Story, CoreAt, in_control, in_branch, CoreSpot, own, guard, branch, core_cells, core_leave, core_moves, core_turned, CoreFits, core_shown, core_left, CoreStep, stays, chooses, ends, goes_on, CoreAfter, own_after, guard_after, branch_after}
+use Rattle.circuit_places.proofs.CoreMoves.{core_steps, Guards, Branches, Begun, Lowered, Stepped, Story, CoreAt, in_control, in_branch, CoreSpot, own, guard, branch, core_cells, core_moves, core_turned, CoreFits, core_shown, core_left, CoreStep, stays, chooses, ends, goes_on, CoreAfter, own_after, guard_after, branch_after}
 use Rattle.circuit_places.proofs.AgainMoves.{again_steps, AgainAt, again_rests, turning, closing, AgainSpot, round, in_core, again_cells, again_turned, again_moves, AgainFits, again_shown, again_left, AgainAfter, again_core, round_after, closing_after}
 use Rattle.circuit_places.proofs.GuardWaves.{guards_of}
 use Rattle.circuit_places.proofs.Stepping.{steps, chosen_steps}
 use Rattle.circuit_places.proofs.Opens.{open_alone, open_none}
-use Rattle.circuit_places.proofs.Places.{At, rests, at_choice, at_turning, at_closing, ChoiceAt, control_at, inside_at, ChosenAt, this_one, another, chosen_index, choice_leave, cells, choice_cells, chosen_cells, Shown, none_shown, guards_shown, shown, choice_shown, chosen_shown, writing, choice_writing, chosen_writing, Fits, ChoiceFits, ChosenFits, moves, chosen_moves, low_choice_answers, low_choice_quiet, chosen_answers, chosen_can_is}
+use Rattle.circuit_places.proofs.Places.{At, rests, at_choice, at_turning, at_closing, ChoiceAt, control_at, inside_at, ChosenAt, this_one, another, chosen_index, cells, choice_cells, chosen_cells, Shown, none_shown, guards_shown, shown, choice_shown, chosen_shown, writing, choice_writing, chosen_writing, Fits, ChoiceFits, ChosenFits, moves, chosen_moves, low_choice_answers, low_choice_quiet, chosen_answers, chosen_can_is}
 use Rattle.circuit_places.proofs.Apart.{low_choice_apart, chosen_apart}
 use Rattle.circuit_places.proofs.Meets.{GuardsMeet, ChoiceMeets, choice_sends, choice_receives}
 use Rattle.circuit_places.proofs.Left.{body_at, branch_term, choice_left, chosen_left, chosen_left_done, chosen_writing_done, left, ToldBy, Follows, chooses as it_chooses, ends as it_ends, followed_follows, here_follows}
@@ -144,10 +144,6 @@ module _ (P : TypedProgram) (env : Seen) (clean : Clean P env) (choices : Choice
   cells_back : {again : Bool} {m : Mode} (x : Core again m) → choice_cells (choice_at x) ≡ core_cells Waves Kids x
   cells_back (in_control c) = refl
   cells_back (in_branch a w) = refl
-
-  leave_back : {again : Bool} {m : Mode} (x : Core again m) → choice_leave (choice_at x) ≡ core_leave Waves Kids x
-  leave_back (in_control c) = refl
-  leave_back (in_branch a w) = refl
 
   abbrev told : {again : Bool} {m : Mode} → Core again m → Told
   told x = (choice_shown (choice_at x), choice_writing env.ack (choice_at x))

@@ -3,9 +3,9 @@ use Rattle.std.proofs.Common.{◌≡◌, ◌≢◌, ℕ, Bool, true, false, refl
 use Rattle.std.specs.Prelude.{not}
 use Rattle.function_blocks.specs.Rails.{Pairs, Rule, one_rule_fires, is_apart}
 use Rattle.circuit_places.specs.Heads.{Index, Bits, low_bits, bit_of, hot, nothing_true, all_neutral, all_valid, all_single, alone, told, over, below}
-use Rattle.circuit_places.specs.Cores.{Core, OwnSpot, of_joined, of_ask, of_any, of_latch, of_start, RoundSpot, of_answer, of_turn, of_leave, core_rule, turned_own, core_of}
-use Rattle.circuit_places.proofs.HeadFacts.{fst_true, snd_true, both_true, hot_low, hot_is, hot_turned, hot_up, alone_told, over_false, false_valid, alone_valid, told_alone, told_falls, none_falls, neutral_alone, neutral_over, over_alone}
-use Rattle.circuit_places.proofs.CoreControl.{control_steps, turning_steps, Mode, idle, running, answered, returning, asks, acks, goes, noted, spread, freed, lock_may, lock_alone, Control, uncalled, called, evaluating, latched, leaving, isnt_running, Way, works, worked, reported, letting, backs, control_leave, control_ask, control_guards, control_any, control_cells, control_moves, turning_moves, way_cells, way_moves, way_turning}
+use Rattle.circuit_places.specs.Cores.{Core, OwnSpot, of_joined, of_ask, of_any, of_latch, of_start, RoundSpot, of_answer, of_turn, of_leave, turned_own, core_of}
+use Rattle.circuit_places.proofs.HeadFacts.{fst_true, snd_true, both_true, hot_low, hot_is, hot_turned, hot_up, alone_told, over_false, false_valid, alone_valid, told_alone, told_falls, none_falls, neutral_alone, over_alone}
+use Rattle.circuit_places.proofs.CoreControl.{control_steps, turning_steps, Mode, idle, running, answered, returning, asks, acks, goes, noted, spread, freed, lock_may, Control, uncalled, called, evaluating, latched, leaving, isnt_running, Way, works, worked, reported, letting, backs, control_leave, control_ask, control_guards, control_cells, control_moves, turning_moves, way_cells, way_moves, way_turning}
 
 -- The guards as waves: under the request they become good and full, without it they empty. `good r` are the states under the
 -- request r.
@@ -118,11 +118,6 @@ module _ {n : ℕ} {G Q B C S T : Type 0} (W : Guards n G Q) (K : Branches n B C
   core_turned x (guard q) = record x { guards = W.turned x.guards q }
   core_turned x (branch c) = record x { branches = K.turned x.branches c }
 
-  abbrev pub whole_rule : (r v : Bool) → Core n G B → CoreSpot n Q C → Rule
-  whole_rule r v x (own s) = core_rule r v (W.heads x.guards) (K.answers x.branches) x s
-  whole_rule r v x (guard q) = W.rule x.ask x.guards q
-  whole_rule r v x (branch c) = K.rule x.started x.branches c
-
 module _ {again : Bool} {n : ℕ} {G Q B C S T : Type 0} (W : Guards n G Q) (K : Branches n B C S T) where
   abbrev pub core_cells : {m : Mode} → CoreAt again n G W.heads K.At m → Core n G B
   core_cells (in_control c) = control_cells W.low K.low c
@@ -169,15 +164,6 @@ module _ {again : Bool} {n : ℕ} {G Q B C S T : Type 0} (W : Guards n G Q) (K :
   core_left y (in_control (latched l i g h)) = y.wrap (K.opened i)
   core_left y (in_control (leaving t l g h)) = y.gone
   core_left y (in_branch a w) = y.wrap (K.left a)
-
-  known : {m : Mode} (c : Control again n G W.heads m) → control_leave c ≡ true → all_neutral n (W.heads (control_guards W.low c)) ≡ true → control_any c ≡ true
-  known uncalled e z = absurd (cc e)
-  known called e z = absurd (cc e)
-  known (evaluating g) e z = absurd (cc e)
-  known (latched l i g h) e z = absurd (cc e)
-  known (leaving y noted g h) e z = absurd (cc (lock_alone noted (over n (W.heads g)) (nothing_true n (W.heads g)) h refl, neutral_over n (W.heads g) z))
-  known (leaving y spread g h) e z = refl
-  known (leaving y freed g h) e z = refl
 
 -- How the statement goes on, where z is shown: not at all; it chooses the branch whose guard is true alone, or ends since all are false, both as
 -- the guards are found full under their request; or its branch goes on.

@@ -1,32 +1,13 @@
 -- What a core promises to its guards and to its branches, and where it comes to rest.
-use Rattle.std.proofs.Common.{◌≡◌, ℕ, Bool, true, false, refl, ap, ◌∙◌}
+use Rattle.std.proofs.Common.{◌≡◌, ℕ, Bool, true, false, refl, ◌∙◌}
 use Rattle.std.specs.Prelude.{◌&&◌}
-use Rattle.circuit_places.specs.Heads.{Index, Bits, bit_of, hot, all_neutral, all_valid, alone, over}
-use Rattle.circuit_places.specs.Cores.{of_joined, of_ask, of_any, of_latch, of_start, RoundSpot, of_answer, of_turn, of_leave}
-use Rattle.circuit_places.proofs.HeadFacts.{both_true, bit_none, hot_low, bit_hot, hot_is}
+use Rattle.circuit_places.specs.Heads.{Index, bit_of, hot, all_neutral, all_valid, alone, over}
+use Rattle.circuit_places.specs.Cores.{of_joined, of_ask, of_any, of_latch, of_start, RoundSpot, of_answer, of_leave}
+use Rattle.circuit_places.proofs.HeadFacts.{both_true, bit_hot}
 use Rattle.circuit_places.proofs.CoreControl.{Mode, idle, running, answered, returning, asks, acks, noted, spread, freed, uncalled, called, evaluating, latched, leaving, isnt_running, works, worked, reported, letting, backs}
-use Rattle.circuit_places.proofs.CoreMoves.{Guards, Branches, CoreAt, in_control, in_branch, CoreSpot, own, guard, branch, core_cells, core_moves, core_turning, CoreFits, Arrives}
-use Rattle.circuit_places.proofs.AgainMoves.{AgainAt, turning}
+use Rattle.circuit_places.proofs.CoreMoves.{Guards, Branches, CoreAt, in_control, in_branch, CoreSpot, own, guard, branch, core_moves, core_turning, CoreFits, Arrives}
 
 module _ {again : Bool} {n : ℕ} {G Q B C S T : Type 0} (W : Guards n G Q) (K : Branches n B C S T) where
-  -- its branch's answer is high then
-  pub start_falls : {m : Mode} (x : CoreAt again n G W.heads K.At m) (j : Index n) → core_moves W K x (own (of_start j)) ≡ true
-      → bit_of j (core_cells W K x).started ≡ true
-      → (bit_of j (K.answers (core_cells W K x).branches) ≡ true) × (bit_of j (core_cells W K x).latched ≡ false)
-  start_falls (in_branch {k = answered} a (backs any h)) j e s =
-      (ap (λ (y : Bits n). bit_of j y) (K.answers_are a) ∙ e, ap (λ (y : Bits n). bit_of j y) (hot_low (K.index a)) ∙ bit_none j)
-  start_falls (in_branch {k = returning} a (backs any h)) j e s = absurd (cc (hot_is (K.index a) j false e).1)
-  start_falls (in_branch {k = idle} a (backs any h)) j e s = absurd (cc (hot_is (K.index a) j false e).1)
-  start_falls (in_branch {k = running} a (backs any h)) j e s = absurd (cc h)
-  start_falls (in_branch a works) j e s = absurd (cc e)
-  start_falls (in_branch a worked) j e s = absurd (cc e)
-  start_falls (in_branch a reported) j e s = absurd (cc e)
-  start_falls (in_branch a letting) j e s = absurd (cc e)
-  start_falls (in_control (latched l i g h)) j e s = absurd (cc (bit_none j, s))
-  start_falls (in_control (evaluating g)) j e s = absurd (cc e)
-  start_falls (in_control uncalled) j e s = absurd (cc e)
-  start_falls (in_control called) j e s = absurd (cc e)
-  start_falls (in_control (leaving t k g h)) j e s = absurd (cc e)
 
 -- Where none of a core's nodes moves: it is called and answered alike; or its guards are full and no latch may rise; or a branch is
 -- under way of which no node moves.
@@ -65,24 +46,3 @@ core_rest W K R (in_branch {k = idle} a (backs false h)) f s t = absurd (cc (s (
 core_rest W K R (in_branch {k = running} a (backs false h)) f s t = absurd (cc h)
 core_rest W K R (in_branch {k = answered} a (backs false h)) f s t = absurd (cc (bit_hot (K.index a) true, s (own (of_start (K.index a)))))
 core_rest W K R (in_branch {k = returning} a (backs false h)) f s t = falling a (λ c. s (branch c))
-
--- and where none of a repetition's nodes moves
-pub data AgainRest {n : ℕ} {G Q B C S T : Type 0} (W : Guards n G Q) (K : Branches n B C S T) : (m : Mode) → AgainAt n G W.heads K.At m → Type 0 where
-  again_settled : {m : Mode} {x : AgainAt n G W.heads K.At m} → asks m ≡ acks m → AgainRest W K m x
-  again_stuck : (g : G) → W.good true g ≡ true → all_valid n (W.heads g) ≡ true → ((j : Index n) → alone j (W.heads g) ≡ false) → over n (W.heads g) ≡ false
-      → AgainRest W K running (turning (in_control (evaluating g)))
-  again_at_work : (a : K.At running) → ((c : C) → K.moves a c ≡ false) → AgainRest W K running (turning (in_branch a works))
-  again_falling : {any : Bool} {h : isnt_running returning ≡ true} (a : K.At returning) → ((c : C) → K.moves a c ≡ false)
-      → AgainRest W K running (turning (in_branch a (backs any h)))
-
-turning_rest : {n : ℕ} {G Q B C S T : Type 0} (W : Guards n G Q) (K : Branches n B C S T) → (m : Mode) (x : CoreAt true n G W.heads K.At m)
-    → ((t : RoundSpot) → core_turning W K x t ≡ false) → CoreRest true W K m x → AgainRest W K running (turning x)
-turning_rest W K idle (in_control uncalled) t r = absurd (cc (t of_turn))
-turning_rest W K idle (in_branch a w) t r = elim w [ ]
-turning_rest W K answered (in_control c) t r = elim c [ ]
-turning_rest W K answered (in_branch a reported) t r = absurd (cc (t of_turn))
-turning_rest W K running x t (core_settled e) = absurd (cc e)
-turning_rest W K returning x t (core_settled e) = absurd (cc e)
-turning_rest W K running _ t (stuck g f v a o) = again_stuck g f v a (o refl)
-turning_rest W K running _ t (at_work a c) = again_at_work a c
-turning_rest W K returning _ t (falling a c) = again_falling a c

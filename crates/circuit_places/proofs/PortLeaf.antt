@@ -125,9 +125,6 @@ module _ (P : TypedProgram) (c x : ℕ) (env : Seen) (clean : Clean P env) (meet
   wide : env.width (of_var x) ≡ env.width (of_channel c)
   wide = clean.wide (of_var x) ∙ (meets.widths ∙ sym (clean.wide (of_channel c)))
 
-  some : 1 ≤ env.width (of_var x)
-  some = subst (λ (n : ℕ). 1 ≤ n) (sym (clean.wide (of_var x))) meets.some
-
   -- of the own line: what it offers
   at_line : (j : Line) (b v : Bool) → va ≡ v → (same_line (of_var x) j && b) ≡ true → env.ack j ≡ v
   at_line j b v e o = ap env.ack (sym (same_line_is (of_var x) j (fst_true (same_line (of_var x) j) b o))) ∙ e

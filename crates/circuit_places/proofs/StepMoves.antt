@@ -166,9 +166,6 @@ module _ (P : TypedProgram) (script : List OfferValue) {c : Configuration} (g : 
     {m : Mode} (h : GuardedAt P.body m) (cells_stay : guarded_cells h ≡ guarded_cells g) (asked : asks m ≡ true)
     (frees : (x : ℕ) → Freed P w now (guarded_writing (line_ack P w) g x) (guarded_writing (line_ack P now) h x) x ⊥)
     (p : Place) (at : Span) (e : Formula) (stands : statement_at f.to.term p ≡ Some (assigning v at e)) (fit : Fits f.to.term) where
-  writes_now : ℕ → Bool
-  writes_now = guarded_writing (line_ack P w) g
-
   -- all its bits have what is on the rails
   valid : (is_some (value_on (var_width P.vars v) (w.rail (of_var v))) ≡ true)
       × (value_on (var_width P.vars v) (w.bit v) ≡ value_on (var_width P.vars v) (w.rail (of_var v)))

@@ -161,9 +161,6 @@ record IsSound (ds : List Decl) (e : Expression) : Type 0 where
   pub part : IsBadPart ds e → ⊥
   pub width : (s : Span) → LacksWidth ds e s → ⊥
 
-pure_leaf : (ds : List Decl) (e : Expression) → (IsBadPart ds e → ⊥) → ((s : Span) → LacksWidth ds e s → ⊥) → IsSound ds e
-pure_leaf ds e part width = record { part = part; width = width }
-
 sent_sound : (n : ℕ) (ds : List Decl) (x : Expected) → IsOurSent n ds x → Each (IsSound ds) (inside x.expression)
 sent_sound n ds x (our_sent low high (a_sum small)) = (
   record { part = λ bad. bad; width = λ s lacks. cc (lacks.0) },

@@ -36,9 +36,6 @@ module _ (p : TypedProgram) (ss : List TStmt) (i : ℕ) (all : length ss ≤ i) 
   pub branch_expanded_end : (from : ℕ) → expanded_branches p (members_in (drop i ss)) from ≡ no_children
   branch_expanded_end from = ap (λ ms. expanded_branches p ms from) (no_more_members ss i all)
 
-  pub branch_sites_end : {A : Type 0} (site : Sites A) (from : ℕ) → sites_in_branches p site (members_in (drop i ss)) from ≡ []
-  branch_sites_end site from = ap (λ ms. sites_in_branches p site ms from) (no_more_members ss i all)
-
 -- an arm, and those behind it
 module _ (p : TypedProgram) (arms : List TArm) (i : ℕ) (a : TArm) (within : i < length arms) (is : a ≡ get_or arms i a) where
   pub body_size_here : bodies_size p (choices_in (drop i arms)) ≡ size_of p (process_of a.body) + bodies_size p (choices_in (drop (i + 1) arms))

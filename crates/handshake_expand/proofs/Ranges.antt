@@ -42,9 +42,6 @@ ordered_more : (p : TypedProgram) (s : Process) (request from low high : ℕ) (m
 ordered_more p s request from low high more first rest =
     subst (λ (r : Range). (low ≤ r.from) × Ordered (r.from + r.count) high more) (sym (expanded_range p s request from)) (first, rest)
 
-ordered_from : (low high n : ℕ) (trees : PartTrees) → Ordered low high trees → low ≡ n → Ordered n high trees
-ordered_from low high n trees h e = subst (λ m. Ordered m high trees) e h
-
 turn_ordered : (p : TypedProgram) (members : Processes) (request from : ℕ) → Ordered from (from + turn_size p members) (expanded_in_turn p members request from)
 turn_ordered p no_members request from = omega arith
 turn_ordered p (and_member s no_members) request from = ordered_more p s request from from (from + size_of p s) no_children (omega arith) (omega arith)

@@ -4,7 +4,7 @@ use Rattle.std.specs.Prelude.{slice_get, Some}
 use Rattle.std.proofs.Math.Seq.{take-suc, take-length}
 use Rattle.std.proofs.lemmas.Bool.{cases_lt}
 use Rattle.std.proofs.lemmas.List.{get_or-take, get_or_append_left, take-append-drop, take-append-le}
-use Rattle.std.proofs.lemmas.Option.{slice_get-get_or, slice_get_within}
+use Rattle.std.proofs.lemmas.Option.{slice_get-get_or}
 use Rattle.history_report.specs.Comparing.{IsFrontOf, IsFirstDifference}
 
 -- alike one place further
@@ -18,23 +18,6 @@ take_further xs ys k d alike a b same =
 pub front_found : (xs ys : List ℕ) → take (length xs) xs ≡ take (length xs) ys → IsFrontOf xs ys
 front_found xs ys alike =
     (drop (length xs) ys, sym (take-append-drop (length xs) ys) ∙ ap (λ zs. zs ++ drop (length xs) ys) (sym alike ∙ take-length xs))
-
-pub differs_past : (xs ys : List ℕ) (k : ℕ) → take k xs ≡ take k ys → k < length xs → length ys ≤ k → IsFirstDifference xs ys k
-differs_past xs ys k alike within past = record {
-  alike = alike;
-  within = within;
-  differs = λ same. let there : k < length ys = slice_get_within ys k (get_or xs k 0) (sym same ∙ slice_get-get_or xs k 0 within) in
-      omega arith;
-}
-
-pub differs_there : (xs ys : List ℕ) (k : ℕ) → take k xs ≡ take k ys → k < length xs → k < length ys → get_or xs k 0 ≢ get_or ys k 0 → IsFirstDifference xs ys k
-differs_there xs ys k alike a b other = record {
-  alike = alike;
-  within = a;
-  differs = λ same. let e : Some (get_or xs k 0) ≡ Some (get_or ys k 0) = sym (slice_get-get_or xs k 0 a) ∙ (same ∙ slice_get-get_or ys k 0 b) in
-      let n : get_or xs k 0 ≡ get_or ys k 0 = cc in
-      other n;
-}
 
 -- ---- of longer lists
 

@@ -13,7 +13,7 @@ use Rattle.handshake_expand.specs.Layout.{channel_from, var_from, root_request}
 use Rattle.handshake_expand.proofs.Rows.{channel_found, no_channel, var_found, no_var}
 use Rattle.cell_variable.specs.Variables.{written_leaves, all_written}
 use Rattle.net_compose.specs.Begins.{channel_firsts, var_firsts}
-use Rattle.net_compose.specs.Translation.{rails_at, ack_at, written_at}
+use Rattle.net_compose.specs.Translation.{ack_at, written_at}
 use Rattle.net_compose.proofs.FlatBlocks.{blocks_below}
 use Rattle.net_compose.proofs.FlatWires.{wires_below}
 use Rattle.net_compose.proofs.FormulaReady.{first_at}
@@ -82,9 +82,6 @@ module _ (p : TypedProgram) (channels : List ℕ) (are : channels ≡ channel_fi
 
     pub ack_before : first + 2 * width < root_request p
     ack_before = let at = channel_at in let below = wires_below p.channels k within in omega (arith, is, wide, at, below)
-
-    pub rails_are : (rails : List ℕ) → rails ≡ rails_of (pairs_from width first) → rails ≡ rails_of (rails_at p k)
-    rails_are rails h = h ∙ (ap (λ w. rails_of (pairs_from w first)) wide ∙ ap (λ n. rails_of (pairs_from (channel_width p.channels k) n)) (is ∙ channel_at))
 
 -- the node that says that a variable is written
 

@@ -54,9 +54,6 @@ module _ (P : TypedProgram) (given : Given P) where
   root_is : 2 + wires_before P.channels (length P.channels) ≤ root_request P
   root_is = omega arith
 
-  abbrev root_rules : List NodeRules
-  root_rules = q_child go_number (root_latch P) ∷ q_latch go_number (body_answer P) ∷ rules_of P P.body (root_request P) (body_from P)
-
   abbrev behind_wires : List NodeRules
   behind_wires = vars_rules P 0 P.vars ++ (q_child go_number (root_latch P) ∷ q_latch go_number (body_answer P) ∷ rules_of P P.body (root_request P)
       (body_from P))

@@ -42,6 +42,3 @@ module _ (p : TypedProgram) (vars : List ℕ) (are : vars ≡ var_firsts p) wher
           within =
               (let b = bit_before x i l m in omega (arith, b, asked, few));
         })
-
-    abbrev IsBefore : ℕ → Type 0
-    IsBefore rail = rail < root_request p

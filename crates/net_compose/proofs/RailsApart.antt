@@ -1,13 +1,11 @@
 -- The rails of guards are all apart, and lie among the guards' own nodes.
 use Rattle.std.proofs.Common.{◌≡◌, ℕ, ◌+◌, ◌*◌, ◌<◌, ◌≤◌, List, [], ◌∷◌, ◌++◌, length, All, refl, sym, ◌∙◌, subst, arith}
-use Rattle.std.proofs.lemmas.List.{length-append}
 use Rattle.std.proofs.lemmas.List.Elements.{All-nil, All-cons, All-append}
 use Rattle.prs_core.specs.Pairs.{Pair, rails_of}
-use Rattle.width_check.specs.Processes.{Choices, no_choices, and_choice, choice_count, TypedProgram}
+use Rattle.width_check.specs.Processes.{Choices, no_choices, and_choice, TypedProgram}
 use Rattle.width_check.specs.Typing.{AreChoices}
 use Rattle.handshake_expand.specs.Layout.{formula_size, guards_size}
 use Rattle.function_blocks.specs.Expressions.{formula_result}
-use Rattle.function_blocks.proofs.Sizes.{result_length}
 use Rattle.net_compose.specs.Translation.{guard_pairs}
 use Rattle.net_compose.proofs.GuardsWritten.{rails_append}
 use Rattle.net_compose.proofs.ResultsOwn.{LieIn, result_own}
@@ -22,16 +20,6 @@ lie_among P low high (p ∷ ps) h k =
     All-cons P p.t (p.f ∷ rails_of ps) (k p.t h.0.0 h.0.1) (All-cons P p.f (rails_of ps) (k p.f h.0.2 h.0.3) (lie_among P low high ps h.1 k))
 
 module _ (p : TypedProgram) where
-  pub guards_paired : (choices : Choices) (from : ℕ) → AreChoices p.channels p.vars choices → length (guard_pairs choices from) ≡ choice_count choices
-  guards_paired no_choices from h = refl
-  guards_paired (and_choice g s more) from h =
-      let one : length (formula_result g from) ≡ 1 = result_length g from h.0.formed ∙ h.0.agrees in
-      let rest = guards_paired more (from + formula_size g) h.2 in
-      let all : length (formula_result g from ++ guard_pairs more (from + formula_size g)) ≡ length (formula_result g from) +
-      length (guard_pairs more (from + formula_size g)) =
-      length-append (formula_result g from) (guard_pairs more (from + formula_size g)) in
-      omega (arith, one, rest, all)
-
   pub rails_among : (P : ℕ → Type 0) (choices : Choices) (from : ℕ) → AreChoices p.channels p.vars choices →
       ((x : ℕ) → from ≤ x → x < from + guards_size choices → P x)
       → All P (rails_of (guard_pairs choices from))

@@ -1,21 +1,17 @@
 -- The nodes of a selection and of a guarded repetition are apart, and their own ones are numbered one behind the other.
-use Rattle.std.proofs.Common.{◌≡◌, ℕ, zero, suc, ◌+◌, ◌*◌, ◌<◌, ◌≤◌, List, [], ◌∷◌, ◌++◌, length, All, refl, sym, ap, ◌∙◌, subst, arith}
+use Rattle.std.proofs.Common.{◌≡◌, ℕ, zero, suc, ◌+◌, ◌*◌, ◌<◌, ◌≤◌, List, [], ◌∷◌, ◌++◌, All, refl, sym, ap, ◌∙◌, subst, arith}
 use Rattle.std.specs.List.{range_with_len}
-use Rattle.std.proofs.lemmas.List.{length-append}
-use Rattle.std.proofs.lemmas.List.FromFn.{length-range_with_len}
 use Rattle.prs_core.specs.Pairs.{Pair, rails_of}
-use Rattle.width_check.specs.Processes.{Choices, no_choices, and_choice, choice_count, TypedProgram}
+use Rattle.width_check.specs.Processes.{Choices, choice_count, TypedProgram}
 use Rattle.width_check.specs.Typing.{AreChoices}
-use Rattle.handshake_expand.specs.Answers.{guards_from, bodies_from, select_own, again_own}
-use Rattle.handshake_expand.specs.Layout.{size_of}
+use Rattle.handshake_expand.specs.Answers.{guards_from, bodies_from, select_own}
 use Rattle.cell_select.specs.Contract.{Branch, SelectNodes}
 use Rattle.cell_select.specs.PortNodes.{branches_from, select_of}
-use Rattle.cell_select.specs.Selections.{latches, starts, select_rules, again_rules}
+use Rattle.cell_select.specs.Selections.{latches, starts}
 use Rattle.cell_select.specs.declared.emit.SelectPorts.{SelectPorts}
-use Rattle.net_compose.specs.Translation.{guard_pairs, branch_answers, choosing_at, repeating_at}
-use Rattle.net_compose.proofs.RailsApart.{guards_paired, rails_among}
+use Rattle.net_compose.specs.Translation.{guard_pairs, branch_answers}
+use Rattle.net_compose.proofs.RailsApart.{rails_among}
 use Rattle.net_compose.proofs.ReadBack.{pairs_again}
-use Rattle.net_compose.proofs.Sizes.{latches_length, starts_length}
 
 -- numbers one behind the other
 
@@ -34,10 +30,6 @@ range_more a n b now more is at pushed =
     pushed ∙ (ap (λ (ns : List ℕ). ns ++ b ∷ []) is ∙ (ap (λ c. range_with_len a n ++ c ∷ []) at ∙ range_append a n 1 (n + 1) refl))
 
 module _ (p : TypedProgram) where
-  answers_length : (choices : Choices) (from : ℕ) → length (branch_answers p choices from) ≡ choice_count choices
-  answers_length no_choices from = refl
-  answers_length (and_choice g s more) from = ap suc (answers_length more (from + size_of p s))
-
   -- a selection of which so many nodes stand before its latches
   module _ (choices : Choices) (own from : ℕ) where
     abbrev latched : List ℕ
@@ -55,16 +47,6 @@ module _ (p : TypedProgram) where
     abbrev branches : List Branch
     branches = branches_from latched started answers pairs
 
-    rules_behind : AreChoices p.channels p.vars choices → (request : ℕ) → length (latches request pairs ++ starts latched pairs) ≡ 2 * choice_count choices
-    rules_behind h request =
-        let ls : length (latches request pairs) ≡ length pairs = latches_length request pairs in
-        let ss : length (starts latched pairs) ≡ length latched = starts_length latched pairs in
-        let n : length latched ≡ choice_count choices = length-range_with_len (from + own) (choice_count choices) in
-        let m : length pairs ≡ choice_count choices = guards_paired p choices (guards_from choices own from) h in
-        let all : length (latches request pairs ++ starts latched pairs) ≡ length (latches request pairs) + length (starts latched pairs) =
-        length-append (latches request pairs) (starts latched pairs) in
-        omega (arith, ls, ss, n, m, all)
-
     rails_below : (count : ℕ) (rails : List ℕ) → AreChoices p.channels p.vars choices → rails ≡ rails_of pairs → bodies_from choices own from ≤ count →
         All (λ n. n < count) rails
     rails_below count rails h is room =
@@ -74,15 +56,6 @@ module _ (p : TypedProgram) where
   module _ (choices : Choices) (request from : ℕ) (before : request < from) where
     abbrev select_at : SelectNodes
     select_at = record { request = request; answer = from; eval = from + 1; any = from + 2; branches = branches choices select_own from }
-
-    -- the own nodes with their rules
-    select_length : AreChoices p.channels p.vars choices → length (select_rules (choosing_at p choices request (from + 2) select_own from)) ≡
-        suc (suc (suc (2 * choice_count choices)))
-    select_length h = ap (λ n. suc (suc (suc n))) (rules_behind choices select_own from h request)
-
-    again_length : AreChoices p.channels p.vars choices →
-        length (again_rules (repeating_at p choices request from)) ≡ suc (suc (suc (suc (suc (suc (2 * choice_count choices))))))
-    again_length h = ap (λ n. suc (suc (suc (suc (suc (suc n)))))) (rules_behind choices again_own from h (from + 1))
 
     -- the ports of a selection
     module _ (ports : SelectPorts) (r : ports.request ≡ request) (a : ports.answer ≡ from) (e : ports.eval ≡ from + 1) (m : ports.any ≡ from + 2)

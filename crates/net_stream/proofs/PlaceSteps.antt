@@ -1,10 +1,9 @@
 -- From one line of a rule file to the next.
 use Rattle.std.proofs.Common.{◌≡◌, ◌∙◌, ℕ, suc, ◌+◌, ◌-◌, ◌<◌, ◌≤◌, true, false, List, [], ◌++◌, length, sym, ap, arith}
 use Rattle.std.specs.List.{flat_map, range_with_len}
-use Rattle.std.proofs.lemmas.List.{append_assoc, append-nil}
-use Rattle.prs_core.specs.declared.wires.Wires.{Wires}
+use Rattle.std.proofs.lemmas.List.{append_assoc}
 use Rattle.prs_core.specs.Nets.{NetValue, name_at, first_at, up_of, down_of}
-use Rattle.prs_file.specs.Spelling.{version_of, head_spelling, node_spelling, channel_spelling, rule_spelling, rules_spelling, spelling}
+use Rattle.prs_file.specs.Spelling.{node_spelling, rule_spelling, rules_spelling}
 use Rattle.net_stream.specs.declared.place.Place.{Place}
 use Rattle.net_stream.specs.declared.place.Place.TheVariants.{Node, Up, Down}
 use Rattle.net_stream.specs.Places.{node_lines_from, channel_lines_from, rule_lines_from, text_from, IsMadeAt}
@@ -15,30 +14,8 @@ range_front f count k within =
     let e : count - k ≡ suc (count - (k + 1)) = omega arith in
     ap (λ m. flat_map f (range_with_len k m)) e
 
-range_over : (f : ℕ → List ℕ) (count k : ℕ) → count ≤ k → flat_map f (range_with_len k (count - k)) ≡ []
-range_over f count k over =
-    let e : count - k ≡ 0 = omega arith in
-    ap (λ m. flat_map f (range_with_len k m)) e
-
-range_whole : (f : ℕ → List ℕ) (count : ℕ) → flat_map f (range_with_len 0 (count - 0)) ≡ flat_map f (range_with_len 0 count)
-range_whole f count =
-    let e : count - 0 ≡ count = omega arith in
-    ap (λ m. flat_map f (range_with_len 0 m)) e
-
 abbrev node_line_of : NetValue → ℕ → List ℕ
 node_line_of n k = node_spelling (name_at n k) (first_at n k)
-
-abbrev channel_line_of : Wires → List ℕ
-channel_line_of w = channel_spelling w.channel
-
-head_text : (n : NetValue) → head_spelling (version_of n.reset) ++ text_from n (Node 0) ≡ spelling n
-head_text n =
-    let head = head_spelling (version_of n.reset) in
-    let nodes = flat_map (node_line_of n) (range_with_len 0 (length n.first)) in
-    let channels = flat_map channel_line_of n.channels in
-    let rules = flat_map (rules_spelling n) (range_with_len 0 (length n.first)) in
-    ap (λ xs. head ++ (xs ++ (channels ++ rule_lines_from n 0))) (range_whole (node_line_of n) (length n.first))
-    ∙ ap (λ xs. head ++ (nodes ++ (channels ++ xs))) (range_whole (rules_spelling n) (length n.first) ∙ sym (append-nil rules))
 
 -- a line is appended, and what is left is the text behind it
 line_behind : (n : NetValue) (place next : Place) (line before now : List ℕ) → now ≡ before ++ line → line ++ text_from n next ≡ text_from n place →

@@ -227,10 +227,6 @@ room_second net lead next g h a b k m cap now p full more =
 pub ends_more : (ending : Ending) (g h : GuardValue) → with_ends ending (g ++ h) ≡ with_ends ending g ++ with_ends ending h
 ends_more ending g h = map-append (λ (t : List Literal). t ++ term_end ending) g h
 
--- the next of a list
-pub next_is : {X : Type 0} (xs : List X) (i : ℕ) (x : X) → i < length xs → x ≡ get_or xs i x → drop i xs ≡ x ∷ drop (i + 1) xs
-next_is xs i x within is = drop_more xs i x within ∙ ap (λ y. y ∷ drop (i + 1) xs) (sym is)
-
 -- one literal
 literal_length : (lead : Lead) (high : Bool) (name : List ℕ) → length name ≤ 32 → length (literal_behind lead high name) ≤ 64
 literal_length Rule true name short = let e = length-append name [] in omega (arith, e, short)

@@ -1,14 +1,14 @@
 -- The least number that passes, the environment under equal counts, and histories channel by channel.
-use Rattle.std.proofs.Common.{◌≡◌, ℕ, zero, suc, ◌+◌, ◌<◌, ◌≤◌, Bool, true, false, List, [], ◌∷◌, ◌++◌, length, get_or, set, map, take, drop, refl, sym, ap, ◌∙◌, arith}
+use Rattle.std.proofs.Common.{◌≡◌, ℕ, zero, suc, ◌+◌, ◌<◌, ◌≤◌, Bool, true, false, List, [], ◌∷◌, ◌++◌, length, get_or, map, refl, sym, ap, ◌∙◌, arith}
 use Rattle.std.specs.Prelude.{◌&&◌, ◌||◌, ◌==◌, if◌then◌else◌, Option, Some, None, slice_index, option_map, ◌^◌}
 use Rattle.std.proofs.lemmas.Bool.{eqb-true, eqb-false}
-use Rattle.std.proofs.lemmas.List.{length-map, drop_more, drop-set-lt, take_more_set, append_assoc}
+use Rattle.std.proofs.lemmas.List.{length-map}
 use Rattle.prs_core.specs.declared.wires.Wires.{Wires}
 use Rattle.prs_core.specs.Nets.{NetValue, IsNet, most_nodes}
 use Rattle.prs_core.specs.Moves.{high, rule_enabled, both_ways}
 use Rattle.env_script.specs.Scripts.{OfferValue, offer_at}
 use Rattle.env_script.specs.Environment.{channels_move, env_enabled, in_reset, is_reset, rules_rest, raises_go}
-use Rattle.env_script.specs.Runs.{RunState, moved, move_enabled, completed, completes, with_value, with_values}
+use Rattle.env_script.specs.Runs.{RunState, moved, move_enabled, completed}
 use Rattle.env_script.specs.Hazards.{least_below, or_else, takes_away, hazard_of}
 use Rattle.env_script.specs.Phases.{phase_fault}
 use Rattle.env_script.specs.declared.hazard.Hazard.TheVariants.{BothWays, Unstable, Protocol}
@@ -51,21 +51,6 @@ counts_are [] zero = refl
 counts_are [] (suc k) = refl
 counts_are (h ∷ hs) zero = refl
 counts_are (h ∷ hs) (suc k) = counts_are hs k
-
--- the histories of the channels before c are noted, and those of the others are still to be
-pub noted_more : (v : ℕ → Bool) (n c : ℕ) (ws : List Wires) (w : Wires) (hs : List (List ℕ)) (h : List ℕ) → c < length ws → c < length hs → w ≡ get_or ws c w →
-    h ≡ with_value (completes v w n) (get_or hs c []) → take (c + 1) (set hs c h) ++ with_values v n (drop (c + 1) ws) (drop (c + 1) (set hs c h)) ≡ take c hs
-    ++ with_values v n (drop c ws) (drop c hs)
-noted_more v n c ws w hs h here_w here_h is noted =
-    let less : c < c + 1 = omega arith in
-    rw (
-      take_more_set hs c h here_h,
-      drop-set-lt (c + 1) hs c h less,
-      drop_more ws c w here_w,
-      drop_more hs c [] here_h,
-      ← is,
-      ← noted,
-    ) (append_assoc (take c hs) (h ∷ []) _)
 
 -- an enabled move by its two tests
 pub enabled_is : (net : NetValue) (script : List OfferValue) (values : List Bool) (hs : List (List ℕ)) (done : List ℕ) (n : ℕ) (rule env : Bool) →
@@ -116,16 +101,6 @@ pub hazard_is : (old : RunValue) (net : NetValue) (state : List Bool) (n : ℕ) 
     broken ≡ hazard_of old.net old.script old.now n
 hazard_is old net state n was now broken same_net same_state before after keeps =
     rw (same_net, same_state, lost_is old.net old.script old.now n was now before after, keeps) (worst_is _ _ _)
-
-pub same_count : (f g : ℕ → Bool) (count : ℕ) (xs ys : List Bool) → xs ≡ map f (range_with_len 0 count) → ys ≡ map g (range_with_len 0 count) →
-    length ys ≡ length xs
-same_count f g count xs ys one two = count_of g count ys two ∙ sym (count_of f count xs one)
-
-pub count_after : (net : NetValue) (v : ℕ → Bool) (n : ℕ) (ws : List Wires) (hs : List (List ℕ)) → length hs ≡ length ws →
-    length (with_values v n ws hs) ≡ length hs
-count_after net v n [] hs same = refl
-count_after net v n (w ∷ ws) [] same = refl
-count_after net v n (w ∷ ws) (h ∷ hs) same = ap suc (count_after net v n ws hs (omega arith))
 
 -- the nodes before and behind a move are as many
 pub counts_fit : (old : RunValue) (net : NetValue) (was now : List Bool) → net ≡ old.net →

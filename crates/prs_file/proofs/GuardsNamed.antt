@@ -1,8 +1,8 @@
 -- A guard by the numbers of nodes, literal by literal.
-use Rattle.std.proofs.Common.{◌≡◌, ℕ, zero, suc, ◌+◌, ◌<◌, inl, inr, Bool, true, false, Some, List, [], ◌∷◌, ◌++◌, ◌≤◌, ◌-◌, length, map, get_or, take, drop, refl, ap, sym, ◌∙◌, subst, arith}
+use Rattle.std.proofs.Common.{◌≡◌, ℕ, suc, ◌+◌, ◌<◌, inl, inr, Bool, false, Some, List, [], ◌∷◌, ◌++◌, ◌≤◌, ◌-◌, length, map, get_or, take, drop, refl, ap, sym, ◌∙◌, subst, arith}
 use Rattle.std.specs.Prelude.{◌⊎◌, All, is_none}
 use Rattle.std.specs.List.{list_any}
-use Rattle.std.proofs.lemmas.Bool.{or_from, or_left, or_right}
+use Rattle.std.proofs.lemmas.Bool.{or_from}
 use Rattle.std.proofs.lemmas.List.{map-append, take_all}
 use Rattle.std.proofs.lemmas.List.Elements.{All-nil, All-cons, All-head, All-tail, All-push}
 use Rattle.std.proofs.lemmas.List.Folds.{list_any-append}
@@ -83,11 +83,6 @@ below_more names name lead l g now at all more =
 abbrev pub is_lost : List (List ℕ) → Led → Bool
 is_lost names l = is_none (place_in names l.name)
 
-pub any_at : (p : Led → Bool) (xs : List Led) (i : ℕ) (x : Led) → i < length xs → x ≡ get_or xs i x → p x ≡ true → list_any p xs ≡ true
-any_at p [] i x within at is = absurd (omega arith)
-any_at p (y ∷ ys) zero x within at is = or_left (p y) (list_any p ys) (ap p (sym at) ∙ is)
-any_at p (y ∷ ys) (suc i) x within at is = or_right (p y) (list_any p ys) (any_at p ys i x (omega arith) at is)
-
 pub none_more : (p : Led → Bool) (xs : List Led) (x : Led) → list_any p xs ≡ false → p x ≡ false → list_any p (xs ++ x ∷ []) ≡ false
 none_more p xs x none is = list_any-append p xs (x ∷ []) ∙ or_from (list_any p xs) (list_any p (x ∷ [])) none (or_from (p x) false is refl)
 
@@ -127,7 +122,3 @@ further_item [] i x some within is = absurd (omega arith)
 further_item (l ∷ ls) i x some within is =
     let at : suc i ≡ i + 1 = omega arith in
     (omega (arith, ap length (behind_is l ls)), is ∙ ap (λ xs. get_or xs i x) (behind_is l ls) ∙ ap (λ n. get_or (l ∷ ls) n x) at)
-
-pub all_taken : (leds : List Led) (i : ℕ) → 1 ≤ length leds → length (behind_first leds) ≤ i → take (i + 1) leds ≡ leds
-all_taken [] i some over = absurd (omega arith)
-all_taken (l ∷ ls) i some over = take_all (i + 1) (l ∷ ls) (omega (arith, ap length (behind_is l ls)))

@@ -42,9 +42,6 @@ unknown_right names xs ys is = list_any-append (λ w. is_none (place_in names w)
 unknown_left : (names xs ys : List (List ℕ)) → some_unknown names xs ≡ true → some_unknown names (xs ++ ys) ≡ true
 unknown_left names xs ys is = list_any-append (λ w. is_none (place_in names w)) xs ys ∙ or_left (some_unknown names xs) (some_unknown names ys) is
 
-pub one_unknown : (names wires : List (List ℕ)) (w : List ℕ) → place_in names w ≡ None → some_unknown names (wires ++ w ∷ []) ≡ true
-one_unknown names wires w is = unknown_right names wires (w ∷ []) (or_left (is_none (place_in names w)) false (ap is_none is))
-
 -- a rail that is no node makes the rails of any greater width unknown
 pub rail_unknown : (names : List (List ℕ)) (channel : List ℕ) (bit : ℕ) (o p : Option ℕ) → place_in names (true_rail channel bit) ≡ o →
     place_in names (false_rail channel bit) ≡ p → (is_none o || is_none p) ≡ true → some_unknown names (rail_names channel (bit + 1)) ≡ true
@@ -72,7 +69,3 @@ pub within_unknown : (names : List (List ℕ)) (channel : List ℕ) (bit width :
     some_unknown names (rail_names channel width) ≡ true
 within_unknown names channel bit width below is =
     subst (λ n. some_unknown names (rail_names channel n) ≡ true) (omega arith) (wider_unknown names channel (bit + 1) (width - (bit + 1)) is)
-
--- wires of which the acknowledge, or a rail, is no node
-pub rails_missing : (names rails : List (List ℕ)) (ack : List ℕ) → some_unknown names rails ≡ true → some_unknown names (rails ++ ack ∷ []) ≡ true
-rails_missing names rails ack is = unknown_left names rails (ack ∷ []) is

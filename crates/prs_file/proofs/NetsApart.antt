@@ -35,10 +35,6 @@ filter_flat : {X Y Z : Type 0} (h : Y → Option Z) (f : X → List Y) (xs : Lis
 filter_flat h f [] = refl
 filter_flat h f (x ∷ xs) = filter_map-append h (f x) (flat_map f xs) ∙ ap (λ t. filter_map h (f x) ++ t) (filter_flat h f xs)
 
-flat_each : {X Y : Type 0} (f g : X → List Y) (xs : List X) → ((x : X) → f x ≡ g x) → flat_map f xs ≡ flat_map g xs
-flat_each f g [] same = refl
-flat_each f g (x ∷ xs) same = ap (λ t. t ++ flat_map f xs) (same x) ∙ ap (λ t. g x ++ t) (flat_each f g xs same)
-
 flat_none : {X Y : Type 0} (f : X → List Y) (xs : List X) → ((x : X) → f x ≡ []) → flat_map f xs ≡ []
 flat_none f [] none = refl
 flat_none f (x ∷ xs) none = ap (λ t. t ++ flat_map f xs) (none x) ∙ flat_none f xs none

@@ -12,9 +12,6 @@ value_length false = refl
 node_length : (name : List ℕ) (first : Bool) → length (node_spelling name first) ≡ length name + 8
 node_length name first = omega (arith, length-append name (value_spelling first ++ []), ap length (append-nil (value_spelling first)), value_length first)
 
-pub node_long : (line name : List ℕ) (first : Bool) → line ≡ node_spelling name first → 8 ≤ length line
-node_long line name first e = omega (arith, ap length e, node_length name first)
-
 pub node_text : (line name : List ℕ) (first : Bool) → line ≡ node_spelling name first → take (length line - 3 - 5) (drop 5 line) ≡ name
 node_text line name first e =
     let count : length line - 3 - 5 ≡ length name = omega (arith, ap length e, node_length name first) in

@@ -79,18 +79,6 @@ pub behind_word : (line text digits : List ℕ) → line ≡ codes "prs " ++ tex
 behind_word line text digits is (inl e) = inl (append_cancel_left (codes "prs ") text digits (sym is ∙ e))
 behind_word line text digits is (inr e) = inr (append_cancel_left (codes "prs ") text (digits ++ codes "\n") (sym is ∙ e))
 
-pub spelled_as : (line text bare : List ℕ) → line ≡ codes "prs " ++ text → (bare ≡ text) ⊎ (text ≡ bare ++ codes "\n") →
-    (line ≡ codes "prs " ++ bare) ⊎ (line ≡ codes "prs " ++ bare ++ codes "\n")
-spelled_as line text bare is (inl same) = inl (is ∙ ap (λ t. codes "prs " ++ t) (sym same))
-spelled_as line text bare is (inr more) = inr (is ∙ ap (λ t. codes "prs " ++ t) more)
-
-pub no_bad_version : (line : List ℕ) → ((text : List ℕ) → line ≡ codes "prs " ++ text → ⊥) → (digits : List ℕ) → IsBadVersion line digits → ⊥
-no_bad_version line none digits is = by_end is.spelled
-  where
-    by_end : (line ≡ codes "prs " ++ digits) ⊎ (line ≡ codes "prs " ++ digits ++ codes "\n") → ⊥
-    by_end (inl e) = none digits e
-    by_end (inr e) = none (digits ++ codes "\n") e
-
 line_some : (text : List ℕ) → 0 < length (first_line text) → 0 < length text
 line_some text some = omega (arith, length-take (line_length text) text)
 

@@ -227,12 +227,6 @@ read_more line leds rest behind after next l read sign apart lead high name name
 
 -- the lines that are no rule's
 
-pub no_word : (line : List ℕ) → ((rest : List ℕ) → line ≡ codes "rule " ++ rest → ⊥) → (ls : List Led) (n : List ℕ) (u : Bool) → IsRuleForm ls n →
-    line ≡ rule_line_of ls n u → ⊥
-no_word line none [] n u form e = form.leads
-no_word line none (k ∷ more) n u form e =
-    none (body k ++ rule_line_of more n u) (e ∙ more_is k more n u ∙ ap (λ j. lead_spelling j ++ (body k ++ rule_line_of more n u)) form.leads.0)
-
 pub no_first : (line text : List ℕ) → line ≡ codes "rule " ++ text → (IsNodeName (word_in text) → ⊥) → (ls : List Led) (n : List ℕ) (u : Bool) →
     IsRuleForm ls n → line ≡ rule_line_of ls n u → ⊥
 no_first line text begins none [] n u form e = form.leads

@@ -1,8 +1,8 @@
 -- The lines of a file one after another, and the text of a rule with its leads.
-use Rattle.std.proofs.Common.{◌≡◌, ℕ, Bool, ◌+◌, ◌<◌, ◌≤◌, List, [], ◌∷◌, ◌++◌, length, get_or, drop, refl, ap, sym, ◌∙◌, arith}
+use Rattle.std.proofs.Common.{◌≡◌, ℕ, Bool, ◌+◌, ◌<◌, ◌≤◌, List, [], ◌∷◌, ◌++◌, length, drop, refl, ap, sym, ◌∙◌, arith}
 use Rattle.std.specs.Prelude.{codes}
 use Rattle.std.specs.List.{concat, flat_map, range_with_len}
-use Rattle.std.proofs.lemmas.List.{append_assoc, append-nil, map-id, drop_more, drop_all}
+use Rattle.std.proofs.lemmas.List.{append_assoc, append-nil, map-id, drop_all}
 use Rattle.std.proofs.lemmas.List.Concat.{flat_map-append}
 use Rattle.std.proofs.lemmas.List.FromFn.{map-range_with_len_more}
 use Rattle.prs_core.specs.declared.rule.Literal.{Literal}
@@ -30,19 +30,6 @@ literals_behind net lead (l ∷ ls) = literal_behind lead l.high (name_at net l.
 abbrev pub terms_behind : NetValue → Lead → GuardValue → List ℕ
 terms_behind net lead [] = []
 terms_behind net lead (t ∷ ts) = (lead_spelling lead ++ term_spelling net t) ++ terms_behind net Or ts
-
--- what is written, and what is left with one literal less
-pub literal_more : (net : NetValue) (lead : Lead) (ls : List Literal) (i : ℕ) (l : Literal) (now : List ℕ) → i < length ls → l ≡ get_or ls i l →
-    (now ++ literal_behind lead l.high (name_at net l.node)) ++ literals_behind net And (drop (i + 1) ls) ≡ now ++ literals_behind net lead (drop i ls)
-literal_more net lead ls i l now within is =
-    let here : drop i ls ≡ l ∷ drop (i + 1) ls = drop_more ls i l within ∙ ap (λ x. x ∷ drop (i + 1) ls) (sym is) in
-    rw here (append_assoc now (literal_behind lead l.high (name_at net l.node)) (literals_behind net And (drop (i + 1) ls)))
-
-pub term_more : (net : NetValue) (lead : Lead) (ts : GuardValue) (i : ℕ) (t : List Literal) (now : List ℕ) → i < length ts → t ≡ get_or ts i t →
-    (now ++ (lead_spelling lead ++ term_spelling net t)) ++ terms_behind net Or (drop (i + 1) ts) ≡ now ++ terms_behind net lead (drop i ts)
-term_more net lead ts i t now within is =
-    let here : drop i ts ≡ t ∷ drop (i + 1) ts = drop_more ts i t within ∙ ap (λ x. x ∷ drop (i + 1) ts) (sym is) in
-    rw here (append_assoc now (lead_spelling lead ++ term_spelling net t) (terms_behind net Or (drop (i + 1) ts)))
 
 -- a literal behind its lead, in the pieces of a term
 literal_is : (net : NetValue) (lead : Lead) (l : Literal) → literal_behind lead l.high (name_at net l.node) ≡ lead_spelling lead ++ literal_spelling net l
@@ -95,10 +82,6 @@ rule_is net (t ∷ ts) node up before some =
     append_assoc before (codes "rule " ++ guard_spelling net (t ∷ ts)) (end_spelling (name_at net node) up)
     ∙ ap (λ xs. before ++ xs) (append_assoc (codes "rule ") (guard_spelling net (t ∷ ts)) (end_spelling (name_at net node) up)
     ∙ ap (λ xs. codes "rule " ++ (guard_spelling net (t ∷ ts) ++ xs)) (sym (append-nil (end_spelling (name_at net node) up))))
-
-pub no_rule_is : (net : NetValue) (g : GuardValue) (node : ℕ) (up : Bool) → length g ≡ 0 → rule_spelling net g node up ≡ []
-no_rule_is net [] node up none = refl
-no_rule_is net (t ∷ ts) node up none = absurd (omega arith)
 
 -- the parts of a file, one after another
 pub whole_text : (head nodes channels rules t0 t1 t2 t3 t4 : List ℕ) → t0 ≡ [] → t1 ≡ t0 ++ head → t2 ≡ t1 ++ nodes → t3 ≡ t2 ++ channels → t4 ≡ t3 ++ rules →

@@ -7,7 +7,7 @@ use Rattle.std.proofs.lemmas.Bool.{or_from, or_left, or_right, and_left, or_part
 use Rattle.std.proofs.lemmas.List.Folds.{list_any-append}
 use Rattle.std.proofs.lemmas.List.Elements.{All-nil, All-cons}
 use Rattle.chp_base.specs.declared.channel.Channel.{Channel}
-use Rattle.prs_file.specs.declared.fault.NetFault.TheVariants.{UnknownNode, BadFirst}
+use Rattle.prs_file.specs.declared.fault.NetFault.TheVariants.{BadFirst}
 use Rattle.prs_file.specs.Indexes.{place_in}
 use Rattle.prs_file.specs.Reading.{wires_of}
 use Rattle.prs_file.specs.WiresFound.{AreFound, some_unknown, is_high_named, wires_fault_of}
@@ -85,10 +85,6 @@ numbers_within names (w ∷ wires) (n ∷ numbers) found =
     let at : place_in names w ≡ Some n = cc found in
     let rest : AreFound names wires numbers = cc found in
     All-cons (λ n. n < length names) n numbers (place_found names w n at).0 (numbers_within names wires numbers rest)
-
-pub fault_unknown : (names : List (List ℕ)) (first : List Bool) (c : Channel) → some_unknown names (wires_of c) ≡ true →
-    wires_fault_of names first c ≡ Some UnknownNode
-fault_unknown names first c is = rw is refl
 
 pub fault_high : (names : List (List ℕ)) (first : List Bool) (c : Channel) (numbers : List ℕ) → length first ≡ length names → Distinct names →
     AreFound names (wires_of c) numbers → list_any (λ n. get_or first n false) numbers ≡ true → wires_fault_of names first c ≡ Some BadFirst

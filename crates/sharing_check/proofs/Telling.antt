@@ -96,13 +96,6 @@ more_in Is os ps f g h l k x = least_same (least_more no_later_trans (l x) (k x)
         by_list (inl q) = inl (inr q)
         by_list (inr q) = inr q
 
-pub adds_nothing : (cause : FaultCode) (a : Deeds) → Adds cause [] a a
-adds_nothing cause a = record {
-  exclusive = none_in (IsExclusive cause) [] (get nat_eq a.exclusive) (place_none (IsExclusive cause));
-  common = none_in (IsCommon cause) [] (get nat_eq a.common) (place_none (IsCommon cause));
-  clash = refl;
-}
-
 pub adds_more : (cause : FaultCode) (os ps : List Occurrence) (a b d : Deeds) → Adds cause os a b → Adds cause ps b d → Adds cause (os ++ ps) a d
 adds_more cause os ps a b d l k = record {
   exclusive = more_in (IsExclusive cause) os ps (get nat_eq a.exclusive) (get nat_eq b.exclusive) (get nat_eq d.exclusive) l.exclusive k.exclusive;
@@ -348,9 +341,6 @@ Never u v = ⊥
 never_least : (cause : FaultCode) → IsLeast IsNoLaterPair (SharedBy Never cause) None
 never_least cause = least_none IsNoLaterPair (SharedBy Never cause) (λ c h. h.related)
 
-either_as : (R S : Type 0) → R ⊎ S → (R ⊎ S) ⊎ ⊥
-either_as R S h = inl h
-
 as_either : (R S T : Type 0) → (R ⊎ S → T) → (R ⊎ S) ⊎ ⊥ → T
 as_either R S T into (inl h) = into h
 as_either R S T into (inr h) = absurd h
@@ -517,15 +507,6 @@ adds_common cause var at a b same notes exclusive clash = subst (λ (c : FaultCo
   common = one_in (IsCommon code.SharedVariable) (reads_var var) var at (get nat_eq a.common) (get nat_eq b.common) (λ x h. h) refl notes;
   clash = clash;
 })
-
--- an occurrence of which the cause doesn't speak
-pub adds_neither : (cause : FaultCode) (d : Deed) (at : Span) (a : Deeds) → ((x : ℕ) → ¬ IsExclusive cause d x) → ((x : ℕ) → ¬ IsCommon cause d x)
-    → Adds cause (done_at d at ∷ []) a a
-adds_neither cause d at a one other = record {
-  exclusive = not_in (IsExclusive cause) d at (get nat_eq a.exclusive) one;
-  common = not_in (IsCommon cause) d at (get nat_eq a.common) other;
-  clash = refl;
-}
 
 -- ---- statements with the same occurrences and pairs tell the same
 

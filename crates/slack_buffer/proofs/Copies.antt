@@ -1,9 +1,9 @@
 -- Members that are copied one after the other.
-use Rattle.std.proofs.Common.{◌≡◌, ℕ, ◌+◌, ◌<◌, ◌≤◌, Bool, List, [], ◌∷◌, ◌++◌, map, length, get_or, take, refl, sym, ap, ◌∙◌}
+use Rattle.std.proofs.Common.{◌≡◌, ℕ, ◌+◌, ◌<◌, ◌≤◌, Bool, List, [], ◌∷◌, ◌++◌, map, length, take, refl, sym, ap, ◌∙◌}
 use Rattle.std.specs.declared.alloc.Global.{Global}
 use Rattle.std.specs.declared.boxed.Box.{Box}
 use Rattle.std.specs.declared.vec.Vec.{Vec}
-use Rattle.std.proofs.lemmas.List.{take_more, take_all, map-append}
+use Rattle.std.proofs.lemmas.List.{take_all}
 use Rattle.chp_base.specs.declared.span.Span.{Span}
 use Rattle.chp_syntax.specs.declared.tree.Expr.{Expr, Join, Chain}
 use Rattle.chp_syntax.specs.declared.tree.Link.{Link}
@@ -14,13 +14,6 @@ use Rattle.chp_syntax.specs.Grammar.{Guarded, guarded}
 use Rattle.chp_syntax.specs.View.{expression_of, statement_of, link_of, and_pair, guarded_of, and_guarded, onto}
 use Rattle.chp_syntax.proofs.Rows.{join_tree, chain_tree, then_tree, beside_tree, select_tree}
 use Rattle.slack_buffer.specs.BufferedTrees.{rerouted_statement, rerouted_statements, rerouted_arms}
-
--- one member more
-pub one_copied : {X Y : Type 0} (f g : X → Y) (xs new es : List X) (i : ℕ) (e x : X) → i < length es → e ≡ get_or es i e → new ≡ xs ++ x ∷ [] → f x ≡ g e →
-    map f xs ≡ map g (take i es) → map f new ≡ map g (take (i + 1) es)
-one_copied f g xs new es i e x within is pushed same so_far =
-    ap (map f) pushed ∙ (map-append f xs (x ∷ []) ∙ (ap (λ z. z ++ f x ∷ []) so_far ∙ (ap (λ z. map g (take i es) ++ z ∷ []) (same ∙ ap g is)
-    ∙ (sym (map-append g (take i es) (get_or es i e ∷ [])) ∙ sym (ap (map g) (take_more es i e within))))))
 
 all_copied : {X Y : Type 0} (f g : X → Y) (xs es vs : List X) (i : ℕ) → length es ≤ i → es ≡ vs → map f xs ≡ map g (take i es) → map f xs ≡ map g vs
 all_copied f g xs es vs i all is so_far = so_far ∙ (ap (map g) (take_all i es all) ∙ ap (map g) is)

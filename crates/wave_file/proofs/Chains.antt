@@ -1,9 +1,8 @@
 -- Chains of causes.
-use Rattle.std.proofs.Common.{◌≡◌, ℕ, zero, suc, ◌+◌, ◌-◌, ◌<◌, ◌≤◌, Bool, List, [], ◌∷◌, ◌++◌, length, get_or, drop, reverse, refl, sym, ap, subst, ◌∙◌, arith}
+use Rattle.std.proofs.Common.{◌≡◌, ℕ, zero, suc, ◌+◌, ◌-◌, ◌<◌, ◌≤◌, Bool, List, [], ◌∷◌, ◌++◌, length, get_or, reverse, refl, sym, ap, subst, ◌∙◌, arith}
 use Rattle.std.specs.List.{flat_map}
-use Rattle.std.proofs.lemmas.List.{append_assoc, append-nil, drop_more, get_or-map, reverse-append}
+use Rattle.std.proofs.lemmas.List.{append_assoc, append-nil, get_or-map}
 use Rattle.std.proofs.lemmas.List.Sums.{sum_by-cons}
-use Rattle.std.proofs.lemmas.Grind.{flat_map-append}
 use Rattle.delay_script.specs.declared.noted.NotedMove.{NotedMove}
 use Rattle.delay_script.specs.DelayTables.{DelayTable}
 use Rattle.delay_script.specs.TimedRuns.{time_behind}
@@ -74,21 +73,6 @@ chain_within ms number places (by_cause {place = k} {places = ps} within rest) (
     chain_within ms (cause_at ms k) ps rest i d (omega arith)
 
 -- ---- going through a list from its end
-
-pub lines_more : (F : ℕ → List ℕ) (xs : List ℕ) (k x d : ℕ) (start now next : List ℕ) → 0 < k → k ≤ length xs → x ≡ get_or xs (k - 1) d →
-    now ≡ start ++ flat_map F (reverse (drop k xs)) → next ≡ now ++ F x → next ≡ start ++ flat_map F (reverse (drop (k - 1) xs))
-lines_more F xs k x d start now next some within is so_far e =
-    e ∙ ap (λ t. t ++ F x) so_far ∙ append_assoc start (flat_map F (reverse (drop k xs))) (F x) ∙ ap (λ t. start ++ t) (sym here)
-  where
-    one_less : k - 1 + 1 ≡ k
-    one_less = omega arith
-
-    tail : drop (k - 1) xs ≡ x ∷ drop k xs
-    tail = drop_more xs (k - 1) d (omega arith) ∙ ap (λ (y : ℕ). y ∷ drop (k - 1 + 1) xs) (sym is) ∙ ap (λ (n : ℕ). x ∷ drop n xs) one_less
-
-    here : flat_map F (reverse (drop (k - 1) xs)) ≡ flat_map F (reverse (drop k xs)) ++ F x
-    here = ap (λ ys. flat_map F (reverse ys)) tail ∙ ap (flat_map F) (reverse-append (x ∷ []) (drop k xs))
-        ∙ flat_map-append F (reverse (drop k xs)) (x ∷ []) ∙ ap (λ t. flat_map F (reverse (drop k xs)) ++ t) (append-nil (F x))
 
 -- ---- the whole text
 

@@ -1,8 +1,8 @@
 -- Each line of a wave ends once.
-use Rattle.std.proofs.Common.{◌≡◌, ℕ, ◌+◌, ◌<◌, ◌≤◌, ◌^◌, Bool, true, false, List, [], ◌∷◌, ◌++◌, length, cond, refl, ◌∙◌, arith}
+use Rattle.std.proofs.Common.{◌≡◌, ℕ, ◌+◌, ◌<◌, ◌≤◌, ◌^◌, Bool, true, false, List, [], ◌∷◌, ◌++◌, cond, refl, ◌∙◌, arith}
 use Rattle.std.specs.Prelude.{◌==◌, not, codes, decimal}
 use Rattle.std.proofs.lemmas.Bool.{and_parts}
-use Rattle.std.proofs.lemmas.List.Sums.{sum_by-append, sum_by-cons, count_by-le-length}
+use Rattle.std.proofs.lemmas.List.Sums.{sum_by-append, sum_by-cons}
 use Rattle.chp_base.specs.Names.{IsNodeName}
 use Rattle.wave_file.specs.Waves.{var_spelling, id_of, value_spelling_of, time_mark}
 use Rattle.wave_file.specs.WaveLines.{is_free_of, is_id, line_ends}
@@ -11,9 +11,6 @@ use Rattle.wave_file.proofs.IdLemmas.{id_of_is}
 
 pub ends_append : (xs ys : List ℕ) → line_ends (xs ++ ys) ≡ line_ends xs + line_ends ys
 ends_append xs ys = sum_by-append (λ b. cond (b == 10) 1 0) xs ys
-
-pub ends_few : (xs : List ℕ) → line_ends xs ≤ length xs
-ends_few xs = count_by-le-length (λ b. b == 10) xs
 
 no_ends : (xs : List ℕ) → is_free_of 10 xs ≡ true → line_ends xs ≡ 0
 no_ends [] free = refl

@@ -14,15 +14,6 @@ part_range b part = grind (arith, nat_tests)
 pub parts_of : (id : List ℕ) → is_id id ≡ true → list_all id_part id ≡ true
 parts_of id is = (and_parts (list_all id_part id) _ is).0
 
-pub part_at : (id : List ℕ) (i d : ℕ) → list_all id_part id ≡ true → i < length id → (33 ≤ get_or id i d) × (get_or id i d ≤ 126)
-part_at [] i d parts within = absurd (omega arith)
-part_at (b ∷ bs) zero d parts within = part_range b (and_parts (id_part b) (list_all id_part bs) parts).0
-part_at (b ∷ bs) (suc i) d parts within = part_at bs i d (and_parts (id_part b) (list_all id_part bs) parts).1 (omega arith)
-
-pub some_digit : (id : List ℕ) → is_id id ≡ true → 0 < length id
-some_digit [] is = absurd (cc is)
-some_digit (b ∷ bs) is = omega arith
-
 -- the digits behind some make no more than all
 pub value_front : (k : ℕ) (id : List ℕ) → id_value (drop k id) ≤ id_value id
 value_front zero id = omega arith

@@ -413,11 +413,6 @@ changes_more rest behind lines p q on = λ whole so_far.
 pub changes_shorter : (rest behind : List ℕ) (p q : WavePlace) → IsLineOn rest behind p q → length behind < length rest
 changes_shorter rest behind p q on = shorter rest behind p on.0 on.1
 
-pub same_values : (vs new first same : List Bool) (cs more : List (ℕ × ℕ)) → new ≡ vs → same ≡ first → more ≡ cs → vs ≡ values_behind first cs →
-    new ≡ values_behind same more
-same_values vs new first same cs more e f g h =
-    e ∙ h ∙ sym (ap (λ (b : List Bool). values_behind b more) f ∙ ap (values_behind first) g)
-
 pub changes_over : (w : WaveValue) (now : ℕ) (whole rest : List ℕ) (lines : ℕ) → IsToldTo whole lines (at_changes w now) rest → rest ≡ [] →
     IsWaveText whole w
 changes_over w now whole rest lines so_far over =

@@ -6,17 +6,8 @@ pub record Alike (P Q : Type 0) : Type 0 where
   pub whole : Q → P
   pub rest : P → Q
 
-pub alike : (P : Type 0) → Alike P P
-alike P = record { whole = λ p. p; rest = λ p. p }
-
-pub one_less : (P A Q : Type 0) → Alike P (A × Q) → A → Alike P Q
-one_less P A Q same a = record { whole = λ q. same.whole (a, q); rest = λ p. (same.rest p).1 }
-
 pub one_wrong : (P A Q : Type 0) → Alike P (A × Q) → ¬ A → ¬ P
 one_wrong P A Q same not p = not (same.rest p).0
-
-pub two_less : (P A B Q : Type 0) → Alike P (A × B × Q) → A → B → Alike P Q
-two_less P A B Q same a b = record { whole = λ q. same.whole (a, b, q); rest = λ p. (same.rest p).2 }
 
 pub first_wrong : (P A B Q : Type 0) → Alike P (A × B × Q) → ¬ A → ¬ P
 first_wrong P A B Q same not p = not (same.rest p).0

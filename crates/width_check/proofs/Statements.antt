@@ -18,7 +18,7 @@ use Rattle.width_check.specs.Processes.{Formula, Process, in_turn, side_by_side,
 use Rattle.width_check.specs.Typing.{var_width, IsOfWidth, IsSend, IsReceive, IsProcess, AreProcesses, AreChoices}
 use Rattle.width_check.specs.View.{formula_of, process_of, processes_of, choices_of}
 use Rattle.width_check.proofs.Widths.{var_found, channel_found, kind_found}
-use Rattle.width_check.proofs.Alike.{Alike, one_less, one_wrong, two_less, first_wrong, second_wrong, fails, not_so}
+use Rattle.width_check.proofs.Alike.{Alike, one_wrong, first_wrong, second_wrong, fails, not_so}
 
 -- the members of a statement and the arms of a selection, as lists
 
@@ -70,10 +70,6 @@ member_here channels vars ss i s within is =
     let e : drop i ss ≡ s ∷ drop (i + 1) ss = drop_more ss i s within ∙ ap (λ x. x ∷ drop (i + 1) ss) (sym is) in
     subst (λ (rest : List TStmt). Alike (AreProcesses channels vars (members_of ss)) (AreProcesses channels vars (members_of rest))) e
 
-pub member_more : (channels : List Channel) (vars : List Var) (ss : List TStmt) (i : ℕ) (s : TStmt) (r : Bool) → i < length ss → s ≡ get_or ss i s →
-    MembersLeft channels vars ss i → Decides r (IsProcess channels vars (process_of s)) → r ≡ true → MembersLeft channels vars ss (i + 1)
-member_more channels vars ss i s r within is left decides so = one_less _ _ _ (member_here channels vars ss i s within is left) (decides.0 so)
-
 pub member_wrong : (channels : List Channel) (vars : List Var) (ss : List TStmt) (i : ℕ) (s : TStmt) (r : Bool) → i < length ss → s ≡ get_or ss i s →
     MembersLeft channels vars ss i → Decides r (IsProcess channels vars (process_of s)) → r ≡ false → ¬ AreProcesses channels vars (members_of ss)
 member_wrong channels vars ss i s r within is left decides so = one_wrong _ _ _ (member_here channels vars ss i s within is left) (not_so r _ decides so)
@@ -90,12 +86,6 @@ arm_here : (channels : List Channel) (vars : List Var) (arms : List TArm) (i : �
 arm_here channels vars arms i a within is =
     let e : drop i arms ≡ a ∷ drop (i + 1) arms = drop_more arms i a within ∙ ap (λ x. x ∷ drop (i + 1) arms) (sym is) in
     subst (λ (rest : List TArm). Alike (AreChoices channels vars (arms_of arms)) (AreChoices channels vars (arms_of rest))) e
-
-pub arm_more : (channels : List Channel) (vars : List Var) (arms : List TArm) (i : ℕ) (a : TArm) (g b : Bool) → i < length arms → a ≡ get_or arms i a →
-    ArmsLeft channels vars arms i → Decides g (IsOfWidth vars 1 (formula_of a.guard)) → g ≡ true → Decides b (IsProcess channels vars (process_of a.body)) →
-    b ≡ true → ArmsLeft channels vars arms (i + 1)
-arm_more channels vars arms i a g b within is left guards g_so bodies b_so =
-    two_less _ _ _ _ (arm_here channels vars arms i a within is left) (guards.0 g_so) (bodies.0 b_so)
 
 pub guard_wrong : (channels : List Channel) (vars : List Var) (arms : List TArm) (i : ℕ) (a : TArm) (g : Bool) → i < length arms → a ≡ get_or arms i a →
     ArmsLeft channels vars arms i → Decides g (IsOfWidth vars 1 (formula_of a.guard)) → g ≡ false → ¬ AreChoices channels vars (arms_of arms)

@@ -50,9 +50,6 @@ reading_over vars var high low at there within ordered most = record { formed = 
 pub inverted_over : (vars : List Var) (w : ℕ) (e : Formula) → IsOfWidth vars w e → IsOfWidth vars w (inverted e)
 inverted_over vars w e is = record { formed = is.formed; reads = is.reads; agrees = is.agrees }
 
-pub inverted_under : (vars : List Var) (w : ℕ) (e : Formula) → IsOfWidth vars w (inverted e) → IsOfWidth vars w e
-inverted_under vars w e is = record { formed = is.formed; reads = is.reads; agrees = is.agrees }
-
 pub if_none : {X : Type 0} (o : Option X) (P : Type 0) → P → IfNone o P
 if_none None P p = p
 if_none (Some x) P p = tt
@@ -76,20 +73,6 @@ pub record IsJoining (vars : List Var) (parts left : Formulas) (width : ℕ) : T
   pub sum : width + widths_of left ≡ widths_of parts
   pub most : width ≤ 64
   pub same : Alike (AreOver vars parts) (AreOver vars left)
-
-pub join_begun : (vars : List Var) (parts : Formulas) → IsJoining vars parts parts 0
-join_begun vars parts = record { sum = omega arith; most = omega arith; same = record { whole = λ all. all; rest = λ all. all } }
-
-pub join_more : (vars : List Var) (parts : Formulas) (e : Formula) (left : Formulas) (w v : ℕ) → IsJoining vars parts (and_part e left) w → IsOfWidth vars v e →
-    w + v ≤ 64 → IsJoining vars parts left (w + v)
-join_more vars parts e left w v so_far is most = record {
-  sum = omega (arith, so_far.sum, is.agrees);
-  most = most;
-  same = record {
-    whole = λ rest. so_far.same.whole (record { formed = (is.formed, rest.formed); read = (is.reads, rest.read) });
-    rest = λ all. let rest = so_far.same.rest all in record { formed = rest.formed.1; read = rest.read.1 };
-  };
-}
 
 pub join_wrong : (vars : List Var) (parts : Formulas) (e : Formula) (left : Formulas) (w : ℕ) → IsJoining vars parts (and_part e left) w →
     ((v : ℕ) → ¬ IsOfWidth vars v e) → (u : ℕ) → ¬ IsOfWidth vars u (joined parts)
@@ -131,20 +114,9 @@ pub record AreLinks (vars : List Var) (width : ℕ) (links : Operations) : Type 
   pub formed : AreOperations width links
   pub read : AllReadFrom vars links
 
-pub links_more : (vars : List Var) (w : ℕ) (links : Operations) (op : Op) (e : Formula) (left : Operations) →
-    Alike (AreLinks vars w links) (AreLinks vars w (and_operation op e left)) → is_comparison op ≡ false → IsOfWidth vars w e →
-    Alike (AreLinks vars w links) (AreLinks vars w left)
-links_more vars w links op e left same plain is = record {
-  whole = λ rest. same.whole (record { formed = (plain, is.agrees, is.formed, rest.formed); read = (is.reads, rest.read) });
-  rest = λ all. let rest = same.rest all in record { formed = rest.formed.3; read = rest.read.1 };
-}
-
 -- what a chain over the variables is made of
 pub chain_parts : (vars : List Var) (u : ℕ) (e : Formula) (links : Operations) → IsOfWidth vars u (chained e links) → AreLinks vars (width_of e) links
 chain_parts vars u e links is = record { formed = is.formed.2; read = is.reads.1 }
-
-pub chain_first : (vars : List Var) (u : ℕ) (e : Formula) (links : Operations) → IsOfWidth vars u (chained e links) → IsOfWidth vars u e
-chain_first vars u e links is = record { formed = is.formed.0; reads = is.reads.0; agrees = is.agrees }
 
 pub chain_compares : (vars : List Var) (w u : ℕ) (first : Formula) (links : Operations) (op : Op) (e : Formula) (left : Operations) →
     Alike (AreLinks vars w links) (AreLinks vars w (and_operation op e left)) → IsOfWidth vars w first → is_comparison op ≡ true →
@@ -206,10 +178,3 @@ pub record IsComparing (vars : List Var) (op : Op) (e f : Formula) : Type 0 wher
   pub compares : is_comparison op ≡ true
   pub left : IsOfWidth vars (width_of e) e
   pub right : IsOfWidth vars (width_of e) f
-
-pub compared_parts : (vars : List Var) (u : ℕ) (op : Op) (e f : Formula) → IsOfWidth vars u (compared op e f) → IsComparing vars op e f
-compared_parts vars u op e f is = record {
-  compares = is.formed.0;
-  left = record { formed = is.formed.2; reads = is.reads.0; agrees = refl };
-  right = record { formed = is.formed.3; reads = is.reads.1; agrees = is.formed.1 };
-}
