@@ -161,11 +161,11 @@ pub fn whole_nets()
 /// sweeps for each of n rounds of the program has passed what these pass, under every script and in whatever order the
 /// nodes switch: so no part of the program waits for ever on another one that goes on.
 pub fn plain_nets_keep_time()
-    ensures { (p : TypedProgram) → IsTranslated p → ReadsNoTarget p.body → nodes_of p ≤ 65536 → IsRules (composed p) →
+    ensures { (p : TypedProgram) → IsTranslated p → ReadsNoTarget p.body → nodes_of p ≤ 65536 →
         KeepsTime (translation p) p (sweeps_for_round p) }
 {
     carries();
-    nets_hold();
+    whole_nets();
     tree_settles();
     expressions_hold();
 }
@@ -173,11 +173,11 @@ pub fn plain_nets_keep_time()
 /// Law: the net of each such program, whatever it is made of, does so with the rounds of the program in halves, in
 /// which an assignment that reads its own target takes two steps.
 pub fn nets_keep_time()
-    ensures { (p : TypedProgram) → IsTranslated p → nodes_of p ≤ 65536 → IsRules (composed p) →
+    ensures { (p : TypedProgram) → IsTranslated p → nodes_of p ≤ 65536 →
         KeepsTime (translation p) (halved_program p) (sweeps_for_round p) }
 {
     carries();
-    nets_hold();
+    whole_nets();
     halves_are_plain();
     tree_settles();
     expressions_hold();
