@@ -23,16 +23,17 @@ use Rattle.prs_file.specs.Spelling.{NetText}
 use Rattle.width_check.specs.Form.{typed_form}
 use Rattle.width_check.specs.Processes.{TypedProgram}
 use Rattle.width_check.specs.Sharing.{MeetsSharing}
-use Rattle.chp_cli.specs.declared.answer.Ending.{Ending}
-use Rattle.chp_cli.specs.declared.answer.Ending.TheVariants.{Done}
-use Rattle.chp_cli.specs.Answers.{Given, writes}
-use Rattle.chp_cli.specs.HeldPrograms.{HoldsProgram}
-use Rattle.chp_cli.specs.Orders.{Played}
-use Rattle.chp_cli.specs.References.{HoldsReference, IsReferredTo}
-use Rattle.chp_cli.specs.RunReporting.{IsReported, alone, hazardous, compared, ending_against, ending_for}
+use Rattle.command_answers.specs.declared.answer.Ending.{Ending}
+use Rattle.command_answers.specs.declared.answer.Ending.TheVariants.{Done}
+use Rattle.command_answers.specs.Answers.{Given, writes}
+use Rattle.command_steps.specs.HeldPrograms.{HoldsProgram}
+use Rattle.command_steps.specs.Orders.{Played}
+use Rattle.command_steps.specs.References.{HoldsReference, IsReferredTo}
+use Rattle.simulation_commands.specs.RunReporting.{IsReported, alone, hazardous, compared, ending_against, ending_for}
 use Rattle.chp_cli.specs.Simulated.{HoldsCarrying, IsFileSimulated}
-use Rattle.chp_cli.specs.Simulating.{AskedRun, ran_value, simulation_for}
-use Rattle.chp_cli.proofs.OneAnswers.{same_text}
+use Rattle.command_words.specs.SimulateWords.{AskedRun}
+use Rattle.simulation_commands.specs.Simulating.{ran_value, simulation_for}
+use Rattle.command_steps.proofs.OneAnswers.{same_text}
 
 -- ---- further rounds
 

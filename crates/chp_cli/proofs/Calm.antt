@@ -1,14 +1,15 @@
 -- How a call ends that simulates a rule file which `compile` wrote.
 use Rattle.std.proofs.Common.{◌≡◌, ◌≢◌, ℕ, List, Option, Some, refl, subst}
-use Rattle.chp_cli.specs.declared.answer.Ending.{Ending}
-use Rattle.chp_cli.specs.declared.answer.Ending.TheVariants as ending
-use Rattle.chp_cli.specs.declared.status.Status.{Status}
-use Rattle.chp_cli.specs.declared.status.Status.TheVariants.{Done, Hazard, Differs}
-use Rattle.chp_cli.specs.Answers.{Given, Answer, writes, status_with}
-use Rattle.chp_cli.specs.Commands.{Asked, IsAnswer, simulates}
+use Rattle.command_answers.specs.declared.answer.Ending.{Ending}
+use Rattle.command_answers.specs.declared.answer.Ending.TheVariants as ending
+use Rattle.command_answers.specs.declared.status.Status.{Status}
+use Rattle.command_answers.specs.declared.status.Status.TheVariants.{Done, Hazard, Differs}
+use Rattle.command_answers.specs.Answers.{Given, Answer, writes, status_with}
+use Rattle.command_words.specs.CommandWords.{Asked}
+use Rattle.chp_cli.specs.Commands.{IsAnswer}
 use Rattle.chp_cli.specs.Ends.{AnswersTo, Ends, formless, whole, cut_off, refused, unread, no_memory}
-use Rattle.chp_cli.specs.Orders.{Played}
-use Rattle.chp_cli.proofs.Ending.{no_refusal}
+use Rattle.command_steps.specs.Orders.{Played}
+use Rattle.command_answers.proofs.StatusKinds.{no_refusal}
 
 ending_hazard : (end : Ending) → status_with end ≡ Hazard → end ≡ ending.Hazard
 ending_hazard ending.Done e = absurd (cc e)

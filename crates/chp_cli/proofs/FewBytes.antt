@@ -21,8 +21,8 @@ use Rattle.prs_core.specs.Nets.{GuardValue, NetValue, IsNet, IsChannel, IsFilled
 use Rattle.prs_file.specs.Spelling.{version_of, head_spelling, value_spelling, node_spelling, kind_spelling, channel_spelling, sign_spelling, literal_spelling, term_spelling, guard_spelling, end_spelling, rule_spelling, rules_spelling, spelling}
 use Rattle.reset_net.specs.Resets.{reset_literal, held, forced, reset_guard, has_rules, reset_up, reset_down, reset_of}
 use Rattle.width_check.specs.Processes.{TypedProgram}
-use Rattle.chp_cli.specs.Compiling.{IsCompiled, net_for}
-use Rattle.chp_cli.specs.Steps.{most_of_net}
+use Rattle.program_commands.specs.Compiling.{IsCompiled, net_for}
+use Rattle.command_steps.specs.Steps.{most_of_net}
 
 -- ---- lists
 

@@ -26,19 +26,20 @@ use Rattle.net_compose.specs.Translation.{translation}
 use Rattle.net_compose.proofs.HalvedCarried.{scaled}
 use Rattle.net_compose.proofs.OnceEach.{run_length}
 use Rattle.net_compose.proofs.Sizes.{first_length}
-use Rattle.chp_cli.specs.Answers.{Given, Answer}
-use Rattle.chp_cli.specs.Compiling.{NetCarries, NetProgresses, net_for}
-use Rattle.chp_cli.specs.Orders.{Played}
+use Rattle.command_answers.specs.Answers.{Given, Answer}
+use Rattle.program_commands.specs.Compiling.{NetCarries, NetProgresses, net_for}
+use Rattle.command_steps.specs.Orders.{Played}
 use Rattle.chp_cli.specs.Resting.{RestsInTime, TimedRests, most_in_run}
 use Rattle.chp_cli.specs.Simulated.{IsFileSimulated, HoldsCarrying, HoldsCompiled, SimulatedRests}
-use Rattle.chp_cli.specs.Simulating.{AskedRun, power_or_low, simulation_for}
-use Rattle.chp_cli.specs.Steps.{IsFileOf}
+use Rattle.command_words.specs.SimulateWords.{AskedRun, AskedTiming}
+use Rattle.simulation_commands.specs.Simulating.{power_or_low, simulation_for}
+use Rattle.command_steps.specs.Steps.{IsFileOf}
 use Rattle.chp_cli.specs.TimedFiles.{IsFileTimed, TimedRunRests}
-use Rattle.chp_cli.specs.Timing.{AskedTiming}
 use Rattle.chp_cli.specs.TracedFiles.{IsFileTraced, TracedRests}
-use Rattle.chp_cli.specs.Tracing.{AskedWaves}
-use Rattle.chp_cli.proofs.CalmRuns.{all_safe, file_carries, safe_calm}
-use Rattle.chp_cli.proofs.OneAnswers.{same_text}
+use Rattle.command_words.specs.WavesWords.{AskedWaves}
+use Rattle.grown_commands.proofs.SafeRuns.{all_safe, safe_calm}
+use Rattle.chp_cli.proofs.CalmRuns.{file_carries}
+use Rattle.command_steps.proofs.OneAnswers.{same_text}
 
 -- a run that isn't so long as allowed, and ends without a hazard, rests
 calm_rest : (xs : List ℕ) (l steps : ℕ) (e : End) → l < steps → calm_end xs (l == steps) ≡ Some e → (e ≡ AtRest) × (xs ≡ [])

@@ -16,16 +16,17 @@ use Rattle.prs_file.specs.Spelling.{NetText}
 use Rattle.width_check.specs.Accepted.{IsAccepted}
 use Rattle.width_check.specs.Form.{typed_form}
 use Rattle.width_check.specs.Processes.{TypedProgram}
-use Rattle.chp_cli.specs.Answers.{Given, Answer, status_of, status_with}
-use Rattle.chp_cli.specs.Orders.{Played}
-use Rattle.chp_cli.specs.References.{FromReference, IsToReferTo}
-use Rattle.chp_cli.specs.RunReporting.{IsReported, alone, hazardous, compared, ending_against, ending_for}
-use Rattle.chp_cli.specs.RunSteps.{no_order, an_order, no_reset, has_power, no_script, a_script, lacks_reset}
+use Rattle.command_answers.specs.Answers.{Given, Answer, status_of, status_with}
+use Rattle.command_steps.specs.Orders.{Played}
+use Rattle.command_steps.specs.References.{FromReference, IsToReferTo}
+use Rattle.simulation_commands.specs.RunReporting.{IsReported, alone, hazardous, compared, ending_against, ending_for}
+use Rattle.command_steps.specs.RunSteps.{no_order, an_order, no_reset, has_power, no_script, a_script, lacks_reset}
 use Rattle.chp_cli.specs.Simulated.{IsToSimulate}
-use Rattle.chp_cli.specs.Simulating.{AskedRun, Simulates, SimulatesFile}
-use Rattle.chp_cli.specs.Statuses.{is_whole}
-use Rattle.chp_cli.specs.Steps.{FromChecks, IsFaulty, no_file, long_file, a_file, no_net, a_net, no_program, a_program, has_calls, faulty, accepted}
-use Rattle.chp_cli.proofs.OneAnswers.{same_text, too_long, not_there}
+use Rattle.command_words.specs.SimulateWords.{AskedRun}
+use Rattle.simulation_commands.specs.Simulating.{Simulates, SimulatesFile}
+use Rattle.command_answers.specs.Statuses.{is_whole}
+use Rattle.command_steps.specs.Steps.{FromChecks, IsFaulty, no_file, long_file, a_file, no_net, a_net, no_program, a_program, has_calls, faulty, accepted}
+use Rattle.command_steps.proofs.OneAnswers.{same_text, too_long, not_there}
 
 whole_end : (e : End) → is_whole (status_with (ending_for e)) ≡ true
 whole_end end.AtRest = refl

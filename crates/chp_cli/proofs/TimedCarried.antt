@@ -17,20 +17,23 @@ use Rattle.history_report.specs.declared.comparison.Against.TheVariants.{Agrees}
 use Rattle.history_report.specs.Comparing.{IsAgainst}
 use Rattle.width_check.specs.Processes.{TypedProgram}
 use Rattle.width_check.specs.Sharing.{MeetsSharing}
-use Rattle.chp_cli.specs.declared.answer.Ending.{Ending}
-use Rattle.chp_cli.specs.declared.answer.Ending.TheVariants.{Done, Hazard}
-use Rattle.chp_cli.specs.Answers.{Given, Answer, writes}
-use Rattle.chp_cli.specs.References.{IsReferredTo}
-use Rattle.chp_cli.specs.RunReporting.{ending_for}
-use Rattle.chp_cli.specs.RunSteps.{has_power, a_script}
+use Rattle.command_answers.specs.declared.answer.Ending.{Ending}
+use Rattle.command_answers.specs.declared.answer.Ending.TheVariants.{Done, Hazard}
+use Rattle.command_answers.specs.Answers.{Given, Answer, writes}
+use Rattle.command_steps.specs.References.{IsReferredTo}
+use Rattle.simulation_commands.specs.RunReporting.{ending_for}
+use Rattle.command_steps.specs.RunSteps.{has_power, a_script}
 use Rattle.chp_cli.specs.Simulated.{HoldsCarrying}
-use Rattle.chp_cli.specs.Simulating.{power_or_low}
-use Rattle.chp_cli.specs.Steps.{a_file, a_net}
+use Rattle.simulation_commands.specs.Simulating.{power_or_low}
+use Rattle.command_steps.specs.Steps.{a_file, a_net}
 use Rattle.chp_cli.specs.TimedFiles.{IsFileTimed}
-use Rattle.chp_cli.specs.Timing.{AskedTiming, SimulatesTimed, delays_read, timing_for}
+use Rattle.command_words.specs.SimulateWords.{AskedTiming}
+use Rattle.simulation_commands.specs.Timing.{SimulatesTimed, timing_for}
+use Rattle.command_steps.specs.DelaySteps.{delays_read}
 use Rattle.chp_cli.proofs.AgreeingRuns.{agrees, reported_done, same_reference}
-use Rattle.chp_cli.proofs.CalmRuns.{all_safe, file_carries, reported_calm, run_calm}
-use Rattle.chp_cli.proofs.Referring.{reference_read}
+use Rattle.grown_commands.proofs.SafeRuns.{all_safe, run_calm}
+use Rattle.chp_cli.proofs.CalmRuns.{file_carries, reported_calm}
+use Rattle.command_steps.proofs.Referring.{reference_read}
 
 -- ---- what is reported
 

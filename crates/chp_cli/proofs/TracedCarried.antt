@@ -9,16 +9,18 @@ use Rattle.env_script.specs.Runs.{RunState, IsApart, IsPowered, IsSafeMove, move
 use Rattle.env_script.specs.Hazards.{hazard_of}
 use Rattle.event_sim.specs.Following.{power_of}
 use Rattle.width_check.specs.Processes.{TypedProgram}
-use Rattle.chp_cli.specs.declared.answer.Ending.{Ending}
-use Rattle.chp_cli.specs.declared.answer.Ending.TheVariants.{Hazard}
-use Rattle.chp_cli.specs.Answers.{Given, Answer, writes}
-use Rattle.chp_cli.specs.RunSteps.{a_script}
+use Rattle.command_answers.specs.declared.answer.Ending.{Ending}
+use Rattle.command_answers.specs.declared.answer.Ending.TheVariants.{Hazard}
+use Rattle.command_answers.specs.Answers.{Given, Answer, writes}
+use Rattle.command_steps.specs.RunSteps.{a_script}
 use Rattle.chp_cli.specs.Simulated.{HoldsCarrying}
-use Rattle.chp_cli.specs.Steps.{a_file, a_net}
-use Rattle.chp_cli.specs.Timing.{delays_read}
+use Rattle.command_steps.specs.Steps.{a_file, a_net}
+use Rattle.command_steps.specs.DelaySteps.{delays_read, FromDelayFile, HoldsDelayFile}
 use Rattle.chp_cli.specs.TracedFiles.{IsFileTraced}
-use Rattle.chp_cli.specs.Tracing.{AskedWaves, FromDelayFile, HoldsDelayFile, TracesNet, Traces, trace_for}
-use Rattle.chp_cli.proofs.CalmRuns.{all_safe, file_carries, run_calm}
+use Rattle.command_words.specs.WavesWords.{AskedWaves}
+use Rattle.simulation_commands.specs.Tracing.{TracesNet, Traces, trace_for}
+use Rattle.grown_commands.proofs.SafeRuns.{all_safe, run_calm}
+use Rattle.chp_cli.proofs.CalmRuns.{file_carries}
 
 -- what is written comes from delays that were read
 delays_held : (given : Given) (file : Option (List ℕ)) (names : List (List ℕ)) (Next : DelayTable → Answer → Type 0) (end : Ending) (text : List ℕ) →

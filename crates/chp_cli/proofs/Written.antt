@@ -9,15 +9,15 @@ use Rattle.width_check.specs.Processes.{TypedProgram}
 use Rattle.handshake_expand.specs.Layout.{node_count}
 use Rattle.prs_core.specs.Nets.{NetValue}
 use Rattle.prs_file.specs.Spelling.{NetText}
-use Rattle.chp_cli.specs.declared.status.Status.TheVariants.{Done}
-use Rattle.chp_cli.specs.declared.answer.Ending.{Ending}
-use Rattle.chp_cli.specs.Answers.{Given, Answer, writes, status_of}
-use Rattle.chp_cli.specs.BufferSteps.{FromBuffer, no_channel, has_channel, IsBuffered}
-use Rattle.chp_cli.specs.Compiling.{Compiles, CompilesNet, IsFileCompiled, IsToCompile, compiled}
-use Rattle.chp_cli.specs.CompileWords.{AskedCompilation}
-use Rattle.chp_cli.specs.Migrating.{Migrates, IsToMigrate, named_reset, taken, migrated}
-use Rattle.chp_cli.specs.Steps.{FromChecks, FromNodes, IsFaulty, has_calls, faulty, accepted, no_file, long_file, a_file, no_program, a_program, too_many, few_enough, no_net, a_net, most_of_nodes}
-use Rattle.chp_cli.proofs.OneAnswers.{same_text, too_long, not_there, needs_channel, one_buffered}
+use Rattle.command_answers.specs.declared.status.Status.TheVariants.{Done}
+use Rattle.command_answers.specs.declared.answer.Ending.{Ending}
+use Rattle.command_answers.specs.Answers.{Given, Answer, writes, status_of}
+use Rattle.command_steps.specs.BufferSteps.{FromBuffer, no_channel, has_channel, IsBuffered}
+use Rattle.program_commands.specs.Compiling.{Compiles, CompilesNet, IsFileCompiled, IsToCompile, compiled}
+use Rattle.command_words.specs.CompileWords.{AskedCompilation}
+use Rattle.program_commands.specs.Migrating.{Migrates, IsToMigrate, named_reset, taken, migrated}
+use Rattle.command_steps.specs.Steps.{FromChecks, FromNodes, IsFaulty, has_calls, faulty, accepted, no_file, long_file, a_file, no_program, a_program, too_many, few_enough, no_net, a_net, most_of_nodes}
+use Rattle.command_steps.proofs.OneAnswers.{same_text, too_long, not_there, needs_channel, one_buffered}
 
 -- a circuit that isn't too large
 nodes_write : (reset : Bool) (p : TypedProgram) (a : Answer) → node_count p ≤ most_of_nodes → FromNodes p (CompilesNet reset) a → status_of a ≡ Done

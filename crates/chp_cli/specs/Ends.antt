@@ -1,14 +1,15 @@
 -- How a call ends: its status, what it appended to the output, and what it says. No command is named here.
 use Rattle.std.specs.Prelude.{◌≡◌, ℕ, true, List, [], take, Contains, ◌⊎◌, Option, Some, None}
 use Rattle.chp_edge.specs.Faults.{Rose, IsReadFault}
-use Rattle.chp_cli.specs.declared.answer.Ending.{Ending}
-use Rattle.chp_cli.specs.declared.status.Status.{Status}
-use Rattle.chp_cli.specs.declared.status.Status.TheVariants.{Usage, Read, Write, NoMemory}
-use Rattle.chp_cli.specs.Answers.{Given, Answer, writes, refuses, misses, status_with, line_with}
-use Rattle.chp_cli.specs.Commands.{Asked, IsAnswer, files_of, order_of}
-use Rattle.chp_cli.specs.Lines.{usage_line, read_line, write_line, no_memory_line}
-use Rattle.chp_cli.specs.Orders.{OrderState, Played}
-use Rattle.chp_cli.specs.Statuses.{is_refusing}
+use Rattle.command_answers.specs.declared.answer.Ending.{Ending}
+use Rattle.command_answers.specs.declared.status.Status.{Status}
+use Rattle.command_answers.specs.declared.status.Status.TheVariants.{Usage, Read, Write, NoMemory}
+use Rattle.command_answers.specs.Answers.{Given, Answer, writes, refuses, misses, status_with, line_with}
+use Rattle.command_words.specs.CommandWords.{Asked}
+use Rattle.chp_cli.specs.Commands.{IsAnswer, files_of, order_of}
+use Rattle.command_answers.specs.Lines.{usage_line, read_line, write_line, no_memory_line}
+use Rattle.command_steps.specs.Orders.{OrderState, Played}
+use Rattle.command_answers.specs.Statuses.{is_refusing}
 
 -- it is an answer of the command that is asked for
 abbrev pub AnswersTo : Option Asked → Given → Played → Answer → Type 0

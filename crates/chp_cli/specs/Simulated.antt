@@ -1,5 +1,5 @@
 -- What follows from what `simulate` answers.
-use Rattle.std.specs.Prelude.{◌≡◌, ◌⊎◌, ℕ, suc, ◌+◌, ◌*◌, ◌<◌, ◌≤◌, Bool, true, false, List, length, slice_get, Option, Some, None}
+use Rattle.std.specs.Prelude.{◌≡◌, ◌⊎◌, ℕ, ◌≤◌, Bool, false, List, length, slice_get, Option, Some, None}
 use Rattle.env_script.specs.Environment.{net_channels}
 use Rattle.env_script.specs.OneLength.{EndsAll}
 use Rattle.env_script.specs.Runs.{after}
@@ -7,23 +7,22 @@ use Rattle.env_script.specs.Scripts.{OfferValue}
 use Rattle.env_script.specs.ScriptText.{IsScriptText}
 use Rattle.event_sim.specs.declared.ran.End.TheVariants.{AtRest}
 use Rattle.event_sim.specs.Simulating.{picked_moves, start_at}
-use Rattle.handshake_expand.specs.Layout.{nodes_of}
-use Rattle.chp_meaning.specs.Steps.{Configuration}
 use Rattle.net_compose.specs.Carries.{Carries, CarriesReset}
 use Rattle.prs_core.specs.Nets.{NetValue, IsNet}
 use Rattle.prs_file.specs.Spelling.{NetText}
 use Rattle.width_check.specs.Processes.{TypedProgram}
-use Rattle.chp_cli.specs.declared.answer.Ending.TheVariants.{Done}
-use Rattle.chp_cli.specs.Answers.{Given, Answer, writes}
-use Rattle.chp_cli.specs.Commands.{Asked, simulates}
-use Rattle.chp_cli.specs.Compiling.{IsCompiled, net_for}
-use Rattle.chp_cli.specs.Orders.{OrderState, Played, place_named}
+use Rattle.command_answers.specs.declared.answer.Ending.TheVariants.{Done}
+use Rattle.command_answers.specs.Answers.{Given, Answer, writes}
+use Rattle.command_words.specs.CommandWords.{Asked, simulates}
+use Rattle.program_commands.specs.Compiling.{IsCompiled, net_for}
+use Rattle.command_steps.specs.Orders.{OrderState, Played, place_named}
 use Rattle.chp_cli.specs.Resting.{RestsInTime}
-use Rattle.chp_cli.specs.References.{HoldsReference, IsToReferTo}
-use Rattle.chp_cli.specs.RunReporting.{IsReported}
-use Rattle.chp_cli.specs.RunSteps.{IsScriptOf, lacks_reset, most_of_script}
-use Rattle.chp_cli.specs.Simulating.{AskedRun, PlaysOut, simulation_for}
-use Rattle.chp_cli.specs.Steps.{IsFileOf, most_of_net}
+use Rattle.command_steps.specs.References.{HoldsReference, IsToReferTo}
+use Rattle.simulation_commands.specs.RunReporting.{IsReported}
+use Rattle.command_steps.specs.RunSteps.{IsScriptOf, lacks_reset, most_of_script}
+use Rattle.command_words.specs.SimulateWords.{AskedRun}
+use Rattle.simulation_commands.specs.Simulating.{PlaysOut, simulation_for}
+use Rattle.command_steps.specs.Steps.{IsFileOf, most_of_net}
 
 -- The files hold the rule file of a net, a script of its channels, and the program to compare with, if one is wanted;
 -- and the order of the wanted name led to a run of this net under this script, which is reported.

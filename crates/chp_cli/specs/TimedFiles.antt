@@ -5,15 +5,17 @@ use Rattle.env_script.specs.Environment.{net_channels}
 use Rattle.env_script.specs.Scripts.{OfferValue}
 use Rattle.prs_core.specs.Nets.{NetValue}
 use Rattle.width_check.specs.Processes.{TypedProgram}
-use Rattle.chp_cli.specs.declared.answer.Ending.TheVariants.{Done}
-use Rattle.chp_cli.specs.Answers.{Given, Answer, writes}
-use Rattle.chp_cli.specs.Commands.{Asked, times}
-use Rattle.chp_cli.specs.References.{HoldsReference}
+use Rattle.command_answers.specs.declared.answer.Ending.TheVariants.{Done}
+use Rattle.command_answers.specs.Answers.{Given, Answer, writes}
+use Rattle.command_words.specs.CommandWords.{Asked, times}
+use Rattle.command_steps.specs.References.{HoldsReference}
 use Rattle.chp_cli.specs.Resting.{TimedRests}
-use Rattle.chp_cli.specs.RunSteps.{IsScriptOf, lacks_reset}
+use Rattle.command_steps.specs.RunSteps.{IsScriptOf, lacks_reset}
 use Rattle.chp_cli.specs.Simulated.{HoldsCompiled}
-use Rattle.chp_cli.specs.Steps.{IsFileOf}
-use Rattle.chp_cli.specs.Timing.{AskedTiming, AreDelaysOf, TimesNet, timing_for}
+use Rattle.command_steps.specs.Steps.{IsFileOf}
+use Rattle.command_words.specs.SimulateWords.{AskedTiming}
+use Rattle.command_steps.specs.DelaySteps.{AreDelaysOf}
+use Rattle.simulation_commands.specs.Timing.{TimesNet, timing_for}
 
 -- The files hold the rule file of a net, a script of its channels, delays of its nodes, and the program to compare
 -- with, if one is wanted; and the timed run of this net under this script by these delays is reported.

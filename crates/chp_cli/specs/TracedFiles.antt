@@ -5,14 +5,16 @@ use Rattle.env_script.specs.Environment.{net_channels}
 use Rattle.env_script.specs.Scripts.{OfferValue}
 use Rattle.prs_core.specs.Nets.{NetValue}
 use Rattle.width_check.specs.Processes.{TypedProgram}
-use Rattle.chp_cli.specs.declared.answer.Ending.TheVariants.{Done}
-use Rattle.chp_cli.specs.Answers.{Given, Answer, writes}
-use Rattle.chp_cli.specs.Commands.{Asked, traces}
+use Rattle.command_answers.specs.declared.answer.Ending.TheVariants.{Done}
+use Rattle.command_answers.specs.Answers.{Given, Answer, writes}
+use Rattle.command_words.specs.CommandWords.{Asked, traces}
 use Rattle.chp_cli.specs.Resting.{TimedRests}
-use Rattle.chp_cli.specs.RunSteps.{IsScriptOf}
+use Rattle.command_steps.specs.RunSteps.{IsScriptOf}
 use Rattle.chp_cli.specs.Simulated.{HoldsCompiled}
-use Rattle.chp_cli.specs.Steps.{IsFileOf}
-use Rattle.chp_cli.specs.Tracing.{AskedWaves, HoldsDelayFile, TracesNet, trace_for}
+use Rattle.command_steps.specs.Steps.{IsFileOf}
+use Rattle.command_words.specs.WavesWords.{AskedWaves}
+use Rattle.command_steps.specs.DelaySteps.{HoldsDelayFile}
+use Rattle.simulation_commands.specs.Tracing.{TracesNet, trace_for}
 
 -- The files hold the rule file of a net, a script of its channels, and delays of its nodes, if such a file is named;
 -- and the moves of the timed run of this net under this script by these delays are written.

@@ -1,24 +1,28 @@
 //! Laws of what commands answer.
 
 ghost use Rattle.std.specs.Prelude.{◌≡◌, ◌≢◌, ℕ, List, true};
-ghost use Rattle.chp_cli.specs.declared.answer.Ending.{Ending};
-ghost use Rattle.chp_cli.specs.declared.answer.Ending.TheVariants as ending;
-ghost use Rattle.chp_cli.specs.declared.status.Status.TheVariants.{Done};
-ghost use Rattle.chp_cli.specs.Answers.{Answer, Given, OneAnswer, status_of, writes};
-ghost use Rattle.chp_cli.specs.Compiling.{Compiles, IsFileCompiled, IsToCompile};
-ghost use Rattle.chp_cli.specs.CompileWords.{AskedCompilation};
-ghost use Rattle.chp_cli.specs.Migrating.{Migrates, IsToMigrate};
-ghost use Rattle.chp_cli.specs.Commands.{Asked, IsAnswer};
-ghost use Rattle.chp_cli.specs.Orders.{Played};
-ghost use Rattle.chp_cli.specs.References.{IsReferredTo};
+ghost use Rattle.command_answers.specs.declared.answer.Ending.{Ending};
+ghost use Rattle.command_answers.specs.declared.answer.Ending.TheVariants as ending;
+ghost use Rattle.command_answers.specs.declared.status.Status.TheVariants.{Done};
+ghost use Rattle.command_answers.specs.Answers.{Answer, Given, OneAnswer, status_of, writes};
+ghost use Rattle.program_commands.specs.Compiling.{Compiles, IsFileCompiled, IsToCompile};
+ghost use Rattle.command_words.specs.CompileWords.{AskedCompilation};
+ghost use Rattle.program_commands.specs.Migrating.{Migrates, IsToMigrate};
+ghost use Rattle.command_words.specs.CommandWords.{Asked};
+ghost use Rattle.chp_cli.specs.Commands.{IsAnswer};
+ghost use Rattle.command_steps.specs.Orders.{Played};
+ghost use Rattle.command_steps.specs.References.{IsReferredTo};
 ghost use Rattle.chp_cli.specs.Simulated.{EndsAllAtRest, HoldsCarrying, HoldsCompiled, IsCompiledToSimulate};
 ghost use Rattle.chp_cli.specs.Simulated.{IsFileSimulated, IsToSimulate, SimulatedRests};
-ghost use Rattle.chp_cli.specs.Simulating.{AskedRun, Simulates};
-ghost use Rattle.chp_cli.specs.Statuses.{is_whole};
+ghost use Rattle.command_words.specs.SimulateWords.{AskedRun};
+ghost use Rattle.simulation_commands.specs.Simulating.{Simulates};
+ghost use Rattle.command_answers.specs.Statuses.{is_whole};
 ghost use Rattle.chp_cli.specs.TimedFiles.{IsFileTimed, TimedRunRests};
-ghost use Rattle.chp_cli.specs.Timing.{AskedTiming, SimulatesTimed};
+ghost use Rattle.command_words.specs.SimulateWords.{AskedTiming};
+ghost use Rattle.simulation_commands.specs.Timing.{SimulatesTimed};
 ghost use Rattle.chp_cli.specs.TracedFiles.{IsFileTraced, TracedRests};
-ghost use Rattle.chp_cli.specs.Tracing.{AskedWaves, Traces};
+ghost use Rattle.command_words.specs.WavesWords.{AskedWaves};
+ghost use Rattle.simulation_commands.specs.Tracing.{Traces};
 ghost use Rattle.width_check.specs.Processes.{TypedProgram};
 
 use delay_script::laws::timed_runs_end_in_time;

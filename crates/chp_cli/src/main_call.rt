@@ -2,43 +2,44 @@
 
 ghost use Rattle.std.specs.Prelude.{◌≡◌, ◌≢◌, ◌≤◌, ◌++◌, ℕ, List, map, None, Some, true, false, IfOk, IfErr, ◌⊎◌};
 ghost use Rattle.chp_edge.specs.Faults.{Rose, IsReadFault};
-ghost use Rattle.chp_cli.specs.Answers.{Answer, given_by, status_of};
-ghost use Rattle.chp_cli.specs.Commands.{IsWithinBounds, IsAnswer, asked, asked_by, files_of, order_of};
+ghost use Rattle.command_answers.specs.Answers.{Answer, given_by, status_of};
+ghost use Rattle.command_words.specs.CommandWords.{IsWithinBounds, asked, asked_by};
+ghost use Rattle.chp_cli.specs.Commands.{IsAnswer, files_of, order_of};
 ghost use Rattle.chp_cli.specs.Ends.{AnswersTo, Ends, IsFile, asked_order};
-ghost use Rattle.chp_cli.specs.Orders.{KeepsOrders, order_state, played_by};
-ghost use Rattle.chp_cli.specs.References.{IsReferredTo};
-ghost use Rattle.chp_cli.specs.Replies.{Stops, end_line, end_status};
-ghost use Rattle.chp_cli.specs.RepliesTold.{told_reply};
+ghost use Rattle.command_steps.specs.Orders.{KeepsOrders, order_state, played_by};
+ghost use Rattle.command_steps.specs.References.{IsReferredTo};
+ghost use Rattle.command_answers.specs.Replies.{Stops, end_line, end_status};
+ghost use Rattle.program_commands.specs.RepliesTold.{told_reply};
 ghost use Rattle.chp_cli.specs.Simulated.{AsksForCompiled, IsCalm};
-ghost use Rattle.chp_cli.specs.Simulating.{AskedRun};
-ghost use Rattle.chp_cli.specs.Statuses.{is_whole};
+ghost use Rattle.command_words.specs.SimulateWords.{AskedRun};
+ghost use Rattle.command_answers.specs.Statuses.{is_whole};
 ghost use Rattle.chp_cli.specs.TimedFiles.{AsksForTimed, IsTimedCalm};
-ghost use Rattle.chp_cli.specs.Timing.{AskedTiming};
+ghost use Rattle.command_words.specs.SimulateWords.{AskedTiming};
 ghost use Rattle.chp_cli.specs.TracedFiles.{AsksForTrace, IsCalmTrace};
-ghost use Rattle.chp_cli.specs.Tracing.{AskedWaves};
+ghost use Rattle.command_words.specs.WavesWords.{AskedWaves};
 ghost use Rattle.width_check.specs.Processes.{TypedProgram};
 
-use crate::answer::{End, Stop};
-use crate::check::check;
-use crate::command::{Command, command_in};
-use crate::compile::compile;
-use crate::expand::expand;
-use crate::grow::grow;
+use command_answers::{End, Stop};
+use program_commands::check::check;
+use command_words::{Command, command_in};
+use program_commands::compile::compile;
+use program_commands::expand::expand;
+use grown_commands::grow::grow;
 use crate::laws::{
     carried_runs_agree, carried_runs_are_safe, carried_runs_have_one_length, compiled_files_carry,
     compiled_runs_rest, one_answer, simulated_right, timed_right, timed_runs_agree,
     timed_runs_are_safe, traced_right, traced_runs_are_safe,
 };
-use crate::migrate::migrate;
-use crate::players::Players;
-use crate::reply::Reply;
-use crate::rounds::rounds;
-use crate::say::tell;
-use crate::simulate::simulate;
-use crate::status::Status;
-use crate::timing::time;
-use crate::unwave::unwave;
-use crate::waves::waves;
+use program_commands::migrate::migrate;
+use command_steps::Players;
+use program_commands::Reply;
+use round_commands::rounds::rounds;
+use command_answers::tell;
+use simulation_commands::simulate::simulate;
+use command_answers::Status;
+use simulation_commands::time;
+use simulation_commands::unwave::unwave;
+use simulation_commands::waves::waves;
 use chp_edge::{Failed, Shelf, Sink};
 use std::alloc::{AllocError, Global};
 

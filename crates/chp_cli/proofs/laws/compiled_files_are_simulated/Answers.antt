@@ -2,7 +2,7 @@ use Rattle.std.proofs.Common.{◌≡◌, Bool, true, false, sym, subst}
 use Rattle.env_script.specs.Environment.{net_channels}
 use Rattle.env_script.specs.ScriptText.{IsScriptText}
 use Rattle.width_check.specs.Processes.{TypedProgram}
-use Rattle.chp_cli.specs.Compiling.{NetCarries, net_for}
+use Rattle.program_commands.specs.Compiling.{NetCarries, net_for}
 use Rattle.chp_cli.proofs.FewBytes.{few_bytes}
 use Rattle.chp_cli.proofs.laws.compiled_files_are_simulated.Goals as goal
 

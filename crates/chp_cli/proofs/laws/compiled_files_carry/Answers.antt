@@ -2,7 +2,7 @@ use Rattle.std.proofs.Common.{◌≡◌, Bool, true, false, inl, inr, refl, ◌�
 use Rattle.std.specs.Prelude.{None}
 use Rattle.net_compose.specs.Carries.{Carries, CarriesReset}
 use Rattle.width_check.specs.Processes.{TypedProgram}
-use Rattle.chp_cli.specs.Compiling.{NetCarries, net_for}
+use Rattle.program_commands.specs.Compiling.{NetCarries, net_for}
 use Rattle.chp_cli.proofs.laws.compiled_files_carry.Goals as goal
 
 either_way : (reset : Bool) (p : TypedProgram) → NetCarries reset p →

@@ -1,10 +1,11 @@
-use Rattle.chp_cli.proofs.OneAnswers.{checks_once, command_once}
-use Rattle.chp_cli.proofs.OneRounds.{rounds_once}
-use Rattle.chp_cli.proofs.OneRuns.{simulate_once}
-use Rattle.chp_cli.proofs.OneSums.{growth_once}
-use Rattle.chp_cli.proofs.OneTimings.{times_once}
-use Rattle.chp_cli.proofs.OneTraces.{traces_once}
-use Rattle.chp_cli.proofs.WaveSteps.{unwaves_once}
+use Rattle.command_steps.proofs.OneAnswers.{checks_once}
+use Rattle.chp_cli.proofs.OneCommands.{command_once}
+use Rattle.round_commands.proofs.OneRounds.{rounds_once}
+use Rattle.simulation_commands.proofs.OneRuns.{simulate_once}
+use Rattle.grown_commands.proofs.OneSums.{growth_once}
+use Rattle.simulation_commands.proofs.OneTimings.{times_once}
+use Rattle.simulation_commands.proofs.OneTraces.{traces_once}
+use Rattle.simulation_commands.proofs.WaveSteps.{unwaves_once}
 use Rattle.chp_cli.proofs.laws.one_answer.Goals as goal
 
 pub returns : goal.returns

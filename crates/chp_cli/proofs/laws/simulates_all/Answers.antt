@@ -1,4 +1,4 @@
-use Rattle.chp_cli.proofs.OneAnswers.{no_fault}
+use Rattle.command_steps.proofs.OneAnswers.{no_fault}
 use Rattle.chp_cli.proofs.RunsWritten.{simulate_writes}
 use Rattle.chp_cli.proofs.laws.simulates_all.Goals as goal
 

@@ -1,11 +1,11 @@
 use Rattle.std.proofs.Common.{ℕ, []}
-use Rattle.chp_cli.specs.declared.answer.Stop.{Stop}
-use Rattle.chp_cli.specs.declared.grow_words.Growth.{Growth}
-use Rattle.chp_cli.specs.Answers.{Given, given_by}
-use Rattle.chp_cli.specs.Growing.{Grows}
-use Rattle.chp_cli.specs.Orders.{Played}
-use Rattle.chp_cli.specs.Replies.{Halts, Stops}
-use Rattle.chp_cli.proofs.Stopping.{passed_on, stops_where}
+use Rattle.command_answers.specs.declared.answer.Stop.{Stop}
+use Rattle.command_words.specs.declared.grow_words.Growth.{Growth}
+use Rattle.command_answers.specs.Answers.{Given, given_by}
+use Rattle.grown_commands.specs.Growing.{Grows}
+use Rattle.command_steps.specs.Orders.{Played}
+use Rattle.command_answers.specs.Replies.{Halts, Stops}
+use Rattle.command_steps.proofs.Stopping.{passed_on, stops_where}
 use Rattle.chp_cli.proofs.main_call.answer.Goals as goal
 
 -- `grow` has no file

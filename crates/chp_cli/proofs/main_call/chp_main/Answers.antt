@@ -1,7 +1,7 @@
 use Rattle.std.proofs.Common.{◌∙◌, ◌++◌, ap, sym, append-nil}
-use Rattle.chp_cli.specs.Commands.{simulates, times, traces}
-use Rattle.chp_cli.specs.Replies.{end_line}
-use Rattle.chp_cli.specs.Statuses.{is_whole}
+use Rattle.command_words.specs.CommandWords.{simulates, times, traces}
+use Rattle.command_answers.specs.Replies.{end_line}
+use Rattle.command_answers.specs.Statuses.{is_whole}
 use Rattle.chp_cli.proofs.Ending.{complete_of, read_of, silent_of, usage_of, write_of}
 use Rattle.chp_cli.proofs.Calm.{agreed_of, calm_of, done_of}
 use Rattle.chp_cli.proofs.main_call.chp_main.Goals as goal

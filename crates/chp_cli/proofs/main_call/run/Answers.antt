@@ -1,7 +1,7 @@
 use Rattle.std.proofs.Common.{◌≡◌, [], Some, None, rules, take, sym, append-nil}
-use Rattle.chp_cli.specs.Commands.{asked, asked_by}
+use Rattle.command_words.specs.CommandWords.{asked, asked_by}
 use Rattle.chp_cli.specs.Ends.{formless, whole, cut_off, no_memory}
-use Rattle.chp_cli.specs.RepliesTold.{reply_bytes, reply_end, told_reply}
+use Rattle.program_commands.specs.RepliesTold.{reply_bytes, reply_end, told_reply}
 use Rattle.chp_cli.proofs.Ending.{answers_of, front_of, stopped_ends}
 use Rattle.chp_cli.proofs.main_call.run.Goals as goal
 

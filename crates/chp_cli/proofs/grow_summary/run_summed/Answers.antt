@@ -1,8 +1,0 @@
-use Rattle.chp_cli.proofs.Keeping.{still_at}
-use Rattle.chp_cli.proofs.grow_summary.run_summed.Goals as goal
-
-pub returns-in_err-sim-clause-played : goal.returns-in_err-sim-clause-played
-returns-in_err-sim-clause-played g c = still_at _ _
-
-pub returns-clause-led : goal.returns-clause-led
-returns-clause-led g c = rw c.in_ok-sim.ensures at c.play_at.ensures.led

@@ -1,9 +1,0 @@
-use Rattle.chp_cli.specs.RunSteps.{no_script}
-use Rattle.chp_cli.proofs.run_files.script_of_text.Goals as goal
-
-pub returns-in-Err-Refused-clause-stopped : goal.returns-in-Err-Refused-clause-stopped
-returns-in-Err-Refused-clause-stopped c =
-    let cause = rw c.in-Err-Refused.field-0-is at c.in-Err-Refused.ensures.refused in
-    let first = rw c.in-Err-Refused.field-0-is at c.in-Err-Refused.ensures.first in
-    let never = rw c.in-Err-Refused.field-0-is at c.in-Err-Refused.ensures.none in
-    no_script (rw (c.in-Err-Refused.fault-is, c.in-Err-Refused.line-is) (record { never = never; cause = cause; only = first }))

@@ -1,7 +1,0 @@
-use Rattle.std.proofs.Common.{◌∙◌, ap}
-use Rattle.chp_cli.specs.RunReporting.{ending_for}
-use Rattle.chp_cli.proofs.Reported.{reported_alone}
-use Rattle.chp_cli.proofs.run_reports.uncompared.Goals as goal
-
-pub returns : goal.returns
-returns c = λ script. reported_alone script _ _ _ _ (c.ending_for.ensures ∙ ap ending_for c.end.ensures.end) c.in_ok-text.ensures

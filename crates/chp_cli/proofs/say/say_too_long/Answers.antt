@@ -1,7 +1,0 @@
-use Rattle.std.proofs.Common.{◌∙◌, ◌++◌, codes, ap}
-use Rattle.chp_cli.proofs.say.say_too_long.Goals as goal
-
-pub returns-clause-said : goal.returns-clause-said
-returns-clause-said g c = λ told calm.
-    c.say_pieces.ensures.said told calm ∙ ap (λ digits. g.W.Sink.written c.args.say.now
-    ++ (codes "chp: 7 bytes " ++ (c.args.name.now ++ (codes " over " ++ (digits ++ codes "\n"))))) c.format-most.ensures.text

@@ -1,0 +1,137 @@
+//! What a command answers, and how a call ends with it.
+
+ghost use Rattle.std.specs.Prelude.{◌≡◌};
+ghost use Rattle.command_answers.specs.Answers.{status_with};
+ghost use Rattle.command_answers.specs.Replies.{refusal_status, stop_status, end_status};
+
+use crate::status::Status;
+use chp_base::Fault;
+use delay_script::DelayFault;
+use env_script::ScriptFault;
+use prs_file::NetFault;
+use wave_file::WaveFault;
+
+/// How a command ends whose whole output was written.
+#[derive(Clone, Copy, Debug)]
+pub enum Ending {
+    Done,
+    /// The run that is reported ends in a hazard.
+    Hazard,
+    /// The run that is reported isn't behind the rounds that it is compared with.
+    Differs,
+}
+
+impl Ending {
+    pub fn status(&self) -> Status
+        ensures { result ≡ status_with self.now }
+    {
+        match self {
+            Ending::Done => Status::Done,
+            Ending::Hazard => Status::Hazard,
+            Ending::Differs => Status::Differs,
+        }
+    }
+}
+
+/// The text that a command is to write, and how it ends then.
+#[derive(Debug, Drop)]
+pub struct Output {
+    pub text: Vec<u8>,
+    pub end: Ending,
+}
+
+/// Why a command refuses, with what is told of it.
+#[derive(Clone, Copy, Debug)]
+pub enum Refusal<'a> {
+    /// A program text is refused.
+    Text(Fault),
+    /// The file of this name has more bytes than this limit.
+    TooLong { name: &'a str, limit: usize },
+    /// The circuit of the program has so many nodes, which are more than it may have.
+    TooManyNodes(u64),
+    /// More values pass in the rounds than may be held.
+    TooManyValues,
+    /// A rule file is refused at this line.
+    BadNet { fault: NetFault, line: u32 },
+    /// A script is refused at this line.
+    BadScript { fault: ScriptFault, line: u32 },
+    /// A delay file is refused at this line.
+    BadDelays { fault: DelayFault, line: u32 },
+    /// A wave file is refused at this line.
+    BadWave { fault: WaveFault, line: u32 },
+    /// The net has no reset node, and its power-up was asked for.
+    NoReset,
+    /// There is no order of this name.
+    NoOrder(&'a str),
+    /// The program has no channel inside of it of this name.
+    NoChannel(&'a str),
+    /// The program has procedures or calls, which aren't served yet.
+    NotBuilt,
+}
+
+impl Refusal<'_> {
+    pub fn status(&self) -> Status
+        ensures { result ≡ refusal_status self.now }
+    {
+        match self {
+            Refusal::Text(_) => Status::RefusedText,
+            Refusal::TooLong { .. } | Refusal::TooManyNodes(_) | Refusal::TooManyValues => {
+                Status::TooLarge
+            }
+            Refusal::BadNet { .. }
+            | Refusal::BadScript { .. }
+            | Refusal::BadDelays { .. }
+            | Refusal::BadWave { .. }
+            | Refusal::NoReset => Status::BadFile,
+            Refusal::NoOrder(_) => Status::NoOrder,
+            Refusal::NoChannel(_) => Status::NoChannel,
+            Refusal::NotBuilt => Status::NotBuilt,
+        }
+    }
+}
+
+/// Why a command writes nothing.
+#[derive(Clone, Copy, Debug)]
+pub enum Stop<'a> {
+    Refused(Refusal<'a>),
+    /// The file of this name couldn't be read.
+    Unread(&'a str),
+    NoMemory,
+}
+
+impl Stop<'_> {
+    pub fn status(&self) -> Status
+        ensures { result ≡ stop_status self.now }
+    {
+        match self {
+            Stop::Refused(refusal) => refusal.status(),
+            Stop::Unread(_) => Status::Read,
+            Stop::NoMemory => Status::NoMemory,
+        }
+    }
+}
+
+/// How a call ends.
+#[derive(Clone, Copy, Debug)]
+pub enum End<'a> {
+    /// The whole output was written.
+    Whole(Ending),
+    /// Only a front of the output could be written.
+    CutOff,
+    /// The words are no command.
+    Usage,
+    Stopped(Stop<'a>),
+}
+
+impl End<'_> {
+    pub fn status(&self) -> Status
+        ensures { result ≡ end_status self.now }
+    {
+        match self {
+            End::Whole(ending) => ending.status(),
+            End::CutOff => Status::Write,
+            End::Usage => Status::Usage,
+            End::Stopped(stop) => stop.status(),
+        }
+    }
+}

@@ -1,0 +1,12 @@
+pub mod Stopping
+pub mod OneAnswers
+pub mod RunStopping
+pub mod Referring
+pub mod BufferStopping
+pub mod Buffering
+pub mod RunChannels
+pub mod FewDeclarations
+pub mod Faulty
+pub mod Counted
+pub mod OrderNames
+pub mod OneRunSteps

@@ -1,0 +1,26 @@
+use Rattle.std.proofs.Common.{◌∷◌, []}
+use Rattle.command_answers.specs.Answers.{given_by}
+use Rattle.command_steps.specs.Steps.{FromFile, FromNet, Never, most_of_net}
+use Rattle.command_steps.proofs.Stopping.{err_in, file_passed, stops_where}
+use Rattle.command_answers.specs.Replies.{Halts, Stops}
+use Rattle.command_steps.specs.Steps.{a_file}
+use Rattle.command_steps.proofs.run_files.net_in.Goals as goal
+
+pub returns-clause-stopped : goal.returns-clause-stopped
+returns-clause-stopped g c =
+    let S = g.S.Shelf in
+    let given = given_by (S.tells c.args.shelf.now) (S.holds c.args.shelf.now) in
+    let text = c.in_ok-text.text.items in
+    let next = FromNet text Never in
+    let whole = FromFile given c.args.file.now most_of_net (λ t. FromNet t Never) in
+    err_in c.net_of_text.result (Halts next) (Stops whole (c.args.file.now ∷ []) given (S.faults c.args.shelf.now) (S.faults c.text_of_file.new.shelf))
+    (stops_where next whole (λ answer is. a_file c.in_ok-text.ensures.read c.in_ok-text.ensures.short is) (c.args.file.now ∷ []) given
+    (S.faults c.args.shelf.now) (S.faults c.text_of_file.new.shelf))
+    (rw c.deref.ensures.value at c.net_of_text.ensures.stopped)
+
+pub returns-in_err-text-clause-stopped : goal.returns-in_err-text-clause-stopped
+returns-in_err-text-clause-stopped g c =
+    let S = g.S.Shelf in
+    let given = given_by (S.tells c.args.shelf.now) (S.holds c.args.shelf.now) in
+    file_passed given c.args.file.now most_of_net (λ t. FromNet t Never) (S.faults c.args.shelf.now) (S.faults c.text_of_file.new.shelf)
+    c.from_residual.result c.in_err-text.field-0.0 c.from_residual.ensures.1 c.in_err-text.ensures.stopped

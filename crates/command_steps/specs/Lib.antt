@@ -1,0 +1,9 @@
+pub mod Steps
+pub mod Orders
+pub mod RunSteps
+pub mod BufferSteps
+pub mod Held
+pub mod HeldPrograms
+pub mod References
+pub mod HeldBuffered
+pub mod DelaySteps

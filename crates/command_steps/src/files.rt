@@ -1,0 +1,124 @@
+//! Steps of which commands are made: from a file to its text, and from there to what it says.
+
+ghost use Rattle.std.specs.Prelude.{◌≡◌, ◌-◌, ◌<◌, ◌≤◌, ◌^◌, ◌∷◌, [], length, IfOk, IfErr, OnOk};
+ghost use Rattle.chp_syntax.specs.Shape.{IsShaped};
+ghost use Rattle.chp_syntax.specs.View.{program_tree};
+ghost use Rattle.handshake_expand.specs.Layout.{node_count};
+ghost use Rattle.width_check.specs.Accepted.{IsAccepted};
+ghost use Rattle.width_check.specs.Form.{typed_form};
+ghost use Rattle.width_check.specs.Typed.{program_of as typed_of};
+ghost use Rattle.command_answers.specs.Answers.{Gives, given_by};
+ghost use Rattle.command_answers.specs.Replies.{Halts, Stops};
+ghost use Rattle.command_steps.specs.Steps.{FromChecks, FromFile, FromNet, FromNodes, FromProgram, IsFileOf, IsTextOf, Never, most_of_net, most_of_nodes, most_of_text};
+
+use command_answers::{Refusal, Stop};
+use chp_base::TextError;
+use chp_edge::{ReadEnd, Shelf, read_all};
+use chp_syntax::{Program, parse};
+use handshake_expand::count_nodes;
+use prs_core::Net;
+use prs_file::{NetReadError, read_net};
+use sharing_check::{Disjoint, share};
+use std::alloc::Global;
+use width_check::{Typed, is_call_free, resolve};
+
+/// The most bytes of a program text.
+pub const MOST_OF_TEXT: usize = 262_144;
+
+/// The most nodes of a circuit.
+const MOST_OF_NODES: u64 = 65_536;
+
+/// The most bytes of a rule file.
+pub const MOST_OF_NET: usize = 268_435_456;
+
+/// The text of the file of this name, which has at most so many bytes.
+pub fn text_of_file<'a, S: Shelf>(
+    alloc: Global,
+    shelf: &mut S,
+    name: &'a str,
+    most: usize,
+) -> Result<Vec<u8>, Stop<'a>>
+    requires { most < 2 ^ 64 - 1 }
+    ensures read { IfOk result (λ text. Gives (given_by (S.tells shelf.old) (S.holds shelf.old)) name.entry.now
+        text.items) }
+    ensures short { IfOk result (λ text. length text.items ≤ most) }
+    ensures stopped { IfErr result (Stops
+        (FromFile (given_by (S.tells shelf.old) (S.holds shelf.old)) name.entry.now most Never) (name.entry.now ∷ [])
+        (given_by (S.tells shelf.old) (S.holds shelf.old)) (S.faults shelf.old) (S.faults shelf.new)) }
+    ensures same { S.tells shelf.new ≡ S.tells shelf.old }
+    ensures kept { S.holds shelf.new ≡ S.holds shelf.old }
+    ensures faults { S.faults shelf.old ≤ S.faults shelf.new }
+{
+    match read_all(alloc, shelf, name, most) {
+        Ok(text) => Ok(text),
+        Err(ReadEnd::Failed) => Err(Stop::Unread(name)),
+        Err(ReadEnd::TooLong) => Err(Stop::Refused(Refusal::TooLong { name, limit: most })),
+        Err(ReadEnd::NoMemory) => Err(Stop::NoMemory),
+    }
+}
+
+/// The program that the text reads as.
+pub fn program_of_text<'a>(alloc: Global, text: &[u8]) -> Result<Program, Stop<'a>>
+    requires { length text.now ≤ most_of_text }
+    ensures read { IfOk result (λ program. IsTextOf text.now (program_tree program)) }
+    ensures shaped { IfOk result (λ program. IsShaped (program_tree program)) }
+    ensures few { IfOk result (λ program. program.procs.items ≡ [] → length program.decls.items ≤ most_of_text) }
+    ensures stopped { IfErr result (Halts (FromProgram text.now Never)) }
+{
+    match parse(alloc, text) {
+        Ok(program) => Ok(program),
+        Err(TextError::Refused(fault)) => Err(Stop::Refused(Refusal::Text(fault))),
+        Err(TextError::NoMemory(_)) => Err(Stop::NoMemory),
+    }
+}
+
+/// The program with its names resolved. It is refused for the first fault of its names and widths, or else of sharing;
+/// one with procedures or calls isn't served yet.
+pub fn checked_program<'a>(alloc: Global, program: &Program) -> Result<Disjoint, Stop<'a>>
+    requires shaped { IsShaped (program_tree program.now) }
+    requires few { program.now.procs.items ≡ [] → length program.now.decls.items ≤ most_of_text }
+    ensures accepted { OnOk result (IsAccepted (program_tree program.now)) }
+    ensures form { IfOk result (λ disjoint. typed_of disjoint ≡ typed_form (program_tree program.now)) }
+    ensures stopped { IfErr result (Halts (FromChecks (program_tree program.now) (Never (program_tree program.now)))) }
+{
+    if !is_call_free(program) {
+        return Err(Stop::Refused(Refusal::NotBuilt));
+    }
+    let typed = match resolve(alloc, program) {
+        Ok(typed) => typed,
+        Err(TextError::Refused(fault)) => return Err(Stop::Refused(Refusal::Text(fault))),
+        Err(TextError::NoMemory(_)) => return Err(Stop::NoMemory),
+    };
+    match share(alloc, typed) {
+        Ok(disjoint) => Ok(disjoint),
+        Err(TextError::Refused(fault)) => Err(Stop::Refused(Refusal::Text(fault))),
+        Err(TextError::NoMemory(_)) => Err(Stop::NoMemory),
+    }
+}
+
+/// Counts the nodes of the program's circuit, and refuses one with too many.
+pub fn counted<'a>(program: &Typed) -> Result<(), Stop<'a>>
+    ensures few { OnOk result (node_count (typed_of program.now) ≤ most_of_nodes) }
+    ensures stopped { IfErr result (Halts (FromNodes (typed_of program.now) Never)) }
+{
+    let count = count_nodes(program);
+    if count > MOST_OF_NODES {
+        return Err(Stop::Refused(Refusal::TooManyNodes(count)));
+    }
+    Ok(())
+}
+
+/// The net of which the text is the rule file.
+pub fn net_of_text<'a>(alloc: Global, text: &[u8]) -> Result<Net, Stop<'a>>
+    requires { length text.now ≤ most_of_net }
+    ensures read { IfOk result (λ net. IsFileOf text.now net) }
+    ensures stopped { IfErr result (Halts (FromNet text.now Never)) }
+{
+    match read_net(alloc, text) {
+        Ok(net) => Ok(net),
+        Err(NetReadError::Refused { fault, line }) => {
+            Err(Stop::Refused(Refusal::BadNet { fault, line }))
+        }
+        Err(NetReadError::NoMemory(_)) => Err(Stop::NoMemory),
+    }
+}

@@ -1,0 +1,7 @@
+-- What follows from what a result holds.
+use Rattle.std.proofs.Common.{Result, Ok, Err}
+use Rattle.std.specs.Prelude.{IfOk}
+
+pub ok_in : {T E : Type 0} (r : Result T E) (P Q : T → Type 0) → ((value : T) → P value → Q value) → IfOk r P → IfOk r Q
+ok_in (Ok value) P Q is p = is value p
+ok_in (Err e) P Q is p = tt

@@ -1,0 +1,185 @@
+-- The words of a command, and what they ask for.
+use Rattle.std.specs.Prelude.{◌≤◌, true, List, [], ◌∷◌, Option, Some, None, codes, option_map, if◌then◌else◌, option_and_then}
+use Rattle.std.specs.Borrow.{Bor}
+use Rattle.std.specs.Str.{bytes_eq}
+use Rattle.std.specs.declared.alloc.Global.{Global}
+use Rattle.std.specs.declared.string.String.{String}
+use Rattle.command_words.specs.CompileWords.{AskedCompilation, compilation_asked, compile_of, plain_compile}
+use Rattle.command_words.specs.GrowWords.{IsGrowable, growth_of, plain_growth}
+use Rattle.command_words.specs.RoundsWords.{AskedRounds, rounds_of}
+use Rattle.command_words.specs.SimulateWords.{AskedRun, AskedSimulation, by_order, by_delays, most_of_steps, simulate_of, AskedTiming}
+use Rattle.command_words.specs.WavesWords.{AskedWaves, waves_of}
+use Rattle.command_words.specs.Forms.{texts_of}
+use Rattle.command_words.specs.Words.{plain_file}
+use Rattle.clap.specs.Words.{App, Rule, Text, first_of, matches_of, new_app, new_rule, takes, with_rule}
+use Rattle.clap.specs.Simple.{on_top}
+use Rattle.clap.specs.declared.builder.ArgAction.TheVariants.{Set}
+use Rattle.command_words.specs.declared.command.Command.{Command}
+use Rattle.command_words.specs.declared.command.Command.TheVariants.{Compile, Migrate, Check, Expand, Simulate, Time, Waves, Unwave, Run, Grow}
+use Rattle.command_words.specs.declared.rounds_words.Rounds.{Rounds}
+use Rattle.command_words.specs.declared.waves_words.Waves.{Waves as WavesWanted}
+use Rattle.command_words.specs.declared.simulation.Simulation.{Simulation}
+use Rattle.command_words.specs.declared.simulation.Timing.{Timing}
+use Rattle.command_words.specs.declared.simulation.Choosing.{Choosing}
+use Rattle.command_words.specs.declared.simulation.Choosing.TheVariants.{ByOrder, ByDelays}
+use Rattle.command_words.specs.declared.command.Verb.{Verb}
+use Rattle.command_words.specs.declared.grow_words.Growth.{Growth}
+use Rattle.command_words.specs.declared.command.Verb.TheVariants as verb
+
+-- ---- the form of a command with one file
+
+-- the one argument: a positional that has to be there, and is given once
+abbrev pub file_rule : Rule
+file_rule = record (new_rule (codes "FILE")) { required = true; action = Some Set }
+
+-- the form of a command of this name: one file, and no flag, not even for help
+abbrev pub file_form : Text → App
+file_form name = with_rule
+    (on_top (λ s. record s { no_binary_name = true; disable_help_flag = true }) (new_app name))
+    file_rule
+
+-- the file that the words after the command's name give, where its form takes them
+abbrev pub file_of : Text → List Text → Option Text
+file_of name words = if takes (file_form name) words
+    then first_of (codes "FILE") (matches_of (file_form name) words) else None
+
+-- ---- the commands
+
+-- the command that a word names
+abbrev pub verb_of : Text → Option Verb
+verb_of word = if bytes_eq word (codes "compile") then Some verb.Compile
+    else if bytes_eq word (codes "migrate") then Some verb.Migrate
+    else if bytes_eq word (codes "check") then Some verb.Check
+    else if bytes_eq word (codes "expand") then Some verb.Expand
+    else if bytes_eq word (codes "simulate") then Some verb.Simulate
+    else if bytes_eq word (codes "waves") then Some verb.Waves
+    else if bytes_eq word (codes "unwave") then Some verb.Unwave
+    else if bytes_eq word (codes "run") then Some verb.Run
+    else if bytes_eq word (codes "grow") then Some verb.Grow
+    else None
+
+-- a command and its file, as its bytes, or what else it is asked for
+pub data Asked : Type 0 where
+  compiles : AskedCompilation → Asked
+  migrates : Text → Asked
+  checks : Text → Asked
+  expands : Text → Asked
+  simulates : AskedRun → Asked
+  times : AskedTiming → Asked
+  traces : AskedWaves → Asked
+  unwaves : Text → Asked
+  runs : AskedRounds → Asked
+  grows : Growth → Asked
+
+-- a simulation, with its names as their bytes
+abbrev pub run_asked : Simulation → AskedRun
+run_asked run = record {
+  net = run.net.now;
+  script = run.script.now;
+  order = run.order.now;
+  seed = run.seed;
+  steps = run.steps;
+  power = run.power;
+  against = option_map (λ file. file.now) run.against;
+}
+
+abbrev pub timing_asked : Timing → AskedTiming
+timing_asked t = record {
+  net = t.net.now;
+  script = t.script.now;
+  delays = t.delays.now;
+  steps = t.steps;
+  power = t.power;
+  against = option_map (λ file. file.now) t.against;
+}
+
+abbrev pub simulation_asked : Choosing → AskedSimulation
+simulation_asked (ByOrder run) = by_order (run_asked run)
+simulation_asked (ByDelays timing) = by_delays (timing_asked timing)
+
+abbrev pub waves_asked : WavesWanted → AskedWaves
+waves_asked w = record {
+  net = w.net.now;
+  script = w.script.now;
+  steps = w.steps;
+  delays = option_map (λ file. file.now) w.delays;
+  causes = w.causes;
+}
+
+-- rounds that are asked for, with the names as their bytes
+abbrev pub rounds_asked : Rounds → AskedRounds
+rounds_asked r = record {
+  file = r.file.now;
+  script = r.script.now;
+  rounds = r.rounds;
+  buffer = option_map (λ (t : Bor Text). t.now) r.buffer;
+}
+
+abbrev pub asked : Command → Asked
+asked (Compile c) = compiles (compilation_asked c)
+asked (Migrate net) = migrates net.now
+asked (Check file) = checks file.now
+asked (Expand file) = expands file.now
+asked (Simulate run) = simulates (run_asked run)
+asked (Time timing) = times (timing_asked timing)
+asked (Waves w) = traces (waves_asked w)
+asked (Unwave file) = unwaves file.now
+asked (Run r) = runs (rounds_asked r)
+asked (Grow growth) = grows growth
+
+-- the numbers of a command are within their bounds
+abbrev pub IsWithinBounds : Command → Type 0
+IsWithinBounds (Simulate run) = run.steps ≤ most_of_steps
+IsWithinBounds (Time timing) = timing.steps ≤ most_of_steps
+IsWithinBounds (Waves w) = w.steps ≤ most_of_steps
+IsWithinBounds (Grow growth) = IsGrowable growth
+IsWithinBounds _ = Unit {0}
+
+-- no more moves are asked for than may be
+abbrev pub HasFewSteps : Choosing → Type 0
+HasFewSteps (ByOrder run) = run.steps ≤ most_of_steps
+HasFewSteps (ByDelays timing) = timing.steps ≤ most_of_steps
+
+abbrev pub simulate_asked : AskedSimulation → Asked
+simulate_asked (by_order run) = simulates run
+simulate_asked (by_delays timing) = times timing
+
+-- what the words behind this word ask for
+abbrev pub command_with : Verb → Text → List Text → Option Asked
+command_with verb.Compile word rest = option_map compiles (compile_of word rest)
+command_with verb.Migrate word rest = option_map migrates (file_of word rest)
+command_with verb.Check word rest = option_map checks (file_of word rest)
+command_with verb.Expand word rest = option_map expands (file_of word rest)
+command_with verb.Simulate word rest = option_map simulate_asked (simulate_of word rest)
+command_with verb.Waves word rest = option_map traces (waves_of word rest)
+command_with verb.Unwave word rest = option_map unwaves (file_of word rest)
+command_with verb.Run word rest = option_map runs (rounds_of word rest)
+command_with verb.Grow word rest = option_map grows (growth_of word rest)
+
+-- what the words ask for, where they are a command's name and words that its form takes
+abbrev pub command_of : List Text → Option Asked
+command_of [] = None
+command_of (word ∷ rest) = option_and_then (λ v. command_with v word rest) (verb_of word)
+
+-- ---- the same in plain words
+
+-- the words of `simulate`, of `waves` and of `run` are told by their forms alone
+abbrev pub plain_with : Verb → Text → List Text → Option Asked
+plain_with verb.Compile word rest = option_map compiles (plain_compile rest)
+plain_with verb.Migrate word rest = option_map migrates (plain_file rest)
+plain_with verb.Check word rest = option_map checks (plain_file rest)
+plain_with verb.Expand word rest = option_map expands (plain_file rest)
+plain_with verb.Simulate word rest = option_map simulate_asked (simulate_of word rest)
+plain_with verb.Waves word rest = option_map traces (waves_of word rest)
+plain_with verb.Unwave word rest = option_map unwaves (plain_file rest)
+plain_with verb.Run word rest = option_map runs (rounds_of word rest)
+plain_with verb.Grow word rest = option_map grows (plain_growth rest)
+
+abbrev pub plain_command : List Text → Option Asked
+plain_command [] = None
+plain_command (word ∷ rest) = option_and_then (λ v. plain_with v word rest) (verb_of word)
+
+-- ---- the command of the words
+
+abbrev pub asked_by : List (String Global) → Option Asked
+asked_by words = command_of (texts_of words)

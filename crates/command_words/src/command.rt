@@ -1,0 +1,230 @@
+//! The words of a command.
+
+ghost use Rattle.std.specs.Prelude.{◌≡◌, IfOk, IfSome, Some, is_some, option_map, true};
+ghost use Rattle.clap.specs.Words.{app_of, found_of, matches_of, rows_of, takes};
+ghost use Rattle.command_words.specs.CommandWords.{IsWithinBounds, asked, command_of, file_form, file_of, grows, plain_command, simulate_asked, traces, verb_of};
+ghost use Rattle.command_words.specs.Words.{plain_file};
+ghost use Rattle.command_words.specs.SimulateWords.{simulate_of};
+ghost use Rattle.command_words.specs.Forms.{is_form, texts_of};
+ghost use Rattle.command_words.specs.GrowWords.{growth_of, plain_growth};
+ghost use Rattle.command_words.specs.WavesWords.{waves_of};
+ghost use Rattle.command_words.specs.Words.{is_set};
+
+use crate::compile_words::{Compilation, compilation_of};
+use crate::grow_words::{Growth, growth_of};
+use crate::rounds_words::{Rounds, rounds_in};
+use crate::run_words::simulation_in;
+use crate::simulation::{Choosing, Simulation, Timing};
+use crate::waves_words::{Waves, waves_in};
+use clap::error::ErrorKind;
+use clap::{Arg, ArgAction, ArgMatches};
+use std::alloc::{AllocError, Global};
+
+/// What the words ask for. The commands are this project's own.
+#[derive(Clone, Copy, Debug, PartialEq, Eq)]
+pub enum Command<'a> {
+    /// `compile FILE [--reset] [--buffer X]`: write the rule file of the program text in this file, with a reset node
+    /// and with a buffer on a channel where these are asked for.
+    Compile(Compilation<'a>),
+    /// `migrate FILE`: write the rule file of this name as one of version 2.
+    Migrate { net: &'a str },
+    /// `check FILE`: write that the program text in this file is accepted.
+    Check { file: &'a str },
+    /// `expand FILE`: write the tree of parts of the program text in this file.
+    Expand { file: &'a str },
+    /// `simulate PRS SCRIPT`: make one run of a net under a script, and write its report.
+    Simulate(Simulation<'a>),
+    /// `simulate PRS SCRIPT --delays FILE`: make one timed run of a net under a script, and write its report.
+    Time(Timing<'a>),
+    /// `waves PRS SCRIPT`: make one timed run of a net under a script, and write its moves as a wave, or the causes of
+    /// the last one.
+    Waves(Waves<'a>),
+    /// `unwave FILE`: write the changes of the wave in this file.
+    Unwave { file: &'a str },
+    /// `run FILE SCRIPT`: report rounds of the program text in this file under this script.
+    Run(Rounds<'a>),
+    /// `grow SEED STAGES [--sum]`: write the text of the program that is made of these numbers, or its summary.
+    Grow(Growth),
+}
+
+/// The first word of a command.
+#[derive(Clone, Copy, Debug, PartialEq, Eq)]
+enum Verb {
+    Compile,
+    Migrate,
+    Check,
+    Expand,
+    Simulate,
+    Waves,
+    Unwave,
+    Run,
+    Grow,
+}
+
+/// The command that the words ask for, or `None` where they aren't a command's form. The words are those behind the
+/// program's name.
+///
+/// The first word names the command. The words behind it are read by `clap`, by the form of that command: one file and,
+/// for `compile`, the flag `--reset` and the option `--buffer` with a value, each of which may stand once, before the
+/// file or behind it; for `simulate` and `run` two files and such options, and for `waves` the flag `--causes` besides.
+/// A file is one word, which may be empty or `-`.
+/// Any other word that begins with a hyphen and has more is taken for a flag and refused, a call for help too, but
+/// behind `--` any word may stand; `--` may also end the words.
+///
+/// `Err` stands for want of memory, and it is left open when that comes.
+pub fn command_in<'a>(alloc: Global, words: &'a [String]) -> Result<Option<Command<'a>>, AllocError>
+    ensures form { IfOk result (λ found.
+        option_map asked found ≡ command_of (texts_of words.now)) }
+    ensures plain { IfOk result (λ found.
+        option_map asked found ≡ plain_command (texts_of words.now)) }
+    ensures bounds { IfOk result (λ found. IfSome found IsWithinBounds) }
+{
+    let [first, rest @ ..] = words else {
+        return Ok(None);
+    };
+    let Some(verb) = verb_in(first.as_str()) else {
+        return Ok(None);
+    };
+    let word = first.as_str();
+    match verb {
+        Verb::Compile => Ok(compilation_of(alloc, word, rest)?.map(Command::Compile)),
+        Verb::Migrate => Ok(file_in(alloc, word, rest)?.map(|net| Command::Migrate { net })),
+        Verb::Check => Ok(file_in(alloc, word, rest)?.map(|file| Command::Check { file })),
+        Verb::Expand => Ok(file_in(alloc, word, rest)?.map(|file| Command::Expand { file })),
+        Verb::Simulate => simulate_in(alloc, word, rest),
+        Verb::Waves => trace_in(alloc, word, rest),
+        Verb::Unwave => Ok(file_in(alloc, word, rest)?.map(|file| Command::Unwave { file })),
+        Verb::Run => Ok(rounds_in(alloc, word, rest)?.map(Command::Run)),
+        Verb::Grow => grow_in(alloc, word, rest),
+    }
+}
+
+/// The command that the first word names.
+fn verb_in(word: &str) -> Option<Verb>
+    ensures { result ≡ verb_of word.now }
+{
+    match word {
+        "compile" => Some(Verb::Compile),
+        "migrate" => Some(Verb::Migrate),
+        "check" => Some(Verb::Check),
+        "expand" => Some(Verb::Expand),
+        "simulate" => Some(Verb::Simulate),
+        "waves" => Some(Verb::Waves),
+        "unwave" => Some(Verb::Unwave),
+        "run" => Some(Verb::Run),
+        "grow" => Some(Verb::Grow),
+        _ => None,
+    }
+}
+
+/// What the words behind `grow` ask for, where they are its form.
+fn grow_in<'a>(
+    alloc: Global,
+    name: &'a str,
+    words: &'a [String],
+) -> Result<Option<Command<'a>>, AllocError>
+    ensures form { IfOk result (λ found. option_map asked found
+        ≡ option_map grows (growth_of name.entry.now (texts_of words.entry.now))) }
+    ensures plain { IfOk result (λ found. option_map asked found
+        ≡ option_map grows (plain_growth (texts_of words.entry.now))) }
+    ensures bounds { IfOk result (λ found. IfSome found IsWithinBounds) }
+{
+    match growth_of(alloc, name, words)? {
+        Some(growth) => Ok(Some(Command::Grow(growth))),
+        None => Ok(None),
+    }
+}
+
+/// What the words behind `simulate` ask for, where they are its form.
+fn simulate_in<'a>(
+    alloc: Global,
+    name: &'a str,
+    words: &'a [String],
+) -> Result<Option<Command<'a>>, AllocError>
+    ensures form { IfOk result (λ found. option_map asked found
+        ≡ option_map simulate_asked (simulate_of name.entry.now (texts_of words.entry.now))) }
+    ensures bounds { IfOk result (λ found. IfSome found IsWithinBounds) }
+{
+    match simulation_in(alloc, name, words)? {
+        Some(Choosing::ByOrder(run)) => Ok(Some(Command::Simulate(run))),
+        Some(Choosing::ByDelays(timing)) => Ok(Some(Command::Time(timing))),
+        None => Ok(None),
+    }
+}
+
+/// What the words behind `waves` ask for, where they are its form.
+fn trace_in<'a>(
+    alloc: Global,
+    name: &'a str,
+    words: &'a [String],
+) -> Result<Option<Command<'a>>, AllocError>
+    ensures form { IfOk result (λ found. option_map asked found
+        ≡ option_map traces (waves_of name.entry.now (texts_of words.entry.now))) }
+    ensures bounds { IfOk result (λ found. IfSome found IsWithinBounds) }
+{
+    match waves_in(alloc, name, words)? {
+        Some(asked) => Ok(Some(Command::Waves(asked))),
+        None => Ok(None),
+    }
+}
+
+/// Whether the text that `clap` keeps for a flag says that it was given.
+pub fn is_set(text: Option<&str>) -> bool
+    ensures { result ≡ is_set (option_map (λ t. t.now) text.entry) }
+{
+    match text {
+        Some(text) => text == "true",
+        None => false,
+    }
+}
+
+/// The file that the words behind a command's name give, where they are the form of a command with one file.
+fn file_in<'a>(
+    alloc: Global,
+    name: &'a str,
+    words: &'a [String],
+) -> Result<Option<&'a str>, AllocError>
+    ensures form { IfOk result (λ found. option_map (λ file. file.now) found
+        ≡ file_of name.entry.now (texts_of words.entry.now)) }
+    ensures plain { IfOk result (λ found. option_map (λ file. file.now) found
+        ≡ plain_file (texts_of words.entry.now)) }
+{
+    let form = file_form(alloc, name)?;
+    match matches_in(form, words) {
+        Ok(Some(matches)) => Ok(matches.get_str("FILE")),
+        Ok(None) => Ok(None),
+        Err(error) => Err(error),
+    }
+}
+
+/// The form of a command of this name with one file and no flag, not even for help.
+fn file_form<'a>(alloc: Global, name: &'a str) -> Result<clap::Command<'a>, AllocError>
+    ensures { IfOk result (λ form. app_of form ≡ file_form name.entry.now) }
+{
+    let file = Arg::new(alloc, "FILE")
+        .required(true)
+        .action(ArgAction::Set);
+    clap::Command::new(alloc, name)
+        .no_binary_name(true)
+        .disable_help_flag(true)
+        .arg(file)
+}
+
+/// What the words give each argument of the form, or `None` where the form doesn't take them, for whatever cause. It
+/// serves every form without commands below it.
+pub(crate) fn matches_in<'a>(
+    form: clap::Command<'a>,
+    words: &'a [String],
+) -> Result<Option<ArgMatches<'a>>, AllocError>
+    requires { is_form (app_of form) ≡ true }
+    ensures taken { IfOk result (λ found.
+        is_some found ≡ takes (app_of form.entry) (texts_of words.entry.now)) }
+    ensures matches { IfOk result (λ found. IfSome found (λ m.
+        rows_of (found_of m) ≡ matches_of (app_of form.entry) (texts_of words.entry.now))) }
+{
+    match form.try_get_matches_from(words) {
+        Ok(matches) => Ok(Some(matches)),
+        Err(error) if error.kind() == ErrorKind::OutOfMemory => Err(AllocError),
+        Err(_) => Ok(None),
+    }
+}

@@ -1,0 +1,17 @@
+//! The words of a command, and what they ask for.
+#![tactic(auto)]
+
+mod command;
+mod compile_words;
+mod grow_words;
+mod rounds_words;
+mod run_words;
+mod simulation;
+mod waves_words;
+
+pub use command::{Command, command_in};
+pub use compile_words::Compilation;
+pub use grow_words::Growth;
+pub use rounds_words::Rounds;
+pub use simulation::{Simulation, Timing};
+pub use waves_words::Waves;

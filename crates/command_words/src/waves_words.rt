@@ -1,0 +1,101 @@
+//! The words of `waves`.
+
+ghost use Rattle.std.specs.Prelude.{◌≡◌, ◌≤◌, IfOk, IfSome, option_map};
+ghost use Rattle.clap.specs.Words.{app_of};
+ghost use Rattle.command_words.specs.CommandWords.{waves_asked};
+ghost use Rattle.command_words.specs.Forms.{texts_of};
+ghost use Rattle.command_words.specs.WavesWords.{waves_form, waves_of, waves_with};
+
+use crate::command::{is_set, matches_in};
+use crate::run_words::{bare_form, number_or, option_arg, word_arg};
+use clap::{Arg, ArgAction, Command};
+use std::alloc::{AllocError, Global};
+
+/// The most moves that may be asked for.
+const MOST_OF_STEPS: u64 = 1_000_000;
+
+/// The most moves, where no number is given.
+const STEPS: u64 = 100_000;
+
+/// What is asked of a timed run whose moves are told.
+#[derive(Clone, Copy, Debug, PartialEq, Eq)]
+pub struct Waves<'a> {
+    /// The name of the rule file.
+    pub net: &'a str,
+    /// The name of the script.
+    pub script: &'a str,
+    /// The most moves, at most 1,000,000.
+    pub steps: u32,
+    /// The name of the delay file, where there is one.
+    pub delays: Option<&'a str>,
+    /// Whether the causes of the last move are wanted in place of the wave.
+    pub causes: bool,
+}
+
+/// What the words behind `waves` ask for, where they are its form: the names of a rule file and of a script, the
+/// options `--steps` and `--delays`, and the flag `--causes`, each at most once.
+pub fn waves_in<'a>(
+    alloc: Global,
+    name: &'a str,
+    words: &'a [String],
+) -> Result<Option<Waves<'a>>, AllocError>
+    ensures form { IfOk result (λ found.
+        option_map waves_asked found ≡ waves_of name.entry.now (texts_of words.entry.now)) }
+    ensures few { IfOk result (λ found. IfSome found (λ asked. asked.steps ≤ 1000000)) }
+{
+    let form = waves_form(alloc, name)?;
+    match matches_in(form, words) {
+        Ok(Some(matches)) => Ok(waves_with(
+            matches.get_str("PRS"),
+            matches.get_str("SCRIPT"),
+            matches.get_str("steps"),
+            matches.get_str("delays"),
+            matches.get_str("causes"),
+        )),
+        Ok(None) => Ok(None),
+        Err(error) => Err(error),
+    }
+}
+
+/// What these texts ask for, where both files are given and the number is one of moves.
+fn waves_with<'a>(
+    net: Option<&'a str>,
+    script: Option<&'a str>,
+    steps: Option<&'a str>,
+    delays: Option<&'a str>,
+    causes: Option<&'a str>,
+) -> Option<Waves<'a>>
+    ensures asked { option_map waves_asked result ≡ waves_with (option_map (λ t. t.now) net.entry)
+        (option_map (λ t. t.now) script.entry) (option_map (λ t. t.now) steps.entry)
+        (option_map (λ t. t.now) delays.entry) (option_map (λ t. t.now) causes.entry) }
+    ensures few { IfSome result (λ asked. asked.steps ≤ 1000000) }
+{
+    match (net, script) {
+        (Some(net), Some(script)) => match number_or(steps, STEPS, MOST_OF_STEPS) {
+            Some(steps) => Some(Waves {
+                net,
+                script,
+                steps: steps as u32,
+                delays,
+                causes: is_set(causes),
+            }),
+            None => None,
+        },
+        _ => None,
+    }
+}
+
+/// The form of `waves` under this name: two files, two options with a value each, and a flag.
+fn waves_form<'a>(alloc: Global, name: &'a str) -> Result<Command<'a>, AllocError>
+    ensures { IfOk result (λ form. app_of form ≡ waves_form name.entry.now) }
+{
+    let causes = Arg::new(alloc, "causes")
+        .long("causes")
+        .action(ArgAction::SetTrue);
+    bare_form(alloc, name)
+        .arg(word_arg(alloc, "PRS"))?
+        .arg(word_arg(alloc, "SCRIPT"))?
+        .arg(option_arg(alloc, "steps"))?
+        .arg(option_arg(alloc, "delays"))?
+        .arg(causes)
+}

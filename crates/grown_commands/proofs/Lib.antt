@@ -1,0 +1,3 @@
+pub mod OneSums
+pub mod Summed
+pub mod SafeRuns

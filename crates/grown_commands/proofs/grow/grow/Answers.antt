@@ -1,0 +1,40 @@
+use Rattle.std.proofs.Common.{◌≡◌, true, sym, subst}
+use Rattle.command_answers.specs.declared.answer.Stop.{Stop}
+use Rattle.command_words.specs.declared.grow_words.Growth.{Growth}
+use Rattle.command_answers.specs.Answers.{Answer}
+use Rattle.grown_commands.specs.Growing.{Grows, GrowsTo}
+use Rattle.command_steps.specs.Orders.{Played}
+use Rattle.command_answers.specs.Replies.{Halts}
+use Rattle.grown_commands.specs.Summing.{Summarizes}
+use Rattle.simulation_commands.proofs.Keeping.{unplayed}
+use Rattle.command_steps.proofs.Stopping.{err_in, halts_in}
+use Rattle.command_words.proofs.Results.{ok_in}
+use Rattle.grown_commands.proofs.grow.grow.Goals as goal
+
+-- where a summary is wanted, it is what `grow` answers
+sums : (growth : Growth) (played : Played) (answer : Answer) → growth.sum ≡ true → Summarizes growth played answer → Grows growth played answer
+sums growth played answer wanted is = subst (λ sum. GrowsTo sum growth played answer) (sym wanted) is
+
+sums_halt : (growth : Growth) (played : Played) (stop : Stop) → growth.sum ≡ true → Halts (Summarizes growth played) stop → Halts (Grows growth played) stop
+sums_halt growth played stop wanted =
+    halts_in (Summarizes growth played) (Grows growth played) (λ answer is. sums growth played answer wanted is) stop
+
+pub returns-then-growth-clause-answered : goal.returns-then-growth-clause-answered
+returns-then-growth-clause-answered g c =
+    ok_in c.sum_up.result _ _ (λ output is. sums c.args.growth.now _ _ c.if-growth.true is) c.sum_up.ensures.answered
+
+pub returns-then-growth-clause-stopped : goal.returns-then-growth-clause-stopped
+returns-then-growth-clause-stopped g c =
+    err_in c.sum_up.result _ _ (λ stop halts. sums_halt c.args.growth.now _ stop c.if-growth.true halts) c.sum_up.ensures.stopped
+
+pub returns-then-growth-clause-orders : goal.returns-then-growth-clause-orders
+returns-then-growth-clause-orders g c = rw c.if-growth.true c.sum_up.ensures.orders
+
+pub returns-else-growth-clause-answered : goal.returns-else-growth-clause-answered
+returns-else-growth-clause-answered g c = rw c.if-growth.false c.grown.ensures.answered
+
+pub returns-else-growth-clause-stopped : goal.returns-else-growth-clause-stopped
+returns-else-growth-clause-stopped g c = rw c.if-growth.false c.grown.ensures.stopped
+
+pub returns-else-growth-clause-orders : goal.returns-else-growth-clause-orders
+returns-else-growth-clause-orders g c = unplayed _ _

@@ -1,0 +1,51 @@
+//! `grow SEED STAGES [--sum]`: a program that is made of a number, or its summary.
+
+ghost use Rattle.std.specs.Prelude.{map, IfOk, IfErr};
+ghost use Rattle.command_words.specs.GrowWords.{IsGrowable};
+ghost use Rattle.grown_commands.specs.Growing.{Grows, IsGrownText, grow_order};
+ghost use Rattle.command_steps.specs.Orders.{KeepsOrders, order_state, played_by};
+ghost use Rattle.command_answers.specs.Replies.{Halts, told_answer};
+
+use command_answers::{Ending, Output, Stop};
+use crate::grow_summary::sum_up;
+use command_words::Growth;
+use command_steps::Players;
+use program_maker::grow_text;
+use std::alloc::Global;
+
+/// What `grow` answers, where the text is wanted.
+fn grown<'a>(alloc: Global, growth: &Growth) -> Result<Output, Stop<'a>>
+    requires { IsGrowable growth.now }
+    ensures answered { IfOk result (λ output. IsGrownText growth.now (told_answer output)) }
+    ensures stopped { IfErr result (Halts (IsGrownText growth.now)) }
+{
+    match grow_text(alloc, growth.seed, growth.stages) {
+        Ok(text) => Ok(Output {
+            text,
+            end: Ending::Done,
+        }),
+        Err(_) => Err(Stop::NoMemory),
+    }
+}
+
+/// What `grow` answers.
+pub fn grow<'a>(alloc: Global, players: &mut Players, growth: &Growth) -> Result<Output, Stop<'a>>
+    requires { IsGrowable growth.now }
+    ensures answered { IfOk result (λ output. Grows growth.now (played_by
+        (map (λ order. order_state (name order) (log order) (seeded order)) players.old.orders.items)
+        (map (λ order. order_state (name order) (log order) (seeded order)) players.new.orders.items))
+        (told_answer output)) }
+    ensures stopped { IfErr result (Halts (Grows growth.now (played_by
+        (map (λ order. order_state (name order) (log order) (seeded order)) players.old.orders.items)
+        (map (λ order. order_state (name order) (log order) (seeded order)) players.new.orders.items)))) }
+    ensures orders { let before = map (λ order. order_state (name order) (log order) (seeded order))
+        players.old.orders.items in
+        KeepsOrders (grow_order growth.now.sum before) (played_by before
+        (map (λ order. order_state (name order) (log order) (seeded order)) players.new.orders.items)) }
+{
+    if growth.sum {
+        sum_up(alloc, players, growth)
+    } else {
+        grown(alloc, growth)
+    }
+}

@@ -1,0 +1,4 @@
+pub mod NamedReset
+pub mod Compiled
+pub mod Pouring
+pub mod OneWritten

@@ -1,0 +1,78 @@
+-- What `compile` answers.
+use Rattle.std.specs.Prelude.{◌≡◌, ℕ, ◌≤◌, Bool, true, false, List, length, Some}
+use Rattle.chp_syntax.specs.Reading.{Reads}
+use Rattle.chp_syntax.specs.Trees.{ProgramTree}
+use Rattle.handshake_expand.specs.Layout.{node_count}
+use Rattle.net_compose.specs.Carries.{Carries, CarriesReset}
+use Rattle.net_compose.specs.Progress.{Progresses, ProgressesReset}
+use Rattle.net_compose.specs.Translation.{translation}
+use Rattle.prs_core.specs.Nets.{NetValue, IsNet}
+use Rattle.prs_file.specs.Spelling.{NetText}
+use Rattle.reset_net.specs.Resets.{reset_of}
+use Rattle.width_check.specs.Accepted.{IsAccepted}
+use Rattle.width_check.specs.Form.{typed_form}
+use Rattle.width_check.specs.Processes.{TypedProgram}
+use Rattle.command_answers.specs.declared.answer.Ending.TheVariants.{Done}
+use Rattle.command_answers.specs.Answers.{Given, Answer, writes}
+use Rattle.command_steps.specs.BufferSteps.{IsBuffered, FromProgramFile}
+use Rattle.command_words.specs.CompileWords.{AskedCompilation}
+use Rattle.command_steps.specs.Steps.{FromNodes, IsTextOf, most_of_nodes, most_of_text}
+
+-- the net that is written for a program, with a reset node where that is asked for
+abbrev pub net_for : (reset : Bool) → TypedProgram → NetValue
+net_for false p = translation p
+net_for true p = reset_of (translation p)
+
+-- that net carries the program: from its first values, or with a reset node from every power-up state
+abbrev pub NetCarries : (reset : Bool) → TypedProgram → Type 0
+NetCarries false p = Carries (net_for false p) p
+NetCarries true p = CarriesReset (net_for true p) p
+
+-- and keeps pace with it: where the program comes to rest, so do its runs
+abbrev pub NetProgresses : (reset : Bool) → TypedProgram → Type 0
+NetProgresses false p = Progresses (net_for false p) p
+NetProgresses true p = ProgressesReset (net_for true p) p
+
+-- this is the one text of the net of the program, which is a net that a rule file can hold, as it also is without a
+-- reset node; and that net carries the program, and keeps pace with it
+pub record IsCompiled (reset : Bool) (p : TypedProgram) (file : List ℕ) : Type 0 where
+  pub plain : IsNet (translation p)
+  pub kept : IsNet (net_for reset p)
+  pub spells : NetText file (net_for reset p)
+  pub carries : NetCarries reset p
+  pub progresses : NetProgresses reset p
+
+pub data CompilesNet (reset : Bool) (p : TypedProgram) : Answer → Type 0 where
+  compiled : {file : List ℕ} → IsCompiled reset p file → CompilesNet reset p (writes Done file)
+
+-- the program is that of the file, with a buffer where one is asked for
+abbrev pub Compiles : AskedCompilation → Given → Answer → Type 0
+Compiles c given = FromProgramFile given c.file c.buffer (λ p. FromNodes p (CompilesNet c.reset))
+
+-- ---- what follows from that
+
+-- The file holds a text that reads as a program, and as no other one; the program is accepted; and what is written is
+-- the one text of its net, or of that of the program with a buffer on the channel that is named, and the net carries
+-- that program.
+pub record IsFileCompiled (c : AskedCompilation) (given : Given) (written : List ℕ) : Type 0 where
+  pub text : List ℕ
+  pub program : ProgramTree
+  pub made : ProgramTree
+  pub held : given.files c.file ≡ Some text
+  pub reads : IsTextOf text program
+  pub accepted : IsAccepted program
+  pub buffered : IsBuffered program c.buffer made
+  pub compiled : IsCompiled c.reset (typed_form made) written
+
+-- the file holds what is to be compiled: a text within the limit that reads as an accepted program, which can have the
+-- buffer that is asked for; and its circuit isn't too large then
+pub record IsToCompile (c : AskedCompilation) (given : Given) : Type 0 where
+  pub text : List ℕ
+  pub program : ProgramTree
+  pub made : ProgramTree
+  pub held : given.files c.file ≡ Some text
+  pub short : length text ≤ most_of_text
+  pub reads : Reads text program
+  pub accepted : IsAccepted program
+  pub buffered : IsBuffered program c.buffer made
+  pub few : node_count (typed_form made) ≤ most_of_nodes

@@ -1,0 +1,5 @@
+pub mod Compiling
+pub mod Migrating
+pub mod Checking
+pub mod Expanding
+pub mod RepliesTold

@@ -1,0 +1,68 @@
+//! `check FILE`: whether a program is accepted.
+
+ghost use Rattle.std.specs.Prelude.{◌≡◌, ◌≤◌, ◌∷◌, [], length, IfOk, IfErr};
+ghost use Rattle.chp_syntax.specs.Shape.{IsShaped};
+ghost use Rattle.chp_syntax.specs.View.{program_tree};
+ghost use Rattle.command_answers.specs.Answers.{given_by};
+ghost use Rattle.program_commands.specs.Checking.{Checks, ChecksProgram, accepted_text};
+ghost use Rattle.command_answers.specs.Replies.{Halts, Stops, told_answer};
+ghost use Rattle.command_steps.specs.Steps.{FromProgram, most_of_text};
+
+use command_answers::{Ending, Output, Stop};
+use command_steps::{MOST_OF_TEXT, checked_program, program_of_text, text_of_file};
+use chp_edge::Shelf;
+use chp_syntax::Program;
+use handshake_expand::count_nodes;
+use itoa::Buffer;
+use std::alloc::{AllocError, Global};
+
+/// The report on an accepted program whose circuit has so many nodes.
+fn accepted_text(alloc: Global, nodes: u64) -> Result<Vec<u8>, AllocError>
+    ensures { IfOk result (λ text. text.items ≡ accepted_text nodes) }
+{
+    let mut number = Buffer::new();
+    let mut text = Vec::from_slice(alloc, b"accepted\nnodes ")?;
+    text.extend_from_slice(number.format(nodes).as_bytes())?;
+    text.extend_from_slice(b"\n")?;
+    Ok(text)
+}
+
+fn check_program<'a>(alloc: Global, program: &Program) -> Result<Output, Stop<'a>>
+    requires shaped { IsShaped (program_tree program.now) }
+    requires few { program.now.procs.items ≡ [] → length program.now.decls.items ≤ most_of_text }
+    ensures answered { IfOk result (λ output. ChecksProgram (program_tree program.now) (told_answer output)) }
+    ensures stopped { IfErr result (Halts (ChecksProgram (program_tree program.now))) }
+{
+    let disjoint = checked_program(alloc, program)?;
+    match accepted_text(alloc, count_nodes(disjoint.typed())) {
+        Ok(text) => Ok(Output {
+            text,
+            end: Ending::Done,
+        }),
+        Err(_) => Err(Stop::NoMemory),
+    }
+}
+
+fn check_text<'a>(alloc: Global, text: &[u8]) -> Result<Output, Stop<'a>>
+    requires { length text.now ≤ most_of_text }
+    ensures answered { IfOk result (λ output. FromProgram text.now ChecksProgram (told_answer output)) }
+    ensures stopped { IfErr result (Halts (FromProgram text.now ChecksProgram)) }
+{
+    let program = program_of_text(alloc, text)?;
+    check_program(alloc, &program)
+}
+
+/// What `check` answers for the file of this name.
+pub fn check<'a, S: Shelf>(alloc: Global, shelf: &mut S, file: &'a str) -> Result<Output, Stop<'a>>
+    ensures answered { IfOk result (λ output. Checks (given_by (S.tells shelf.old) (S.holds shelf.old)) file.entry.now
+        (told_answer output)) }
+    ensures stopped { IfErr result (Stops (Checks (given_by (S.tells shelf.old) (S.holds shelf.old)) file.entry.now)
+        (file.entry.now ∷ []) (given_by (S.tells shelf.old) (S.holds shelf.old)) (S.faults shelf.old)
+        (S.faults shelf.new)) }
+    ensures same { S.tells shelf.new ≡ S.tells shelf.old }
+    ensures kept { S.holds shelf.new ≡ S.holds shelf.old }
+    ensures faults { S.faults shelf.old ≤ S.faults shelf.new }
+{
+    let text = text_of_file(alloc, shelf, file, MOST_OF_TEXT)?;
+    check_text(alloc, &text)
+}

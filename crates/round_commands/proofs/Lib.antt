@@ -1,0 +1,4 @@
+pub mod OneRounds
+pub mod RoundsReported
+pub mod RoundsStopping
+pub mod ProgramChannels

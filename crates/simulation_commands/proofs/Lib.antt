@@ -1,0 +1,10 @@
+pub mod OneRuns
+pub mod OneTimings
+pub mod OneTraces
+pub mod Keeping
+pub mod TimingStopping
+pub mod TraceStopping
+pub mod Reporting
+pub mod Reported
+pub mod WaveSteps
+pub mod SimulateStopping

@@ -1,0 +1,13 @@
+use Rattle.std.proofs.Common.{◌∙◌}
+use Rattle.simulation_commands.proofs.Reporting.{run_led, run_played}
+use Rattle.simulation_commands.proofs.simulate.play.Goals as goal
+
+pub returns-clause-played : goal.returns-clause-played
+returns-clause-played g c =
+    let e = c.run.ensures in
+    run_played c.args.sim c.args.seed _ _ _ _ _ _ _ _ (e.seeded ∙ c.prepare.ensures.seeded) c.prepare.ensures.log e.log e.picks e.ends
+
+pub returns-clause-led : goal.returns-clause-led
+returns-clause-led g c =
+    let e = c.run.ensures in
+    run_led c.args.sim _ _ _ c.run.result c.prepare.ensures.log e.net e.moves e.done e.passed

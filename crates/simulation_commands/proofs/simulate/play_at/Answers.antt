@@ -1,0 +1,11 @@
+use Rattle.simulation_commands.proofs.Keeping.{led_at, played_at}
+use Rattle.command_steps.proofs.Stopping.{ok_both}
+use Rattle.simulation_commands.proofs.simulate.play_at.Goals as goal
+
+pub returns-clause-led : goal.returns-clause-led
+returns-clause-led g c =
+    ok_both c.play.result _ _ _ (λ ran run led. led_at _ _ _ _ _ c.requires.place c.index_mut.ensures.value _ _ ran run led)
+    c.play.ensures.played c.play.ensures.led
+
+pub returns-clause-played : goal.returns-clause-played
+returns-clause-played g c = played_at _ _ _ _ _ c.requires.place c.index_mut.ensures.value c.play.ensures.name

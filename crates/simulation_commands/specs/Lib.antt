@@ -1,0 +1,5 @@
+pub mod RunReporting
+pub mod Simulating
+pub mod Timing
+pub mod Tracing
+pub mod Unwaving

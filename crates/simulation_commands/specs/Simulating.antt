@@ -1,0 +1,88 @@
+-- What `simulate` answers.
+use Rattle.std.specs.Prelude.{◌≡◌, ℕ, Bool, false, List, ◌++◌, length, slice_get, Option, Some, None}
+use Rattle.prs_core.specs.Nets.{NetValue}
+use Rattle.prs_core.specs.Moves.{high}
+use Rattle.env_script.specs.Environment.{net_channels}
+use Rattle.env_script.specs.Scripts.{OfferValue}
+use Rattle.env_script.specs.Runs.{after}
+use Rattle.event_sim.specs.declared.ran.End.{End}
+use Rattle.event_sim.specs.Ends.{EndsSo}
+use Rattle.event_sim.specs.Following.{ArePicks}
+use Rattle.event_sim.specs.Passing.{passed_in}
+use Rattle.event_sim.specs.Simulating.{SimValue, RanValue, start_at, growth, picked_moves}
+use Rattle.command_answers.specs.Answers.{Given, Answer}
+use Rattle.command_steps.specs.Orders.{OrderState, Played}
+use Rattle.command_steps.specs.References.{FromReference}
+use Rattle.simulation_commands.specs.RunReporting.{IsReported}
+use Rattle.command_steps.specs.RunSteps.{FromOrder, FromPower, FromScript, most_of_script}
+use Rattle.command_steps.specs.Steps.{FromFile, FromNet, most_of_net}
+use Rattle.command_words.specs.SimulateWords.{AskedRun}
+
+-- low where none is given
+abbrev pub power_or_low : Option Bool → Bool
+power_or_low None = false
+power_or_low (Some high) = high
+
+abbrev pub simulation_for : NetValue → List OfferValue → (steps : ℕ) → (power : Option Bool) → SimValue
+simulation_for net script steps power =
+    record { net = net; script = script; steps = steps; high = power_or_low power }
+
+-- An order was given this seed, and then led to a run of the simulation that ended so: what its log has grown by are
+-- places in the lists of enabled moves, one for each move.
+pub record IsPlayed (s : SimValue) (seed : ℕ) (was is : OrderState) (end : End) : Type 0 where
+  pub seeded : is.seeded ≡ Some (seed, length was.log)
+  pub grown : is.log ≡ was.log ++ growth was.log is.log
+  pub picks : ArePicks s.net s.script (start_at s) (growth was.log is.log)
+  pub ends : EndsSo s.net s.script s.steps (start_at s) (picked_moves s was.log is.log) end
+
+-- what is reported of the run to which the growth of a log leads
+abbrev pub ran_value : SimValue → (before now : List ℕ) → End → RanValue
+ran_value s before now end = record {
+  net = s.net;
+  end = end;
+  moves = length (picked_moves s before now);
+  done_high = high (after s.net (start_at s) (picked_moves s before now)).values 1;
+  passed = passed_in s.net (start_at s) (picked_moves s before now);
+}
+
+-- the order at this place led to this run of the simulation
+pub record HasPlayed (played : Played) (place seed : ℕ) (s : SimValue) (ran : RanValue) : Type 0 where
+  pub was : OrderState
+  pub is : OrderState
+  pub before : slice_get played.before place ≡ Some was
+  pub after : slice_get played.after place ≡ Some is
+  pub run : IsPlayed s seed was is ran.end
+  pub led : ran ≡ ran_value s was.log is.log ran.end
+
+-- an order led to a run of the simulation, and goes on with what comes of it
+pub record PlaysOut (s : SimValue) (seed : ℕ) (was is : OrderState) (Next : RanValue → Answer → Type 0)
+    (answer : Answer) : Type 0 where
+  pub end : End
+  pub run : IsPlayed s seed was is end
+  pub written : Next (ran_value s was.log is.log end) answer
+
+-- the order at this place did
+pub record SimulatesNet (played : Played) (place seed : ℕ) (s : SimValue) (Next : RanValue → Answer → Type 0)
+    (answer : Answer) : Type 0 where
+  pub was : OrderState
+  pub is : OrderState
+  pub before : slice_get played.before place ≡ Some was
+  pub after : slice_get played.after place ≡ Some is
+  pub plays : PlaysOut s seed was is Next answer
+
+-- the net may have the power that is asked for; the script is read behind it, and then what the run is compared with
+abbrev pub SimulatesFile : AskedRun → Given → Played → (place : ℕ) → NetValue → Answer → Type 0
+SimulatesFile s given played place net =
+    FromPower net s.power
+    (FromFile given s.script most_of_script (λ text. FromScript (net_channels net) text (λ script.
+    FromReference given s.against (λ program.
+    SimulatesNet played place s.seed (simulation_for net script s.steps s.power)
+    (λ ran. IsReported script None ran program)))))
+
+-- the order at this place is wanted, and the rule file is read
+abbrev pub SimulatesAt : AskedRun → Given → Played → (place : ℕ) → Answer → Type 0
+SimulatesAt s given played place =
+    FromFile given s.net most_of_net (λ text. FromNet text (SimulatesFile s given played place))
+
+abbrev pub Simulates : AskedRun → Given → Played → Answer → Type 0
+Simulates s given played = FromOrder played s.order (SimulatesAt s given played)

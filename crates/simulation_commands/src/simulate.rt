@@ -1,0 +1,220 @@
+//! `simulate PRS SCRIPT`: one run of a net under a script, whose moves a handed-in order chooses.
+
+ghost use Rattle.std.specs.Prelude.{◌≡◌, ◌<◌, ◌≤◌, ◌∷◌, false, length, map, IfOk, IfErr, OnOk, None, Some, option_map, option_to_list};
+ghost use Rattle.env_script.specs.Environment.{net_channels};
+ghost use Rattle.env_script.specs.Scripts.{IsScript};
+ghost use Rattle.command_answers.specs.Answers.{given_by};
+ghost use Rattle.command_words.specs.CommandWords.{run_asked};
+ghost use Rattle.command_steps.specs.Orders.{IsPlayedAt, KeepsOrders, order_state, place_named, played_by};
+ghost use Rattle.command_answers.specs.Replies.{Stops, told_answer};
+ghost use Rattle.simulation_commands.specs.RunReporting.{IsReported};
+ghost use Rattle.command_steps.specs.RunSteps.{lacks_reset};
+ghost use Rattle.simulation_commands.specs.Simulating.{HasPlayed, IsPlayed, Simulates, SimulatesAt, SimulatesNet, ran_value, simulation_for};
+ghost use Rattle.command_words.specs.SimulateWords.{text_given};
+ghost use Rattle.width_check.specs.Typed.{program_of as typed_of};
+
+use command_answers::{Output, Refusal, Stop};
+use command_steps::{Players, place_of};
+use command_steps::reference_in;
+use command_steps::{channels_of, net_in, script_in};
+use crate::run_reports::{copied_script, reported};
+use command_words::Simulation;
+use chp_edge::Shelf;
+use env_script::Script;
+use event_sim::{Picker, Ran, Sim};
+use prs_core::Net;
+use sharing_check::Disjoint;
+use std::alloc::{AllocError, Global};
+
+/// Whether a power is asked for, and the net has no reset node.
+pub(crate) fn is_powerless(net: &Net, power: Option<bool>) -> bool
+    ensures { result ≡ lacks_reset power net.now.reset }
+{
+    power.is_some() && net.reset().is_none()
+}
+
+/// The simulation of the net under the script, for so many moves at most. A power asks for a net with a reset node.
+fn simulation(
+    alloc: Global,
+    net: Net,
+    script: Script,
+    steps: u32,
+    power: Option<bool>,
+) -> Result<Sim, AllocError>
+    requires script { IsScript (net_channels net) script }
+    requires steps { steps ≤ 1000000 }
+    requires power { lacks_reset power net.reset ≡ false }
+    ensures { IfOk result (λ s. s ≡ simulation_for net script steps power) }
+{
+    match power {
+        None => Sim::new(alloc, net, script, steps),
+        Some(high) => Sim::powered(alloc, net, script, steps, high),
+    }
+}
+
+/// The room that a run takes: for so many picks, from lists of nodes below this number.
+#[derive(Clone, Copy)]
+pub struct Room {
+    pub picks: u32,
+    pub nodes: u32,
+}
+
+/// Gives the order its seed, and then its room.
+fn prepare(picker: &mut Box<dyn Picker>, seed: u64, room: Room) -> Result<(), AllocError>
+    ensures seeded { seeded picker.new ≡ Some (seed, length (log picker.old)) }
+    ensures name { name picker.new ≡ name picker.old }
+    ensures log { log picker.new ≡ log picker.old }
+    ensures picks { OnOk result (room.picks ≤ spare picker.new) }
+    ensures wide { OnOk result (room.nodes ≤ nodes picker.new) }
+{
+    picker.seed(seed);
+    picker.make_room(room.picks, room.nodes)
+}
+
+/// Lets the order choose the moves of a run.
+fn play(picker: &mut Box<dyn Picker>, sim: Sim, seed: u64, room: Room) -> Result<Ran, AllocError>
+    requires steps { sim.steps ≤ room.picks }
+    requires nodes { length sim.net.first ≤ room.nodes }
+    ensures played { IfOk result (λ ran.
+        IsPlayed sim seed (order_state (name picker.old) (log picker.old) (seeded picker.old))
+        (order_state (name picker.new) (log picker.new) (seeded picker.new)) ran.end) }
+    ensures led { IfOk result (λ ran. ran ≡ ran_value sim (log picker.old) (log picker.new) ran.end) }
+    ensures name { name picker.new ≡ name picker.old }
+{
+    prepare(picker, seed, room)?;
+    Ok(sim.run(picker))
+}
+
+/// Lets the order at this place choose the moves of a run.
+pub fn play_at(
+    orders: &mut Vec<Box<dyn Picker>>,
+    place: usize,
+    sim: Sim,
+    seed: u64,
+    room: Room,
+) -> Result<Ran, AllocError>
+    requires place { place < length orders.old.items }
+    requires steps { sim.steps ≤ room.picks }
+    requires nodes { length sim.net.first ≤ room.nodes }
+    ensures led { IfOk result (λ ran. HasPlayed (played_by
+        (map (λ order. order_state (name order) (log order) (seeded order)) orders.old.items)
+        (map (λ order. order_state (name order) (log order) (seeded order)) orders.new.items))
+        place seed sim ran) }
+    ensures played { IsPlayedAt place (played_by
+        (map (λ order. order_state (name order) (log order) (seeded order)) orders.old.items)
+        (map (λ order. order_state (name order) (log order) (seeded order)) orders.new.items)) }
+{
+    play(&mut orders[place], sim, seed, room)
+}
+
+/// Lets the order at this place choose the moves of the run of the net under the script, and reports it.
+fn report_at(
+    alloc: Global,
+    players: &mut Players,
+    place: usize,
+    net: Net,
+    script: Script,
+    program: &Option<Disjoint>,
+    run: &Simulation,
+) -> Result<Output, AllocError>
+    requires place { place < length players.old.orders.items }
+    requires script { IsScript (net_channels net) script }
+    requires steps { run.now.steps ≤ 1000000 }
+    requires power { lacks_reset run.now.power net.reset ≡ false }
+    ensures answered { IfOk result (λ output. SimulatesNet (played_by
+        (map (λ order. order_state (name order) (log order) (seeded order)) players.old.orders.items)
+        (map (λ order. order_state (name order) (log order) (seeded order)) players.new.orders.items))
+        place run.now.seed (simulation_for net script run.now.steps run.now.power)
+        (λ ran. IsReported script None ran (option_map typed_of program.now)) (told_answer output)) }
+    ensures played { IsPlayedAt place (played_by
+        (map (λ order. order_state (name order) (log order) (seeded order)) players.old.orders.items)
+        (map (λ order. order_state (name order) (log order) (seeded order)) players.new.orders.items)) }
+{
+    let room = Room {
+        picks: run.steps,
+        nodes: net.first().len() as u32,
+    };
+    let told = copied_script(alloc, &script)?;
+    let sim = simulation(alloc, net, script, run.steps, run.power)?;
+    let ran = play_at(&mut players.orders, place, sim, run.seed, room)?;
+    reported(alloc, &ran, None, &told, program)
+}
+
+/// What `simulate` answers, where the order at this place is wanted.
+fn simulate_at<'a, S: Shelf>(
+    alloc: Global,
+    shelf: &mut S,
+    players: &mut Players,
+    place: usize,
+    run: &Simulation<'a>,
+) -> Result<Output, Stop<'a>>
+    requires place { place < length players.old.orders.items }
+    requires steps { run.now.steps ≤ 1000000 }
+    ensures answered { IfOk result (λ output. SimulatesAt (run_asked run.now)
+        (given_by (S.tells shelf.old) (S.holds shelf.old)) (played_by
+        (map (λ order. order_state (name order) (log order) (seeded order)) players.old.orders.items)
+        (map (λ order. order_state (name order) (log order) (seeded order)) players.new.orders.items))
+        place (told_answer output)) }
+    ensures stopped { IfErr result (Stops (SimulatesAt (run_asked run.now)
+        (given_by (S.tells shelf.old) (S.holds shelf.old)) (played_by
+        (map (λ order. order_state (name order) (log order) (seeded order)) players.old.orders.items)
+        (map (λ order. order_state (name order) (log order) (seeded order)) players.new.orders.items)) place)
+        (run.now.net.now ∷ run.now.script.now ∷ option_to_list (text_given run.now.against))
+        (given_by (S.tells shelf.old) (S.holds shelf.old))
+        (S.faults shelf.old) (S.faults shelf.new)) }
+    ensures played { IsPlayedAt place (played_by
+        (map (λ order. order_state (name order) (log order) (seeded order)) players.old.orders.items)
+        (map (λ order. order_state (name order) (log order) (seeded order)) players.new.orders.items)) }
+    ensures same { S.tells shelf.new ≡ S.tells shelf.old }
+    ensures kept { S.holds shelf.new ≡ S.holds shelf.old }
+    ensures faults { S.faults shelf.old ≤ S.faults shelf.new }
+{
+    let net = net_in(alloc, shelf, run.net)?;
+    if is_powerless(&net, run.power) {
+        return Err(Stop::Refused(Refusal::NoReset));
+    }
+    let channels = match channels_of(alloc, &net) {
+        Ok(channels) => channels,
+        Err(_) => return Err(Stop::NoMemory),
+    };
+    let script = script_in(alloc, shelf, run.script, &channels)?;
+    let program = reference_in(alloc, shelf, run.against)?;
+    match report_at(alloc, players, place, net, script, &program, run) {
+        Ok(output) => Ok(output),
+        Err(_) => Err(Stop::NoMemory),
+    }
+}
+
+/// What `simulate` answers.
+pub fn simulate<'a, S: Shelf>(
+    alloc: Global,
+    shelf: &mut S,
+    players: &mut Players,
+    run: &Simulation<'a>,
+) -> Result<Output, Stop<'a>>
+    requires { run.now.steps ≤ 1000000 }
+    ensures answered { IfOk result (λ output. Simulates (run_asked run.now)
+        (given_by (S.tells shelf.old) (S.holds shelf.old)) (played_by
+        (map (λ order. order_state (name order) (log order) (seeded order)) players.old.orders.items)
+        (map (λ order. order_state (name order) (log order) (seeded order)) players.new.orders.items))
+        (told_answer output)) }
+    ensures stopped { IfErr result (Stops (Simulates (run_asked run.now)
+        (given_by (S.tells shelf.old) (S.holds shelf.old)) (played_by
+        (map (λ order. order_state (name order) (log order) (seeded order)) players.old.orders.items)
+        (map (λ order. order_state (name order) (log order) (seeded order)) players.new.orders.items)))
+        (run.now.net.now ∷ run.now.script.now ∷ option_to_list (text_given run.now.against))
+        (given_by (S.tells shelf.old) (S.holds shelf.old))
+        (S.faults shelf.old) (S.faults shelf.new)) }
+    ensures orders { let before = map (λ order. order_state (name order) (log order) (seeded order))
+        players.old.orders.items in
+        KeepsOrders (place_named before run.now.order.now) (played_by before
+        (map (λ order. order_state (name order) (log order) (seeded order)) players.new.orders.items)) }
+    ensures same { S.tells shelf.new ≡ S.tells shelf.old }
+    ensures kept { S.holds shelf.new ≡ S.holds shelf.old }
+    ensures faults { S.faults shelf.old ≤ S.faults shelf.new }
+{
+    match place_of(players, run.order) {
+        Some(place) => simulate_at(alloc, shelf, players, place, run),
+        None => Err(Stop::Refused(Refusal::NoOrder(run.order))),
+    }
+}

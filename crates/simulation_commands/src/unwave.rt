@@ -1,0 +1,63 @@
+//! `unwave FILE`: from a wave file to the changes that it tells.
+
+ghost use Rattle.std.specs.Prelude.{◌≡◌, ◌≤◌, ◌∷◌, [], length, IfOk, IfErr};
+ghost use Rattle.wave_file.specs.WaveTold.{kept_wave};
+ghost use Rattle.command_answers.specs.Answers.{given_by};
+ghost use Rattle.command_answers.specs.Replies.{Halts, Stops, told_answer};
+ghost use Rattle.command_steps.specs.Steps.{Never};
+ghost use Rattle.simulation_commands.specs.Unwaving.{FromWave, IsWaveIn, PrintsChanges, Unwaves, most_of_wave};
+
+use command_answers::{Ending, Output, Refusal, Stop};
+use command_steps::text_of_file;
+use chp_edge::Shelf;
+use std::alloc::Global;
+use wave_file::{Wave, WaveError, read_wave, unwave_text};
+
+/// The most bytes of a wave file.
+const MOST_OF_WAVE: usize = 268_435_456;
+
+/// The wave whose text this is.
+fn wave_of_text<'a>(alloc: Global, text: &[u8]) -> Result<Wave, Stop<'a>>
+    requires { length text.now ≤ most_of_wave }
+    ensures read { IfOk result (λ wave. IsWaveIn text.now (kept_wave wave)) }
+    ensures stopped { IfErr result (Halts (FromWave text.now Never)) }
+{
+    match read_wave(alloc, text) {
+        Ok(wave) => Ok(wave),
+        Err(WaveError::Refused { fault, line }) => {
+            Err(Stop::Refused(Refusal::BadWave { fault, line }))
+        }
+        Err(WaveError::NoMemory(_)) => Err(Stop::NoMemory),
+    }
+}
+
+/// The changes of the wave whose text this is.
+fn told_text<'a>(alloc: Global, text: &[u8]) -> Result<Output, Stop<'a>>
+    requires { length text.now ≤ most_of_wave }
+    ensures answered { IfOk result (λ output. FromWave text.now PrintsChanges (told_answer output)) }
+    ensures stopped { IfErr result (Halts (FromWave text.now PrintsChanges)) }
+{
+    let wave = wave_of_text(alloc, text)?;
+    match unwave_text(alloc, &wave) {
+        Ok(text) => Ok(Output {
+            text,
+            end: Ending::Done,
+        }),
+        Err(_) => Err(Stop::NoMemory),
+    }
+}
+
+/// What `unwave` answers for the file of this name.
+pub fn unwave<'a, S: Shelf>(alloc: Global, shelf: &mut S, file: &'a str) -> Result<Output, Stop<'a>>
+    ensures answered { IfOk result (λ output. Unwaves (given_by (S.tells shelf.old) (S.holds shelf.old)) file.entry.now
+        (told_answer output)) }
+    ensures stopped { IfErr result (Stops (Unwaves (given_by (S.tells shelf.old) (S.holds shelf.old)) file.entry.now)
+        (file.entry.now ∷ []) (given_by (S.tells shelf.old) (S.holds shelf.old)) (S.faults shelf.old)
+        (S.faults shelf.new)) }
+    ensures same { S.tells shelf.new ≡ S.tells shelf.old }
+    ensures kept { S.holds shelf.new ≡ S.holds shelf.old }
+    ensures faults { S.faults shelf.old ≤ S.faults shelf.new }
+{
+    let text = text_of_file(alloc, shelf, file, MOST_OF_WAVE)?;
+    told_text(alloc, &text)
+}
