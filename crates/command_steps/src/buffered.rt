@@ -15,11 +15,11 @@ ghost use Rattle.command_steps.specs.HeldBuffered.{HoldsBuffered, IsBufferedForm
 ghost use Rattle.command_answers.specs.Replies.{Halts, Stops};
 ghost use Rattle.command_steps.specs.Steps.{FromChecks, FromProgram, Never, most_of_text};
 
-use command_answers::{Refusal, Stop};
 use crate::files::{MOST_OF_TEXT, checked_program, program_of_text, text_of_file};
 use chp_base::{Name, TextError};
 use chp_edge::Shelf;
 use chp_syntax::{Decl, Program};
+use command_answers::{Refusal, Stop};
 use sharing_check::{Disjoint, share};
 use slack_buffer::{is_inner_channel, with_buffer};
 use std::alloc::{AllocError, Global};

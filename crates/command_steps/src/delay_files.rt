@@ -9,9 +9,9 @@ ghost use Rattle.command_steps.specs.Steps.{FromFile, Never};
 ghost use Rattle.command_steps.specs.DelaySteps.{AreDelaysOf, FromDelays, HoldsDelays, most_of_delays};
 ghost use Rattle.command_steps.specs.DelaySteps.{FromDelayFile, HoldsDelayFile};
 
-use command_answers::{Refusal, Stop};
 use crate::files::text_of_file;
 use chp_edge::Shelf;
+use command_answers::{Refusal, Stop};
 use delay_script::{DelayError, Delays, read_delays};
 use prs_core::Net;
 use std::alloc::Global;

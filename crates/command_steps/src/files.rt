@@ -11,10 +11,10 @@ ghost use Rattle.command_answers.specs.Answers.{Gives, given_by};
 ghost use Rattle.command_answers.specs.Replies.{Halts, Stops};
 ghost use Rattle.command_steps.specs.Steps.{FromChecks, FromFile, FromNet, FromNodes, FromProgram, IsFileOf, IsTextOf, Never, most_of_net, most_of_nodes, most_of_text};
 
-use command_answers::{Refusal, Stop};
 use chp_base::TextError;
 use chp_edge::{ReadEnd, Shelf, read_all};
 use chp_syntax::{Program, parse};
+use command_answers::{Refusal, Stop};
 use handshake_expand::count_nodes;
 use prs_core::Net;
 use prs_file::{NetReadError, read_net};

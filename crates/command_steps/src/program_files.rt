@@ -9,9 +9,9 @@ ghost use Rattle.command_steps.specs.HeldPrograms.{HoldsProgram, IsProgramOf};
 ghost use Rattle.command_answers.specs.Replies.{Halts, Stops};
 ghost use Rattle.command_steps.specs.Steps.{FromChecks, FromFile, FromProgram, Never, most_of_text};
 
-use command_answers::Stop;
 use crate::files::{MOST_OF_TEXT, checked_program, program_of_text, text_of_file};
 use chp_edge::Shelf;
+use command_answers::Stop;
 use sharing_check::Disjoint;
 use std::alloc::Global;
 use width_check::laws::form_is_typed;

@@ -8,9 +8,9 @@ ghost use Rattle.command_answers.specs.Replies.{Stops};
 ghost use Rattle.command_words.specs.SimulateWords.{text_given};
 ghost use Rattle.command_steps.specs.Steps.{Never};
 
-use command_answers::Stop;
 use crate::program_files::program_in;
 use chp_edge::Shelf;
+use command_answers::Stop;
 use sharing_check::Disjoint;
 use std::alloc::Global;
 

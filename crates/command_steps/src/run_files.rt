@@ -9,10 +9,10 @@ ghost use Rattle.command_answers.specs.Replies.{Halts, Stops};
 ghost use Rattle.command_steps.specs.RunSteps.{FromScript, IsScriptOf, most_of_script};
 ghost use Rattle.command_steps.specs.Steps.{FromFile, FromNet, Never, most_of_net};
 
-use command_answers::{Refusal, Stop};
 use crate::files::{MOST_OF_NET, net_of_text, text_of_file};
 use chp_base::Channel;
 use chp_edge::Shelf;
+use command_answers::{Refusal, Stop};
 use env_script::{Script, ScriptError, read_script};
 use prs_core::Net;
 use std::alloc::{AllocError, Global};

@@ -106,6 +106,18 @@ most_of_steps = 1000000
 abbrev pub most_of_seed : ℕ
 most_of_seed = 18446744073709551615
 
+-- what a simulation is asked for: the names of its rule file and of its script, the name of the order and its seed, the
+-- most moves, the value of the nodes that have rules at power-up, where one is given, and the name of the program text
+-- with whose rounds the run is compared, where it is
+pub record AskedRun : Type 0 where
+  pub net : List ℕ
+  pub script : List ℕ
+  pub order : List ℕ
+  pub seed : ℕ
+  pub steps : ℕ
+  pub power : Option Bool
+  pub against : Option (List ℕ)
+
 abbrev pub run_with : GivenTexts → Option AskedRun
 run_with t = option_and_then (λ net. option_and_then (λ script.
     option_and_then (λ seed. option_and_then (λ steps. option_map (λ power. record {
@@ -118,6 +130,17 @@ run_with t = option_and_then (λ net. option_and_then (λ script.
       against = t.against;
     }) (power_of_words t.power)) (number_or 100000 most_of_steps t.steps)) (number_or 0 most_of_seed t.seed))
     t.script) t.net
+
+-- what a timed simulation is asked for: the names of its rule file, of its script and of its delay file, the most
+-- moves, the value of the nodes that have rules at power-up, where one is given, and the name of the program text with
+-- whose rounds the run is compared, where it is
+pub record AskedTiming : Type 0 where
+  pub net : List ℕ
+  pub script : List ℕ
+  pub delays : List ℕ
+  pub steps : ℕ
+  pub power : Option Bool
+  pub against : Option (List ℕ)
 
 -- with delays neither an order nor a seed
 abbrev pub timing_with : GivenTexts → (delays : Text) → Option AskedTiming
@@ -147,26 +170,3 @@ simulation_with t = simulation_by t t.delays
 unfoldable pub simulate_of : Text → List Text → Option AskedSimulation
 simulate_of name words = if takes (simulate_form name) words
     then simulation_with (given_texts (matches_of (simulate_form name) words)) else None
-
--- what a simulation is asked for: the names of its rule file and of its script, the name of the order and its seed, the
--- most moves, the value of the nodes that have rules at power-up, where one is given, and the name of the program text
--- with whose rounds the run is compared, where it is
-pub record AskedRun : Type 0 where
-  pub net : List ℕ
-  pub script : List ℕ
-  pub order : List ℕ
-  pub seed : ℕ
-  pub steps : ℕ
-  pub power : Option Bool
-  pub against : Option (List ℕ)
-
--- what a timed simulation is asked for: the names of its rule file, of its script and of its delay file, the most
--- moves, the value of the nodes that have rules at power-up, where one is given, and the name of the program text with
--- whose rounds the run is compared, where it is
-pub record AskedTiming : Type 0 where
-  pub net : List ℕ
-  pub script : List ℕ
-  pub delays : List ℕ
-  pub steps : ℕ
-  pub power : Option Bool
-  pub against : Option (List ℕ)

@@ -15,6 +15,15 @@ waves_form name =
     (word_rule (codes "PRS"))) (word_rule (codes "SCRIPT")))
     (option_rule (codes "steps"))) (option_rule (codes "delays"))) causes_rule
 
+-- what is asked for: the names of the rule file, of the script and of the delay file, if there is one, the most moves,
+-- and whether the causes of the last move are wanted in place of the wave
+pub record AskedWaves : Type 0 where
+  pub net : List ℕ
+  pub script : List ℕ
+  pub steps : ℕ
+  pub delays : Option (List ℕ)
+  pub causes : Bool
+
 -- 100,000 moves at most where no number is given
 abbrev pub waves_with : (net script steps delays causes : Option Text) → Option AskedWaves
 waves_with (Some net) (Some script) steps delays causes = option_map
@@ -31,12 +40,3 @@ waves_of name words = if takes (waves_form name) words
     (first_of (codes "delays") (matches_of (waves_form name) words))
     (first_of (codes "causes") (matches_of (waves_form name) words))
     else None
-
--- what is asked for: the names of the rule file, of the script and of the delay file, if there is one, the most moves,
--- and whether the causes of the last move are wanted in place of the wave
-pub record AskedWaves : Type 0 where
-  pub net : List ℕ
-  pub script : List ℕ
-  pub steps : ℕ
-  pub delays : Option (List ℕ)
-  pub causes : Bool

@@ -24,6 +24,31 @@ use Rattle.command_steps.proofs.Referring.{reference_goes, reference_answers}
 behind_two : (a b : List ℕ) (rest : List (List ℕ)) (name : List ℕ) → Contains rest name → Contains (a ∷ b ∷ rest) name
 behind_two a b rest name (k, within, is) = (suc (suc k), omega (arith, within), is)
 
+module _ (run : AskedRun) (given : Given) (played : Played) (place : ℕ) where
+  abbrev files : List (List ℕ)
+  files = run.net ∷ run.script ∷ option_to_list run.against
+
+  pub net_stops : (before after : ℕ) (stop : Stop) →
+      Stops (FromFile given run.net most_of_net (λ text. FromNet text Never)) (run.net ∷ []) given before after stop
+      → Stops (SimulatesAt run given played place) files given before after stop
+  net_stops before after stop stops =
+      stops_in (FromFile given run.net most_of_net (λ text. FromNet text Never)) (SimulatesAt run given played place)
+      (λ answer is. file_as (λ text there. net_goes there) is) (run.net ∷ []) files given before before after
+      (λ name own. first_file run.net run.script (option_to_list run.against) name own) (omega arith) stop stops
+
+  module _ (net : NetValue) (holds : HoldsNet given run.net net) where
+    pub file_answers : (a : Answer) → SimulatesFile run given played place net a → SimulatesAt run given played place a
+    file_answers a is = a_file holds.gives holds.short (a_net holds.is is)
+
+    module _ (powered : lacks_reset run.power net.reset ≡ false) where
+      pub script_stops : (first before after : ℕ) → first ≤ before → (stop : Stop) →
+          Stops (FromFile given run.script most_of_script (λ text. FromScript (net_channels net) text Never)) (run.script ∷ []) given before after stop
+          → Stops (SimulatesAt run given played place) files given first after stop
+      script_stops first before after early stop stops =
+          stops_in (FromFile given run.script most_of_script (λ text. FromScript (net_channels net) text Never)) (SimulatesAt run given played place)
+          (λ answer is. file_answers answer (has_power powered (file_as (λ text there. script_goes there) is)))
+          (run.script ∷ []) files given first before after (λ name own. second_file run.net run.script (option_to_list run.against) name own) early stop stops
+
 module _ (run : AskedRun) (given : Given) (played : Played) (place : ℕ) (net : NetValue) (holds : HoldsNet given run.net net)
     (powered : lacks_reset run.power net.reset ≡ false) (script : List OfferValue) (told : HoldsScript given run.script (net_channels net) script) where
   abbrev Reports : Option TypedProgram → Answer → Type 0
@@ -55,31 +80,6 @@ played_answers played place seed s Next r a h is = record {
   after = h.after;
   plays = record { end = r.end; run = h.run; written = subst (λ v. Next v a) h.led is };
 }
-
-module _ (run : AskedRun) (given : Given) (played : Played) (place : ℕ) where
-  abbrev files : List (List ℕ)
-  files = run.net ∷ run.script ∷ option_to_list run.against
-
-  pub net_stops : (before after : ℕ) (stop : Stop) →
-      Stops (FromFile given run.net most_of_net (λ text. FromNet text Never)) (run.net ∷ []) given before after stop
-      → Stops (SimulatesAt run given played place) files given before after stop
-  net_stops before after stop stops =
-      stops_in (FromFile given run.net most_of_net (λ text. FromNet text Never)) (SimulatesAt run given played place)
-      (λ answer is. file_as (λ text there. net_goes there) is) (run.net ∷ []) files given before before after
-      (λ name own. first_file run.net run.script (option_to_list run.against) name own) (omega arith) stop stops
-
-  module _ (net : NetValue) (holds : HoldsNet given run.net net) where
-    pub file_answers : (a : Answer) → SimulatesFile run given played place net a → SimulatesAt run given played place a
-    file_answers a is = a_file holds.gives holds.short (a_net holds.is is)
-
-    module _ (powered : lacks_reset run.power net.reset ≡ false) where
-      pub script_stops : (first before after : ℕ) → first ≤ before → (stop : Stop) →
-          Stops (FromFile given run.script most_of_script (λ text. FromScript (net_channels net) text Never)) (run.script ∷ []) given before after stop
-          → Stops (SimulatesAt run given played place) files given first after stop
-      script_stops first before after early stop stops =
-          stops_in (FromFile given run.script most_of_script (λ text. FromScript (net_channels net) text Never)) (SimulatesAt run given played place)
-          (λ answer is. file_answers answer (has_power powered (file_as (λ text there. script_goes there) is)))
-          (run.script ∷ []) files given first before after (λ name own. second_file run.net run.script (option_to_list run.against) name own) early stop stops
 
 -- ---- behind the order
 
