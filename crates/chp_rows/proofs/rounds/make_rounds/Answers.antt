@@ -1,5 +1,5 @@
 use Rattle.width_check.specs.View.{process_of}
-use Rattle.chp_cli.proofs.ProgramChannels.{typed_distinct, typed_wide}
+use Rattle.round_commands.proofs.ProgramChannels.{typed_distinct, typed_wide}
 use Rattle.chp_rows.proofs.rounds.make_rounds.Goals as goal
 
 pub read_script-requires-clause-distinct : goal.read_script-requires-clause-distinct
