@@ -11,36 +11,33 @@ ghost use Rattle.command_steps.specs.References.{IsReferredTo};
 ghost use Rattle.command_answers.specs.Replies.{Stops, end_line, end_status};
 ghost use Rattle.program_commands.specs.RepliesTold.{told_reply};
 ghost use Rattle.chp_cli.specs.Simulated.{AsksForCompiled, IsCalm};
-ghost use Rattle.command_words.specs.SimulateWords.{AskedRun};
+ghost use Rattle.command_words.specs.SimulateWords.{AskedRun, AskedTiming};
 ghost use Rattle.command_answers.specs.Statuses.{is_whole};
 ghost use Rattle.chp_cli.specs.TimedFiles.{AsksForTimed, IsTimedCalm};
-ghost use Rattle.command_words.specs.SimulateWords.{AskedTiming};
 ghost use Rattle.chp_cli.specs.TracedFiles.{AsksForTrace, IsCalmTrace};
 ghost use Rattle.command_words.specs.WavesWords.{AskedWaves};
 ghost use Rattle.width_check.specs.Processes.{TypedProgram};
 
-use command_answers::{End, Stop};
-use program_commands::check::check;
-use command_words::{Command, command_in};
-use program_commands::compile::compile;
-use program_commands::expand::expand;
-use grown_commands::grow::grow;
 use crate::laws::{
     carried_runs_agree, carried_runs_are_safe, carried_runs_have_one_length, compiled_files_carry,
     compiled_runs_rest, one_answer, simulated_right, timed_right, timed_runs_agree,
     timed_runs_are_safe, traced_right, traced_runs_are_safe,
 };
-use program_commands::migrate::migrate;
+use chp_edge::{Failed, Shelf, Sink};
+use command_answers::{End, Status, Stop, tell};
 use command_steps::Players;
+use command_words::{Command, command_in};
+use grown_commands::grow::grow;
 use program_commands::Reply;
+use program_commands::check::check;
+use program_commands::compile::compile;
+use program_commands::expand::expand;
+use program_commands::migrate::migrate;
 use round_commands::rounds::rounds;
-use command_answers::tell;
 use simulation_commands::simulate::simulate;
-use command_answers::Status;
 use simulation_commands::time;
 use simulation_commands::unwave::unwave;
 use simulation_commands::waves::waves;
-use chp_edge::{Failed, Shelf, Sink};
 use std::alloc::{AllocError, Global};
 
 /// What the command answers.

@@ -6,8 +6,7 @@ ghost use Rattle.command_answers.specs.Answers.{given_by};
 ghost use Rattle.command_answers.specs.Replies.{Halts, Stops};
 ghost use Rattle.command_words.specs.SimulateWords.{text_given};
 ghost use Rattle.command_steps.specs.Steps.{FromFile, Never};
-ghost use Rattle.command_steps.specs.DelaySteps.{AreDelaysOf, FromDelays, HoldsDelays, most_of_delays};
-ghost use Rattle.command_steps.specs.DelaySteps.{FromDelayFile, HoldsDelayFile};
+ghost use Rattle.command_steps.specs.DelaySteps.{AreDelaysOf, FromDelays, HoldsDelays, most_of_delays, FromDelayFile, HoldsDelayFile};
 
 use crate::files::text_of_file;
 use chp_edge::Shelf;

@@ -6,10 +6,10 @@ ghost use Rattle.grown_commands.specs.Growing.{Grows, IsGrownText, grow_order};
 ghost use Rattle.command_steps.specs.Orders.{KeepsOrders, order_state, played_by};
 ghost use Rattle.command_answers.specs.Replies.{Halts, told_answer};
 
-use command_answers::{Ending, Output, Stop};
 use crate::grow_summary::sum_up;
-use command_words::Growth;
+use command_answers::{Ending, Output, Stop};
 use command_steps::Players;
+use command_words::Growth;
 use program_maker::grow_text;
 use std::alloc::Global;
 

@@ -18,13 +18,12 @@ ghost use Rattle.simulation_commands.specs.Simulating.{HasPlayed, simulation_for
 ghost use Rattle.grown_commands.specs.Summing.{SumsUp, Summarizes, grown_script, guard_rules, most_of_summed_moves, rule_count, summary_of, summing_order};
 
 use command_answers::{Ending, Output, Refusal, Stop};
-use command_words::Growth;
 use command_steps::{Players, place_of};
 use command_steps::accepted_program;
-use simulation_commands::simulate::{Room, play_at};
+use command_words::Growth;
 use env_script::{Count, Offer, Script};
-use event_sim::laws::{power_is_powered, safe_moves_bring_no_hazard};
 use event_sim::{Picker, Ran, Sim};
+use event_sim::laws::{power_is_powered, safe_moves_bring_no_hazard};
 use grown_programs::grown_served;
 use history_report::report_text;
 use itoa::Buffer;
@@ -32,6 +31,7 @@ use net_compose::{NetError, translate};
 use program_maker::{grow_text, grow_values};
 use prs_core::{Guard, Net};
 use sharing_check::Disjoint;
+use simulation_commands::simulate::{Room, play_at};
 use std::alloc::{AllocError, Global};
 
 /// The name of the order that chooses the moves.

@@ -8,10 +8,10 @@ ghost use Rattle.program_commands.specs.Checking.{Checks, ChecksProgram, accepte
 ghost use Rattle.command_answers.specs.Replies.{Halts, Stops, told_answer};
 ghost use Rattle.command_steps.specs.Steps.{FromProgram, most_of_text};
 
-use command_answers::{Ending, Output, Stop};
-use command_steps::{MOST_OF_TEXT, checked_program, program_of_text, text_of_file};
 use chp_edge::Shelf;
 use chp_syntax::Program;
+use command_answers::{Ending, Output, Stop};
+use command_steps::{MOST_OF_TEXT, checked_program, program_of_text, text_of_file};
 use handshake_expand::count_nodes;
 use itoa::Buffer;
 use std::alloc::{AllocError, Global};

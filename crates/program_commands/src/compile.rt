@@ -11,11 +11,11 @@ ghost use Rattle.command_answers.specs.Replies.{Halts, Stops};
 ghost use Rattle.program_commands.specs.RepliesTold.{told_reply};
 ghost use Rattle.command_steps.specs.Steps.{FromNodes};
 
+use crate::reply::{Piece, Reply};
+use chp_edge::Shelf;
 use command_answers::{Refusal, Stop};
 use command_steps::buffered_program_in;
 use command_words::Compilation;
-use crate::reply::{Piece, Reply};
-use chp_edge::Shelf;
 use net_compose::NetError;
 use net_stream::Streamer;
 use sharing_check::Disjoint;

@@ -10,10 +10,10 @@ ghost use Rattle.program_commands.specs.Expanding.{Expands, ExpandsProgram, Tree
 ghost use Rattle.command_answers.specs.Replies.{Halts, Stops, told_answer};
 ghost use Rattle.command_steps.specs.Steps.{FromNodes, FromProgram, most_of_nodes, most_of_text};
 
-use command_answers::{Ending, Output, Stop};
-use command_steps::{MOST_OF_TEXT, checked_program, counted, program_of_text, text_of_file};
 use chp_edge::Shelf;
 use chp_syntax::Program;
+use command_answers::{Ending, Output, Stop};
+use command_steps::{MOST_OF_TEXT, checked_program, counted, program_of_text, text_of_file};
 use handshake_expand::{expand as parts_of, print_parts};
 use std::alloc::{AllocError, Global};
 use width_check::Typed;

@@ -9,10 +9,10 @@ ghost use Rattle.program_commands.specs.Migrating.{Migrates, MigratesNet, named_
 ghost use Rattle.command_answers.specs.Replies.{Halts, Stops, told_answer};
 ghost use Rattle.command_steps.specs.Steps.{FromNet, IsFileOf, most_of_net};
 
-use command_answers::{Ending, Output, Refusal, Stop};
-use command_steps::{MOST_OF_NET, net_of_text, text_of_file};
 use chp_base::Name;
 use chp_edge::Shelf;
+use command_answers::{Ending, Output, Refusal, Stop};
+use command_steps::{MOST_OF_NET, net_of_text, text_of_file};
 use prs_core::Net;
 use prs_file::{NetFault, print_net};
 use reset_net::with_reset;

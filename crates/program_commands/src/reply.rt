@@ -4,8 +4,8 @@ ghost use Rattle.std.specs.Prelude.{◌≡◌, ℕ, ◌<◌, ◌≤◌, ◌++◌
 ghost use Rattle.chp_edge.specs.Faults.{Rose};
 ghost use Rattle.program_commands.specs.RepliesTold.{reply_bytes, reply_end};
 
-use command_answers::{Ending, Output};
 use chp_edge::{Failed, Sink, write_all};
+use command_answers::{Ending, Output};
 use net_stream::Streamer;
 use std::alloc::{AllocError, Global};
 use std::marker::Model;

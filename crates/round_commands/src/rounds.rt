@@ -12,12 +12,12 @@ ghost use Rattle.command_words.specs.CommandWords.{rounds_asked};
 ghost use Rattle.command_answers.specs.Replies.{Halts, Stops, told_answer};
 ghost use Rattle.round_commands.specs.RoundsReporting.{ReportsRounds, Runs, most_of_values};
 
-use command_answers::{Ending, Output, Refusal, Stop};
-use command_steps::buffered_program_in;
-use command_words::Rounds;
-use command_steps::script_in;
 use chp_edge::Shelf;
 use chp_meaning::{RunEnd, run_rounds, start};
+use command_answers::{Ending, Output, Refusal, Stop};
+use command_steps::buffered_program_in;
+use command_steps::script_in;
+use command_words::Rounds;
 use env_script::Script;
 use history_report::rounds_text;
 use std::alloc::{AllocError, Global};

@@ -13,13 +13,13 @@ ghost use Rattle.simulation_commands.specs.Simulating.{HasPlayed, IsPlayed, Simu
 ghost use Rattle.command_words.specs.SimulateWords.{text_given};
 ghost use Rattle.width_check.specs.Typed.{program_of as typed_of};
 
+use crate::run_reports::{copied_script, reported};
+use chp_edge::Shelf;
 use command_answers::{Output, Refusal, Stop};
 use command_steps::{Players, place_of};
-use command_steps::reference_in;
 use command_steps::{channels_of, net_in, script_in};
-use crate::run_reports::{copied_script, reported};
+use command_steps::reference_in;
 use command_words::Simulation;
-use chp_edge::Shelf;
 use env_script::Script;
 use event_sim::{Picker, Ran, Sim};
 use prs_core::Net;

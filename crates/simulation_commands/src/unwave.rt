@@ -7,9 +7,9 @@ ghost use Rattle.command_answers.specs.Replies.{Halts, Stops, told_answer};
 ghost use Rattle.command_steps.specs.Steps.{Never};
 ghost use Rattle.simulation_commands.specs.Unwaving.{FromWave, IsWaveIn, PrintsChanges, Unwaves, most_of_wave};
 
+use chp_edge::Shelf;
 use command_answers::{Ending, Output, Refusal, Stop};
 use command_steps::text_of_file;
-use chp_edge::Shelf;
 use std::alloc::Global;
 use wave_file::{Wave, WaveError, read_wave, unwave_text};
 
