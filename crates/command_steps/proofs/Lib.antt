@@ -7,6 +7,6 @@ pub mod Buffering
 pub mod RunChannels
 pub mod FewDeclarations
 pub mod Faulty
-pub mod Counted
+pub mod NodeCounts
 pub mod OrderNames
 pub mod OneRunSteps

@@ -1,6 +1,6 @@
 use Rattle.std.proofs.Common.{arith}
 use Rattle.width_check.specs.Typed.{program_of as typed_of}
-use Rattle.command_steps.proofs.Counted.{counted_many}
+use Rattle.command_steps.proofs.NodeCounts.{counted_many}
 use Rattle.grown_commands.proofs.grow_summary.grown_net.Goals as goal
 
 pub returns-in-Err-TooManyNodes-clause-stopped : goal.returns-in-Err-TooManyNodes-clause-stopped

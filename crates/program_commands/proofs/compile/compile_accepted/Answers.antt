@@ -5,7 +5,7 @@ use Rattle.command_answers.specs.Answers.{refuses}
 use Rattle.program_commands.specs.Compiling.{CompilesNet, compiled}
 use Rattle.command_answers.specs.Lines.{nodes_line}
 use Rattle.command_steps.specs.Steps.{FromNodes, too_many, few_enough}
-use Rattle.command_steps.proofs.Counted.{counted_few, counted_many}
+use Rattle.command_steps.proofs.NodeCounts.{counted_few, counted_many}
 use Rattle.program_commands.proofs.compile.compile_accepted.Goals as goal
 
 pub returns-in-Err-TooManyNodes-clause-stopped : goal.returns-in-Err-TooManyNodes-clause-stopped
