@@ -21,15 +21,14 @@ ghost use Rattle.simulation_commands.specs.Tracing.{IsTraceText, Traces, TracesN
 use crate::run_reports::ending_for;
 use chp_edge::Shelf;
 use command_answers::{Output, Stop};
-use command_steps::{channels_of, net_in, script_in};
-use command_steps::delays_if;
+use command_steps::{channels_of, delays_if, net_in, script_in};
 use command_words::Waves;
 use delay_script::{Delays, Noted, NotedRan};
 use env_script::Script;
 use prs_core::Net;
 use std::alloc::{AllocError, Global};
-use wave_file::{causes_text, run_wave, write_wave};
 use wave_file::laws::timed_runs_are_waves;
+use wave_file::{causes_text, run_wave, write_wave};
 
 /// The wave of the run.
 fn wave_text(alloc: Global, ran: &NotedRan) -> Result<Vec<u8>, AllocError>
