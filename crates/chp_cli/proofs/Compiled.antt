@@ -1,16 +1,26 @@
 -- The text of a program's net, and what that net carries.
-use Rattle.std.proofs.Common.{ℕ, true, false, List, refl}
+use Rattle.std.proofs.Common.{ℕ, ◌≤◌, Bool, true, false, List, refl, sym, subst}
 use Rattle.std.specs.Prelude.{Result, Ok, Err, IfOk, OnOk}
-use Rattle.net_compose.specs.Carries.{Carries, CarriesReset}
-use Rattle.net_compose.specs.Progress.{Progresses, ProgressesReset}
+use Rattle.chp_syntax.specs.Shape.{IsShaped}
+use Rattle.chp_syntax.specs.Trees.{ProgramTree}
+use Rattle.handshake_expand.specs.Layout.{nodes_of}
+use Rattle.net_compose.specs.Carries.{Carries, CarriesReset, ResetCarries}
+use Rattle.net_compose.specs.Points.{IsTranslated, TranslationCarries}
+use Rattle.net_compose.specs.Progress.{Progresses, ProgressesReset, ResetProgresses, TranslationProgresses}
 use Rattle.net_compose.specs.Translation.{translation}
 use Rattle.net_compose.proofs.NamesFree.{names_free}
-use Rattle.prs_core.specs.Nets.{IsNet}
+use Rattle.prs_core.specs.Nets.{NetValue, IsNet}
 use Rattle.prs_file.specs.Spelling.{NetText}
 use Rattle.reset_net.specs.Resets.{reset_of}
 use Rattle.reset_net.proofs.Whole.{reset_is_net}
+use Rattle.width_check.specs.Accepted.{IsAccepted}
+use Rattle.width_check.specs.Faults.{naming_faults, HasNone}
+use Rattle.width_check.specs.Form.{channels_of, vars_of, process_form, typed_form}
 use Rattle.width_check.specs.Processes.{TypedProgram}
-use Rattle.chp_cli.specs.Compiling.{IsCompiled}
+use Rattle.width_check.specs.Typing.{IsTyped}
+use Rattle.chp_cli.specs.Answers.{Given}
+use Rattle.chp_cli.specs.Compiling.{IsCompiled, net_for}
+use Rattle.chp_cli.specs.Simulated.{HoldsCompiled}
 
 pub plain_compiled : {E : Type 0} (p : TypedProgram) (r : Result (List ℕ) E) → IfOk r (λ text. NetText text (translation p)) →
     OnOk r (IsNet (translation p)) → OnOk r (Carries (translation p) p) → OnOk r (Progresses (translation p) p) → IfOk r (IsCompiled false p)
@@ -28,3 +38,32 @@ reset_compiled p (Ok text) spells net carries progresses = record {
   progresses = progresses;
 }
 reset_compiled p (Err e) spells net carries progresses = tt
+
+-- a file that holds what `compile` writes is as is promised of what it writes
+abbrev pub AreCompiled : Type 0
+AreCompiled = (given : Given) (file : List ℕ) (p : TypedProgram) (h : HoldsCompiled given file p) → IsCompiled h.reset p h.text
+
+module _ (is_typed : (t : ProgramTree) → IsShaped t → HasNone t naming_faults → IsTyped (channels_of t.decls) (vars_of t.decls) (process_form t.decls t.body))
+    (whole : (p : TypedProgram) → IsTyped p.channels p.vars p.body → nodes_of p ≤ 65536 → IsNet (translation p))
+    (carry : TranslationCarries) (progress : TranslationProgresses) (carry_reset : (net : NetValue) (p : TypedProgram) → ResetCarries net p)
+    (progress_reset : (net : NetValue) (p : TypedProgram) → ResetProgresses net p) where
+  form_translated : (t : ProgramTree) → IsShaped t → IsAccepted t → IsTranslated (typed_form t)
+  form_translated t shaped accepted = record { typed = is_typed t shaped accepted.named; sharing = accepted.sharing }
+
+  promised : (reset : Bool) (p : TypedProgram) (text : List ℕ) → IsTranslated p → nodes_of p ≤ 65536 → NetText text (net_for reset p) → IsCompiled reset p text
+  promised false p text is few spells =
+      let net = whole p is.typed few in
+      record { plain = net; kept = net; spells = spells; carries = carry p is; progresses = progress p is }
+  promised true p text is few spells =
+      let net = whole p is.typed few in
+      record {
+        plain = net;
+        kept = reset_is_net (translation p) net refl (names_free p);
+        spells = spells;
+        carries = carry_reset (translation p) p (carry p is) net refl net.most (names_free p);
+        progresses = progress_reset (translation p) p (progress p is) net refl (names_free p);
+      }
+
+  pub are_compiled : AreCompiled
+  are_compiled given file p h =
+      promised h.reset p h.text (subst IsTranslated (sym h.form) (form_translated h.program h.shaped h.accepted)) h.few h.spells

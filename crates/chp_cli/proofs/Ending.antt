@@ -53,7 +53,7 @@ module _ (asked : Option Asked) (given : Given) (played : Played) (rb ra pb pa :
   pub silent_of : {s : Status} {appended line : List ℕ} → Ends asked given played rb ra pb pa s appended line → is_whole s ≡ false → s ≢ Write → appended ≡ []
   silent_of (formless none) w n = refl
   silent_of (whole end text is) w n = absurd (cc (whole_status end, w))
-  silent_of (cut_off end text k is rose) w n = absurd (n refl)
+  silent_of (cut_off end text k is less rose) w n = absurd (n refl)
   silent_of (refused status line r is) w n = refl
   silent_of (unread name own fault missed) w n = refl
   silent_of no_memory w n = refl
@@ -61,7 +61,7 @@ module _ (asked : Option Asked) (given : Given) (played : Played) (rb ra pb pa :
   pub usage_of : {s : Status} {appended line : List ℕ} → Ends asked given played rb ra pb pa s appended line → s ≡ Usage → asked ≡ None
   usage_of (formless none) e = none
   usage_of (whole end text is) e = absurd ((own_status end).0 e)
-  usage_of (cut_off end text k is rose) e = absurd (cc e)
+  usage_of (cut_off end text k is less rose) e = absurd (cc e)
   usage_of (refused status line r is) e = absurd (no_refusal status Usage r refl e)
   usage_of (unread name own fault missed) e = absurd (cc e)
   usage_of no_memory e = absurd (cc e)
@@ -70,7 +70,7 @@ module _ (asked : Option Asked) (given : Given) (played : Played) (rb ra pb pa :
       (name : List ℕ) × IsFile asked name × IsReadFault rb ra given.tells (given.files name)
   read_of (formless none) e = absurd (cc e)
   read_of (whole end text is) e = absurd ((own_status end).1 e)
-  read_of (cut_off end text k is rose) e = absurd (cc e)
+  read_of (cut_off end text k is less rose) e = absurd (cc e)
   read_of (refused status line r is) e = absurd (no_refusal status Read r refl e)
   read_of (unread name own fault missed) e = (name, own, fault)
   read_of no_memory e = absurd (cc e)
@@ -78,7 +78,7 @@ module _ (asked : Option Asked) (given : Given) (played : Played) (rb ra pb pa :
   pub write_of : {s : Status} {appended line : List ℕ} → Ends asked given played rb ra pb pa s appended line → s ≡ Write → Rose pb pa
   write_of (formless none) e = absurd (cc e)
   write_of (whole end text is) e = absurd ((own_status end).2 e)
-  write_of (cut_off end text k is rose) e = rose
+  write_of (cut_off end text k is less rose) e = rose
   write_of (refused status line r is) e = absurd (no_refusal status Write r refl e)
   write_of (unread name own fault missed) e = absurd (cc e)
   write_of no_memory e = absurd (cc e)
@@ -94,7 +94,7 @@ module _ (asked : Option Asked) (given : Given) (played : Played) (rb ra pb pa :
       → (answer : Answer) → AnswersTo asked given played answer → ¬ Rose rb ra → ¬ Rose pb pa → (s ≡ status_of answer) ⊎ (s ≡ NoMemory)
   complete_of law (formless none) answer are calm quiet = absurd (subst (λ o. AnswersTo o given played answer) none are)
   complete_of law (whole end text is) answer are calm quiet = inl (ap status_of (one law asked _ answer is are))
-  complete_of law (cut_off end text k is rose) answer are calm quiet = absurd (quiet rose)
+  complete_of law (cut_off end text k is less rose) answer are calm quiet = absurd (quiet rose)
   complete_of law (refused status line r is) answer are calm quiet = inl (ap status_of (one law asked _ answer is are))
   complete_of law (unread name own fault (inl rose)) answer are calm quiet = absurd (calm rose)
   complete_of law (unread name own fault (inr is)) answer are calm quiet = inl (ap status_of (one law asked _ answer is are))
@@ -112,9 +112,3 @@ module _ (asked : Option Asked) (given : Given) (played : Played) (rb ra pb pa :
       missed (inl rose) = inl rose
       missed (inr answer) = inr (answers_of asked given played command (misses name.now) is answer)
   stopped_ends command is stopped.NoMemory s = no_memory
-
--- how long the front was, where the output tells it
-pub front_of : (tells : Bool) (before after text : List ℕ) → (tells ≡ true → (n : ℕ) × (n ≤ length text) × (after ≡ before ++ take n text))
-    → (n : ℕ) × (tells ≡ true → after ≡ before ++ take n text)
-front_of true before after text front = ((front refl).0, λ told. (front refl).2)
-front_of false before after text front = (0, λ told. absurd (cc told))

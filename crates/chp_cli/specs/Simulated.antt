@@ -12,18 +12,22 @@ use Rattle.chp_meaning.specs.Steps.{Configuration}
 use Rattle.net_compose.specs.Carries.{Carries, CarriesReset}
 use Rattle.prs_core.specs.Nets.{NetValue, IsNet}
 use Rattle.prs_file.specs.Spelling.{NetText}
+use Rattle.chp_syntax.specs.Shape.{IsShaped}
+use Rattle.chp_syntax.specs.Trees.{ProgramTree}
+use Rattle.width_check.specs.Accepted.{IsAccepted}
+use Rattle.width_check.specs.Form.{typed_form}
 use Rattle.width_check.specs.Processes.{TypedProgram}
-use Rattle.chp_cli.specs.declared.answer.Ending.TheVariants.{Done}
+use Rattle.chp_cli.specs.declared.answer.Ending.{Ending}
 use Rattle.chp_cli.specs.Answers.{Given, Answer, writes}
 use Rattle.chp_cli.specs.Commands.{Asked, simulates}
-use Rattle.chp_cli.specs.Compiling.{IsCompiled, net_for}
+use Rattle.chp_cli.specs.Compiling.{net_for}
 use Rattle.chp_cli.specs.Orders.{OrderState, Played, place_named}
 use Rattle.chp_cli.specs.Resting.{RestsInTime}
 use Rattle.chp_cli.specs.References.{HoldsReference, IsToReferTo}
 use Rattle.chp_cli.specs.RunReporting.{IsReported}
 use Rattle.chp_cli.specs.RunSteps.{IsScriptOf, lacks_reset, most_of_script}
 use Rattle.chp_cli.specs.Simulating.{AskedRun, PlaysOut, simulation_for}
-use Rattle.chp_cli.specs.Steps.{IsFileOf, most_of_net}
+use Rattle.chp_cli.specs.Steps.{IsFileOf, most_of_net, most_of_nodes}
 
 -- The files hold the rule file of a net, a script of its channels, and the program to compare with, if one is wanted;
 -- and the order of the wanted name led to a run of this net under this script, which is reported.
@@ -58,12 +62,18 @@ pub record HoldsCarrying (given : Given) (file : List ℕ) (p : TypedProgram) : 
   pub spelled : NetText rules net
   pub carries : ((net.reset ≡ None) × Carries net p) ⊎ CarriesReset net p
 
--- the file holds what `compile` writes for the program, with a reset node or without
+-- The file holds what `compile` writes for the program, with a reset node or without: the one text of its net. The
+-- program is the typed form of an accepted one that has the shape of the grammar, and its circuit isn't too large.
 pub record HoldsCompiled (given : Given) (file : List ℕ) (p : TypedProgram) : Type 0 where
   pub reset : Bool
   pub text : List ℕ
+  pub program : ProgramTree
   pub held : given.files file ≡ Some text
-  pub compiled : IsCompiled reset p text
+  pub shaped : IsShaped program
+  pub accepted : IsAccepted program
+  pub form : p ≡ typed_form program
+  pub few : nodes_of p ≤ most_of_nodes
+  pub spells : NetText text (net_for reset p)
 
 -- the files hold what can be simulated: a rule file within its limit, of a net that can have the power that is asked
 -- for, a script of its channels within its own, and an accepted program, if one is wanted; and there is an order of the
@@ -122,7 +132,7 @@ pub record AsksForCompiled (asked : Option Asked) (given : Given) (s : AskedRun)
 
 -- The report is that of a run without a hazard; where it says rest, no order makes more moves; and where a program
 -- comes to rest for which `compile` writes this rule file, so does the run, if its limit is high enough.
-pub record IsCalm (s : AskedRun) (given : Given) (played : Played) (report : List ℕ) : Type 0 where
-  pub run : IsFileSimulated s given played (writes Done report)
-  pub one_length : EndsAllAtRest s given played (writes Done report) run
+pub record IsCalm (s : AskedRun) (given : Given) (played : Played) (end : Ending) (report : List ℕ) : Type 0 where
+  pub run : IsFileSimulated s given played (writes end report)
+  pub one_length : EndsAllAtRest s given played (writes end report) run
   pub rests : (p : TypedProgram) (holds : HoldsCompiled given s.net p) → SimulatedRests s given played p holds run

@@ -5,7 +5,7 @@ use Rattle.env_script.specs.Environment.{net_channels}
 use Rattle.env_script.specs.Scripts.{OfferValue}
 use Rattle.prs_core.specs.Nets.{NetValue}
 use Rattle.width_check.specs.Processes.{TypedProgram}
-use Rattle.chp_cli.specs.declared.answer.Ending.TheVariants.{Done}
+use Rattle.chp_cli.specs.declared.answer.Ending.{Ending}
 use Rattle.chp_cli.specs.Answers.{Given, Answer, writes}
 use Rattle.chp_cli.specs.Commands.{Asked, times}
 use Rattle.chp_cli.specs.References.{HoldsReference}
@@ -48,6 +48,6 @@ pub record AsksForTimed (asked : Option Asked) (given : Given) (t : AskedTiming)
 
 -- the report is that of a timed run, which comes to rest in time where a program does for which `compile` writes this
 -- rule file
-pub record IsTimedCalm (t : AskedTiming) (given : Given) (report : List ℕ) : Type 0 where
-  pub run : IsFileTimed t given (writes Done report)
+pub record IsTimedCalm (t : AskedTiming) (given : Given) (end : Ending) (report : List ℕ) : Type 0 where
+  pub run : IsFileTimed t given (writes end report)
   pub rests : (p : TypedProgram) (holds : HoldsCompiled given t.net p) → TimedRunRests t given p holds run

@@ -5,7 +5,7 @@ use Rattle.env_script.specs.Environment.{net_channels}
 use Rattle.env_script.specs.Scripts.{OfferValue}
 use Rattle.prs_core.specs.Nets.{NetValue}
 use Rattle.width_check.specs.Processes.{TypedProgram}
-use Rattle.chp_cli.specs.declared.answer.Ending.TheVariants.{Done}
+use Rattle.chp_cli.specs.declared.answer.Ending.{Ending}
 use Rattle.chp_cli.specs.Answers.{Given, Answer, writes}
 use Rattle.chp_cli.specs.Commands.{Asked, traces}
 use Rattle.chp_cli.specs.Resting.{TimedRests}
@@ -43,6 +43,6 @@ pub record AsksForTrace (asked : Option Asked) (given : Given) (w : AskedWaves) 
 
 -- the text tells a timed run, which comes to rest in time where a program does for which `compile` writes this rule
 -- file, if its limit is high enough
-pub record IsCalmTrace (w : AskedWaves) (given : Given) (text : List ℕ) : Type 0 where
-  pub run : IsFileTraced w given (writes Done text)
+pub record IsCalmTrace (w : AskedWaves) (given : Given) (end : Ending) (text : List ℕ) : Type 0 where
+  pub run : IsFileTraced w given (writes end text)
   pub rests : (p : TypedProgram) (holds : HoldsCompiled given w.net p) → TracedRests w given p holds run

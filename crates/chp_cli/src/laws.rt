@@ -5,7 +5,7 @@ ghost use Rattle.chp_cli.specs.declared.answer.Ending.{Ending};
 ghost use Rattle.chp_cli.specs.declared.answer.Ending.TheVariants as ending;
 ghost use Rattle.chp_cli.specs.declared.status.Status.TheVariants.{Done};
 ghost use Rattle.chp_cli.specs.Answers.{Answer, Given, OneAnswer, status_of, writes};
-ghost use Rattle.chp_cli.specs.Compiling.{Compiles, IsFileCompiled, IsToCompile};
+ghost use Rattle.chp_cli.specs.Compiling.{Compiles, IsCompiled, IsFileCompiled, IsToCompile};
 ghost use Rattle.chp_cli.specs.CompileWords.{AskedCompilation};
 ghost use Rattle.chp_cli.specs.Migrating.{Migrates, IsToMigrate};
 ghost use Rattle.chp_cli.specs.Commands.{Asked, IsAnswer};
@@ -23,6 +23,7 @@ ghost use Rattle.width_check.specs.Processes.{TypedProgram};
 
 use delay_script::laws::timed_runs_end_in_time;
 use event_sim::laws::{passed_are_histories, power_is_powered, safe_moves_bring_no_hazard};
+use net_compose::laws::{carries, carries_reset, runs_end, runs_end_reset, whole_nets};
 
 /// Law: to the same files, where the shelf tells them, and by the same orders a command has at most one answer.
 pub fn one_answer()
@@ -113,12 +114,29 @@ pub fn carried_runs_have_one_length()
     safe_moves_bring_no_hazard();
 }
 
+/// Law: the one text of the net of the typed form of an accepted program, whose circuit isn't too large, is as is
+/// promised of what `compile` writes: the net is one that a rule file can hold, it carries the program, and it keeps
+/// pace with it.
+pub fn files_as_promised()
+    ensures { (given : Given) (file : List ℕ) (p : TypedProgram) (holds : HoldsCompiled given file p) →
+        IsCompiled holds.reset p holds.text }
+{
+    width_check::laws::form_is_typed();
+    whole_nets();
+    carries();
+    runs_end();
+    carries_reset();
+    runs_end_reset();
+}
+
 /// Law: what `compile` writes for a program is the rule file of a net that carries it, so what holds of simulations of
 /// such files holds of each file that `compile` wrote.
 pub fn compiled_files_carry()
     ensures { (given : Given) (file : List ℕ) (p : TypedProgram) → HoldsCompiled given file p →
         HoldsCarrying given file p }
-{}
+{
+    files_as_promised();
+}
 
 /// Law: each rule file that `compile` wrote is within the limit of rule files. So under each script of the program's
 /// channels within its own limit, with any power if it has a reset node, it can be simulated: the only answers of
@@ -126,7 +144,9 @@ pub fn compiled_files_carry()
 pub fn compiled_files_are_simulated()
     ensures { (s : AskedRun) (given : Given) (played : Played) (p : TypedProgram) →
         IsCompiledToSimulate s given played p → IsToSimulate s given played }
-{}
+{
+    files_as_promised();
+}
 
 /// Law: what `simulate` writes with delays is the report of the timed run of the net under the script by the delays
 /// that its files hold: each move comes its delay later than the move since which it is enabled, and of the enabled
@@ -189,6 +209,7 @@ pub fn compiled_runs_rest()
 {
     power_is_powered();
     safe_moves_bring_no_hazard();
+    files_as_promised();
     compiled_files_carry();
     timed_runs_end_in_time();
 }

@@ -2,7 +2,8 @@
 
 ghost use Rattle.std.specs.Prelude.{◌≡◌, ◌≢◌, ◌≤◌, ◌++◌, ℕ, List, map, None, Some, true, false, IfOk, IfErr, ◌⊎◌};
 ghost use Rattle.chp_edge.specs.Faults.{Rose, IsReadFault};
-ghost use Rattle.chp_cli.specs.Answers.{Answer, given_by, status_of};
+ghost use Rattle.chp_cli.specs.declared.answer.Ending.{Ending};
+ghost use Rattle.chp_cli.specs.Answers.{Answer, given_by, status_of, status_with};
 ghost use Rattle.chp_cli.specs.Commands.{IsWithinBounds, IsAnswer, asked, asked_by, files_of, order_of};
 ghost use Rattle.chp_cli.specs.Ends.{AnswersTo, Ends, IsFile, asked_order};
 ghost use Rattle.chp_cli.specs.Orders.{KeepsOrders, order_state, played_by};
@@ -186,24 +187,24 @@ pub fn chp_main<S: Shelf, K: Sink, W: Sink>(
         IsReferredTo (given_by (S.tells shelf.old) (S.holds shelf.old)) t.against p → result ≢ Status.Differs }
     ensures steady { (s : AskedRun) (p : TypedProgram) → S.tells shelf.old ≡ true →
         AsksForCompiled (asked_by words.now) (given_by (S.tells shelf.old) (S.holds shelf.old)) s p →
-        result ≡ Status.Done → K.tells out.old ≡ true → (report : List ℕ)
-        × (K.written out.new ≡ K.written out.old ++ report)
+        is_whole result ≡ true → K.tells out.old ≡ true → (end : Ending) × (report : List ℕ)
+        × (result ≡ status_with end) × (K.written out.new ≡ K.written out.old ++ report)
         × IsCalm s (given_by (S.tells shelf.old) (S.holds shelf.old)) (played_by
         (map (λ order. order_state (name order) (log order) (seeded order)) players.old.orders.items)
-        (map (λ order. order_state (name order) (log order) (seeded order)) players.new.orders.items)) report }
+        (map (λ order. order_state (name order) (log order) (seeded order)) players.new.orders.items)) end report }
     ensures timed_steady { (t : AskedTiming) (p : TypedProgram) → S.tells shelf.old ≡ true →
         AsksForTimed (asked_by words.now) (given_by (S.tells shelf.old) (S.holds shelf.old)) t p →
-        result ≡ Status.Done → K.tells out.old ≡ true → (report : List ℕ)
-        × (K.written out.new ≡ K.written out.old ++ report)
-        × IsTimedCalm t (given_by (S.tells shelf.old) (S.holds shelf.old)) report }
+        is_whole result ≡ true → K.tells out.old ≡ true → (end : Ending) × (report : List ℕ)
+        × (result ≡ status_with end) × (K.written out.new ≡ K.written out.old ++ report)
+        × IsTimedCalm t (given_by (S.tells shelf.old) (S.holds shelf.old)) end report }
     ensures wave_calm { (w : AskedWaves) (p : TypedProgram) → S.tells shelf.old ≡ true →
         AsksForTrace (asked_by words.now) (given_by (S.tells shelf.old) (S.holds shelf.old)) w p →
         result ≢ Status.Hazard }
     ensures wave_steady { (w : AskedWaves) (p : TypedProgram) → S.tells shelf.old ≡ true →
         AsksForTrace (asked_by words.now) (given_by (S.tells shelf.old) (S.holds shelf.old)) w p →
-        result ≡ Status.Done → K.tells out.old ≡ true → (text : List ℕ)
-        × (K.written out.new ≡ K.written out.old ++ text)
-        × IsCalmTrace w (given_by (S.tells shelf.old) (S.holds shelf.old)) text }
+        is_whole result ≡ true → K.tells out.old ≡ true → (end : Ending) × (text : List ℕ)
+        × (result ≡ status_with end) × (K.written out.new ≡ K.written out.old ++ text)
+        × IsCalmTrace w (given_by (S.tells shelf.old) (S.holds shelf.old)) end text }
     ensures shelf_same { S.tells shelf.new ≡ S.tells shelf.old }
     ensures shelf_kept { S.holds shelf.new ≡ S.holds shelf.old }
     ensures shelf_faults { S.faults shelf.old ≤ S.faults shelf.new }

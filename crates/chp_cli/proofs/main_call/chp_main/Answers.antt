@@ -3,7 +3,7 @@ use Rattle.chp_cli.specs.Commands.{simulates, times, traces}
 use Rattle.chp_cli.specs.Replies.{end_line}
 use Rattle.chp_cli.specs.Statuses.{is_whole}
 use Rattle.chp_cli.proofs.Ending.{complete_of, read_of, silent_of, usage_of, write_of}
-use Rattle.chp_cli.proofs.Calm.{agreed_of, calm_of, done_of}
+use Rattle.chp_cli.proofs.Calm.{agreed_of, calm_of, whole_of}
 use Rattle.chp_cli.proofs.main_call.chp_main.Goals as goal
 
 pub returns-clause-ended : goal.returns-clause-ended
@@ -62,8 +62,11 @@ pub returns-clause-steady : goal.returns-clause-steady
 returns-clause-steady g c = λ s p told asks is writes.
     let e = c.run-end.ensures.ended in
     let carries = c.compiled_files_carry.ensures _ s.net p asks.holds in
-    let run = c.simulated_right.ensures s _ _ told _ _ (done_of _ _ _ _ _ _ _ (simulates s) asks.is e.1 (sym c.status.ensures ∙ is)) in (
+    let whole = whole_of _ _ _ _ _ _ _ (simulates s) asks.is e.1 (ap is_whole (sym c.status.ensures) ∙ is) in
+    let run = c.simulated_right.ensures s _ _ told _ _ whole.2 in (
+      whole.0,
       e.0,
+      c.status.ensures ∙ whole.1,
       e.2 writes,
       record {
         run = run;
@@ -75,8 +78,9 @@ returns-clause-steady g c = λ s p told asks is writes.
 pub returns-clause-timed_steady : goal.returns-clause-timed_steady
 returns-clause-timed_steady g c = λ t p told asks is writes.
     let e = c.run-end.ensures.ended in
-    let run = c.timed_right.ensures t _ told _ _ (done_of _ _ _ _ _ _ _ (times t) asks.is e.1 (sym c.status.ensures ∙ is)) in
-    (e.0, e.2 writes, record { run = run; rests = λ q holds. c.compiled_runs_rest.ensures.timed t _ q holds _ run })
+    let whole = whole_of _ _ _ _ _ _ _ (times t) asks.is e.1 (ap is_whole (sym c.status.ensures) ∙ is) in
+    let run = c.timed_right.ensures t _ told _ _ whole.2 in
+    (whole.0, e.0, c.status.ensures ∙ whole.1, e.2 writes, record { run = run; rests = λ q holds. c.compiled_runs_rest.ensures.timed t _ q holds _ run })
 
 pub returns-clause-wave_calm : goal.returns-clause-wave_calm
 returns-clause-wave_calm g c = λ w p told asks is.
@@ -88,5 +92,6 @@ returns-clause-wave_calm g c = λ w p told asks is.
 pub returns-clause-wave_steady : goal.returns-clause-wave_steady
 returns-clause-wave_steady g c = λ w p told asks is writes.
     let e = c.run-end.ensures.ended in
-    let run = c.traced_right.ensures w _ told _ _ (done_of _ _ _ _ _ _ _ (traces w) asks.is e.1 (sym c.status.ensures ∙ is)) in
-    (e.0, e.2 writes, record { run = run; rests = λ q holds. c.compiled_runs_rest.ensures.traced w _ q holds _ run })
+    let whole = whole_of _ _ _ _ _ _ _ (traces w) asks.is e.1 (ap is_whole (sym c.status.ensures) ∙ is) in
+    let run = c.traced_right.ensures w _ told _ _ whole.2 in
+    (whole.0, e.0, c.status.ensures ∙ whole.1, e.2 writes, record { run = run; rests = λ q holds. c.compiled_runs_rest.ensures.traced w _ q holds _ run })
