@@ -9,11 +9,12 @@ use Rattle.chp_cli.specs.declared.answer.Stop.{Stop}
 use Rattle.chp_cli.specs.declared.answer.Stop.TheVariants as stopped
 use Rattle.chp_cli.specs.declared.status.Status.{Status}
 use Rattle.chp_cli.specs.declared.status.Status.TheVariants.{Usage, Read, Write, NoMemory}
-use Rattle.chp_cli.specs.Answers.{Given, Answer, misses, OneAnswer, status_of, status_with}
+use Rattle.chp_cli.specs.Answers.{Given, Answer, writes, refuses, misses, OneAnswer, status_of, status_with}
 use Rattle.chp_cli.specs.Commands.{Asked, IsAnswer, files_of}
 use Rattle.chp_cli.specs.Ends.{AnswersTo, IsFile, Ends, formless, whole, cut_off, refused, unread, no_memory}
 use Rattle.chp_cli.specs.Orders.{Played}
 use Rattle.chp_cli.specs.Replies.{Stops, refusing, refusal_status, refusal_line, stop_status, stop_line}
+use Rattle.chp_cli.specs.Serving.{EndsServed}
 use Rattle.chp_cli.specs.Statuses.{is_whole, is_refusing}
 
 whole_status : (end : Ending) → is_whole (status_with end) ≡ true
@@ -99,6 +100,18 @@ module _ (asked : Option Asked) (given : Given) (played : Played) (rb ra pb pa :
   complete_of law (unread name own fault (inl rose)) answer are calm quiet = absurd (calm rose)
   complete_of law (unread name own fault (inr is)) answer are calm quiet = inl (ap status_of (one law asked _ answer is are))
   complete_of law no_memory answer are calm quiet = inr refl
+
+  -- where the files and orders hold what the command is served with and nothing fails, it ends as one that is served
+  pub served_of : (command : Asked) → asked ≡ Some command → ((a : Answer) → IsAnswer command given played a → EndsServed command (status_of a))
+      → {s : Status} {appended line : List ℕ} → Ends asked given played rb ra pb pa s appended line → ¬ Rose rb ra → ¬ Rose pb pa
+      → EndsServed command s ⊎ (s ≡ NoMemory)
+  served_of command named all (formless none) calm quiet = absurd (cc (none, named))
+  served_of command named all (whole end text is) calm quiet = inl (all _ (subst (λ o. AnswersTo o given played (writes end text)) named is))
+  served_of command named all (cut_off end text k is less rose) calm quiet = absurd (quiet rose)
+  served_of command named all (refused status line r is) calm quiet = inl (all _ (subst (λ o. AnswersTo o given played (refuses status line)) named is))
+  served_of command named all (unread name own fault (inl rose)) calm quiet = absurd (calm rose)
+  served_of command named all (unread name own fault (inr is)) calm quiet = inl (all _ (subst (λ o. AnswersTo o given played (misses name)) named is))
+  served_of command named all no_memory calm quiet = inr refl
 
   -- a command that stops ends the call
   pub stopped_ends : (command : Asked) → asked ≡ Some command → (stop : Stop) → Stops (IsAnswer command given played) (files_of command) given rb ra stop

@@ -31,6 +31,7 @@ pub mod GrowWords
 pub mod Summing
 pub mod Growing
 pub mod Commands
+pub mod Serving
 pub mod TimedFiles
 pub mod TracedFiles
 pub mod Replies

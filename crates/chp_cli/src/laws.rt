@@ -10,6 +10,7 @@ ghost use Rattle.chp_cli.specs.CompileWords.{AskedCompilation};
 ghost use Rattle.chp_cli.specs.Migrating.{Migrates, IsToMigrate};
 ghost use Rattle.chp_cli.specs.Commands.{Asked, IsAnswer};
 ghost use Rattle.chp_cli.specs.Orders.{Played};
+ghost use Rattle.chp_cli.specs.Serving.{EndsServed, IsServed};
 ghost use Rattle.chp_cli.specs.References.{IsReferredTo};
 ghost use Rattle.chp_cli.specs.Simulated.{EndsAllAtRest, HoldsCarrying, HoldsCompiled, IsCompiledToSimulate};
 ghost use Rattle.chp_cli.specs.Simulated.{IsFileSimulated, IsToSimulate, SimulatedRests};
@@ -76,6 +77,17 @@ pub fn simulated_right()
 pub fn simulates_all()
     ensures { (s : AskedRun) (given : Given) (played : Played) → given.tells ≡ true → IsToSimulate s given played →
         (answer : Answer) → Simulates s given played answer → is_whole (status_of answer) ≡ true }
+{
+    width_check::laws::one_fault();
+    sharing_check::laws::one_shared_fault();
+}
+
+/// Law: where the files and orders hold what a command is served with, its only answers are to write: by a command that
+/// makes a run how that ended, by any other that all went well.
+pub fn serves_all()
+    ensures { (command : Asked) (given : Given) (played : Played) → given.tells ≡ true →
+        IsServed command given played → (answer : Answer) → IsAnswer command given played answer →
+        EndsServed command (status_of answer) }
 {
     width_check::laws::one_fault();
     sharing_check::laws::one_shared_fault();

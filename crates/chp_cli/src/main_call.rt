@@ -4,12 +4,13 @@ ghost use Rattle.std.specs.Prelude.{◌≡◌, ◌≢◌, ◌≤◌, ◌++◌, �
 ghost use Rattle.chp_edge.specs.Faults.{Rose, IsReadFault};
 ghost use Rattle.chp_cli.specs.declared.answer.Ending.{Ending};
 ghost use Rattle.chp_cli.specs.Answers.{Answer, given_by, status_of, status_with};
-ghost use Rattle.chp_cli.specs.Commands.{IsWithinBounds, IsAnswer, asked, asked_by, files_of, order_of};
+ghost use Rattle.chp_cli.specs.Commands.{Asked, IsWithinBounds, IsAnswer, asked, asked_by, files_of, order_of};
 ghost use Rattle.chp_cli.specs.Ends.{AnswersTo, Ends, IsFile, asked_order};
 ghost use Rattle.chp_cli.specs.Orders.{KeepsOrders, order_state, played_by};
 ghost use Rattle.chp_cli.specs.References.{IsReferredTo};
 ghost use Rattle.chp_cli.specs.Replies.{Stops, end_line, end_status};
 ghost use Rattle.chp_cli.specs.RepliesTold.{told_reply};
+ghost use Rattle.chp_cli.specs.Serving.{EndsServed, IsServed};
 ghost use Rattle.chp_cli.specs.Simulated.{AsksForCompiled, IsCalm};
 ghost use Rattle.chp_cli.specs.Simulating.{AskedRun};
 ghost use Rattle.chp_cli.specs.Statuses.{is_whole};
@@ -27,7 +28,7 @@ use crate::expand::expand;
 use crate::grow::grow;
 use crate::laws::{
     carried_runs_agree, carried_runs_are_safe, carried_runs_have_one_length, compiled_files_carry,
-    compiled_runs_rest, one_answer, simulated_right, timed_right, timed_runs_agree,
+    compiled_runs_rest, one_answer, serves_all, simulated_right, timed_right, timed_runs_agree,
     timed_runs_are_safe, traced_right, traced_runs_are_safe,
 };
 use crate::migrate::migrate;
@@ -163,6 +164,12 @@ pub fn chp_main<S: Shelf, K: Sink, W: Sink>(
         (map (λ order. order_state (name order) (log order) (seeded order)) players.new.orders.items)) answer
         → ¬ Rose (S.faults shelf.old) (S.faults shelf.new) → ¬ Rose (K.faults out.old) (K.faults out.new) →
         (result ≡ status_of answer) ⊎ (result ≡ Status.NoMemory) }
+    ensures served { (command : Asked) → S.tells shelf.old ≡ true → asked_by words.now ≡ Some command →
+        IsServed command (given_by (S.tells shelf.old) (S.holds shelf.old)) (played_by
+        (map (λ order. order_state (name order) (log order) (seeded order)) players.old.orders.items)
+        (map (λ order. order_state (name order) (log order) (seeded order)) players.new.orders.items))
+        → ¬ Rose (S.faults shelf.old) (S.faults shelf.new) → ¬ Rose (K.faults out.old) (K.faults out.new) →
+        EndsServed command result ⊎ (result ≡ Status.NoMemory) }
     ensures usage { result ≡ Status.Usage → asked_by words.now ≡ None }
     ensures read { result ≡ Status.Read → (name : List ℕ) × IsFile (asked_by words.now) name
         × IsReadFault (S.faults shelf.old) (S.faults shelf.new) (S.tells shelf.old) (S.holds shelf.old name) }
@@ -214,6 +221,7 @@ pub fn chp_main<S: Shelf, K: Sink, W: Sink>(
     ensures say_faults { W.faults say.old ≤ W.faults say.new }
 {
     one_answer();
+    serves_all();
     simulated_right();
     compiled_files_carry();
     carried_runs_are_safe();

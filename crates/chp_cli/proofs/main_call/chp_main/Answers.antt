@@ -2,7 +2,7 @@ use Rattle.std.proofs.Common.{◌∙◌, ◌++◌, ap, sym, append-nil}
 use Rattle.chp_cli.specs.Commands.{simulates, times, traces}
 use Rattle.chp_cli.specs.Replies.{end_line}
 use Rattle.chp_cli.specs.Statuses.{is_whole}
-use Rattle.chp_cli.proofs.Ending.{complete_of, read_of, silent_of, usage_of, write_of}
+use Rattle.chp_cli.proofs.Ending.{complete_of, read_of, served_of, silent_of, usage_of, write_of}
 use Rattle.chp_cli.proofs.Calm.{agreed_of, calm_of, whole_of}
 use Rattle.chp_cli.proofs.main_call.chp_main.Goals as goal
 
@@ -14,6 +14,10 @@ returns-clause-ended g c =
 pub returns-clause-complete : goal.returns-clause-complete
 returns-clause-complete g c = λ answer told are calm quiet.
     rw c.status.ensures (complete_of _ _ _ _ _ _ _ (λ command. c.one_answer.ensures command _ _ told) c.run-end.ensures.ended.1 answer are calm quiet)
+
+pub returns-clause-served : goal.returns-clause-served
+returns-clause-served g c = λ command told named served calm quiet.
+    rw c.status.ensures (served_of _ _ _ _ _ _ _ command named (c.serves_all.ensures command _ _ told served) c.run-end.ensures.ended.1 calm quiet)
 
 pub returns-clause-usage : goal.returns-clause-usage
 returns-clause-usage g c = λ is. usage_of _ _ _ _ _ _ _ c.run-end.ensures.ended.1 (sym c.status.ensures ∙ is)
