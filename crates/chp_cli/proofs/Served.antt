@@ -115,14 +115,14 @@ module _ (no_fault : (program : ProgramTree) (f : Fault) → IsAccepted program 
       (file_passed IsWritten given told w.script h.offers.text most_of_script h.offers.held _
       (script_passed IsWritten (net_channels n) h.offers.text h.script h.offers.says _ (slow w.delays h.slow))))
     where
-      abbrev Next : DelayTable → Answer → Type 0
-      Next delays = TracesNet (trace_for w h.net h.script delays) w.causes
-
-      slow : (file : Option (List ℕ)) → HasDelays given file h.net.names h.delays → (a : Answer) → FromDelayFile given file h.net.names Next a → IsWritten a
-      slow None says = delays_passed IsWritten h.net.names [] h.delays says Next (traced_written (trace_for w h.net h.script h.delays) w.causes)
+      slow : (file : Option (List ℕ)) → HasDelays given file h.net.names h.delays → (a : Answer) → FromDelayFile given file h.net.names
+          (λ (delays : DelayTable). TracesNet (trace_for w h.net h.script delays) w.causes) a → IsWritten a
+      slow None says = delays_passed IsWritten h.net.names [] h.delays says (λ (delays : DelayTable). TracesNet (trace_for w h.net h.script delays) w.causes)
+          (traced_written (trace_for w h.net h.script h.delays) w.causes)
       slow (Some file) f =
-          file_passed IsWritten given told file f.text most_of_delays f.held (λ text. FromDelays h.net.names text Next)
-          (delays_passed IsWritten h.net.names f.text h.delays f.says Next (traced_written (trace_for w h.net h.script h.delays) w.causes))
+          file_passed IsWritten given told file f.text most_of_delays f.held (λ text. FromDelays h.net.names text (λ (delays : DelayTable). TracesNet (trace_for w h.net h.script delays) w.causes))
+          (delays_passed IsWritten h.net.names f.text h.delays f.says (λ (delays : DelayTable). TracesNet (trace_for w h.net h.script delays) w.causes)
+          (traced_written (trace_for w h.net h.script h.delays) w.causes))
 
   unwave_written : (file : List ℕ) → IsToUnwave given file → (a : Answer) → Unwaves given file a → IsDone a
   unwave_written file t =
