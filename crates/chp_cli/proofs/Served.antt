@@ -55,6 +55,9 @@ rounds_written p script n few a (too_full over) = absurd (omega (arith, few, ove
 rounds_written p script n few a (at_rest within still) = refl
 rounds_written p script n few a (spent within can) = refl
 
+abbrev traced_by : AskedWaves → NetValue → List OfferValue → DelayTable → Answer → Type 0
+traced_by w net script delays = TracesNet (trace_for w net script delays) w.causes
+
 traced_written : (t : TimedValue) (causes : Bool) (a : Answer) → TracesNet t causes a → IsWritten a
 traced_written t causes a is = ap (λ (b : Answer). is_whole (status_of b)) is.written ∙ whole_end is.ran.end
 
@@ -116,12 +119,12 @@ module _ (no_fault : (program : ProgramTree) (f : Fault) → IsAccepted program 
       (script_passed IsWritten (net_channels n) h.offers.text h.script h.offers.says _ (slow w.delays h.slow))))
     where
       slow : (file : Option (List ℕ)) → HasDelays given file h.net.names h.delays → (a : Answer) → FromDelayFile given file h.net.names
-          (λ (delays : DelayTable). TracesNet (trace_for w h.net h.script delays) w.causes) a → IsWritten a
-      slow None says = delays_passed IsWritten h.net.names [] h.delays says (λ (delays : DelayTable). TracesNet (trace_for w h.net h.script delays) w.causes)
+          (traced_by w h.net h.script) a → IsWritten a
+      slow None says = delays_passed IsWritten h.net.names [] h.delays says (traced_by w h.net h.script)
           (traced_written (trace_for w h.net h.script h.delays) w.causes)
       slow (Some file) f =
-          file_passed IsWritten given told file f.text most_of_delays f.held (λ text. FromDelays h.net.names text (λ (delays : DelayTable). TracesNet (trace_for w h.net h.script delays) w.causes))
-          (delays_passed IsWritten h.net.names f.text h.delays f.says (λ (delays : DelayTable). TracesNet (trace_for w h.net h.script delays) w.causes)
+          file_passed IsWritten given told file f.text most_of_delays f.held (λ text. FromDelays h.net.names text (traced_by w h.net h.script))
+          (delays_passed IsWritten h.net.names f.text h.delays f.says (traced_by w h.net h.script)
           (traced_written (trace_for w h.net h.script h.delays) w.causes))
 
   unwave_written : (file : List ℕ) → IsToUnwave given file → (a : Answer) → Unwaves given file a → IsDone a
