@@ -34,6 +34,7 @@ pub mod Commands
 pub mod Serving
 pub mod TimedFiles
 pub mod TracedFiles
+pub mod CompiledRuns
 pub mod Replies
 pub mod RepliesTold
 pub mod Ends

@@ -19,7 +19,6 @@ use Rattle.width_check.specs.Form.{typed_form}
 use Rattle.width_check.specs.Processes.{TypedProgram}
 use Rattle.chp_cli.specs.declared.answer.Ending.{Ending}
 use Rattle.chp_cli.specs.Answers.{Given, Answer, writes}
-use Rattle.chp_cli.specs.Commands.{Asked, simulates}
 use Rattle.chp_cli.specs.Compiling.{net_for}
 use Rattle.chp_cli.specs.Orders.{OrderState, Played, place_named}
 use Rattle.chp_cli.specs.Resting.{RestsInTime}
@@ -125,14 +124,9 @@ SimulatedRests s given played p holds f =
     let sim = simulation_for f.net f.script s.steps s.power in
     RestsInTime holds.reset p f.net f.script s.steps (start_at sim) (picked_moves sim f.was.log f.is.log) f.plays.end
 
--- it is asked to simulate the rule file that `compile` writes for the program
-pub record AsksForCompiled (asked : Option Asked) (given : Given) (s : AskedRun) (p : TypedProgram) : Type 0 where
-  pub is : asked ≡ Some (simulates s)
-  pub holds : HoldsCompiled given s.net p
-
 -- The report is that of a run without a hazard; where it says rest, no order makes more moves; and where a program
 -- comes to rest for which `compile` writes this rule file, so does the run, if its limit is high enough.
-pub record IsCalm (s : AskedRun) (given : Given) (played : Played) (end : Ending) (report : List ℕ) : Type 0 where
+pub record IsCalmRun (s : AskedRun) (given : Given) (played : Played) (end : Ending) (report : List ℕ) : Type 0 where
   pub run : IsFileSimulated s given played (writes end report)
   pub one_length : EndsAllAtRest s given played (writes end report) run
   pub rests : (p : TypedProgram) (holds : HoldsCompiled given s.net p) → SimulatedRests s given played p holds run

@@ -7,7 +7,6 @@ use Rattle.prs_core.specs.Nets.{NetValue}
 use Rattle.width_check.specs.Processes.{TypedProgram}
 use Rattle.chp_cli.specs.declared.answer.Ending.{Ending}
 use Rattle.chp_cli.specs.Answers.{Given, Answer, writes}
-use Rattle.chp_cli.specs.Commands.{Asked, times}
 use Rattle.chp_cli.specs.References.{HoldsReference}
 use Rattle.chp_cli.specs.Resting.{TimedRests}
 use Rattle.chp_cli.specs.RunSteps.{IsScriptOf, lacks_reset}
@@ -41,13 +40,8 @@ abbrev pub TimedRunRests : (t : AskedTiming) (given : Given) (p : TypedProgram) 
 TimedRunRests t given p holds f =
     TimedRests holds.reset p (timing_for t f.net f.script f.delays) f.timed.moves f.timed.ran.end f.timed.time
 
--- it is asked to simulate with delays the rule file that `compile` writes for the program
-pub record AsksForTimed (asked : Option Asked) (given : Given) (t : AskedTiming) (p : TypedProgram) : Type 0 where
-  pub is : asked ≡ Some (times t)
-  pub holds : HoldsCompiled given t.net p
-
 -- the report is that of a timed run, which comes to rest in time where a program does for which `compile` writes this
 -- rule file
-pub record IsTimedCalm (t : AskedTiming) (given : Given) (end : Ending) (report : List ℕ) : Type 0 where
+pub record IsCalmTiming (t : AskedTiming) (given : Given) (end : Ending) (report : List ℕ) : Type 0 where
   pub run : IsFileTimed t given (writes end report)
   pub rests : (p : TypedProgram) (holds : HoldsCompiled given t.net p) → TimedRunRests t given p holds run

@@ -7,7 +7,6 @@ use Rattle.prs_core.specs.Nets.{NetValue}
 use Rattle.width_check.specs.Processes.{TypedProgram}
 use Rattle.chp_cli.specs.declared.answer.Ending.{Ending}
 use Rattle.chp_cli.specs.Answers.{Given, Answer, writes}
-use Rattle.chp_cli.specs.Commands.{Asked, traces}
 use Rattle.chp_cli.specs.Resting.{TimedRests}
 use Rattle.chp_cli.specs.RunSteps.{IsScriptOf}
 use Rattle.chp_cli.specs.Simulated.{HoldsCompiled}
@@ -35,11 +34,6 @@ abbrev pub TracedRests : (w : AskedWaves) (given : Given) (p : TypedProgram) →
     {answer : Answer} → IsFileTraced w given answer → Type 0
 TracedRests w given p holds f =
     TimedRests holds.reset p (trace_for w f.net f.script f.delays) f.traced.moves f.traced.ran.end f.traced.time
-
--- it is asked for the wave, or the causes, of a rule file that `compile` writes for the program
-pub record AsksForTrace (asked : Option Asked) (given : Given) (w : AskedWaves) (p : TypedProgram) : Type 0 where
-  pub is : asked ≡ Some (traces w)
-  pub holds : HoldsCompiled given w.net p
 
 -- the text tells a timed run, which comes to rest in time where a program does for which `compile` writes this rule
 -- file, if its limit is high enough

@@ -7,17 +7,11 @@ ghost use Rattle.chp_cli.specs.Answers.{Answer, given_by, status_of, status_with
 ghost use Rattle.chp_cli.specs.Commands.{Asked, IsWithinBounds, IsAnswer, asked, asked_by, files_of, order_of};
 ghost use Rattle.chp_cli.specs.Ends.{AnswersTo, Ends, IsFile, asked_order};
 ghost use Rattle.chp_cli.specs.Orders.{KeepsOrders, order_state, played_by};
-ghost use Rattle.chp_cli.specs.References.{IsReferredTo};
 ghost use Rattle.chp_cli.specs.Replies.{Stops, end_line, end_status};
 ghost use Rattle.chp_cli.specs.RepliesTold.{told_reply};
 ghost use Rattle.chp_cli.specs.Serving.{EndsServed, IsServed};
-ghost use Rattle.chp_cli.specs.Simulated.{AsksForCompiled, IsCalm};
-ghost use Rattle.chp_cli.specs.Simulating.{AskedRun};
+ghost use Rattle.chp_cli.specs.CompiledRuns.{IsCalm, IsComparedWith, RunsCompiled};
 ghost use Rattle.chp_cli.specs.Statuses.{is_whole};
-ghost use Rattle.chp_cli.specs.TimedFiles.{AsksForTimed, IsTimedCalm};
-ghost use Rattle.chp_cli.specs.Timing.{AskedTiming};
-ghost use Rattle.chp_cli.specs.TracedFiles.{AsksForTrace, IsCalmTrace};
-ghost use Rattle.chp_cli.specs.Tracing.{AskedWaves};
 ghost use Rattle.width_check.specs.Processes.{TypedProgram};
 
 use crate::answer::{End, Stop};
@@ -180,38 +174,20 @@ pub fn chp_main<S: Shelf, K: Sink, W: Sink>(
         players.old.orders.items in
         KeepsOrders (asked_order (asked_by words.now) before) (played_by before
         (map (λ order. order_state (name order) (log order) (seeded order)) players.new.orders.items)) }
-    ensures calm { (s : AskedRun) (p : TypedProgram) → S.tells shelf.old ≡ true →
-        AsksForCompiled (asked_by words.now) (given_by (S.tells shelf.old) (S.holds shelf.old)) s p →
+    ensures calm { (p : TypedProgram) → S.tells shelf.old ≡ true →
+        RunsCompiled (asked_by words.now) (given_by (S.tells shelf.old) (S.holds shelf.old)) p →
         result ≢ Status.Hazard }
-    ensures agreed { (s : AskedRun) (p : TypedProgram) → S.tells shelf.old ≡ true →
-        AsksForCompiled (asked_by words.now) (given_by (S.tells shelf.old) (S.holds shelf.old)) s p →
-        IsReferredTo (given_by (S.tells shelf.old) (S.holds shelf.old)) s.against p → result ≢ Status.Differs }
-    ensures timed_calm { (t : AskedTiming) (p : TypedProgram) → S.tells shelf.old ≡ true →
-        AsksForTimed (asked_by words.now) (given_by (S.tells shelf.old) (S.holds shelf.old)) t p →
-        result ≢ Status.Hazard }
-    ensures timed_agreed { (t : AskedTiming) (p : TypedProgram) → S.tells shelf.old ≡ true →
-        AsksForTimed (asked_by words.now) (given_by (S.tells shelf.old) (S.holds shelf.old)) t p →
-        IsReferredTo (given_by (S.tells shelf.old) (S.holds shelf.old)) t.against p → result ≢ Status.Differs }
-    ensures steady { (s : AskedRun) (p : TypedProgram) → S.tells shelf.old ≡ true →
-        AsksForCompiled (asked_by words.now) (given_by (S.tells shelf.old) (S.holds shelf.old)) s p →
-        is_whole result ≡ true → K.tells out.old ≡ true → (end : Ending) × (report : List ℕ)
-        × (result ≡ status_with end) × (K.written out.new ≡ K.written out.old ++ report)
-        × IsCalm s (given_by (S.tells shelf.old) (S.holds shelf.old)) (played_by
-        (map (λ order. order_state (name order) (log order) (seeded order)) players.old.orders.items)
-        (map (λ order. order_state (name order) (log order) (seeded order)) players.new.orders.items)) end report }
-    ensures timed_steady { (t : AskedTiming) (p : TypedProgram) → S.tells shelf.old ≡ true →
-        AsksForTimed (asked_by words.now) (given_by (S.tells shelf.old) (S.holds shelf.old)) t p →
-        is_whole result ≡ true → K.tells out.old ≡ true → (end : Ending) × (report : List ℕ)
-        × (result ≡ status_with end) × (K.written out.new ≡ K.written out.old ++ report)
-        × IsTimedCalm t (given_by (S.tells shelf.old) (S.holds shelf.old)) end report }
-    ensures wave_calm { (w : AskedWaves) (p : TypedProgram) → S.tells shelf.old ≡ true →
-        AsksForTrace (asked_by words.now) (given_by (S.tells shelf.old) (S.holds shelf.old)) w p →
-        result ≢ Status.Hazard }
-    ensures wave_steady { (w : AskedWaves) (p : TypedProgram) → S.tells shelf.old ≡ true →
-        AsksForTrace (asked_by words.now) (given_by (S.tells shelf.old) (S.holds shelf.old)) w p →
+    ensures agreed { (p : TypedProgram) → S.tells shelf.old ≡ true →
+        RunsCompiled (asked_by words.now) (given_by (S.tells shelf.old) (S.holds shelf.old)) p →
+        IsComparedWith (asked_by words.now) (given_by (S.tells shelf.old) (S.holds shelf.old)) p →
+        result ≢ Status.Differs }
+    ensures steady { (p : TypedProgram) → S.tells shelf.old ≡ true →
+        RunsCompiled (asked_by words.now) (given_by (S.tells shelf.old) (S.holds shelf.old)) p →
         is_whole result ≡ true → K.tells out.old ≡ true → (end : Ending) × (text : List ℕ)
         × (result ≡ status_with end) × (K.written out.new ≡ K.written out.old ++ text)
-        × IsCalmTrace w (given_by (S.tells shelf.old) (S.holds shelf.old)) end text }
+        × IsCalm (asked_by words.now) (given_by (S.tells shelf.old) (S.holds shelf.old)) (played_by
+        (map (λ order. order_state (name order) (log order) (seeded order)) players.old.orders.items)
+        (map (λ order. order_state (name order) (log order) (seeded order)) players.new.orders.items)) end text }
     ensures shelf_same { S.tells shelf.new ≡ S.tells shelf.old }
     ensures shelf_kept { S.holds shelf.new ≡ S.holds shelf.old }
     ensures shelf_faults { S.faults shelf.old ≤ S.faults shelf.new }

@@ -1,9 +1,9 @@
 use Rattle.std.proofs.Common.{◌∙◌, ◌++◌, ap, sym, append-nil}
-use Rattle.chp_cli.specs.Commands.{simulates, times, traces}
+use Rattle.chp_cli.specs.Commands.{asked_by}
 use Rattle.chp_cli.specs.Replies.{end_line}
 use Rattle.chp_cli.specs.Statuses.{is_whole}
 use Rattle.chp_cli.proofs.Ending.{complete_of, read_of, served_of, silent_of, usage_of, write_of}
-use Rattle.chp_cli.proofs.Calm.{agreed_of, calm_of, whole_of}
+use Rattle.chp_cli.proofs.Calm.{agreed_for, calm_for, steady_for}
 use Rattle.chp_cli.proofs.main_call.chp_main.Goals as goal
 
 pub returns-clause-ended : goal.returns-clause-ended
@@ -35,67 +35,35 @@ returns-clause-silent g c = λ not cut told.
     e.2 told ∙ (ap (λ xs. g.K.Sink.written c.args.out.now ++ xs) none ∙ append-nil _)
 
 pub returns-clause-calm : goal.returns-clause-calm
-returns-clause-calm g c = λ s p told asks is.
-    let carries = c.compiled_files_carry.ensures _ s.net p asks.holds in
-    calm_of _ _ _ _ _ _ _ (simulates s) asks.is
-    (λ end text are. c.carried_runs_are_safe.ensures s _ _ p carries end text (c.simulated_right.ensures s _ _ told end text are)) c.run-end.ensures.ended.1
-    (sym c.status.ensures ∙ is)
+returns-clause-calm g c = λ p told runs is.
+    calm_for _ _ p (λ file. c.compiled_files_carry.ensures _ file p)
+    (λ s carries end text are. c.carried_runs_are_safe.ensures s _ _ p carries end text (c.simulated_right.ensures s _ _ told end text are))
+    (λ t carries end text are. c.timed_runs_are_safe.ensures t _ p carries end text (c.timed_right.ensures t _ told end text are))
+    (λ w carries end text are. c.traced_runs_are_safe.ensures w _ p carries end text (c.traced_right.ensures w _ told end text are))
+    _ _ _ _ (asked_by c.args.words.now) runs c.run-end.ensures.ended.1 (sym c.status.ensures ∙ is)
 
 pub returns-clause-agreed : goal.returns-clause-agreed
-returns-clause-agreed g c = λ s p told asks refers is.
-    let carries = c.compiled_files_carry.ensures _ s.net p asks.holds in
-    agreed_of _ _ _ _ _ _ _ (simulates s) asks.is
-    (λ end text are. c.carried_runs_agree.ensures s _ _ p told carries refers end text (c.simulated_right.ensures s _ _ told end text are))
-    c.run-end.ensures.ended.1 (sym c.status.ensures ∙ is)
-
-pub returns-clause-timed_calm : goal.returns-clause-timed_calm
-returns-clause-timed_calm g c = λ t p told asks is.
-    let carries = c.compiled_files_carry.ensures _ t.net p asks.holds in
-    calm_of _ _ _ _ _ _ _ (times t) asks.is
-    (λ end text are. c.timed_runs_are_safe.ensures t _ p carries end text (c.timed_right.ensures t _ told end text are)) c.run-end.ensures.ended.1
-    (sym c.status.ensures ∙ is)
-
-pub returns-clause-timed_agreed : goal.returns-clause-timed_agreed
-returns-clause-timed_agreed g c = λ t p told asks refers is.
-    let carries = c.compiled_files_carry.ensures _ t.net p asks.holds in
-    agreed_of _ _ _ _ _ _ _ (times t) asks.is
-    (λ end text are. c.timed_runs_agree.ensures t _ p told carries refers end text (c.timed_right.ensures t _ told end text are))
-    c.run-end.ensures.ended.1 (sym c.status.ensures ∙ is)
+returns-clause-agreed g c = λ p told runs compared is.
+    agreed_for _ _ p (λ file. c.compiled_files_carry.ensures _ file p)
+    (λ s carries refers end text are. c.carried_runs_agree.ensures s _ _ p told carries refers end text (c.simulated_right.ensures s _ _ told end text are))
+    (λ t carries refers end text are. c.timed_runs_agree.ensures t _ p told carries refers end text (c.timed_right.ensures t _ told end text are))
+    _ _ _ _ (asked_by c.args.words.now) runs compared c.run-end.ensures.ended.1 (sym c.status.ensures ∙ is)
 
 pub returns-clause-steady : goal.returns-clause-steady
-returns-clause-steady g c = λ s p told asks is writes.
+returns-clause-steady g c = λ p told runs whole writes.
     let e = c.run-end.ensures.ended in
-    let carries = c.compiled_files_carry.ensures _ s.net p asks.holds in
-    let whole = whole_of _ _ _ _ _ _ _ (simulates s) asks.is e.1 (ap is_whole (sym c.status.ensures) ∙ is) in
-    let run = c.simulated_right.ensures s _ _ told _ _ whole.2 in (
-      whole.0,
-      e.0,
-      c.status.ensures ∙ whole.1,
-      e.2 writes,
-      record {
-        run = run;
-        one_length = c.carried_runs_have_one_length.ensures s _ _ p carries _ run;
-        rests = λ q holds. c.compiled_runs_rest.ensures.simulated s _ _ q holds _ run;
-      },
-    )
-
-pub returns-clause-timed_steady : goal.returns-clause-timed_steady
-returns-clause-timed_steady g c = λ t p told asks is writes.
-    let e = c.run-end.ensures.ended in
-    let whole = whole_of _ _ _ _ _ _ _ (times t) asks.is e.1 (ap is_whole (sym c.status.ensures) ∙ is) in
-    let run = c.timed_right.ensures t _ told _ _ whole.2 in
-    (whole.0, e.0, c.status.ensures ∙ whole.1, e.2 writes, record { run = run; rests = λ q holds. c.compiled_runs_rest.ensures.timed t _ q holds _ run })
-
-pub returns-clause-wave_calm : goal.returns-clause-wave_calm
-returns-clause-wave_calm g c = λ w p told asks is.
-    let carries = c.compiled_files_carry.ensures _ w.net p asks.holds in
-    calm_of _ _ _ _ _ _ _ (traces w) asks.is
-    (λ end text are. c.traced_runs_are_safe.ensures w _ p carries end text (c.traced_right.ensures w _ told end text are)) c.run-end.ensures.ended.1
-    (sym c.status.ensures ∙ is)
-
-pub returns-clause-wave_steady : goal.returns-clause-wave_steady
-returns-clause-wave_steady g c = λ w p told asks is writes.
-    let e = c.run-end.ensures.ended in
-    let whole = whole_of _ _ _ _ _ _ _ (traces w) asks.is e.1 (ap is_whole (sym c.status.ensures) ∙ is) in
-    let run = c.traced_right.ensures w _ told _ _ whole.2 in
-    (whole.0, e.0, c.status.ensures ∙ whole.1, e.2 writes, record { run = run; rests = λ q holds. c.compiled_runs_rest.ensures.traced w _ q holds _ run })
+    let (end, same, is) = steady_for _ _ p (λ file. c.compiled_files_carry.ensures _ file p)
+    (λ s carries end text are.
+    let run = c.simulated_right.ensures s _ _ told end text are in record {
+      run = run;
+      one_length = c.carried_runs_have_one_length.ensures s _ _ p carries _ run;
+      rests = λ q holds. c.compiled_runs_rest.ensures.simulated s _ _ q holds _ run;
+    })
+    (λ t end text are.
+    let run = c.timed_right.ensures t _ told end text are in
+    record { run = run; rests = λ q holds. c.compiled_runs_rest.ensures.timed t _ q holds _ run })
+    (λ w end text are.
+    let run = c.traced_right.ensures w _ told end text are in
+    record { run = run; rests = λ q holds. c.compiled_runs_rest.ensures.traced w _ q holds _ run })
+    _ _ _ _ (asked_by c.args.words.now) runs e.1 (ap is_whole (sym c.status.ensures) ∙ whole) in
+    (end, e.0, c.status.ensures ∙ same, e.2 writes, is)
