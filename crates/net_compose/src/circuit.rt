@@ -165,7 +165,7 @@ fn make(alloc: Global, program: &Typed, reset: bool) -> Result<Circuit, AllocErr
 pub fn circuit_of(alloc: Global, program: &Disjoint, reset: bool) -> Result<Circuit, NetError>
     ensures net { IfOk result (λ net. net
         ≡ if reset then reset_of (translation (program_of program.now)) else translation (program_of program.now)) }
-    ensures translated { IsTranslated (program_of program.now) }
+    ensures translated { OnOk result (IsTranslated (program_of program.now)) }
     ensures fits { OnOk result (nodes_of (program_of program.now) ≤ 65536) }
     ensures count { IfErr result (IfTooMany (λ count. count ≡ node_count (program_of program.now))) }
     ensures too_many { IfErr result (IfTooMany (λ _. 65536 < nodes_of (program_of program.now))) }

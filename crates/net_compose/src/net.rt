@@ -71,8 +71,8 @@ fn rules_in(alloc: Global, circuit: &Circuit) -> Result<Rules, AllocError>
 
 /// The net of a circuit without a reset node.
 fn net_of(alloc: Global, circuit: Circuit) -> Result<Net, AllocError>
-    requires { circuit.now.reset ≡ None }
-    ensures { IfOk result (λ net. net ≡ circuit.now) }
+    requires { circuit.reset ≡ None }
+    ensures { IfOk result (λ net. net ≡ circuit) }
 {
     let names = names_in(alloc, &circuit)?;
     let rules = rules_in(alloc, &circuit)?;
