@@ -1,30 +1,52 @@
 -- How a call ends that simulates a rule file which `compile` wrote.
-use Rattle.std.proofs.Common.{◌≡◌, ◌≢◌, ℕ, List, Option, Some, refl, subst}
+use Rattle.std.proofs.Common.{◌≡◌, ◌≢◌, ℕ, true, List, Option, Some, None, refl, subst}
 use Rattle.command_answers.specs.declared.answer.Ending.{Ending}
 use Rattle.command_answers.specs.declared.answer.Ending.TheVariants as ending
 use Rattle.command_answers.specs.declared.status.Status.{Status}
-use Rattle.command_answers.specs.declared.status.Status.TheVariants.{Done, Hazard, Differs}
+use Rattle.command_answers.specs.declared.status.Status.TheVariants.{Done, RefusedText, Usage, Read, Write, Hazard, NoMemory, TooLarge, BadFile, NoOrder, NoChannel, Differs, NotBuilt}
 use Rattle.command_answers.specs.Answers.{Given, Answer, writes, status_with}
-use Rattle.command_words.specs.CommandWords.{Asked}
+use Rattle.command_words.specs.CommandWords.{Asked, compiles, migrates, checks, expands, simulates, times, traces, unwaves, runs, grows}
 use Rattle.chp_cli.specs.Commands.{IsAnswer}
+use Rattle.chp_cli.specs.CompiledRuns.{IsCalm, IsComparedWith, RunsCompiled}
 use Rattle.chp_cli.specs.Ends.{AnswersTo, Ends, formless, whole, cut_off, refused, unread, no_memory}
 use Rattle.command_steps.specs.Orders.{Played}
-use Rattle.command_answers.proofs.StatusKinds.{no_refusal}
+use Rattle.command_steps.specs.References.{IsReferredTo}
+use Rattle.chp_cli.specs.Simulated.{HoldsCarrying, HoldsCompiled, IsCalmRun}
+use Rattle.command_words.specs.SimulateWords.{AskedRun, AskedTiming}
+use Rattle.simulation_commands.specs.Simulating.{Simulates}
+use Rattle.command_answers.specs.Statuses.{is_whole, is_refusing}
+use Rattle.chp_cli.specs.TimedFiles.{IsCalmTiming}
+use Rattle.simulation_commands.specs.Timing.{SimulatesTimed}
+use Rattle.chp_cli.specs.TracedFiles.{IsCalmTrace}
+use Rattle.command_words.specs.WavesWords.{AskedWaves}
+use Rattle.simulation_commands.specs.Tracing.{Traces}
+use Rattle.width_check.specs.Processes.{TypedProgram}
+use Rattle.chp_cli.proofs.Ending.{no_refusal}
 
 ending_hazard : (end : Ending) → status_with end ≡ Hazard → end ≡ ending.Hazard
 ending_hazard ending.Done e = absurd (cc e)
 ending_hazard ending.Hazard e = refl
 ending_hazard ending.Differs e = absurd (cc e)
 
-ending_done : (end : Ending) → status_with end ≡ Done → end ≡ ending.Done
-ending_done ending.Done e = refl
-ending_done ending.Hazard e = absurd (cc e)
-ending_done ending.Differs e = absurd (cc e)
-
 ending_differs : (end : Ending) → status_with end ≡ Differs → end ≡ ending.Differs
 ending_differs ending.Done e = absurd (cc e)
 ending_differs ending.Hazard e = absurd (cc e)
 ending_differs ending.Differs e = refl
+
+not_whole : (status : Status) → is_refusing status ≡ true → is_whole status ≡ true → ⊥
+not_whole Done r w = cc r
+not_whole Hazard r w = cc r
+not_whole Differs r w = cc r
+not_whole RefusedText r w = cc w
+not_whole TooLarge r w = cc w
+not_whole BadFile r w = cc w
+not_whole NoOrder r w = cc w
+not_whole NoChannel r w = cc w
+not_whole NotBuilt r w = cc w
+not_whole Usage r w = cc w
+not_whole Read r w = cc w
+not_whole Write r w = cc w
+not_whole NoMemory r w = cc w
 
 -- of the one command that is asked for
 module _ (asked : Option Asked) (given : Given) (played : Played) (rb ra pb pa : ℕ) (command : Asked) (is : asked ≡ Some command) where
@@ -32,30 +54,99 @@ module _ (asked : Option Asked) (given : Given) (played : Played) (rb ra pb pa :
   answer_of answer are = subst (λ o. AnswersTo o given played answer) is are
 
   module _ (safe : (end : Ending) (text : List ℕ) → IsAnswer command given played (writes end text) → end ≢ ending.Hazard) where
-    pub calm_of : {status : Status} {appended line : List ℕ} → Ends asked given played rb ra pb pa status appended line → status ≢ Hazard
+    calm_of : {status : Status} {appended line : List ℕ} → Ends asked given played rb ra pb pa status appended line → status ≢ Hazard
     calm_of (formless none) e = cc e
     calm_of (whole end text are) e = safe end text (answer_of (writes end text) are) (ending_hazard end e)
-    calm_of (cut_off end text k are rose) e = cc e
+    calm_of (cut_off end text k are less rose) e = cc e
     calm_of (refused status line r are) e = no_refusal status Hazard r refl e
     calm_of (unread name own fault missed) e = cc e
     calm_of no_memory e = cc e
 
   module _ (agrees : (end : Ending) (text : List ℕ) → IsAnswer command given played (writes end text) → end ≡ ending.Done) where
-    pub agreed_of : {status : Status} {appended line : List ℕ} → Ends asked given played rb ra pb pa status appended line → status ≢ Differs
+    agreed_of : {status : Status} {appended line : List ℕ} → Ends asked given played rb ra pb pa status appended line → status ≢ Differs
     agreed_of (formless none) e = cc e
     agreed_of (whole end text are) e = let done = agrees end text (answer_of (writes end text) are) in cc (done, ending_differs end e)
-    agreed_of (cut_off end text k are rose) e = cc e
+    agreed_of (cut_off end text k are less rose) e = cc e
     agreed_of (refused status line r are) e = no_refusal status Differs r refl e
     agreed_of (unread name own fault missed) e = cc e
     agreed_of no_memory e = cc e
 
-  -- where it ends with 0, its answer was written whole
-  pub done_of : {status : Status} {appended line : List ℕ} → Ends asked given played rb ra pb pa status appended line → status ≡ Done →
-      IsAnswer command given played (writes ending.Done appended)
-  done_of (formless none) e = absurd (cc e)
-  done_of (whole end text are) e =
-      subst (λ x. IsAnswer command given played (writes x text)) (ending_done end e) (answer_of (writes end text) are)
-  done_of (cut_off end text k are rose) e = absurd (cc e)
-  done_of (refused status line r are) e = absurd (no_refusal status Done r refl e)
-  done_of (unread name own fault missed) e = absurd (cc e)
-  done_of no_memory e = absurd (cc e)
+  -- where the whole output was written, it is that of its answer
+  whole_of : {status : Status} {appended line : List ℕ} → Ends asked given played rb ra pb pa status appended line → is_whole status ≡ true →
+      (end : Ending) × (status ≡ status_with end) × IsAnswer command given played (writes end appended)
+  whole_of (formless none) e = absurd (cc e)
+  whole_of (whole end text are) e = (end, refl, answer_of (writes end text) are)
+  whole_of (cut_off end text k are less rose) e = absurd (cc e)
+  whole_of (refused status line r are) e = absurd (not_whole status r e)
+  whole_of (unread name own fault missed) e = absurd (cc e)
+  whole_of no_memory e = absurd (cc e)
+
+-- of each command that makes a run
+module _ (given : Given) (played : Played) (p : TypedProgram) (carries : (file : List ℕ) → HoldsCompiled given file p → HoldsCarrying given file p) where
+  pub calm_for : ((s : AskedRun) → HoldsCarrying given s.net p → (end : Ending) (text : List ℕ) → Simulates s given played (writes end text)
+      → end ≢ ending.Hazard)
+      → ((t : AskedTiming) → HoldsCarrying given t.net p → (end : Ending) (text : List ℕ) → SimulatesTimed t given (writes end text) → end ≢ ending.Hazard)
+      → ((w : AskedWaves) → HoldsCarrying given w.net p → (end : Ending) (text : List ℕ) → Traces w given (writes end text) → end ≢ ending.Hazard)
+      → (rb ra pb pa : ℕ) (asked : Option Asked) → RunsCompiled asked given p → {status : Status} {appended line : List ℕ}
+      → Ends asked given played rb ra pb pa status appended line → status ≢ Hazard
+  calm_for run timing wave rb ra pb pa None h e = absurd h
+  calm_for run timing wave rb ra pb pa (Some (simulates s)) h e =
+      calm_of (Some (simulates s)) given played rb ra pb pa (simulates s) refl (run s (carries s.net h)) e
+  calm_for run timing wave rb ra pb pa (Some (times t)) h e =
+      calm_of (Some (times t)) given played rb ra pb pa (times t) refl (timing t (carries t.net h)) e
+  calm_for run timing wave rb ra pb pa (Some (traces w)) h e =
+      calm_of (Some (traces w)) given played rb ra pb pa (traces w) refl (wave w (carries w.net h)) e
+  calm_for run timing wave rb ra pb pa (Some (compiles c)) h e = absurd h
+  calm_for run timing wave rb ra pb pa (Some (migrates net)) h e = absurd h
+  calm_for run timing wave rb ra pb pa (Some (checks file)) h e = absurd h
+  calm_for run timing wave rb ra pb pa (Some (expands file)) h e = absurd h
+  calm_for run timing wave rb ra pb pa (Some (unwaves file)) h e = absurd h
+  calm_for run timing wave rb ra pb pa (Some (runs r)) h e = absurd h
+  calm_for run timing wave rb ra pb pa (Some (grows growth)) h e = absurd h
+
+  pub agreed_for : ((s : AskedRun) → HoldsCarrying given s.net p → IsReferredTo given s.against p → (end : Ending) (text : List ℕ)
+      → Simulates s given played (writes end text) → end ≡ ending.Done)
+      → ((t : AskedTiming) → HoldsCarrying given t.net p → IsReferredTo given t.against p → (end : Ending) (text : List ℕ)
+      → SimulatesTimed t given (writes end text) → end ≡ ending.Done)
+      → (rb ra pb pa : ℕ) (asked : Option Asked) → RunsCompiled asked given p → IsComparedWith asked given p → {status : Status} {appended line : List ℕ}
+      → Ends asked given played rb ra pb pa status appended line → status ≢ Differs
+  agreed_for run timing rb ra pb pa None h with_it e = absurd h
+  agreed_for run timing rb ra pb pa (Some (simulates s)) h with_it e =
+      agreed_of (Some (simulates s)) given played rb ra pb pa (simulates s) refl (run s (carries s.net h) with_it) e
+  agreed_for run timing rb ra pb pa (Some (times t)) h with_it e =
+      agreed_of (Some (times t)) given played rb ra pb pa (times t) refl (timing t (carries t.net h) with_it) e
+  agreed_for run timing rb ra pb pa (Some (traces w)) h with_it e = absurd with_it
+  agreed_for run timing rb ra pb pa (Some (compiles c)) h with_it e = absurd h
+  agreed_for run timing rb ra pb pa (Some (migrates net)) h with_it e = absurd h
+  agreed_for run timing rb ra pb pa (Some (checks file)) h with_it e = absurd h
+  agreed_for run timing rb ra pb pa (Some (expands file)) h with_it e = absurd h
+  agreed_for run timing rb ra pb pa (Some (unwaves file)) h with_it e = absurd h
+  agreed_for run timing rb ra pb pa (Some (runs r)) h with_it e = absurd h
+  agreed_for run timing rb ra pb pa (Some (grows growth)) h with_it e = absurd h
+
+  abbrev pub Steady : Option Asked → Status → List ℕ → Type 0
+  Steady asked status text = (end : Ending) × (status ≡ status_with end) × IsCalm asked given played end text
+
+  pub steady_for : ((s : AskedRun) → HoldsCarrying given s.net p → (end : Ending) (text : List ℕ) → Simulates s given played (writes end text)
+      → IsCalmRun s given played end text)
+      → ((t : AskedTiming) (end : Ending) (text : List ℕ) → SimulatesTimed t given (writes end text) → IsCalmTiming t given end text)
+      → ((w : AskedWaves) (end : Ending) (text : List ℕ) → Traces w given (writes end text) → IsCalmTrace w given end text)
+      → (rb ra pb pa : ℕ) (asked : Option Asked) → RunsCompiled asked given p → {status : Status} {appended line : List ℕ}
+      → Ends asked given played rb ra pb pa status appended line → is_whole status ≡ true → Steady asked status appended
+  steady_for run timing wave rb ra pb pa None h e whole = absurd h
+  steady_for run timing wave rb ra pb pa (Some (simulates s)) h e whole =
+      let (end, same, is) = whole_of (Some (simulates s)) given played rb ra pb pa (simulates s) refl e whole in
+      (end, same, run s (carries s.net h) end _ is)
+  steady_for run timing wave rb ra pb pa (Some (times t)) h e whole =
+      let (end, same, is) = whole_of (Some (times t)) given played rb ra pb pa (times t) refl e whole in
+      (end, same, timing t end _ is)
+  steady_for run timing wave rb ra pb pa (Some (traces w)) h e whole =
+      let (end, same, is) = whole_of (Some (traces w)) given played rb ra pb pa (traces w) refl e whole in
+      (end, same, wave w end _ is)
+  steady_for run timing wave rb ra pb pa (Some (compiles c)) h e whole = absurd h
+  steady_for run timing wave rb ra pb pa (Some (migrates net)) h e whole = absurd h
+  steady_for run timing wave rb ra pb pa (Some (checks file)) h e whole = absurd h
+  steady_for run timing wave rb ra pb pa (Some (expands file)) h e whole = absurd h
+  steady_for run timing wave rb ra pb pa (Some (unwaves file)) h e whole = absurd h
+  steady_for run timing wave rb ra pb pa (Some (runs r)) h e whole = absurd h
+  steady_for run timing wave rb ra pb pa (Some (grows growth)) h e whole = absurd h

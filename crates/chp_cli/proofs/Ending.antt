@@ -1,18 +1,50 @@
 -- What follows from the way in which a call ended.
 use Rattle.std.proofs.Common.{◌≡◌, ◌≢◌, ℕ, ◌≤◌, List, [], ◌++◌, length, take, Bool, true, false, Option, Some, None, ◌⊎◌, inl, inr, refl, sym, ap, subst}
 use Rattle.chp_edge.specs.Faults.{Rose, IsReadFault}
+use Rattle.command_answers.specs.declared.answer.Ending.{Ending}
+use Rattle.command_answers.specs.declared.answer.Ending.TheVariants as ending
+use Rattle.command_answers.specs.declared.answer.Refusal.{Refusal}
+use Rattle.command_answers.specs.declared.answer.Refusal.TheVariants as refusal
 use Rattle.command_answers.specs.declared.answer.Stop.{Stop}
 use Rattle.command_answers.specs.declared.answer.Stop.TheVariants as stopped
 use Rattle.command_answers.specs.declared.status.Status.{Status}
 use Rattle.command_answers.specs.declared.status.Status.TheVariants.{Usage, Read, Write, NoMemory}
-use Rattle.command_answers.specs.Answers.{Given, Answer, misses, OneAnswer, status_of}
+use Rattle.command_answers.specs.Answers.{Given, Answer, writes, refuses, misses, OneAnswer, status_of, status_with}
 use Rattle.command_words.specs.CommandWords.{Asked}
 use Rattle.chp_cli.specs.Commands.{IsAnswer, files_of}
 use Rattle.chp_cli.specs.Ends.{AnswersTo, IsFile, Ends, formless, whole, cut_off, refused, unread, no_memory}
 use Rattle.command_steps.specs.Orders.{Played}
 use Rattle.command_answers.specs.Replies.{Stops, refusing, refusal_status, refusal_line, stop_status, stop_line}
-use Rattle.command_answers.specs.Statuses.{is_whole}
-use Rattle.command_answers.proofs.StatusKinds.{whole_status, refusing_status, own_status, no_refusal}
+use Rattle.chp_cli.specs.Serving.{EndsServed}
+use Rattle.command_answers.specs.Statuses.{is_whole, is_refusing}
+
+whole_status : (end : Ending) → is_whole (status_with end) ≡ true
+whole_status ending.Done = refl
+whole_status ending.Hazard = refl
+whole_status ending.Differs = refl
+
+refusing_status : (r : Refusal) → is_refusing (refusal_status r) ≡ true
+refusing_status (refusal.Text fault) = refl
+refusing_status (refusal.TooLong name limit) = refl
+refusing_status (refusal.TooManyNodes count) = refl
+refusing_status refusal.TooManyValues = refl
+refusing_status (refusal.BadNet fault line) = refl
+refusing_status (refusal.BadScript fault line) = refl
+refusing_status (refusal.BadDelays fault line) = refl
+refusing_status (refusal.BadWave fault line) = refl
+refusing_status refusal.NoReset = refl
+refusing_status (refusal.NoOrder name) = refl
+refusing_status (refusal.NoChannel name) = refl
+refusing_status refusal.NotBuilt = refl
+
+-- the statuses of whole outputs and of refusals are none of the call's own
+own_status : (end : Ending) → (status_with end ≢ Usage) × (status_with end ≢ Read) × (status_with end ≢ Write)
+own_status ending.Done = (λ e. cc, λ e. cc, λ e. cc)
+own_status ending.Hazard = (λ e. cc, λ e. cc, λ e. cc)
+own_status ending.Differs = (λ e. cc, λ e. cc, λ e. cc)
+
+pub no_refusal : (s other : Status) → is_refusing s ≡ true → is_refusing other ≡ false → s ≢ other
+no_refusal s other is not same = cc (ap is_refusing same, is, not)
 
 pub answers_of : (asked : Option Asked) (given : Given) (played : Played) (command : Asked) (answer : Answer) → asked ≡ Some command →
     IsAnswer command given played answer → AnswersTo asked given played answer
@@ -23,7 +55,7 @@ module _ (asked : Option Asked) (given : Given) (played : Played) (rb ra pb pa :
   pub silent_of : {s : Status} {appended line : List ℕ} → Ends asked given played rb ra pb pa s appended line → is_whole s ≡ false → s ≢ Write → appended ≡ []
   silent_of (formless none) w n = refl
   silent_of (whole end text is) w n = absurd (cc (whole_status end, w))
-  silent_of (cut_off end text k is rose) w n = absurd (n refl)
+  silent_of (cut_off end text k is less rose) w n = absurd (n refl)
   silent_of (refused status line r is) w n = refl
   silent_of (unread name own fault missed) w n = refl
   silent_of no_memory w n = refl
@@ -31,7 +63,7 @@ module _ (asked : Option Asked) (given : Given) (played : Played) (rb ra pb pa :
   pub usage_of : {s : Status} {appended line : List ℕ} → Ends asked given played rb ra pb pa s appended line → s ≡ Usage → asked ≡ None
   usage_of (formless none) e = none
   usage_of (whole end text is) e = absurd ((own_status end).0 e)
-  usage_of (cut_off end text k is rose) e = absurd (cc e)
+  usage_of (cut_off end text k is less rose) e = absurd (cc e)
   usage_of (refused status line r is) e = absurd (no_refusal status Usage r refl e)
   usage_of (unread name own fault missed) e = absurd (cc e)
   usage_of no_memory e = absurd (cc e)
@@ -40,7 +72,7 @@ module _ (asked : Option Asked) (given : Given) (played : Played) (rb ra pb pa :
       (name : List ℕ) × IsFile asked name × IsReadFault rb ra given.tells (given.files name)
   read_of (formless none) e = absurd (cc e)
   read_of (whole end text is) e = absurd ((own_status end).1 e)
-  read_of (cut_off end text k is rose) e = absurd (cc e)
+  read_of (cut_off end text k is less rose) e = absurd (cc e)
   read_of (refused status line r is) e = absurd (no_refusal status Read r refl e)
   read_of (unread name own fault missed) e = (name, own, fault)
   read_of no_memory e = absurd (cc e)
@@ -48,7 +80,7 @@ module _ (asked : Option Asked) (given : Given) (played : Played) (rb ra pb pa :
   pub write_of : {s : Status} {appended line : List ℕ} → Ends asked given played rb ra pb pa s appended line → s ≡ Write → Rose pb pa
   write_of (formless none) e = absurd (cc e)
   write_of (whole end text is) e = absurd ((own_status end).2 e)
-  write_of (cut_off end text k is rose) e = rose
+  write_of (cut_off end text k is less rose) e = rose
   write_of (refused status line r is) e = absurd (no_refusal status Write r refl e)
   write_of (unread name own fault missed) e = absurd (cc e)
   write_of no_memory e = absurd (cc e)
@@ -64,11 +96,23 @@ module _ (asked : Option Asked) (given : Given) (played : Played) (rb ra pb pa :
       → (answer : Answer) → AnswersTo asked given played answer → ¬ Rose rb ra → ¬ Rose pb pa → (s ≡ status_of answer) ⊎ (s ≡ NoMemory)
   complete_of law (formless none) answer are calm quiet = absurd (subst (λ o. AnswersTo o given played answer) none are)
   complete_of law (whole end text is) answer are calm quiet = inl (ap status_of (one law asked _ answer is are))
-  complete_of law (cut_off end text k is rose) answer are calm quiet = absurd (quiet rose)
+  complete_of law (cut_off end text k is less rose) answer are calm quiet = absurd (quiet rose)
   complete_of law (refused status line r is) answer are calm quiet = inl (ap status_of (one law asked _ answer is are))
   complete_of law (unread name own fault (inl rose)) answer are calm quiet = absurd (calm rose)
   complete_of law (unread name own fault (inr is)) answer are calm quiet = inl (ap status_of (one law asked _ answer is are))
   complete_of law no_memory answer are calm quiet = inr refl
+
+  -- where the files and orders hold what the command is served with and nothing fails, it ends as one that is served
+  pub served_of : (command : Asked) → asked ≡ Some command → ((a : Answer) → IsAnswer command given played a → EndsServed command (status_of a))
+      → {s : Status} {appended line : List ℕ} → Ends asked given played rb ra pb pa s appended line → ¬ Rose rb ra → ¬ Rose pb pa
+      → EndsServed command s ⊎ (s ≡ NoMemory)
+  served_of command named all (formless none) calm quiet = absurd (cc (none, named))
+  served_of command named all (whole end text is) calm quiet = inl (all _ (subst (λ o. AnswersTo o given played (writes end text)) named is))
+  served_of command named all (cut_off end text k is less rose) calm quiet = absurd (quiet rose)
+  served_of command named all (refused status line r is) calm quiet = inl (all _ (subst (λ o. AnswersTo o given played (refuses status line)) named is))
+  served_of command named all (unread name own fault (inl rose)) calm quiet = absurd (calm rose)
+  served_of command named all (unread name own fault (inr is)) calm quiet = inl (all _ (subst (λ o. AnswersTo o given played (misses name)) named is))
+  served_of command named all no_memory calm quiet = inr refl
 
   -- a command that stops ends the call
   pub stopped_ends : (command : Asked) → asked ≡ Some command → (stop : Stop) → Stops (IsAnswer command given played) (files_of command) given rb ra stop
@@ -82,9 +126,3 @@ module _ (asked : Option Asked) (given : Given) (played : Played) (rb ra pb pa :
       missed (inl rose) = inl rose
       missed (inr answer) = inr (answers_of asked given played command (misses name.now) is answer)
   stopped_ends command is stopped.NoMemory s = no_memory
-
--- how long the front was, where the output tells it
-pub front_of : (tells : Bool) (before after text : List ℕ) → (tells ≡ true → (n : ℕ) × (n ≤ length text) × (after ≡ before ++ take n text))
-    → (n : ℕ) × (tells ≡ true → after ≡ before ++ take n text)
-front_of true before after text front = ((front refl).0, λ told. (front refl).2)
-front_of false before after text front = (0, λ told. absurd (cc told))

@@ -27,7 +27,7 @@ use Rattle.net_compose.proofs.HalvedCarried.{scaled}
 use Rattle.net_compose.proofs.OnceEach.{run_length}
 use Rattle.net_compose.proofs.Sizes.{first_length}
 use Rattle.command_answers.specs.Answers.{Given, Answer}
-use Rattle.program_commands.specs.Compiling.{NetCarries, NetProgresses, net_for}
+use Rattle.program_commands.specs.Compiling.{IsCompiled, NetCarries, NetProgresses, net_for}
 use Rattle.command_steps.specs.Orders.{Played}
 use Rattle.chp_cli.specs.Resting.{RestsInTime, TimedRests, most_in_run}
 use Rattle.chp_cli.specs.Simulated.{IsFileSimulated, HoldsCarrying, HoldsCompiled, SimulatedRests}
@@ -39,6 +39,7 @@ use Rattle.chp_cli.specs.TracedFiles.{IsFileTraced, TracedRests}
 use Rattle.command_words.specs.WavesWords.{AskedWaves}
 use Rattle.grown_commands.proofs.SafeRuns.{all_safe, safe_calm}
 use Rattle.chp_cli.proofs.CalmRuns.{file_carries}
+use Rattle.chp_cli.proofs.FilesCompiled.{AreCompiled}
 use Rattle.command_steps.proofs.OneAnswers.{same_text}
 
 -- a run that isn't so long as allowed, and ends without a hazard, rests
@@ -90,23 +91,26 @@ rests_level powered true p progresses script high ns net fits run m c over =
 
 module _ (powered : Powered) (law : (net : NetValue) (script : List OfferValue) (st : RunState) (n : ℕ) → IsNet net →
     ((IsSafeMove net script st n × IsApart net (moved net st n)) ↔ (hazard_of net script st n ≡ None)))
-    (carry : (given : Given) (file : List ℕ) (p : TypedProgram) → HoldsCompiled given file p → HoldsCarrying given file p) where
+    (promised : AreCompiled) (carry : (given : Given) (file : List ℕ) (p : TypedProgram) → HoldsCompiled given file p → HoldsCarrying given file p) where
   module _ (given : Given) (file : List ℕ) (p : TypedProgram) (holds : HoldsCompiled given file p) (rules : List ℕ) (net : NetValue)
       (held : given.files file ≡ Some rules) (is : IsFileOf rules net) (script : List OfferValue) (suits : IsScript (net_channels net) script) (high : Bool)
       (ns : List ℕ) (run : IsRun net script (begin_at net (power_of net high)) ns) where
+    it : IsCompiled holds.reset p holds.text
+    it = promised given file p holds
+
     same : net_for holds.reset p ≡ net
     same =
-        is.only (net_for holds.reset p) holds.compiled.kept
-        (subst (λ x. NetText x (net_for holds.reset p)) (same_text holds.held held) holds.compiled.spells)
+        is.only (net_for holds.reset p) it.kept
+        (subst (λ x. NetText x (net_for holds.reset p)) (same_text holds.held held) it.spells)
 
     fits : IsScript p.channels script
     fits =
-        subst (λ cs. IsScript cs script) (same_channels holds.reset p holds.compiled.carries)
+        subst (λ cs. IsScript cs script) (same_channels holds.reset p it.carries)
         (subst (λ n. IsScript (net_channels n) script) (sym same) suits)
 
     file_within : (m : ℕ) (c : Configuration) → RestsAfter p script m c → length ns ≤ most_in_run holds.reset p m
     file_within =
-        subst (RunsWithin holds.reset p) same (runs_within powered holds.reset p holds.compiled.carries holds.compiled.progresses) script high ns is.kept fits
+        subst (RunsWithin holds.reset p) same (runs_within powered holds.reset p it.carries it.progresses) script high ns is.kept fits
         run
 
     file_rests : (steps : ℕ) (end : End) → EndsSo net script steps (begin_at net (power_of net high)) ns end
@@ -120,7 +124,7 @@ module _ (powered : Powered) (law : (net : NetValue) (script : List OfferValue) 
         let within = file_within m c over in
         let r = calm_rest (enabled_moves net script (after net st ns)) (length ns) steps end (omega (arith, within, few)) so in (
           r.0,
-          subst (RestsLevel holds.reset p) same (rests_level powered holds.reset p holds.compiled.progresses) script high ns is.kept fits run m c over
+          subst (RestsLevel holds.reset p) same (rests_level powered holds.reset p it.progresses) script high ns is.kept fits run m c over
               (rests net script (after net st ns) is.kept r.1),
         )
 

@@ -1,5 +1,5 @@
 -- How a call ends: its status, what it appended to the output, and what it says. No command is named here.
-use Rattle.std.specs.Prelude.{◌≡◌, ℕ, true, List, [], take, Contains, ◌⊎◌, Option, Some, None}
+use Rattle.std.specs.Prelude.{◌≡◌, ℕ, ◌<◌, true, List, [], length, take, Contains, ◌⊎◌, Option, Some, None}
 use Rattle.chp_edge.specs.Faults.{Rose, IsReadFault}
 use Rattle.command_answers.specs.declared.answer.Ending.{Ending}
 use Rattle.command_answers.specs.declared.status.Status.{Status}
@@ -36,9 +36,9 @@ pub data Ends (asked : Option Asked) (given : Given) (played : Played)
   -- the command writes, and all was written
   whole : (end : Ending) (text : List ℕ) → AnswersTo asked given played (writes end text)
       → Ends asked given played read_before read_after put_before put_after (status_with end) text (line_with end)
-  -- it writes, and the output failed: a front was written
-  cut_off : (end : Ending) (text : List ℕ) (n : ℕ) → AnswersTo asked given played (writes end text) →
-      Rose put_before put_after
+  -- it writes, and the output failed: less than the whole was written, a prefix of it
+  cut_off : (end : Ending) (text : List ℕ) (n : ℕ) → AnswersTo asked given played (writes end text) → n < length text
+      → Rose put_before put_after
       → Ends asked given played read_before read_after put_before put_after Write (take n text) write_line
   -- it refuses
   refused : (status : Status) (line : List ℕ) → is_refusing status ≡ true →

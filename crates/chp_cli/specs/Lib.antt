@@ -4,4 +4,6 @@ pub mod Commands
 pub mod TimedFiles
 pub mod TracedFiles
 pub mod Ends
+pub mod Serving
+pub mod CompiledRuns
 pub use Rattle.chp_edge.specs.Faults

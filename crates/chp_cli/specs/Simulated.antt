@@ -1,5 +1,5 @@
 -- What follows from what `simulate` answers.
-use Rattle.std.specs.Prelude.{◌≡◌, ◌⊎◌, ℕ, ◌≤◌, Bool, false, List, length, slice_get, Option, Some, None}
+use Rattle.std.specs.Prelude.{◌≡◌, ◌⊎◌, ℕ, suc, ◌+◌, ◌*◌, ◌<◌, ◌≤◌, Bool, true, false, List, length, slice_get, Option, Some, None}
 use Rattle.env_script.specs.Environment.{net_channels}
 use Rattle.env_script.specs.OneLength.{EndsAll}
 use Rattle.env_script.specs.Runs.{after}
@@ -7,14 +7,19 @@ use Rattle.env_script.specs.Scripts.{OfferValue}
 use Rattle.env_script.specs.ScriptText.{IsScriptText}
 use Rattle.event_sim.specs.declared.ran.End.TheVariants.{AtRest}
 use Rattle.event_sim.specs.Simulating.{picked_moves, start_at}
+use Rattle.handshake_expand.specs.Layout.{nodes_of}
+use Rattle.chp_meaning.specs.Steps.{Configuration}
 use Rattle.net_compose.specs.Carries.{Carries, CarriesReset}
 use Rattle.prs_core.specs.Nets.{NetValue, IsNet}
 use Rattle.prs_file.specs.Spelling.{NetText}
+use Rattle.chp_syntax.specs.Shape.{IsShaped}
+use Rattle.chp_syntax.specs.Trees.{ProgramTree}
+use Rattle.width_check.specs.Accepted.{IsAccepted}
+use Rattle.width_check.specs.Form.{typed_form}
 use Rattle.width_check.specs.Processes.{TypedProgram}
-use Rattle.command_answers.specs.declared.answer.Ending.TheVariants.{Done}
+use Rattle.command_answers.specs.declared.answer.Ending.{Ending}
 use Rattle.command_answers.specs.Answers.{Given, Answer, writes}
-use Rattle.command_words.specs.CommandWords.{Asked, simulates}
-use Rattle.program_commands.specs.Compiling.{IsCompiled, net_for}
+use Rattle.program_commands.specs.Compiling.{net_for}
 use Rattle.command_steps.specs.Orders.{OrderState, Played, place_named}
 use Rattle.chp_cli.specs.Resting.{RestsInTime}
 use Rattle.command_steps.specs.References.{HoldsReference, IsToReferTo}
@@ -22,7 +27,7 @@ use Rattle.simulation_commands.specs.RunReporting.{IsReported}
 use Rattle.command_steps.specs.RunSteps.{IsScriptOf, lacks_reset, most_of_script}
 use Rattle.command_words.specs.SimulateWords.{AskedRun}
 use Rattle.simulation_commands.specs.Simulating.{PlaysOut, simulation_for}
-use Rattle.command_steps.specs.Steps.{IsFileOf, most_of_net}
+use Rattle.command_steps.specs.Steps.{IsFileOf, most_of_net, most_of_nodes}
 
 -- The files hold the rule file of a net, a script of its channels, and the program to compare with, if one is wanted;
 -- and the order of the wanted name led to a run of this net under this script, which is reported.
@@ -57,12 +62,18 @@ pub record HoldsCarrying (given : Given) (file : List ℕ) (p : TypedProgram) : 
   pub spelled : NetText rules net
   pub carries : ((net.reset ≡ None) × Carries net p) ⊎ CarriesReset net p
 
--- the file holds what `compile` writes for the program, with a reset node or without
+-- The file holds what `compile` writes for the program, with a reset node or without: the one text of its net. The
+-- program is the typed form of an accepted one that has the shape of the grammar, and its circuit isn't too large.
 pub record HoldsCompiled (given : Given) (file : List ℕ) (p : TypedProgram) : Type 0 where
   pub reset : Bool
   pub text : List ℕ
+  pub program : ProgramTree
   pub held : given.files file ≡ Some text
-  pub compiled : IsCompiled reset p text
+  pub shaped : IsShaped program
+  pub accepted : IsAccepted program
+  pub form : p ≡ typed_form program
+  pub few : nodes_of p ≤ most_of_nodes
+  pub spells : NetText text (net_for reset p)
 
 -- the files hold what can be simulated: a rule file within its limit, of a net that can have the power that is asked
 -- for, a script of its channels within its own, and an accepted program, if one is wanted; and there is an order of the
@@ -114,14 +125,9 @@ SimulatedRests s given played p holds f =
     let sim = simulation_for f.net f.script s.steps s.power in
     RestsInTime holds.reset p f.net f.script s.steps (start_at sim) (picked_moves sim f.was.log f.is.log) f.plays.end
 
--- it is asked to simulate the rule file that `compile` writes for the program
-pub record AsksForCompiled (asked : Option Asked) (given : Given) (s : AskedRun) (p : TypedProgram) : Type 0 where
-  pub is : asked ≡ Some (simulates s)
-  pub holds : HoldsCompiled given s.net p
-
 -- The report is that of a run without a hazard; where it says rest, no order makes more moves; and where a program
 -- comes to rest for which `compile` writes this rule file, so does the run, if its limit is high enough.
-pub record IsCalm (s : AskedRun) (given : Given) (played : Played) (report : List ℕ) : Type 0 where
-  pub run : IsFileSimulated s given played (writes Done report)
-  pub one_length : EndsAllAtRest s given played (writes Done report) run
+pub record IsCalmRun (s : AskedRun) (given : Given) (played : Played) (end : Ending) (report : List ℕ) : Type 0 where
+  pub run : IsFileSimulated s given played (writes end report)
+  pub one_length : EndsAllAtRest s given played (writes end report) run
   pub rests : (p : TypedProgram) (holds : HoldsCompiled given s.net p) → SimulatedRests s given played p holds run

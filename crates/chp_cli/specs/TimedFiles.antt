@@ -5,9 +5,8 @@ use Rattle.env_script.specs.Environment.{net_channels}
 use Rattle.env_script.specs.Scripts.{OfferValue}
 use Rattle.prs_core.specs.Nets.{NetValue}
 use Rattle.width_check.specs.Processes.{TypedProgram}
-use Rattle.command_answers.specs.declared.answer.Ending.TheVariants.{Done}
+use Rattle.command_answers.specs.declared.answer.Ending.{Ending}
 use Rattle.command_answers.specs.Answers.{Given, Answer, writes}
-use Rattle.command_words.specs.CommandWords.{Asked, times}
 use Rattle.command_steps.specs.References.{HoldsReference}
 use Rattle.chp_cli.specs.Resting.{TimedRests}
 use Rattle.command_steps.specs.RunSteps.{IsScriptOf, lacks_reset}
@@ -43,13 +42,8 @@ abbrev pub TimedRunRests : (t : AskedTiming) (given : Given) (p : TypedProgram) 
 TimedRunRests t given p holds f =
     TimedRests holds.reset p (timing_for t f.net f.script f.delays) f.timed.moves f.timed.ran.end f.timed.time
 
--- it is asked to simulate with delays the rule file that `compile` writes for the program
-pub record AsksForTimed (asked : Option Asked) (given : Given) (t : AskedTiming) (p : TypedProgram) : Type 0 where
-  pub is : asked ≡ Some (times t)
-  pub holds : HoldsCompiled given t.net p
-
 -- the report is that of a timed run, which comes to rest in time where a program does for which `compile` writes this
 -- rule file
-pub record IsTimedCalm (t : AskedTiming) (given : Given) (report : List ℕ) : Type 0 where
-  pub run : IsFileTimed t given (writes Done report)
+pub record IsCalmTiming (t : AskedTiming) (given : Given) (end : Ending) (report : List ℕ) : Type 0 where
+  pub run : IsFileTimed t given (writes end report)
   pub rests : (p : TypedProgram) (holds : HoldsCompiled given t.net p) → TimedRunRests t given p holds run

@@ -5,9 +5,8 @@ use Rattle.env_script.specs.Environment.{net_channels}
 use Rattle.env_script.specs.Scripts.{OfferValue}
 use Rattle.prs_core.specs.Nets.{NetValue}
 use Rattle.width_check.specs.Processes.{TypedProgram}
-use Rattle.command_answers.specs.declared.answer.Ending.TheVariants.{Done}
+use Rattle.command_answers.specs.declared.answer.Ending.{Ending}
 use Rattle.command_answers.specs.Answers.{Given, Answer, writes}
-use Rattle.command_words.specs.CommandWords.{Asked, traces}
 use Rattle.chp_cli.specs.Resting.{TimedRests}
 use Rattle.command_steps.specs.RunSteps.{IsScriptOf}
 use Rattle.chp_cli.specs.Simulated.{HoldsCompiled}
@@ -38,13 +37,8 @@ abbrev pub TracedRests : (w : AskedWaves) (given : Given) (p : TypedProgram) →
 TracedRests w given p holds f =
     TimedRests holds.reset p (trace_for w f.net f.script f.delays) f.traced.moves f.traced.ran.end f.traced.time
 
--- it is asked for the wave, or the causes, of a rule file that `compile` writes for the program
-pub record AsksForTrace (asked : Option Asked) (given : Given) (w : AskedWaves) (p : TypedProgram) : Type 0 where
-  pub is : asked ≡ Some (traces w)
-  pub holds : HoldsCompiled given w.net p
-
 -- the text tells a timed run, which comes to rest in time where a program does for which `compile` writes this rule
 -- file, if its limit is high enough
-pub record IsCalmTrace (w : AskedWaves) (given : Given) (text : List ℕ) : Type 0 where
-  pub run : IsFileTraced w given (writes Done text)
+pub record IsCalmTrace (w : AskedWaves) (given : Given) (end : Ending) (text : List ℕ) : Type 0 where
+  pub run : IsFileTraced w given (writes end text)
   pub rests : (p : TypedProgram) (holds : HoldsCompiled given w.net p) → TracedRests w given p holds run

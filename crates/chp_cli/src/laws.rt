@@ -5,15 +5,15 @@ ghost use Rattle.command_answers.specs.declared.answer.Ending.{Ending};
 ghost use Rattle.command_answers.specs.declared.answer.Ending.TheVariants as ending;
 ghost use Rattle.command_answers.specs.declared.status.Status.TheVariants.{Done};
 ghost use Rattle.command_answers.specs.Answers.{Answer, Given, OneAnswer, status_of, writes};
-ghost use Rattle.program_commands.specs.Compiling.{Compiles, IsFileCompiled, IsToCompile};
+ghost use Rattle.program_commands.specs.Compiling.{Compiles, IsCompiled, IsFileCompiled, IsToCompile};
 ghost use Rattle.command_words.specs.CompileWords.{AskedCompilation};
 ghost use Rattle.program_commands.specs.Migrating.{Migrates, IsToMigrate};
 ghost use Rattle.command_words.specs.CommandWords.{Asked};
 ghost use Rattle.chp_cli.specs.Commands.{IsAnswer};
 ghost use Rattle.command_steps.specs.Orders.{Played};
+ghost use Rattle.chp_cli.specs.Serving.{EndsServed, IsServed};
 ghost use Rattle.command_steps.specs.References.{IsReferredTo};
-ghost use Rattle.chp_cli.specs.Simulated.{EndsAllAtRest, HoldsCarrying, HoldsCompiled, IsCompiledToSimulate};
-ghost use Rattle.chp_cli.specs.Simulated.{IsFileSimulated, IsToSimulate, SimulatedRests};
+ghost use Rattle.chp_cli.specs.Simulated.{EndsAllAtRest, HoldsCarrying, HoldsCompiled, IsCompiledToSimulate, IsFileSimulated, IsToSimulate, SimulatedRests};
 ghost use Rattle.command_words.specs.SimulateWords.{AskedRun, AskedTiming};
 ghost use Rattle.simulation_commands.specs.Simulating.{Simulates};
 ghost use Rattle.command_answers.specs.Statuses.{is_whole};
@@ -26,6 +26,7 @@ ghost use Rattle.width_check.specs.Processes.{TypedProgram};
 
 use delay_script::laws::timed_runs_end_in_time;
 use event_sim::laws::{passed_are_histories, power_is_powered, safe_moves_bring_no_hazard};
+use net_compose::laws::{carries, carries_reset, runs_end, runs_end_reset, whole_nets};
 
 /// Law: to the same files, where the shelf tells them, and by the same orders a command has at most one answer.
 pub fn one_answer()
@@ -83,6 +84,17 @@ pub fn simulates_all()
     sharing_check::laws::one_shared_fault();
 }
 
+/// Law: where the files and orders hold what a command is served with, its only answers are to write: by a command that
+/// makes a run how that ended, by any other that all went well.
+pub fn serves_all()
+    ensures { (command : Asked) (given : Given) (played : Played) → given.tells ≡ true →
+        IsServed command given played → (answer : Answer) → IsAnswer command given played answer →
+        EndsServed command (status_of answer) }
+{
+    width_check::laws::one_fault();
+    sharing_check::laws::one_shared_fault();
+}
+
 /// Law: the simulation of a rule file whose net carries a program finds no hazard, by whatever order and under whatever
 /// script; with a reset node from whatever power-up is asked for.
 pub fn carried_runs_are_safe()
@@ -116,12 +128,29 @@ pub fn carried_runs_have_one_length()
     safe_moves_bring_no_hazard();
 }
 
+/// Law: the one text of the net of the typed form of an accepted program, whose circuit isn't too large, is as is
+/// promised of what `compile` writes: the net is one that a rule file can hold, it carries the program, and it keeps
+/// pace with it.
+pub fn files_as_promised()
+    ensures { (given : Given) (file : List ℕ) (p : TypedProgram) (holds : HoldsCompiled given file p) →
+        IsCompiled holds.reset p holds.text }
+{
+    width_check::laws::form_is_typed();
+    whole_nets();
+    carries();
+    runs_end();
+    carries_reset();
+    runs_end_reset();
+}
+
 /// Law: what `compile` writes for a program is the rule file of a net that carries it, so what holds of simulations of
 /// such files holds of each file that `compile` wrote.
 pub fn compiled_files_carry()
     ensures { (given : Given) (file : List ℕ) (p : TypedProgram) → HoldsCompiled given file p →
         HoldsCarrying given file p }
-{}
+{
+    files_as_promised();
+}
 
 /// Law: each rule file that `compile` wrote is within the limit of rule files. So under each script of the program's
 /// channels within its own limit, with any power if it has a reset node, it can be simulated: the only answers of
@@ -129,7 +158,9 @@ pub fn compiled_files_carry()
 pub fn compiled_files_are_simulated()
     ensures { (s : AskedRun) (given : Given) (played : Played) (p : TypedProgram) →
         IsCompiledToSimulate s given played p → IsToSimulate s given played }
-{}
+{
+    files_as_promised();
+}
 
 /// Law: what `simulate` writes with delays is the report of the timed run of the net under the script by the delays
 /// that its files hold: each move comes its delay later than the move since which it is enabled, and of the enabled
@@ -192,6 +223,7 @@ pub fn compiled_runs_rest()
 {
     power_is_powered();
     safe_moves_bring_no_hazard();
+    files_as_promised();
     compiled_files_carry();
     timed_runs_end_in_time();
 }

@@ -2,25 +2,22 @@
 
 ghost use Rattle.std.specs.Prelude.{◌≡◌, ◌≢◌, ◌≤◌, ◌++◌, ℕ, List, map, None, Some, true, false, IfOk, IfErr, ◌⊎◌};
 ghost use Rattle.chp_edge.specs.Faults.{Rose, IsReadFault};
-ghost use Rattle.command_answers.specs.Answers.{Answer, given_by, status_of};
-ghost use Rattle.command_words.specs.CommandWords.{IsWithinBounds, asked, asked_by};
+ghost use Rattle.command_answers.specs.declared.answer.Ending.{Ending};
+ghost use Rattle.command_answers.specs.Answers.{Answer, given_by, status_of, status_with};
+ghost use Rattle.command_words.specs.CommandWords.{Asked, IsWithinBounds, asked, asked_by};
 ghost use Rattle.chp_cli.specs.Commands.{IsAnswer, files_of, order_of};
 ghost use Rattle.chp_cli.specs.Ends.{AnswersTo, Ends, IsFile, asked_order};
 ghost use Rattle.command_steps.specs.Orders.{KeepsOrders, order_state, played_by};
-ghost use Rattle.command_steps.specs.References.{IsReferredTo};
 ghost use Rattle.command_answers.specs.Replies.{Stops, end_line, end_status};
 ghost use Rattle.program_commands.specs.RepliesTold.{told_reply};
-ghost use Rattle.chp_cli.specs.Simulated.{AsksForCompiled, IsCalm};
-ghost use Rattle.command_words.specs.SimulateWords.{AskedRun, AskedTiming};
+ghost use Rattle.chp_cli.specs.Serving.{EndsServed, IsServed};
+ghost use Rattle.chp_cli.specs.CompiledRuns.{IsCalm, IsComparedWith, RunsCompiled};
 ghost use Rattle.command_answers.specs.Statuses.{is_whole};
-ghost use Rattle.chp_cli.specs.TimedFiles.{AsksForTimed, IsTimedCalm};
-ghost use Rattle.chp_cli.specs.TracedFiles.{AsksForTrace, IsCalmTrace};
-ghost use Rattle.command_words.specs.WavesWords.{AskedWaves};
 ghost use Rattle.width_check.specs.Processes.{TypedProgram};
 
 use crate::laws::{
     carried_runs_agree, carried_runs_are_safe, carried_runs_have_one_length, compiled_files_carry,
-    compiled_runs_rest, one_answer, simulated_right, timed_right, timed_runs_agree,
+    compiled_runs_rest, one_answer, serves_all, simulated_right, timed_right, timed_runs_agree,
     timed_runs_are_safe, traced_right, traced_runs_are_safe,
 };
 use chp_edge::{Failed, Shelf, Sink};
@@ -160,6 +157,12 @@ pub fn chp_main<S: Shelf, K: Sink, W: Sink>(
         (map (λ order. order_state (name order) (log order) (seeded order)) players.new.orders.items)) answer
         → ¬ Rose (S.faults shelf.old) (S.faults shelf.new) → ¬ Rose (K.faults out.old) (K.faults out.new) →
         (result ≡ status_of answer) ⊎ (result ≡ Status.NoMemory) }
+    ensures served { (command : Asked) → S.tells shelf.old ≡ true → asked_by words.now ≡ Some command →
+        IsServed command (given_by (S.tells shelf.old) (S.holds shelf.old)) (played_by
+        (map (λ order. order_state (name order) (log order) (seeded order)) players.old.orders.items)
+        (map (λ order. order_state (name order) (log order) (seeded order)) players.new.orders.items))
+        → ¬ Rose (S.faults shelf.old) (S.faults shelf.new) → ¬ Rose (K.faults out.old) (K.faults out.new) →
+        EndsServed command result ⊎ (result ≡ Status.NoMemory) }
     ensures usage { result ≡ Status.Usage → asked_by words.now ≡ None }
     ensures read { result ≡ Status.Read → (name : List ℕ) × IsFile (asked_by words.now) name
         × IsReadFault (S.faults shelf.old) (S.faults shelf.new) (S.tells shelf.old) (S.holds shelf.old name) }
@@ -170,38 +173,20 @@ pub fn chp_main<S: Shelf, K: Sink, W: Sink>(
         players.old.orders.items in
         KeepsOrders (asked_order (asked_by words.now) before) (played_by before
         (map (λ order. order_state (name order) (log order) (seeded order)) players.new.orders.items)) }
-    ensures calm { (s : AskedRun) (p : TypedProgram) → S.tells shelf.old ≡ true →
-        AsksForCompiled (asked_by words.now) (given_by (S.tells shelf.old) (S.holds shelf.old)) s p →
+    ensures calm { (p : TypedProgram) → S.tells shelf.old ≡ true →
+        RunsCompiled (asked_by words.now) (given_by (S.tells shelf.old) (S.holds shelf.old)) p →
         result ≢ Status.Hazard }
-    ensures agreed { (s : AskedRun) (p : TypedProgram) → S.tells shelf.old ≡ true →
-        AsksForCompiled (asked_by words.now) (given_by (S.tells shelf.old) (S.holds shelf.old)) s p →
-        IsReferredTo (given_by (S.tells shelf.old) (S.holds shelf.old)) s.against p → result ≢ Status.Differs }
-    ensures timed_calm { (t : AskedTiming) (p : TypedProgram) → S.tells shelf.old ≡ true →
-        AsksForTimed (asked_by words.now) (given_by (S.tells shelf.old) (S.holds shelf.old)) t p →
-        result ≢ Status.Hazard }
-    ensures timed_agreed { (t : AskedTiming) (p : TypedProgram) → S.tells shelf.old ≡ true →
-        AsksForTimed (asked_by words.now) (given_by (S.tells shelf.old) (S.holds shelf.old)) t p →
-        IsReferredTo (given_by (S.tells shelf.old) (S.holds shelf.old)) t.against p → result ≢ Status.Differs }
-    ensures steady { (s : AskedRun) (p : TypedProgram) → S.tells shelf.old ≡ true →
-        AsksForCompiled (asked_by words.now) (given_by (S.tells shelf.old) (S.holds shelf.old)) s p →
-        result ≡ Status.Done → K.tells out.old ≡ true → (report : List ℕ)
-        × (K.written out.new ≡ K.written out.old ++ report)
-        × IsCalm s (given_by (S.tells shelf.old) (S.holds shelf.old)) (played_by
+    ensures agreed { (p : TypedProgram) → S.tells shelf.old ≡ true →
+        RunsCompiled (asked_by words.now) (given_by (S.tells shelf.old) (S.holds shelf.old)) p →
+        IsComparedWith (asked_by words.now) (given_by (S.tells shelf.old) (S.holds shelf.old)) p →
+        result ≢ Status.Differs }
+    ensures steady { (p : TypedProgram) → S.tells shelf.old ≡ true →
+        RunsCompiled (asked_by words.now) (given_by (S.tells shelf.old) (S.holds shelf.old)) p →
+        is_whole result ≡ true → K.tells out.old ≡ true → (end : Ending) × (text : List ℕ)
+        × (result ≡ status_with end) × (K.written out.new ≡ K.written out.old ++ text)
+        × IsCalm (asked_by words.now) (given_by (S.tells shelf.old) (S.holds shelf.old)) (played_by
         (map (λ order. order_state (name order) (log order) (seeded order)) players.old.orders.items)
-        (map (λ order. order_state (name order) (log order) (seeded order)) players.new.orders.items)) report }
-    ensures timed_steady { (t : AskedTiming) (p : TypedProgram) → S.tells shelf.old ≡ true →
-        AsksForTimed (asked_by words.now) (given_by (S.tells shelf.old) (S.holds shelf.old)) t p →
-        result ≡ Status.Done → K.tells out.old ≡ true → (report : List ℕ)
-        × (K.written out.new ≡ K.written out.old ++ report)
-        × IsTimedCalm t (given_by (S.tells shelf.old) (S.holds shelf.old)) report }
-    ensures wave_calm { (w : AskedWaves) (p : TypedProgram) → S.tells shelf.old ≡ true →
-        AsksForTrace (asked_by words.now) (given_by (S.tells shelf.old) (S.holds shelf.old)) w p →
-        result ≢ Status.Hazard }
-    ensures wave_steady { (w : AskedWaves) (p : TypedProgram) → S.tells shelf.old ≡ true →
-        AsksForTrace (asked_by words.now) (given_by (S.tells shelf.old) (S.holds shelf.old)) w p →
-        result ≡ Status.Done → K.tells out.old ≡ true → (text : List ℕ)
-        × (K.written out.new ≡ K.written out.old ++ text)
-        × IsCalmTrace w (given_by (S.tells shelf.old) (S.holds shelf.old)) text }
+        (map (λ order. order_state (name order) (log order) (seeded order)) players.new.orders.items)) end text }
     ensures shelf_same { S.tells shelf.new ≡ S.tells shelf.old }
     ensures shelf_kept { S.holds shelf.new ≡ S.holds shelf.old }
     ensures shelf_faults { S.faults shelf.old ≤ S.faults shelf.new }
@@ -211,6 +196,7 @@ pub fn chp_main<S: Shelf, K: Sink, W: Sink>(
     ensures say_faults { W.faults say.old ≤ W.faults say.new }
 {
     one_answer();
+    serves_all();
     simulated_right();
     compiled_files_carry();
     carried_runs_are_safe();

@@ -12,7 +12,7 @@ same_channels true p carries = carries.channels
 
 pub returns : goal.returns
 returns c = λ s given played p h.
-    let is = h.holds.compiled in record {
+    let is = c.files_as_promised.ensures given s.net p h.holds in record {
       rules = h.holds.text;
       net = net_for h.holds.reset p;
       told = h.told;

@@ -11,11 +11,12 @@ either_way false p carries = inl (refl, carries)
 either_way true p carries = inr carries
 
 pub returns : goal.returns
-returns c = λ given file p h. record {
-  rules = h.text;
-  net = net_for h.reset p;
-  held = h.held;
-  kept = h.compiled.kept;
-  spelled = h.compiled.spells;
-  carries = either_way h.reset p h.compiled.carries;
-}
+returns c = λ given file p h.
+    let is = c.files_as_promised.ensures given file p h in record {
+      rules = h.text;
+      net = net_for h.reset p;
+      held = h.held;
+      kept = is.kept;
+      spelled = is.spells;
+      carries = either_way h.reset p is.carries;
+    }

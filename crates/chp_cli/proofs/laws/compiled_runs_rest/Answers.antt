@@ -3,12 +3,12 @@ use Rattle.chp_cli.proofs.laws.compiled_runs_rest.Goals as goal
 
 pub returns-clause-simulated : goal.returns-clause-simulated
 returns-clause-simulated c =
-    simulated_rests c.power_is_powered.ensures c.safe_moves_bring_no_hazard.ensures c.compiled_files_carry.ensures
+    simulated_rests c.power_is_powered.ensures c.safe_moves_bring_no_hazard.ensures c.files_as_promised.ensures c.compiled_files_carry.ensures
 
 pub returns-clause-timed : goal.returns-clause-timed
 returns-clause-timed c =
-    timed_rests c.power_is_powered.ensures c.safe_moves_bring_no_hazard.ensures c.compiled_files_carry.ensures c.timed_runs_end_in_time.ensures
+    timed_rests c.power_is_powered.ensures c.safe_moves_bring_no_hazard.ensures c.files_as_promised.ensures c.compiled_files_carry.ensures c.timed_runs_end_in_time.ensures
 
 pub returns-clause-traced : goal.returns-clause-traced
 returns-clause-traced c =
-    traced_rests c.power_is_powered.ensures c.safe_moves_bring_no_hazard.ensures c.compiled_files_carry.ensures c.timed_runs_end_in_time.ensures
+    traced_rests c.power_is_powered.ensures c.safe_moves_bring_no_hazard.ensures c.files_as_promised.ensures c.compiled_files_carry.ensures c.timed_runs_end_in_time.ensures

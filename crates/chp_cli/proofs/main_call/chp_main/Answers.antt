@@ -1,9 +1,9 @@
 use Rattle.std.proofs.Common.{◌∙◌, ◌++◌, ap, sym, append-nil}
-use Rattle.command_words.specs.CommandWords.{simulates, times, traces}
+use Rattle.command_words.specs.CommandWords.{asked_by}
 use Rattle.command_answers.specs.Replies.{end_line}
 use Rattle.command_answers.specs.Statuses.{is_whole}
-use Rattle.chp_cli.proofs.Ending.{complete_of, read_of, silent_of, usage_of, write_of}
-use Rattle.chp_cli.proofs.Calm.{agreed_of, calm_of, done_of}
+use Rattle.chp_cli.proofs.Ending.{complete_of, read_of, served_of, silent_of, usage_of, write_of}
+use Rattle.chp_cli.proofs.Calm.{agreed_for, calm_for, steady_for}
 use Rattle.chp_cli.proofs.main_call.chp_main.Goals as goal
 
 pub returns-clause-ended : goal.returns-clause-ended
@@ -14,6 +14,10 @@ returns-clause-ended g c =
 pub returns-clause-complete : goal.returns-clause-complete
 returns-clause-complete g c = λ answer told are calm quiet.
     rw c.status.ensures (complete_of _ _ _ _ _ _ _ (λ command. c.one_answer.ensures command _ _ told) c.run-end.ensures.ended.1 answer are calm quiet)
+
+pub returns-clause-served : goal.returns-clause-served
+returns-clause-served g c = λ command told named served calm quiet.
+    rw c.status.ensures (served_of _ _ _ _ _ _ _ command named (c.serves_all.ensures command _ _ told served) c.run-end.ensures.ended.1 calm quiet)
 
 pub returns-clause-usage : goal.returns-clause-usage
 returns-clause-usage g c = λ is. usage_of _ _ _ _ _ _ _ c.run-end.ensures.ended.1 (sym c.status.ensures ∙ is)
@@ -31,62 +35,35 @@ returns-clause-silent g c = λ not cut told.
     e.2 told ∙ (ap (λ xs. g.K.Sink.written c.args.out.now ++ xs) none ∙ append-nil _)
 
 pub returns-clause-calm : goal.returns-clause-calm
-returns-clause-calm g c = λ s p told asks is.
-    let carries = c.compiled_files_carry.ensures _ s.net p asks.holds in
-    calm_of _ _ _ _ _ _ _ (simulates s) asks.is
-    (λ end text are. c.carried_runs_are_safe.ensures s _ _ p carries end text (c.simulated_right.ensures s _ _ told end text are)) c.run-end.ensures.ended.1
-    (sym c.status.ensures ∙ is)
+returns-clause-calm g c = λ p told runs is.
+    calm_for _ _ p (λ file. c.compiled_files_carry.ensures _ file p)
+    (λ s carries end text are. c.carried_runs_are_safe.ensures s _ _ p carries end text (c.simulated_right.ensures s _ _ told end text are))
+    (λ t carries end text are. c.timed_runs_are_safe.ensures t _ p carries end text (c.timed_right.ensures t _ told end text are))
+    (λ w carries end text are. c.traced_runs_are_safe.ensures w _ p carries end text (c.traced_right.ensures w _ told end text are))
+    _ _ _ _ (asked_by c.args.words.now) runs c.run-end.ensures.ended.1 (sym c.status.ensures ∙ is)
 
 pub returns-clause-agreed : goal.returns-clause-agreed
-returns-clause-agreed g c = λ s p told asks refers is.
-    let carries = c.compiled_files_carry.ensures _ s.net p asks.holds in
-    agreed_of _ _ _ _ _ _ _ (simulates s) asks.is
-    (λ end text are. c.carried_runs_agree.ensures s _ _ p told carries refers end text (c.simulated_right.ensures s _ _ told end text are))
-    c.run-end.ensures.ended.1 (sym c.status.ensures ∙ is)
-
-pub returns-clause-timed_calm : goal.returns-clause-timed_calm
-returns-clause-timed_calm g c = λ t p told asks is.
-    let carries = c.compiled_files_carry.ensures _ t.net p asks.holds in
-    calm_of _ _ _ _ _ _ _ (times t) asks.is
-    (λ end text are. c.timed_runs_are_safe.ensures t _ p carries end text (c.timed_right.ensures t _ told end text are)) c.run-end.ensures.ended.1
-    (sym c.status.ensures ∙ is)
-
-pub returns-clause-timed_agreed : goal.returns-clause-timed_agreed
-returns-clause-timed_agreed g c = λ t p told asks refers is.
-    let carries = c.compiled_files_carry.ensures _ t.net p asks.holds in
-    agreed_of _ _ _ _ _ _ _ (times t) asks.is
-    (λ end text are. c.timed_runs_agree.ensures t _ p told carries refers end text (c.timed_right.ensures t _ told end text are))
-    c.run-end.ensures.ended.1 (sym c.status.ensures ∙ is)
+returns-clause-agreed g c = λ p told runs compared is.
+    agreed_for _ _ p (λ file. c.compiled_files_carry.ensures _ file p)
+    (λ s carries refers end text are. c.carried_runs_agree.ensures s _ _ p told carries refers end text (c.simulated_right.ensures s _ _ told end text are))
+    (λ t carries refers end text are. c.timed_runs_agree.ensures t _ p told carries refers end text (c.timed_right.ensures t _ told end text are))
+    _ _ _ _ (asked_by c.args.words.now) runs compared c.run-end.ensures.ended.1 (sym c.status.ensures ∙ is)
 
 pub returns-clause-steady : goal.returns-clause-steady
-returns-clause-steady g c = λ s p told asks is writes.
+returns-clause-steady g c = λ p told runs whole writes.
     let e = c.run-end.ensures.ended in
-    let carries = c.compiled_files_carry.ensures _ s.net p asks.holds in
-    let run = c.simulated_right.ensures s _ _ told _ _ (done_of _ _ _ _ _ _ _ (simulates s) asks.is e.1 (sym c.status.ensures ∙ is)) in (
-      e.0,
-      e.2 writes,
-      record {
-        run = run;
-        one_length = c.carried_runs_have_one_length.ensures s _ _ p carries _ run;
-        rests = λ q holds. c.compiled_runs_rest.ensures.simulated s _ _ q holds _ run;
-      },
-    )
-
-pub returns-clause-timed_steady : goal.returns-clause-timed_steady
-returns-clause-timed_steady g c = λ t p told asks is writes.
-    let e = c.run-end.ensures.ended in
-    let run = c.timed_right.ensures t _ told _ _ (done_of _ _ _ _ _ _ _ (times t) asks.is e.1 (sym c.status.ensures ∙ is)) in
-    (e.0, e.2 writes, record { run = run; rests = λ q holds. c.compiled_runs_rest.ensures.timed t _ q holds _ run })
-
-pub returns-clause-wave_calm : goal.returns-clause-wave_calm
-returns-clause-wave_calm g c = λ w p told asks is.
-    let carries = c.compiled_files_carry.ensures _ w.net p asks.holds in
-    calm_of _ _ _ _ _ _ _ (traces w) asks.is
-    (λ end text are. c.traced_runs_are_safe.ensures w _ p carries end text (c.traced_right.ensures w _ told end text are)) c.run-end.ensures.ended.1
-    (sym c.status.ensures ∙ is)
-
-pub returns-clause-wave_steady : goal.returns-clause-wave_steady
-returns-clause-wave_steady g c = λ w p told asks is writes.
-    let e = c.run-end.ensures.ended in
-    let run = c.traced_right.ensures w _ told _ _ (done_of _ _ _ _ _ _ _ (traces w) asks.is e.1 (sym c.status.ensures ∙ is)) in
-    (e.0, e.2 writes, record { run = run; rests = λ q holds. c.compiled_runs_rest.ensures.traced w _ q holds _ run })
+    let (end, same, is) = steady_for _ _ p (λ file. c.compiled_files_carry.ensures _ file p)
+    (λ s carries end text are.
+    let run = c.simulated_right.ensures s _ _ told end text are in record {
+      run = run;
+      one_length = c.carried_runs_have_one_length.ensures s _ _ p carries _ run;
+      rests = λ q holds. c.compiled_runs_rest.ensures.simulated s _ _ q holds _ run;
+    })
+    (λ t end text are.
+    let run = c.timed_right.ensures t _ told end text are in
+    record { run = run; rests = λ q holds. c.compiled_runs_rest.ensures.timed t _ q holds _ run })
+    (λ w end text are.
+    let run = c.traced_right.ensures w _ told end text are in
+    record { run = run; rests = λ q holds. c.compiled_runs_rest.ensures.traced w _ q holds _ run })
+    _ _ _ _ (asked_by c.args.words.now) runs e.1 (ap is_whole (sym c.status.ensures) ∙ whole) in
+    (end, e.0, c.status.ensures ∙ same, e.2 writes, is)

@@ -1,0 +1,50 @@
+-- What is premised of a file that `compile` wrote is enough for what is promised of it.
+use Rattle.std.proofs.Common.{ℕ, ◌≤◌, Bool, true, false, List, refl, sym, subst}
+use Rattle.chp_syntax.specs.Shape.{IsShaped}
+use Rattle.chp_syntax.specs.Trees.{ProgramTree}
+use Rattle.handshake_expand.specs.Layout.{nodes_of}
+use Rattle.net_compose.specs.Carries.{ResetCarries}
+use Rattle.net_compose.specs.Points.{IsTranslated, TranslationCarries}
+use Rattle.net_compose.specs.Progress.{ResetProgresses, TranslationProgresses}
+use Rattle.net_compose.specs.Translation.{translation}
+use Rattle.net_compose.proofs.NamesFree.{names_free}
+use Rattle.prs_core.specs.Nets.{NetValue, IsNet}
+use Rattle.prs_file.specs.Spelling.{NetText}
+use Rattle.reset_net.proofs.Whole.{reset_is_net}
+use Rattle.width_check.specs.Accepted.{IsAccepted}
+use Rattle.width_check.specs.Faults.{naming_faults, HasNone}
+use Rattle.width_check.specs.Form.{channels_of, vars_of, process_form, typed_form}
+use Rattle.width_check.specs.Processes.{TypedProgram}
+use Rattle.width_check.specs.Typing.{IsTyped}
+use Rattle.command_answers.specs.Answers.{Given}
+use Rattle.program_commands.specs.Compiling.{IsCompiled, net_for}
+use Rattle.chp_cli.specs.Simulated.{HoldsCompiled}
+
+-- a file that holds what `compile` writes is as is promised of what it writes
+abbrev pub AreCompiled : Type 0
+AreCompiled = (given : Given) (file : List ℕ) (p : TypedProgram) (h : HoldsCompiled given file p) → IsCompiled h.reset p h.text
+
+module _ (is_typed : (t : ProgramTree) → IsShaped t → HasNone t naming_faults → IsTyped (channels_of t.decls) (vars_of t.decls) (process_form t.decls t.body))
+    (whole : (p : TypedProgram) → IsTyped p.channels p.vars p.body → nodes_of p ≤ 65536 → IsNet (translation p))
+    (carry : TranslationCarries) (progress : TranslationProgresses) (carry_reset : (net : NetValue) (p : TypedProgram) → ResetCarries net p)
+    (progress_reset : (net : NetValue) (p : TypedProgram) → ResetProgresses net p) where
+  form_translated : (t : ProgramTree) → IsShaped t → IsAccepted t → IsTranslated (typed_form t)
+  form_translated t shaped accepted = record { typed = is_typed t shaped accepted.named; sharing = accepted.sharing }
+
+  promised : (reset : Bool) (p : TypedProgram) (text : List ℕ) → IsTranslated p → nodes_of p ≤ 65536 → NetText text (net_for reset p) → IsCompiled reset p text
+  promised false p text is few spells =
+      let net = whole p is.typed few in
+      record { plain = net; kept = net; spells = spells; carries = carry p is; progresses = progress p is }
+  promised true p text is few spells =
+      let net = whole p is.typed few in
+      record {
+        plain = net;
+        kept = reset_is_net (translation p) net refl (names_free p);
+        spells = spells;
+        carries = carry_reset (translation p) p (carry p is) net refl net.most (names_free p);
+        progresses = progress_reset (translation p) p (progress p is) net refl (names_free p);
+      }
+
+  pub are_compiled : AreCompiled
+  are_compiled given file p h =
+      promised h.reset p h.text (subst IsTranslated (sym h.form) (form_translated h.program h.shaped h.accepted)) h.few h.spells
