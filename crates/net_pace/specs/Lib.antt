@@ -1,2 +1,1 @@
-pub mod Sweeps
 pub mod Pace
