@@ -1,9 +1,9 @@
 -- From power-up two sweeps bring down reset: in the first each node goes to its first value, in the second reset falls.
 --
 -- ns, xs: moves; st: a state in which reset is high; k: a node.
-use Rattle.std.proofs.Common.{◌≡◌, ◌≢◌, ◌⊎◌, ℕ, zero, suc, Bool, true, false, None, List, [], ◌∷◌, ◌++◌, length, refl, sym, ap, ◌∙◌, subst, inl, inr}
+use Rattle.std.proofs.Common.{◌≡◌, ◌≢◌, ◌⊎◌, ℕ, zero, suc, ◌<◌, ◌≤◌, ◌+◌, Bool, true, false, None, List, [], ◌∷◌, ◌++◌, length, refl, sym, ap, ◌∙◌, subst, inl, inr, arith}
 use Rattle.std.specs.Prelude.{◌==◌, ◌&&◌, not, Some, if◌then◌else◌}
-use Rattle.std.proofs.lemmas.Bool.{cases_eq, eq-eqb, ne_eqb, eqb-true, both_ways, and_parts, or_left}
+use Rattle.std.proofs.lemmas.Bool.{cases_eq, cases_lt, eq-eqb, ne_eqb, eqb-true, both_ways, and_parts, or_left}
 use Rattle.std.proofs.lemmas.List.{get_or-set_same, append_assoc}
 use Rattle.prs_core.specs.Nets.{NetValue, IsNet, first_at}
 use Rattle.prs_core.specs.Moves.{high, fired, rule_enabled}
@@ -15,7 +15,7 @@ use Rattle.env_script.specs.Sweeps.{IsSweep, Sweeps}
 use Rattle.env_script.proofs.Commuting.{kept}
 use Rattle.env_script.proofs.Overtakes.{Among, among, after_on, run_parts}
 use Rattle.reset_runs.specs.Power.{with_low, IsBefore, AfterReset, EachFromPower}
-use Rattle.reset_runs.proofs.Driving.{driven, differs, strays, rule_high}
+use Rattle.reset_runs.proofs.Driving.{driven, differs, strays, undriven_past, rule_high}
 use Rattle.reset_runs.proofs.High.{IsHigh, high_at_first, stray_not_fall, goes_high, stray_next}
 use Rattle.reset_runs.proofs.Fallen.{count_after, enabled_low, after_low}
 use Rattle.net_pace.proofs.SweepLemmas.{among_first, among_last, sweeps_behind}
@@ -39,6 +39,10 @@ turned true true e = absurd (cc e)
 turned true false e = refl
 turned false true e = refl
 turned false false e = absurd (cc e)
+
+neither : (b : Bool) → (b && false) ≡ false
+neither true = refl
+neither false = refl
 
 module _ (net : NetValue) (is : IsNet net) (script : List OfferValue) where
   -- only nodes that stray move while reset is high
@@ -81,7 +85,15 @@ module _ (net : NetValue) (is : IsNet net) (script : List OfferValue) where
       (stays_first ns (moved (reset_of net) st n) (next_high st h n (λ e. off (inl e)) run.0) (λ i. off (inr i)) run.1 n there)
     where
       there : Still (moved (reset_of net) st n) n
-      there = ?
+      there = by (cases_lt n (length net.first)) (and_parts _ _ (moves_stray st h n (λ e. off (inl e)) run.0))
+        where
+          by : (n < length net.first) ⊎ (length net.first ≤ n) → (driven net n ≡ true) × (differs (high st.values n) (first_at net n) ≡ true)
+              → Still (moved (reset_of net) st n) n
+          by (inl within) on =
+              ap (λ b. driven net n && differs b (first_at net n))
+              (get_or-set_same st.values n (not (high st.values n)) false (let c = h.count in omega (arith, within, c)))
+              ∙ (ap (λ b. driven net n && b) (turned (high st.values n) (first_at net n) on.1) ∙ neither (driven net n))
+          by (inr past) on = absurd (both_ways (driven net n) (undriven_past net is n past) on.0)
   goes_first (n ∷ ns) st h off run k (inr i) =
       goes_first ns (moved (reset_of net) st n) (next_high st h n (λ e. off (inl e)) run.0) (λ i. off (inr i)) run.1 k i
 
@@ -126,26 +138,26 @@ module _ (net : NetValue) (is : IsNet net) (script : List OfferValue) where
 -- where reset falls the moves before it are cut off
 cut : (r : ℕ) (xs ys : List ℕ) → Among xs r → until_reset (Some r) (xs ++ ys) ≡ until_reset (Some r) xs
 cut r [] ys i = absurd i
-cut r (x ∷ xs) ys i = by (x == r) refl i
+cut r (x ∷ xs) ys i = by (x == r) refl i (cut r xs ys)
   where
-    by : (b : Bool) → (x == r) ≡ b → Among (x ∷ xs) r
+    by : (b : Bool) → (x == r) ≡ b → Among (x ∷ xs) r → (Among xs r → until_reset (Some r) (xs ++ ys) ≡ until_reset (Some r) xs)
         → (if b then [] else x ∷ until_reset (Some r) (xs ++ ys)) ≡ (if b then [] else x ∷ until_reset (Some r) xs)
-    by true e j = refl
-    by false e (inl same) = absurd (both_ways _ e (eq-eqb x r same))
-    by false e (inr j) = ap (λ l. x ∷ l) (cut r xs ys j)
+    by true e j later = refl
+    by false e (inl same) later = absurd (both_ways (x == r) e (eq-eqb x r same))
+    by false e (inr j) later = ap (λ l. x ∷ l) (later j)
 
 not_whole : (r : ℕ) (xs : List ℕ) → Among xs r → until_reset (Some r) xs ≢ xs
 not_whole r [] i = absurd i
-not_whole r (x ∷ xs) i = by (x == r) refl i
+not_whole r (x ∷ xs) i = by (x == r) refl i (not_whole r xs)
   where
-    by : (b : Bool) → (x == r) ≡ b → Among (x ∷ xs) r → (if b then [] else x ∷ until_reset (Some r) xs) ≢ x ∷ xs
-    by true e j same = absurd (cc same)
-    by false e (inl here) same = both_ways _ e (eq-eqb x r here)
-    by false e (inr j) same = let z : until_reset (Some r) xs ≡ xs = cc same in not_whole r xs j z
+    by : (b : Bool) → (x == r) ≡ b → Among (x ∷ xs) r → (Among xs r → until_reset (Some r) xs ≢ xs) → (if b then [] else x ∷ until_reset (Some r) xs) ≢ x ∷ xs
+    by true e j later same = absurd (cc same)
+    by false e (inl here) later same = absurd (both_ways (x == r) e (eq-eqb x r here))
+    by false e (inr j) later same = let z : until_reset (Some r) xs ≡ xs = cc same in later j z
 
-cancelled : (as bs cs : List ℕ) → as ++ bs ≡ as ++ cs → bs ≡ cs
-cancelled [] bs cs e = e
-cancelled (a ∷ as) bs cs e = let z : as ++ bs ≡ as ++ cs = cc e in cancelled as bs cs z
+cancelled : (xs ys zs : List ℕ) → xs ++ ys ≡ xs ++ zs → ys ≡ zs
+cancelled [] ys zs e = e
+cancelled (x ∷ xs) ys zs e = let z : xs ++ ys ≡ xs ++ zs = cc e in cancelled xs ys zs z
 
 module _ (net : NetValue) (is : IsNet net) (plain : net.reset ≡ None) (script : List OfferValue) where
   -- sweeps when reset has fallen are those of the net without it

@@ -15,7 +15,7 @@ use Rattle.delay_script.specs.TimedRuns.{moved_nodes, ComeNext, IsTimedRun}
 use Rattle.delay_script.proofs.Sinces.{is_enabled}
 use Rattle.delay_script.proofs.Coming.{nodes_more}
 use Rattle.delay_script.proofs.TimedSweeps.{timed_sweeps}
-use Rattle.net_pace.specs.Pace.{HasLasted}
+use Rattle.net_pace.specs.Lasting.{HasLasted}
 
 pub among_first : (xs ys : List ℕ) (x : ℕ) → Among xs x → Among (xs ++ ys) x
 among_first [] ys x i = absurd i
