@@ -1,2 +1,3 @@
-pub mod Lasting
 pub mod HalvedRounds
+pub mod Lasting
+pub mod Pace
