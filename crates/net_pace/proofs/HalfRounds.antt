@@ -95,9 +95,12 @@ half_done N M (p ∷ ps) {c = c} {d = d} n once each = by (matched N M n can.1) 
           there = z.there;
           near = z.near;
           bs = p ∷ z.bs;
-          bs_once = (λ b i.
-              let o = z.bs_of b i in
-              goes_apart c.term p o.0 p b (on_place can) (on_place (each o.0 (inr o.1))) (once.0 o.0 o.1) (inl refl) o.2, z.bs_once);
+          bs_once = (
+            λ b i.
+                let o = z.bs_of b i in
+                goes_apart c.term p o.0 p b (on_place can) (on_place (each o.0 (inr o.1))) (once.0 o.0 o.1) (inl refl) o.2,
+            z.bs_once,
+          );
           bs_can = bs_can;
           bs_of = bs_of;
           is = z.is ∙ ap (λ x. fold taken x z.bs) (sym (taken_is n.new_fits s));
@@ -127,9 +130,12 @@ half_done N M (p ∷ ps) {c = c} {d = d} n once each = by (matched N M n can.1) 
           there = z.there;
           near = z.near;
           bs = inside p ∷ z.bs;
-          bs_once = (λ b i.
-              let o = z.bs_of b i in
-              goes_apart c.term p o.0 (inside p) b (on_place can) (on_place (each o.0 (inr o.1))) (once.0 o.0 o.1) (inr refl) o.2, z.bs_once);
+          bs_once = (
+            λ b i.
+                let o = z.bs_of b i in
+                goes_apart c.term p o.0 (inside p) b (on_place can) (on_place (each o.0 (inr o.1))) (once.0 o.0 o.1) (inr refl) o.2,
+            z.bs_once,
+          );
           bs_can = bs_can;
           bs_of = bs_of;
           is = z.is ∙ ap (λ x. fold taken x z.bs) (sym (taken_is n.new_fits s));
