@@ -4,14 +4,13 @@
 use Rattle.std.proofs.Common.{◌≡◌, ◌≢◌, ◌⊎◌, ℕ, zero, suc, Bool, true, false, List, refl, sym, ap, ◌∙◌, subst, inl, inr}
 use Rattle.std.specs.Prelude.{if◌then◌else◌, ◌&&◌, slice_index, Some}
 use Rattle.chp_base.specs.declared.span.Span.{Span}
-use Rattle.width_check.specs.Processes.{Formula, Process, assigning, Processes, no_members, and_member}
-use Rattle.width_check.specs.Values.{value}
+use Rattle.width_check.specs.Processes.{Formula, Process, assigning, no_members, and_member}
 use Rattle.width_check.specs.Sharing.{occurrences}
-use Rattle.chp_meaning.specs.Terms.{Term, Terms, finished, active, in_sequence, in_parallel, no_branches, and_branch, is_finished, all_finished, together, opened, followed, Place, here, in_first, in_branch, statement_at, branch_at, with_left, with_branch}
+use Rattle.chp_meaning.specs.Terms.{Term, Terms, finished, active, in_sequence, in_parallel, no_branches, and_branch, is_finished, all_finished, together, Place, here, in_first, in_branch, statement_at, branch_at, with_left, with_branch}
 use Rattle.chp_meaning.specs.Halves.{read_through}
-use Rattle.chp_meaning.proofs.Places.{In, followed_on, together_on}
+use Rattle.chp_meaning.proofs.Places.{followed_on, together_on}
 use Rattle.chp_meaning.proofs.Moves.{Agree, value_same}
-use Rattle.chp_meaning.proofs.Alike.{Same, Alike, both_finished, both_active, at_first, at_second, both_in_sequence, both_in_parallel, EachAlike, alike_none, alike_more, followed_alike, OthersKept, Pair, pair_same, pair_first, pair_second, behind}
+use Rattle.chp_meaning.proofs.Alike.{Alike, both_finished, both_active, at_first, at_second, both_in_sequence, both_in_parallel, EachAlike, alike_none, alike_more, followed_alike, OthersKept, Pair, pair_same, pair_first, pair_second, behind}
 
 abbrev pub inside : Place → Place
 inside here = in_first here

@@ -1,13 +1,13 @@
 -- Two rounds of a program in halves have passed what one round of the program has.
 --
 -- c, d: a configuration of the program and of its halves, near to each other; n: that they are; ps, rs: places of the program; bs: places in halves.
-use Rattle.std.proofs.Common.{◌≡◌, ◌≢◌, ◌⊎◌, ℕ, zero, suc, ◌+◌, ◌*◌, List, [], ◌∷◌, ◌++◌, length, refl, sym, ap, ◌∙◌, subst, inl, inr, arith}
+use Rattle.std.proofs.Common.{◌≡◌, ◌≢◌, ℕ, zero, suc, ◌+◌, ◌*◌, List, [], ◌∷◌, ◌++◌, length, refl, sym, ap, ◌∙◌, subst, inl, inr, arith}
 use Rattle.std.specs.Prelude.{fold}
 use Rattle.env_script.specs.Runs.{history_at}
 use Rattle.chp_meaning.specs.Terms.{Place}
-use Rattle.chp_meaning.specs.Steps.{Configuration, Step, Leads, no_step, start_of}
+use Rattle.chp_meaning.specs.Steps.{Configuration, Step, Leads, no_step}
 use Rattle.chp_meaning.specs.Rounds.{enabled_places, taken, round, rounds_from, rounds}
-use Rattle.chp_meaning.specs.Halves.{hidden_vars, halved_program}
+use Rattle.chp_meaning.specs.Halves.{hidden_vars}
 use Rattle.chp_meaning.proofs.Places.{In, Distinct}
 use Rattle.chp_meaning.proofs.Moves.{stands}
 use Rattle.chp_meaning.proofs.Meeting.{lead_on, leads_fit}

@@ -3,10 +3,10 @@
 -- ns, xs: moves; st: a state in which reset is high; k: a node.
 use Rattle.std.proofs.Common.{◌≡◌, ◌≢◌, ◌⊎◌, ℕ, zero, suc, ◌<◌, ◌≤◌, ◌+◌, Bool, true, false, None, List, [], ◌∷◌, ◌++◌, length, refl, sym, ap, ◌∙◌, subst, inl, inr, arith}
 use Rattle.std.specs.Prelude.{◌==◌, ◌&&◌, not, Some, if◌then◌else◌}
-use Rattle.std.proofs.lemmas.Bool.{cases_eq, cases_lt, eq-eqb, ne_eqb, eqb-true, both_ways, and_parts, or_left}
+use Rattle.std.proofs.lemmas.Bool.{cases_eq, cases_lt, eq-eqb, ne_eqb, both_ways, and_parts, or_left}
 use Rattle.std.proofs.lemmas.List.{get_or-set_same, append_assoc}
 use Rattle.prs_core.specs.Nets.{NetValue, IsNet, first_at}
-use Rattle.prs_core.specs.Moves.{high, fired, rule_enabled}
+use Rattle.prs_core.specs.Moves.{high}
 use Rattle.reset_net.specs.Resets.{reset_of}
 use Rattle.env_script.specs.Scripts.{OfferValue}
 use Rattle.env_script.specs.Runs.{RunState, move_enabled, moved, after, IsRun, IsAtRest, IsPowered, begin_at, run_start, until_reset}
