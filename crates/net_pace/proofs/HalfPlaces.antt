@@ -162,7 +162,8 @@ end_alike (both_in_parallel a) = refl
 
 ends_alike : {N M : ℕ} {old new : List ℕ} {ts us : Terms} → EachAlike N M old new ts us → all_finished ts ≡ all_finished us
 ends_alike alike_none = refl
-ends_alike (alike_more {t = t} {u = u} {ts = ts} {us = us} a each) = ap (λ b. b && all_finished ts) (end_alike a) ∙ ap (λ b. is_finished u && b) (ends_alike each)
+ends_alike (alike_more {t = t} {u = u} {ts = ts} {us = us} a each) =
+    ap (λ b. b && all_finished ts) (end_alike a) ∙ ap (λ b. is_finished u && b) (ends_alike each)
 
 branches_alike : {N M : ℕ} {old new : List ℕ} {ts us : Terms} → EachAlike N M old new ts us → Alike N M old new (together ts) (together us)
 branches_alike {N = N} {M = M} {old = old} {new = new} {ts = ts} {us = us} a = by (all_finished ts) (all_finished us) (ends_alike a)

@@ -6,3 +6,4 @@ pub mod RoundParts
 pub mod HalfPlaces
 pub mod HalfSteps
 pub mod HalfRounds
+pub mod HalvedExamples

@@ -1,5 +1,5 @@
--- How soon a net passes what its program passes: by time, where no delay is longer than a bound, and from power-up under
--- reset.
+-- How soon a net passes what its program passes: by time, where no delay is longer than a bound, and from power-up
+-- under reset.
 use Rattle.std.specs.Prelude.{◌*◌, ℕ, suc, Bool, List}
 use Rattle.prs_core.specs.Nets.{NetValue}
 use Rattle.env_script.specs.Scripts.{OfferValue, IsScript}

@@ -27,9 +27,9 @@ pub fn halves_keep_rounds()
 {}
 
 /// Law: the net of each such program of at most 65,536 nodes keeps time. A sweep of a run is a stretch of it in which
-/// each node moves that was enabled when it began. Every run whose moves begin with 2 · (2 nodes + 1) sweeps for each of
-/// n rounds of the program has passed what these pass, under every script and in whatever order the nodes switch. (Where
-/// no assignment reads its own target, half as many are enough: `plain_nets_keep_time` of `net_compose`.)
+/// each node moves that was enabled when it began. Every run whose moves begin with 2 · (2 nodes + 1) sweeps for each
+/// of n rounds of the program has passed what these pass, under every script and in whatever order the nodes switch.
+/// (Where no assignment reads its own target, half as many are enough: `plain_nets_keep_time` of `net_compose`.)
 pub fn keeps_time()
     ensures { (p : TypedProgram) → IsTranslated p → nodes_of p ≤ 65536 →
         KeepsTime (translation p) p (2 * sweeps_for_round p) }
@@ -43,8 +43,8 @@ pub fn keeps_time()
 }
 
 /// Law: so it does by time. Each timed run, under every script, with delays of at most D, the environment's too, that
-/// goes on later than 2 · (2 nodes + 1) · D for each of n rounds of the program, or comes to rest before, has passed what
-/// these pass; where no assignment reads its own target, half of that is enough (`plain`); and `net`: any net that
+/// goes on later than 2 · (2 nodes + 1) · D for each of n rounds of the program, or comes to rest before, has passed
+/// what these pass; where no assignment reads its own target, half of that is enough (`plain`); and `net`: any net that
 /// carries a program and keeps time in so many sweeps keeps it in as many times D.
 pub fn keeps_timed_pace()
     ensures every { (p : TypedProgram) → IsTranslated p → nodes_of p ≤ 65536 →
