@@ -6,7 +6,7 @@ use Rattle.std.specs.Prelude.{fold}
 use Rattle.env_script.specs.Runs.{history_at}
 use Rattle.chp_meaning.specs.Terms.{Place}
 use Rattle.chp_meaning.specs.Steps.{Configuration, Step, Leads, no_step}
-use Rattle.chp_meaning.specs.Rounds.{enabled_places, taken, round, rounds_from, rounds}
+use Rattle.chp_meaning.specs.Rounds.{enabled_places, taken, round, rounds_from}
 use Rattle.chp_meaning.specs.Halves.{hidden_vars}
 use Rattle.chp_meaning.proofs.Places.{In, Distinct}
 use Rattle.chp_meaning.proofs.Moves.{stands}

@@ -2,12 +2,10 @@
 -- the third one.
 use Rattle.std.proofs.Common.{◌≡◌, ℕ, List, [], ◌∷◌, ◌++◌, refl}
 use Rattle.chp_base.specs.declared.span.Span.{Span}
-use Rattle.chp_base.specs.declared.channel.Channel.{Channel}
 use Rattle.chp_base.specs.declared.channel.Kind.TheVariants.{Out}
 use Rattle.chp_syntax.specs.declared.tree.Op.TheVariants as op
 use Rattle.env_script.specs.declared.script.Count.TheVariants.{All}
 use Rattle.env_script.specs.Scripts.{OfferValue, takes}
-use Rattle.width_check.specs.declared.typed.Var.{Var}
 use Rattle.width_check.specs.Processes.{constant, reading, chained, no_operations, and_operation, assigning, sending, in_turn, no_members, and_member, TypedProgram}
 use Rattle.chp_meaning.specs.Rounds.{rounds}
 use Rattle.chp_meaning.specs.Laws.{IsBehind}
