@@ -1,4 +1,9 @@
-pub mod Brought
-pub mod Overtakes
-pub mod SweepExamples
-pub mod PaceKept
+pub mod SweepLemmas
+pub mod TimedKept
+pub mod ResetSweeps
+pub mod ResetKept
+pub mod RoundParts
+pub mod HalfPlaces
+pub mod HalfSteps
+pub mod HalfRounds
+pub mod HalvedExamples

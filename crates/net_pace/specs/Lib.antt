@@ -1,2 +1,3 @@
-pub mod Sweeps
+pub mod HalvedRounds
+pub mod Lasting
 pub mod Pace

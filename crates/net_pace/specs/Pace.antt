@@ -1,38 +1,44 @@
--- How soon a net passes what its program passes, counted in sweeps. (To read it by, and proved nowhere: where each
--- enabled move is made within a delay, a sweep takes no longer; where each is made within so many moves, it has no
--- more.)
-use Rattle.std.specs.Prelude.{◌≡◌, ◌*◌, ℕ, List, ◌++◌}
-use Rattle.prs_core.specs.Nets.{NetValue, IsNet}
+-- How soon a net passes what its program passes: by time, where no delay is longer than a bound, and from power-up
+-- under reset.
+use Rattle.std.specs.Prelude.{◌*◌, ℕ, suc, Bool, List}
+use Rattle.prs_core.specs.Nets.{NetValue}
 use Rattle.env_script.specs.Scripts.{OfferValue, IsScript}
-use Rattle.env_script.specs.Runs.{RunState, history_at, begin_at, after, IsRun}
-use Rattle.net_pace.specs.Sweeps.{Sweeps, Layers}
+use Rattle.env_script.specs.Runs.{begin_at, after, IsRun, IsPowered}
+use Rattle.env_script.specs.Sweeps.{Sweeps}
+use Rattle.delay_script.specs.declared.noted.NotedMove.{NotedMove}
+use Rattle.delay_script.specs.DelayTables.{DelayTable, TakesAtMost}
+use Rattle.delay_script.specs.TimedRuns.{moved_nodes, IsTimedRun}
 use Rattle.width_check.specs.Processes.{TypedProgram}
-use Rattle.chp_meaning.specs.Steps.{Configuration}
 use Rattle.chp_meaning.specs.Rounds.{rounds}
-use Rattle.net_compose.specs.Carries.{Carries}
+use Rattle.net_compose.specs.Time.{HasPassed}
+use Rattle.net_pace.specs.Lasting.{HasLasted}
 
--- on each channel the circuit has passed all that the program has, and maybe more
-abbrev pub HasPassed : RunState → Configuration → Type 0
-HasPassed st c = (k : ℕ) → (rest : List ℕ) × (history_at st.histories k ≡ history_at c.histories k ++ rest)
-
--- Each run from the net's first values, under every script and in every order, whose moves begin with so many sweeps
--- for each of n rounds of the program, has passed what these pass.
-abbrev pub KeepsTime : NetValue → TypedProgram → (sweeps : ℕ) → Type 0
-KeepsTime net p sweeps =
+-- Each timed run from the net's first values, under every script, with delays of at most `most`, the environment's too,
+-- has passed what n rounds of the program pass, if it has lasted so many times `most` for each of them.
+abbrev pub TimedPace : NetValue → TypedProgram → (delays : ℕ) → Type 0
+TimedPace net p delays =
     (script : List OfferValue) → IsScript p.channels script
-    → (moves : List ℕ) → IsRun net script (begin_at net net.first) moves
-    → (n : ℕ) → Sweeps net script (begin_at net net.first) (n * sweeps) moves
-    → HasPassed (after net (begin_at net net.first) moves) (rounds p script n)
+    → (most : ℕ) (d : DelayTable) → TakesAtMost most d
+    → (ms : List NotedMove) → IsTimedRun d net script (begin_at net net.first) ms
+    → (n : ℕ) → HasLasted net script (begin_at net net.first) ms (n * delays * most)
+    → HasPassed (after net (begin_at net net.first) (moved_nodes ms)) (rounds p script n)
 
--- For each number of rounds there is one run of as many layers for each that has passed what they pass.
-abbrev pub HasLayers : NetValue → TypedProgram → (layers : ℕ) → Type 0
-HasLayers net p layers =
-    (script : List OfferValue) → IsScript p.channels script → (n : ℕ)
-    → (moves : List ℕ) × Layers net script (begin_at net net.first) (n * layers) moves
-    × HasPassed (after net (begin_at net net.first) moves) (rounds p script n)
+-- Each run from power-up, whose moves begin with two sweeps and so many for each of n rounds of the program, has passed
+-- what these pass. (In the first sweep each node goes to its first value, in the second reset falls.)
+abbrev pub KeepsTimeReset : NetValue → TypedProgram → (sweeps : ℕ) → Type 0
+KeepsTimeReset net p sweeps =
+    (script : List OfferValue) → IsScript p.channels script
+    → (values : List Bool) → IsPowered net values
+    → (moves : List ℕ) → IsRun net script (begin_at net values) moves
+    → (n : ℕ) → Sweeps net script (begin_at net values) (suc (suc (n * sweeps))) moves
+    → HasPassed (after net (begin_at net values) moves) (rounds p script n)
 
--- so the layers of one run for each number of rounds tell how many sweeps are enough in every run
-abbrev pub LayersTell : Type 0
-LayersTell =
-    (net : NetValue) (p : TypedProgram) (layers : ℕ) → IsNet net → Carries net p → HasLayers net p layers
-    → KeepsTime net p layers
+-- and so has each timed run from power-up, if it has lasted twice `most` longer
+abbrev pub TimedPaceReset : NetValue → TypedProgram → (delays : ℕ) → Type 0
+TimedPaceReset net p delays =
+    (script : List OfferValue) → IsScript p.channels script
+    → (values : List Bool) → IsPowered net values
+    → (most : ℕ) (d : DelayTable) → TakesAtMost most d
+    → (ms : List NotedMove) → IsTimedRun d net script (begin_at net values) ms
+    → (n : ℕ) → HasLasted net script (begin_at net values) ms (suc (suc (n * delays)) * most)
+    → HasPassed (after net (begin_at net values) (moved_nodes ms)) (rounds p script n)
