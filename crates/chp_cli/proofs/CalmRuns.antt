@@ -75,7 +75,7 @@ reported_calm script time r p end text alone calm = λ e. cc (calm, e)
 reported_calm script time r p end text (hazardous hazard) calm = λ e. cc (calm, hazard)
 reported_calm script time r p end text (compared x also is) calm = against_calm x
 
-rest_empties : (last : Option Hazard) (xs : List ℕ) (spent : Bool) → end_with last xs spent ≡ Some AtRest → xs ≡ []
+pub rest_empties : (last : Option Hazard) (xs : List ℕ) (spent : Bool) → end_with last xs spent ≡ Some AtRest → xs ≡ []
 rest_empties last [] spent ended = refl
 rest_empties None (x ∷ xs) true ended = absurd (cc ended)
 rest_empties None (x ∷ xs) false ended = absurd (cc ended)

@@ -24,13 +24,19 @@ use Rattle.chp_cli.specs.Simulated.{HoldsCompiled}
 abbrev pub AreCompiled : Type 0
 AreCompiled = (given : Given) (file : List ℕ) (p : TypedProgram) (h : HoldsCompiled given file p) → IsCompiled h.reset p h.text
 
+-- the program of such a file is typed, and meets the sharing rule
+abbrev pub AreTranslated : Type 0
+AreTranslated = (given : Given) (file : List ℕ) (p : TypedProgram) → HoldsCompiled given file p → IsTranslated p
+
+pub are_translated : ((t : ProgramTree) → IsShaped t → HasNone t naming_faults → IsTyped (channels_of t.decls) (vars_of t.decls) (process_form t.decls t.body))
+    → AreTranslated
+are_translated is_typed given file p h =
+    subst IsTranslated (sym h.form) (record { typed = is_typed h.program h.shaped h.accepted.named; sharing = h.accepted.sharing })
+
 module _ (is_typed : (t : ProgramTree) → IsShaped t → HasNone t naming_faults → IsTyped (channels_of t.decls) (vars_of t.decls) (process_form t.decls t.body))
     (whole : (p : TypedProgram) → IsTyped p.channels p.vars p.body → nodes_of p ≤ 65536 → IsNet (translation p))
     (carry : TranslationCarries) (progress : TranslationProgresses) (carry_reset : (net : NetValue) (p : TypedProgram) → ResetCarries net p)
     (progress_reset : (net : NetValue) (p : TypedProgram) → ResetProgresses net p) where
-  form_translated : (t : ProgramTree) → IsShaped t → IsAccepted t → IsTranslated (typed_form t)
-  form_translated t shaped accepted = record { typed = is_typed t shaped accepted.named; sharing = accepted.sharing }
-
   promised : (reset : Bool) (p : TypedProgram) (text : List ℕ) → IsTranslated p → nodes_of p ≤ 65536 → NetText text (net_for reset p) → IsCompiled reset p text
   promised false p text is few spells =
       let net = whole p is.typed few in
@@ -47,4 +53,4 @@ module _ (is_typed : (t : ProgramTree) → IsShaped t → HasNone t naming_fault
 
   pub are_compiled : AreCompiled
   are_compiled given file p h =
-      promised h.reset p h.text (subst IsTranslated (sym h.form) (form_translated h.program h.shaped h.accepted)) h.few h.spells
+      promised h.reset p h.text (are_translated is_typed given file p h) h.few h.spells

@@ -1,5 +1,5 @@
 -- What is simulated of a compiled rule file ends at rest where its program comes to rest and the limit is high enough.
-use Rattle.std.proofs.Common.{◌≡◌, ◌∙◌, ◌↔◌, ℕ, suc, ◌*◌, ◌<◌, ◌≤◌, ◌==◌, Bool, true, false, List, [], ◌∷◌, length, Some, None, refl, sym, ap, subst, arith}
+use Rattle.std.proofs.Common.{◌≡◌, ◌∙◌, ◌↔◌, ◌⊎◌, inl, inr, ℕ, suc, ◌*◌, ◌<◌, ◌≤◌, ◌==◌, Bool, true, false, List, [], ◌∷◌, length, Some, None, refl, sym, ap, subst, arith}
 use Rattle.std.specs.Prelude.{IsSome}
 use Rattle.std.proofs.lemmas.Bool.Decides.{nat_tests}
 use Rattle.std.proofs.lemmas.List.{length-append, length-map}
@@ -17,19 +17,26 @@ use Rattle.event_sim.proofs.Following.{picked_run}
 use Rattle.event_sim.proofs.Ranges.{rests}
 use Rattle.delay_script.specs.declared.noted.NotedMove.{NotedMove}
 use Rattle.delay_script.specs.DelayTables.{DelayTable, TakesAtMost}
-use Rattle.delay_script.specs.TimedRuns.{TimedValue, IsTimedRan, moved_nodes, timed_value}
+use Rattle.delay_script.specs.TimedRuns.{TimedValue, IsTimedRan, IsTimedRun, moved_nodes, timed_value}
 use Rattle.width_check.specs.Processes.{TypedProgram}
+use Rattle.chp_meaning.specs.Rounds.{rounds}
 use Rattle.chp_meaning.specs.Steps.{Configuration}
 use Rattle.prs_file.specs.Spelling.{NetText}
+use Rattle.reset_net.specs.Resets.{reset_of}
+use Rattle.handshake_expand.specs.Layout.{nodes_of}
+use Rattle.net_compose.specs.Points.{IsTranslated}
 use Rattle.net_compose.specs.Progress.{RestsAfter, IsLevel}
+use Rattle.net_compose.specs.Time.{HasPassed, sweeps_for_round}
 use Rattle.net_compose.specs.Translation.{translation}
+use Rattle.net_pace.specs.Lasting.{HasLasted}
+use Rattle.net_pace.specs.Pace.{TimedPace, TimedPaceReset}
 use Rattle.net_compose.proofs.HalvedCarried.{scaled}
 use Rattle.net_compose.proofs.OnceEach.{run_length}
 use Rattle.net_compose.proofs.Sizes.{first_length}
 use Rattle.command_answers.specs.Answers.{Given, Answer}
 use Rattle.program_commands.specs.Compiling.{IsCompiled, NetCarries, NetProgresses, net_for}
 use Rattle.command_steps.specs.Orders.{Played}
-use Rattle.chp_cli.specs.Resting.{RestsInTime, TimedRests, most_in_run}
+use Rattle.chp_cli.specs.Resting.{RestsInTime, TimedRests, delays_for, most_in_run}
 use Rattle.chp_cli.specs.Simulated.{IsFileSimulated, HoldsCarrying, HoldsCompiled, SimulatedRests}
 use Rattle.command_words.specs.SimulateWords.{AskedRun, AskedTiming}
 use Rattle.simulation_commands.specs.Simulating.{power_or_low, simulation_for}
@@ -38,8 +45,8 @@ use Rattle.chp_cli.specs.TimedFiles.{IsFileTimed, TimedRunRests}
 use Rattle.chp_cli.specs.TracedFiles.{IsFileTraced, TracedRests}
 use Rattle.command_words.specs.WavesWords.{AskedWaves}
 use Rattle.grown_commands.proofs.SafeRuns.{all_safe, safe_calm}
-use Rattle.chp_cli.proofs.CalmRuns.{file_carries}
-use Rattle.chp_cli.proofs.FilesCompiled.{AreCompiled}
+use Rattle.chp_cli.proofs.CalmRuns.{file_carries, rest_empties}
+use Rattle.chp_cli.proofs.FilesCompiled.{AreCompiled, AreTranslated}
 use Rattle.command_steps.proofs.OneAnswers.{same_text}
 
 -- a run that isn't so long as allowed, and ends without a hazard, rests
@@ -86,6 +93,28 @@ rests_level : Powered → (reset : Bool) (p : TypedProgram) → NetProgresses re
 rests_level powered false p progresses script high ns net fits run m c over = progresses.level script fits m c over ns run
 rests_level powered true p progresses script high ns net fits run m c over =
     (progresses (power_of (net_for true p) high) (powered (net_for true p) high net refl)).level script fits m c over ns run
+
+-- ---- a timed run of it
+
+abbrev NetsPaced : Type 0
+NetsPaced = (p : TypedProgram) → IsTranslated p → nodes_of p ≤ 65536 → TimedPace (translation p) p (2 * sweeps_for_round p)
+
+abbrev ResetPaced : Type 0
+ResetPaced = (p : TypedProgram) → IsTranslated p → nodes_of p ≤ 65536 → TimedPaceReset (reset_of (translation p)) p (2 * sweeps_for_round p)
+
+abbrev PassesInTime : Bool → TypedProgram → NetValue → Type 0
+PassesInTime reset p n =
+    (script : List OfferValue) (high : Bool) (longest : ℕ) (d : DelayTable) (ms : List NotedMove) → IsNet n → IsScript p.channels script
+    → TakesAtMost longest d → IsTimedRun d n script (begin_at n (power_of n high)) ms → (k : ℕ)
+    → HasLasted n script (begin_at n (power_of n high)) ms (delays_for reset p k * longest)
+    → HasPassed (after n (begin_at n (power_of n high)) (moved_nodes ms)) (rounds p script k)
+
+passes_in_time : Powered → NetsPaced → ResetPaced → (reset : Bool) (p : TypedProgram) → IsTranslated p → nodes_of p ≤ 65536
+    → PassesInTime reset p (net_for reset p)
+passes_in_time powered paced reset_paced false p is few script high longest d ms net fits slow run k lasted =
+    paced p is few script fits longest d slow ms run k lasted
+passes_in_time powered paced reset_paced true p is few script high longest d ms net fits slow run k lasted =
+    reset_paced p is few script fits (power_of (net_for true p) high) (powered (net_for true p) high net refl) longest d slow ms run k lasted
 
 -- ---- a run of the net of a file that `compile` wrote
 
@@ -138,7 +167,8 @@ module _ (powered : Powered) (law : (net : NetValue) (script : List OfferValue) 
   -- ---- timed
 
   module _ (in_time : (longest : ℕ) (t : TimedValue) (ms : List NotedMove) (r : RanValue) (time : ℕ) → TakesAtMost longest t.delays → IsTimedRan t ms r time →
-      time ≤ longest * length ms) where
+      time ≤ longest * length ms)
+      (translated : AreTranslated) (paced : NetsPaced) (reset_paced : ResetPaced) where
     file_timed : (given : Given) (file : List ℕ) (p : TypedProgram) (holds : HoldsCompiled given file p) (rules : List ℕ) (net : NetValue)
         → given.files file ≡ Some rules → IsFileOf rules net → (script : List OfferValue) → IsScript (net_channels net) script
         → (high : Bool) (steps : ℕ) (delays : DelayTable) (ms : List NotedMove) (r : RanValue) (time : ℕ)
@@ -152,7 +182,21 @@ module _ (powered : Powered) (law : (net : NetValue) (script : List OfferValue) 
           let soon = in_time longest (timed_value net script steps delays high) ms r time few ran in
           let most = scaled (length ms) (most_in_run holds.reset p m) longest (omega (arith, within, count)) in
           omega (arith, soon, most);
+      keeps_up = λ longest k slow lasted.
+          subst (PassesInTime holds.reset p) (same given file p holds rules net held is script suits high (moved_nodes ms) ran.run)
+          (passes_in_time powered paced reset_paced holds.reset p (translated given file p holds) holds.few) script high longest delays ms is.kept
+          (fits given file p holds rules net held is script suits high (moved_nodes ms) ran.run) slow ran.timed k
+          (has_lasted (delays_for holds.reset p k * longest) lasted);
     }
+      where
+        st : RunState
+        st = begin_at net (power_of net high)
+
+        has_lasted : (late : ℕ) → (late < time) ⊎ (r.end ≡ AtRest) → HasLasted net script st ms late
+        has_lasted late (inl after_it) = inl (subst (λ t. late < t) ran.time after_it)
+        has_lasted late (inr rest) =
+            inr (rests net script (after net st (moved_nodes ms)) is.kept
+            (rest_empties (last_hazard net script st (moved_nodes ms)) _ _ (ran.ends.ended ∙ ap (λ e. Some e) rest)))
 
     pub timed_rests : (t : AskedTiming) (given : Given) (p : TypedProgram) (holds : HoldsCompiled given t.net p) (answer : Answer)
         → (f : IsFileTimed t given answer) → TimedRunRests t given p holds f

@@ -1,5 +1,5 @@
 -- What is simulated of a rule file that `compile` wrote comes to rest where its program does.
-use Rattle.std.specs.Prelude.{◌≡◌, ℕ, suc, ◌+◌, ◌*◌, ◌<◌, ◌≤◌, Bool, true, false, List}
+use Rattle.std.specs.Prelude.{◌≡◌, ◌⊎◌, ℕ, suc, ◌+◌, ◌*◌, ◌<◌, ◌≤◌, Bool, true, false, List}
 use Rattle.delay_script.specs.declared.noted.NotedMove.{NotedMove}
 use Rattle.delay_script.specs.DelayTables.{TakesAtMost}
 use Rattle.delay_script.specs.TimedRuns.{TimedValue, moved_nodes, timed_start}
@@ -8,8 +8,10 @@ use Rattle.env_script.specs.Scripts.{OfferValue}
 use Rattle.event_sim.specs.declared.ran.End.{End}
 use Rattle.event_sim.specs.declared.ran.End.TheVariants.{AtRest}
 use Rattle.handshake_expand.specs.Layout.{nodes_of}
+use Rattle.chp_meaning.specs.Rounds.{rounds}
 use Rattle.chp_meaning.specs.Steps.{Configuration}
 use Rattle.net_compose.specs.Progress.{RestsAfter, IsLevel, most_moves}
+use Rattle.net_compose.specs.Time.{HasPassed, sweeps_for_round}
 use Rattle.prs_core.specs.Nets.{NetValue}
 use Rattle.width_check.specs.Processes.{TypedProgram}
 
@@ -27,10 +29,24 @@ RestsInTime reset p net script steps start moves end =
     (m : ℕ) (c : Configuration) → RestsAfter p script m c → most_in_run reset p m < steps →
     (end ≡ AtRest) × IsLevel (after net start moves) c
 
--- So does a timed run, and where no move takes longer than some time, its last move comes by that time multiplied by
--- the most moves.
+-- how many delays are enough for what n rounds of the program pass: two for each node and one more for a round, twice
+-- that where an assignment reads its own target; with a reset node two at the beginning besides
+abbrev pub delays_for : (reset : Bool) → TypedProgram → (n : ℕ) → ℕ
+delays_for false p n = n * (2 * sweeps_for_round p)
+delays_for true p n = suc (suc (n * (2 * sweeps_for_round p)))
+
+-- Where no move takes longer than some time, a timed run that goes on for so many of these, or comes to rest before, has
+-- passed all that n rounds of the program pass.
+abbrev pub KeepsUp : (reset : Bool) → TypedProgram → TimedValue → List NotedMove → End → (time : ℕ) → Type 0
+KeepsUp reset p t moves end time = (longest n : ℕ) → TakesAtMost longest t.delays →
+    (delays_for reset p n * longest < time) ⊎ (end ≡ AtRest)
+    → HasPassed (after t.net (timed_start t) (moved_nodes moves)) (rounds p t.script n)
+
+-- So does a timed run: it comes to rest where the program does, where no move takes longer than some time its last move
+-- comes by that time multiplied by the most moves, and it keeps up with the rounds of the program.
 pub record TimedRests (reset : Bool) (p : TypedProgram) (t : TimedValue) (moves : List NotedMove) (end : End)
     (time : ℕ) : Type 0 where
   pub rests : RestsInTime reset p t.net t.script t.steps (timed_start t) (moved_nodes moves) end
   pub in_time : (longest m : ℕ) (c : Configuration) → TakesAtMost longest t.delays → RestsAfter p t.script m c →
       time ≤ longest * most_in_run reset p m
+  pub keeps_up : KeepsUp reset p t moves end time

@@ -27,6 +27,7 @@ ghost use Rattle.width_check.specs.Processes.{TypedProgram};
 use delay_script::laws::timed_runs_end_in_time;
 use event_sim::laws::{passed_are_histories, power_is_powered, safe_moves_bring_no_hazard};
 use net_compose::laws::{carries, carries_reset, runs_end, runs_end_reset, whole_nets};
+use net_pace::{keeps_timed_pace, keeps_timed_pace_reset};
 
 /// Law: to the same files, where the shelf tells them, and by the same orders a command has at most one answer.
 pub fn one_answer()
@@ -211,7 +212,9 @@ pub fn traced_runs_are_safe()
 /// Law: where a program goes no further after m steps under the script, a run of the rule file that `compile` wrote for
 /// it ends at rest, if its limit is above the most moves that its net makes till then: by whatever order it is made, or
 /// by whatever delays. It has passed what the program has, and `done` is high exactly where that has ended. Where no
-/// move takes longer than some time, the last one comes no later than the most moves at that time each.
+/// move takes longer than some time, the last one comes no later than the most moves at that time each; and a timed run
+/// that goes on for 2 · (2 nodes + 1) of these times for each of n rounds of the program, with a reset node for two
+/// more, or rests, has passed all that these rounds pass.
 pub fn compiled_runs_rest()
     ensures simulated { (s : AskedRun) (given : Given) (played : Played) (p : TypedProgram)
         (holds : HoldsCompiled given s.net p) (answer : Answer) (f : IsFileSimulated s given played answer) →
@@ -226,4 +229,7 @@ pub fn compiled_runs_rest()
     files_as_promised();
     compiled_files_carry();
     timed_runs_end_in_time();
+    width_check::laws::form_is_typed();
+    keeps_timed_pace();
+    keeps_timed_pace_reset();
 }
