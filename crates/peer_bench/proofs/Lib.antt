@@ -1,1 +1,11 @@
 pub mod Holding
+pub mod Liking
+pub mod Noting
+pub mod Passes
+pub mod Growth
+pub mod Quiet
+pub mod Known
+pub mod Room
+pub mod Suiting
+pub mod Turns
+pub mod Unasked
