@@ -9,3 +9,6 @@ pub mod Room
 pub mod Suiting
 pub mod Turns
 pub mod Unasked
+pub mod Counting
+pub mod Outside
+pub mod Rails

@@ -1,10 +1,12 @@
 -- How a device is asked, by the script that is kept while it is asked.
-use Rattle.std.specs.Prelude.{◌≡◌, ℕ, ◌+◌, Bool, true, false, if◌then◌else◌, ◌≤◌, List, [], ◌∷◌, ◌++◌, length, slice_get, Some}
-use Rattle.std.specs.List.{range_with_len}
+use Rattle.std.specs.Prelude.{◌≡◌, ℕ, ◌+◌, Bool, true, false, ◌==◌, if◌then◌else◌, ◌<◌, ◌≤◌, List, [], ◌∷◌, ◌++◌, length, slice_get, Some}
+use Rattle.std.specs.List.{list_any, range_with_len}
+use Rattle.chp_base.specs.declared.channel.Kind.TheVariants.{In}
 use Rattle.prs_core.specs.declared.wires.Wires.{Wires}
 use Rattle.prs_core.specs.Nets.{NetValue}
-use Rattle.env_script.specs.Scripts.{OfferValue, offer_at}
 use Rattle.prs_core.specs.Moves.{high}
+use Rattle.env_script.specs.Scripts.{OfferValue, offer_at}
+use Rattle.env_script.specs.Environment.{in_reset}
 use Rattle.env_script.specs.Runs.{RunState, completed}
 use Rattle.event_sim.specs.Passing.{completion}
 use Rattle.event_sim.specs.Standings.{number_of, is_done, script_and, is_idle}
@@ -76,3 +78,12 @@ free_on net script st = free_from (offer_at script) (completed st.histories) 0 n
 -- no more has completed on a channel than was offered
 abbrev pub AreOffered : List OfferValue → RunState → Type 0
 AreOffered script st = (c n : ℕ) → number_of (offer_at script c) ≡ Some n → completed st.histories c ≤ n
+
+-- A high rail of an `in` channel whose acknowledge is low brings a value that was offered and hasn't completed. While
+-- a reset node is high these rails are low.
+pub record AreRailsHeld (net : NetValue) (script : List OfferValue) (st : RunState) : Type 0 where
+  pub low : in_reset net.reset (high st.values) ≡ true → (c r : ℕ) (w : Wires) → slice_get net.channels c ≡ Some w →
+      w.channel.kind ≡ In → list_any (λ rail. r == rail) w.rails ≡ true → high st.values r ≡ false
+  pub brings : (c n r : ℕ) (w : Wires) → slice_get net.channels c ≡ Some w → w.channel.kind ≡ In →
+      high st.values w.ack ≡ false → list_any (λ rail. r == rail) w.rails ≡ true → high st.values r ≡ true →
+      number_of (offer_at script c) ≡ Some n → completed st.histories c < n

@@ -1,10 +1,19 @@
 //! A run on a bench, as far as it has come.
 
-ghost use Rattle.std.specs.Prelude.{◌≡◌, ◌≤◌, ◌<◌, [], ◌∷◌, length, Some, IfSome};
-ghost use Rattle.event_sim.specs.Passing.{channel_acknowledged};
+ghost use Rattle.std.specs.Prelude.{◌≡◌, ◌≤◌, ◌<◌, ◌+◌, true, false, not, ◌&&◌, ◌||◌, List, [], ◌∷◌, ◌++◌, length, Some, IfSome, option_to_list};
+ghost use Rattle.prs_core.specs.Nets.{IsNet};
+ghost use Rattle.prs_core.specs.Moves.{high};
+ghost use Rattle.env_script.specs.Scripts.{IsScript};
+ghost use Rattle.env_script.specs.Environment.{net_channels, in_reset};
+ghost use Rattle.env_script.specs.Runs.{move_enabled, moved};
+ghost use Rattle.env_script.specs.Hazards.{hazard_of};
+ghost use Rattle.event_sim.specs.Passing.{channel_acknowledged, completion};
+ghost use Rattle.event_sim.specs.Stages.{now_of};
+ghost use Rattle.peer_bench.specs.declared.note.Note.{Note};
 ghost use Rattle.peer_bench.specs.declared.note.Note.TheVariants.{Took};
 ghost use Rattle.peer_bench.specs.Asking.{peer_value, HasNoted};
 ghost use Rattle.peer_bench.specs.Along.{is_external, is_out, chan_is, told};
+ghost use Rattle.peer_bench.specs.Steps.{IsAskedByIf, IsMoveNoted, AreOffered, AreRailsHeld, free_on};
 
 use crate::ask::ask_all;
 use crate::peer::Peer;
@@ -36,11 +45,14 @@ fn is_out(kind: Kind) -> bool
 /// Whether a change of the node changes the acknowledge of an external channel.
 fn is_external_ack(stage: &Stage, node: u32) -> bool
     requires { node < length stage.now.net.first }
-    ensures { result ≡ chan_is is_external stage.now.net (channel_acknowledged stage.now.net.channels node) }
+    ensures ack { result ≡ chan_is is_external stage.now.net (channel_acknowledged stage.now.net.channels node) }
+    ensures net { IsNet stage.now.net }
+    ensures script { IsScript (net_channels stage.now.net) stage.now.script }
 {
+    let channels = stage.net().channels();
     match stage.acknowledged(node) {
         None => false,
-        Some(chan) => is_external(stage.net().channels()[chan as usize].channel.kind),
+        Some(chan) => is_external(channels[chan as usize].channel.kind),
     }
 }
 
@@ -81,16 +93,61 @@ fn tell(stage: &Stage, peer: &mut Box<dyn Peer>, passed: Option<(u32, u64)>, at:
     }
 }
 
+/// Whether a device may be asked behind a move: reset is low, and it was high before or the move changed the acknowledge
+/// of an external channel.
+fn may_ask(is_in_reset: bool, was_in_reset: bool, is_ack: bool) -> bool
+    ensures { result ≡ (not is_in_reset && (was_in_reset || is_ack)) }
+{
+    !is_in_reset && (was_in_reset || is_ack)
+}
+
+/// Asks the device on all channels, where that is to be.
+fn ask_if(stage: &mut Stage, peer: &mut Box<dyn Peer>, asks: bool, at: u32)
+    requires low { asks ≡ true → in_reset stage.old.net.reset (high stage.old.values) ≡ false }
+    requires offered { AreOffered stage.old.script (now_of stage.old) }
+    requires room { free_on stage.old.net stage.old.script (now_of stage.old) + 1 ≤ spare peer.old }
+    ensures stage { stage.new ≡ record stage.old { script = stage.new.script } }
+    ensures asked { (more : List Note) × IsAskedByIf asks
+        (λ p. peer_value (name p) (log p) (spare p) (due p) (willing p))
+        stage.old.net (now_of stage.old) at stage.old.script stage.new.script more peer.old peer.new }
+    ensures offered { AreOffered stage.new.script (now_of stage.new) }
+    ensures room { spare peer.new + free_on stage.old.net stage.old.script (now_of stage.old) ≡
+        spare peer.old + free_on stage.new.net stage.new.script (now_of stage.new) }
+{
+    if asks {
+        ask_all(stage, peer, at);
+    }
+}
+
 /// Makes the enabled move of the node, tells the device what it took by that, and asks it where the move lets it be
 /// asked. The hazard that the move brings.
-fn make(stage: &mut Stage, peer: &mut Box<dyn Peer>, node: u32, at: u32) -> Option<Hazard> {
+fn make(stage: &mut Stage, peer: &mut Box<dyn Peer>, node: u32, at: u32) -> Option<Hazard>
+    requires node { node < length stage.old.net.first }
+    requires enabled { move_enabled stage.old.net stage.old.script (now_of stage.old) node ≡ true }
+    requires room { 1 ≤ stage.old.room }
+    requires rails { AreRailsHeld stage.old.net stage.old.script (now_of stage.old) }
+    requires offered { AreOffered stage.old.script (now_of stage.old) }
+    requires spare { free_on stage.old.net stage.old.script (now_of stage.old) + 3 ≤ spare peer.old }
+    ensures net { stage.new.net ≡ stage.old.net }
+    ensures moved { now_of stage.new ≡ moved stage.old.net (now_of stage.old) node }
+    ensures passed { stage.new.passed ≡ stage.old.passed
+        ++ option_to_list (completion stage.old.net (high stage.old.values) node) }
+    ensures room { stage.old.room ≤ stage.new.room + 1 }
+    ensures hazard { result ≡ hazard_of stage.old.net stage.old.script (now_of stage.old) node }
+    ensures noted { IsMoveNoted (λ p. peer_value (name p) (log p) (spare p) (due p) (willing p))
+        stage.old.net (now_of stage.old) (now_of stage.new) node at stage.old.script stage.new.script
+        peer.old peer.new }
+    ensures offered { AreOffered stage.new.script (now_of stage.new) }
+    ensures spare { spare peer.old + free_on stage.old.net stage.new.script (now_of stage.new) ≤
+        spare peer.new + free_on stage.old.net stage.old.script (now_of stage.old) + 2 }
+{
     let was_in_reset = stage.in_reset();
+    let is_ack = is_external_ack(stage, node);
     let passed = stage.completion(node);
     let hazard = stage.make(node);
     tell(stage, peer, passed, at);
-    if !stage.in_reset() && (was_in_reset || is_external_ack(stage, node)) {
-        ask_all(stage, peer, at);
-    }
+    let asks = may_ask(stage.in_reset(), was_in_reset, is_ack);
+    ask_if(stage, peer, asks, at);
     hazard
 }
 

@@ -7,8 +7,8 @@ use Rattle.peer_bench.specs.Along.{is_external, chan_is}
 use Rattle.peer_bench.proofs.Suiting.{read_at, kind_at}
 use Rattle.peer_bench.proofs.course.is_external_ack.Goals as goal
 
-pub returns-in-Some : goal.returns-in-Some
-returns-in-Some c =
+pub returns-in-Some-clause-ack : goal.returns-in-Some-clause-ack
+returns-in-Some-clause-ack c =
     let net = c.args.stage.now.net in
     let k = c.in-Some.chan in
     let w = get_or c.channels.result.now k c.index-channels-chan.result in
