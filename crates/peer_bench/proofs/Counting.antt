@@ -1,7 +1,7 @@
 -- How a move changes the counts of completed values, and that the script that is kept still stands for the notes.
 use Rattle.std.proofs.Common.{◌≡◌, ◌≢◌, ℕ, ◌+◌, ◌<◌, ◌≤◌, Bool, List, [], ◌∷◌, ◌++◌, length, filter, map, refl, sym, ap, ◌∙◌, inl, inr, arith}
 use Rattle.std.specs.Prelude.{◌⊎◌, not, ◌&&◌, ◌==◌, Option, Some, None, option_map, option_to_list}
-use Rattle.std.proofs.lemmas.Bool.{cases_eq, eq-eqb, ne_eqb}
+use Rattle.std.proofs.lemmas.Bool.{cases_eq, cases_lt, eq-eqb, ne_eqb}
 use Rattle.std.proofs.lemmas.List.{append-nil, length-append, map-append, get_or_past}
 use Rattle.std.proofs.lemmas.List.Elements.{filter-append}
 use Rattle.std.proofs.lemmas.List.FromFn.{get_or-map-range_with_len, length-map-range_with_len}
@@ -56,11 +56,8 @@ more_here count passed c value within =
 
 more_elsewhere : (count : ℕ) (passed : List (ℕ × ℕ)) (c d value : ℕ) → c ≢ d →
     completed (channel_histories count (passed ++ (c, value) ∷ [])) d ≡ completed (channel_histories count passed) d
-more_elsewhere count passed c d value apart = by_place (cases_place d)
+more_elsewhere count passed c d value apart = by_place (cases_lt d count)
   where
-    cases_place : (d : ℕ) → (d < count) ⊎ (count ≤ d)
-    cases_place d = omega arith
-
     by_place : (d < count) ⊎ (count ≤ d) →
         completed (channel_histories count (passed ++ (c, value) ∷ [])) d ≡ completed (channel_histories count passed) d
     by_place (inl within) =

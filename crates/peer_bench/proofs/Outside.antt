@@ -26,11 +26,11 @@ dot_here (x ∷ xs) ys = or_right (x == 46) _ (dot_here xs ys)
 
 dot_front : (xs ys : List ℕ) → HasDot xs → HasDot (xs ++ ys)
 dot_front [] ys dot = absurd (cc dot)
-dot_front (x ∷ xs) ys dot = by_case (or_cases (x == 46) _ dot)
+dot_front (x ∷ xs) ys dot = by_case (or_cases (x == 46) _ dot) (λ there. dot_front xs ys there)
   where
-    by_case : ((x == 46) ≡ true) ⊎ (list_any (λ b. b == 46) xs ≡ true) → HasDot ((x ∷ xs) ++ ys)
-    by_case (inl here) = or_left (x == 46) _ here
-    by_case (inr there) = or_right (x == 46) _ (dot_front xs ys there)
+    by_case : ((x == 46) ≡ true) ⊎ (list_any (λ b. b == 46) xs ≡ true) → (HasDot xs → HasDot (xs ++ ys)) → HasDot ((x ∷ xs) ++ ys)
+    by_case (inl here) later = or_left (x == 46) _ here
+    by_case (inr there) later = or_right (x == 46) _ (later there)
 
 rail_dots : (channel : List ℕ) (bits : List ℕ) → All HasDot (flat_map (λ bit. true_rail channel bit ∷ false_rail channel bit ∷ []) bits)
 rail_dots channel [] = All-nil HasDot
@@ -43,11 +43,12 @@ rail_dots channel (bit ∷ bits) =
 -- what holds of each rail, where the node is one of them
 pub among : (Q : ℕ → Type 0) (n : ℕ) (rails : List ℕ) → All Q rails → list_any (λ rail. n == rail) rails ≡ true → Q n
 among Q n [] all found = absurd (cc found)
-among Q n (r ∷ rails) all found = by_case (or_cases (n == r) (list_any (λ rail. n == rail) rails) found)
+among Q n (r ∷ rails) all found =
+    by_case (or_cases (n == r) (list_any (λ rail. n == rail) rails) found) (λ there. among Q n rails (All-tail Q r rails all) there)
   where
-    by_case : ((n == r) ≡ true) ⊎ (list_any (λ rail. n == rail) rails ≡ true) → Q n
-    by_case (inl here) = subst Q (sym (eqb-true n r here)) (All-head Q r rails all)
-    by_case (inr there) = among Q n rails (All-tail Q r rails all) there
+    by_case : ((n == r) ≡ true) ⊎ (list_any (λ rail. n == rail) rails ≡ true) → (list_any (λ rail. n == rail) rails ≡ true → Q n) → Q n
+    by_case (inl here) later = subst Q (sym (eqb-true n r here)) (All-head Q r rails all)
+    by_case (inr there) later = later there
 
 names_back : (net : NetValue) (rails : List ℕ) → All HasDot (map (name_at net) rails) → All (λ rail. HasDot (name_at net rail)) rails
 names_back net [] all = All-nil (λ rail. HasDot (name_at net rail))

@@ -91,14 +91,15 @@ rises_for v w nothing done n m low apart moves number = absurd (cc number)
 
 neutral_low : (v : ℕ → Bool) (rails : List ℕ) (r : ℕ) → neutral v rails ≡ true → list_any (λ rail. r == rail) rails ≡ true → v r ≡ false
 neutral_low v [] r all found = absurd (cc found)
-neutral_low v (t ∷ rails) r all found = by_case (or_cases (r == t) (list_any (λ rail. r == rail) rails) found)
+neutral_low v (t ∷ rails) r all found =
+    by_case (or_cases (r == t) (list_any (λ rail. r == rail) rails) found) (λ there. neutral_low v rails r parts.1 there)
   where
     parts : (not (v t) ≡ true) × (list_all (λ rail. not (v rail)) rails ≡ true)
     parts = and_parts (not (v t)) (list_all (λ rail. not (v rail)) rails) all
 
-    by_case : ((r == t) ≡ true) ⊎ (list_any (λ rail. r == rail) rails ≡ true) → v r ≡ false
-    by_case (inl here) = ap v (eqb-true r t here) ∙ not-true (v t) parts.0
-    by_case (inr there) = neutral_low v rails r parts.1 there
+    by_case : ((r == t) ≡ true) ⊎ (list_any (λ rail. r == rail) rails ≡ true) → (list_any (λ rail. r == rail) rails ≡ true → v r ≡ false) → v r ≡ false
+    by_case (inl here) later = ap v (eqb-true r t here) ∙ not-true (v t) parts.0
+    by_case (inr there) later = later there
 
 -- a move that breaks no phases, on a channel of which the node is the acknowledge, which falls
 falls_neutral : (net : NetValue) (v : ℕ → Bool) (n c : ℕ) (w : Wires) → IsNet net → slice_get net.channels c ≡ Some w → in_reset net.reset v ≡ false →

@@ -4,17 +4,23 @@ use Rattle.std.specs.Prelude.{◌⊎◌, if◌then◌else◌, slice_get, Option,
 use Rattle.std.proofs.lemmas.Bool.{cases_eq, cases_lt, lt-leb, le-leb}
 use Rattle.std.proofs.lemmas.List.{length-replicate, get_or_past, get_or-set_same, get_or-set_other}
 use Rattle.prs_core.specs.declared.wires.Wires.{Wires}
-use Rattle.prs_core.specs.Nets.{NetValue}
+use Rattle.prs_core.specs.Nets.{NetValue, IsNet}
+use Rattle.prs_core.specs.Moves.{high}
 use Rattle.env_script.specs.declared.script.Count.TheVariants.{All as Each, Times}
 use Rattle.env_script.specs.Scripts.{OfferValue, gives, takes, nothing, offer_at}
-use Rattle.env_script.specs.Runs.{RunState, completed}
+use Rattle.env_script.specs.Runs.{RunState, completed, moved}
+use Rattle.event_sim.specs.Passing.{completion}
+use Rattle.event_sim.specs.Stages.{StageValue, now_of}
 use Rattle.event_sim.specs.Standings.{number_of, is_done, one_more, script_and, is_idle}
 use Rattle.event_sim.proofs.Added.{idle_number}
 use Rattle.chp_base.specs.declared.channel.Kind.{Kind}
 use Rattle.chp_base.specs.declared.channel.Kind.TheVariants.{In, Out, Chan}
 use Rattle.peer_bench.specs.declared.note.Note.{Note}
+use Rattle.peer_bench.specs.declared.note.Note.TheVariants.{Took}
 use Rattle.peer_bench.specs.Asking.{PeerValue, offer_note, ready_note, answer, answer_on}
+use Rattle.peer_bench.specs.Along.{is_out, chan_is, told}
 use Rattle.peer_bench.specs.Steps.{script_noting, asked_by, AreOffered, free_from, free_on}
+use Rattle.peer_bench.proofs.Counting.{counts_none, counts_elsewhere, channel_of}
 
 abbrev pub bit_at : (ℕ → OfferValue) → (ℕ → ℕ) → ℕ → Bool
 bit_at script done c = is_done (number_of (script c)) (done c)
@@ -161,3 +167,42 @@ asked_room net st script p at chan within offered = by_idle (is_idle net script 
         by_channel : (o : Option Wires) → HasRoom net st script (script_noting (answer_on p o at chan) script) (answer_on p o at chan)
         by_channel None = unchanged
         by_channel (Some w) = by_kind w.channel.kind w.channel.width
+
+-- through a move at most one more channel has no more to complete
+pub free_moved : (s : StageValue) (n : ℕ) (script : List OfferValue) → IsNet s.net →
+    free_on s.net script (moved s.net (now_of s) n) ≤ free_on s.net script (now_of s) + 1
+free_moved s n script net = by_completion (completion s.net (high s.values) n) refl
+  where
+    few : (b : Bool) → weight b ≤ 1
+    few true = omega arith
+    few false = omega arith
+
+    done : ℕ → ℕ
+    done = completed (now_of s).histories
+
+    later : ℕ → ℕ
+    later = completed (moved s.net (now_of s) n).histories
+
+    bit_same : (c : ℕ) → later c ≡ done c → bit_at (offer_at script) later c ≡ bit_at (offer_at script) done c
+    bit_same c same = ap (is_done (number_of (offer_at script c))) same
+
+    by_completion : (o : Option (ℕ × ℕ)) → completion s.net (high s.values) n ≡ o →
+        free_on s.net script (moved s.net (now_of s) n) ≤ free_on s.net script (now_of s) + 1
+    by_completion None none =
+        let same : free_on s.net script (moved s.net (now_of s) n) ≡ free_on s.net script (now_of s) =
+        free_same (offer_at script) (offer_at script) done later 0 s.net.channels (λ c past. bit_same c (counts_none s n net none c)) in
+        omega arith
+    by_completion (Some p) some =
+        let within = channel_of s n p some in
+        let swapped = free_swap (offer_at script) (offer_at script) done later p.0 0 s.net.channels (omega arith) (omega arith)
+        (λ c apart. bit_same c (counts_elsewhere s n p net some c (λ e. apart (sym e)))) in
+        let most = few (bit_at (offer_at script) later p.0) in
+        omega arith
+
+pub told_few : (net : NetValue) (at : ℕ) (o : Option (ℕ × ℕ)) → length (told net at o) ≤ 1
+told_few net at None = omega arith
+told_few net at (Some p) = by_kind (chan_is is_out net (Some p.0))
+  where
+    by_kind : (b : Bool) → length (if b then Took at p.0 p.1 ∷ [] else []) ≤ 1
+    by_kind true = omega arith
+    by_kind false = omega arith

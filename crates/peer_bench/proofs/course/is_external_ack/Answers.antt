@@ -11,9 +11,9 @@ pub returns-in-Some-clause-ack : goal.returns-in-Some-clause-ack
 returns-in-Some-clause-ack c =
     let net = c.args.stage.now.net in
     let k = c.in-Some.chan in
-    let w = get_or c.channels.result.now k c.index-channels-chan.result in
-    let all : c.channels.result.now ≡ net.channels = c.channels.ensures.channels ∙ ap (λ (n : NetValue). n.channels) c.net.ensures.net in
+    let w = get_or c.channels-channels.result.now k c.index-channels-chan.result in
+    let all : c.channels-channels.result.now ≡ net.channels = c.channels-channels.ensures.channels ∙ ap (λ (n : NetValue). n.channels) c.net.ensures.net in
     let within : k < length net.channels = (position-Some (λ (x : Wires). c.args.node == x.ack) net.channels k w (sym c.in-Some.ensures)).0 in
     c.is_external.ensures
-    ∙ kind_at net is_external k w within (read_at net.channels c.channels.result.now k c.index-channels-chan.result all within)
+    ∙ kind_at net is_external k w within (read_at net.channels c.channels-channels.result.now k c.index-channels-chan.result all within)
     ∙ ap (chan_is is_external net) c.in-Some.ensures
