@@ -12,3 +12,5 @@ pub mod Unasked
 pub mod Counting
 pub mod Outside
 pub mod Rails
+pub mod Moments
+pub mod Rising

@@ -32,17 +32,17 @@ use Rattle.peer_bench.proofs.Outside.{IsFromOutside, among, wire_low, home_of, f
 
 -- the wires at a place
 
-at_place : (ws : List Wires) (c : ℕ) (w : Wires) → slice_get ws c ≡ Some w → w ≡ get_or ws c w
+pub at_place : (ws : List Wires) (c : ℕ) (w : Wires) → slice_get ws c ≡ Some w → w ≡ get_or ws c w
 at_place ws c w here = sym (get_or_from_slice_get ws c w w here)
 
-channel_at : (net : NetValue) (c : ℕ) (w : Wires) → IsNet net → slice_get net.channels c ≡ Some w → IsChannel net w
+pub channel_at : (net : NetValue) (c : ℕ) (w : Wires) → IsNet net → slice_get net.channels c ≡ Some w → IsChannel net w
 channel_at net c w is here =
     subst (λ (x : Wires). IsChannel net x) (sym (at_place net.channels c w here)) (is.channels c w (slice_get_within net.channels c w here))
 
 rail_wire : (w : Wires) (r : ℕ) → list_any (λ rail. r == rail) w.rails ≡ true → is_wire w r ≡ true
 rail_wire w r found = or_right (r == w.ack) _ found
 
-ack_wire : (w : Wires) (n : ℕ) → n ≡ w.ack → is_wire w n ≡ true
+pub ack_wire : (w : Wires) (n : ℕ) → n ≡ w.ack → is_wire w n ≡ true
 ack_wire w n same = or_left (n == w.ack) _ (eq-eqb n w.ack same)
 
 rail_undriven : (net : NetValue) (w : Wires) (r : ℕ) → IsChannel net w → w.channel.kind ≡ In → list_any (λ rail. r == rail) w.rails ≡ true → IsUndriven net r
@@ -62,7 +62,7 @@ rail_moves net script st n c w is here kind found enabled =
 
 -- a rail rises only for a value that is next
 
-next_value : (v : ℕ → Bool) (xs : List ℕ) (done n : ℕ) (rails : List ℕ) → raises_next v (slice_get xs done) rails n ≡ true → done < length xs
+pub next_value : (v : ℕ → Bool) (xs : List ℕ) (done n : ℕ) (rails : List ℕ) → raises_next v (slice_get xs done) rails n ≡ true → done < length xs
 next_value v xs done n rails raises = by_order (cases_lt done (length xs))
   where
     by_order : (done < length xs) ⊎ (length xs ≤ done) → done < length xs
