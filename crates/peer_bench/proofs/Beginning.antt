@@ -4,6 +4,7 @@ use Rattle.std.specs.Prelude.{not, count_by, nat_le, slice_get, is_some, Option,
 use Rattle.std.specs.List.{range_with_len}
 use Rattle.std.proofs.lemmas.Bool.{le-leb, not-true, not_from_false, both_ways}
 use Rattle.std.proofs.lemmas.List.FromFn.{length-map-range_with_len}
+use Rattle.std.proofs.lemmas.List.Sums.{sum_by-cons}
 use Rattle.chp_base.specs.declared.channel.Kind.{Kind}
 use Rattle.chp_base.specs.declared.channel.Kind.TheVariants.{In, Out, Chan}
 use Rattle.prs_core.specs.declared.wires.Wires.{Wires}
@@ -68,6 +69,7 @@ free_first net done c (w ∷ ws) here =
     ∙ ap (λ (k : ℕ). k + free_from (offer_at (script_by net [])) done (c + 1) ws) (one_first w.channel.kind c (done c))
     ∙ ap (λ (k : ℕ). cond (is_external w.channel.kind) 1 0 + k)
     (free_first net done (c + 1) ws (λ i. let same : c + 1 + i ≡ c + suc i = omega arith in ap (slice_get net.channels) same ∙ here (suc i)))
+    ∙ sym (sum_by-cons (λ (x : Wires). cond (is_external x.channel.kind) 1 0) w ws)
 
 pub free_begun : (s : StageValue) (steps : ℕ) → IsUnasked s steps → free_on s.net s.script (now_of s) ≡ external_channels s.net
 free_begun s steps is =

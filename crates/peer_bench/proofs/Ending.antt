@@ -110,7 +110,7 @@ rest_low net script st rest = by_reset net.reset refl
     by_reset None at = ap (λ (o : Option ℕ). in_reset o v) at
     by_reset (Some r) at = ap (λ (o : Option ℕ). in_reset o v) at ∙ by_value r at (v r) refl
 
-rest_empties : (last : Option Hazard) (xs : List ℕ) (spent : Bool) → end_with last xs spent ≡ Some AtRest → xs ≡ []
+pub rest_empties : (last : Option Hazard) (xs : List ℕ) (spent : Bool) → end_with last xs spent ≡ Some AtRest → xs ≡ []
 rest_empties last [] spent ended = refl
 rest_empties None (x ∷ xs) true ended = absurd (cc ended)
 rest_empties None (x ∷ xs) false ended = absurd (cc ended)

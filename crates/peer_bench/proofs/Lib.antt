@@ -14,3 +14,9 @@ pub mod Outside
 pub mod Rails
 pub mod Moments
 pub mod Rising
+pub mod Underway
+pub mod Beginning
+pub mod Ending
+pub mod Seen
+pub mod Placed
+pub mod Resting

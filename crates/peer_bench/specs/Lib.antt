@@ -6,3 +6,4 @@ pub mod Asking
 pub mod Along
 pub mod Steps
 pub mod Benches
+pub mod Instants

@@ -1,6 +1,6 @@
 //! A run on a bench, as far as it has come.
 
-ghost use Rattle.std.specs.Prelude.{◌≡◌, ◌≤◌, ◌<◌, ◌+◌, true, false, not, ◌&&◌, ◌||◌, List, [], ◌∷◌, ◌++◌, length, Some, IfSome, option_to_list};
+ghost use Rattle.std.specs.Prelude.{◌≡◌, ◌≤◌, ◌<◌, ◌+◌, ◌*◌, true, false, not, ◌&&◌, ◌||◌, List, [], ◌∷◌, ◌++◌, length, Some, IfSome, option_to_list};
 ghost use Rattle.prs_core.specs.Nets.{IsNet};
 ghost use Rattle.prs_core.specs.Moves.{high};
 ghost use Rattle.env_script.specs.Scripts.{IsScript};
@@ -8,11 +8,13 @@ ghost use Rattle.env_script.specs.Environment.{net_channels, in_reset};
 ghost use Rattle.env_script.specs.Runs.{move_enabled, moved};
 ghost use Rattle.env_script.specs.Hazards.{hazard_of};
 ghost use Rattle.event_sim.specs.Passing.{channel_acknowledged, completion};
+ghost use Rattle.event_sim.specs.Simulating.{growth};
 ghost use Rattle.event_sim.specs.Stages.{now_of};
 ghost use Rattle.peer_bench.specs.declared.note.Note.{Note};
 ghost use Rattle.peer_bench.specs.declared.note.Note.TheVariants.{Took};
 ghost use Rattle.peer_bench.specs.Asking.{peer_value, HasNoted};
 ghost use Rattle.peer_bench.specs.Along.{is_external, is_out, chan_is, told};
+ghost use Rattle.peer_bench.specs.Benches.{external_channels, noted_since, IsBenchRun};
 ghost use Rattle.peer_bench.specs.Steps.{IsAskedByIf, IsMoveNoted, AreOffered, AreRailsHeld, free_on};
 
 use crate::ask::ask_all;
@@ -152,11 +154,39 @@ fn make(stage: &mut Stage, peer: &mut Box<dyn Peer>, node: u32, at: u32) -> Opti
 }
 
 /// Runs the net on this stage against the device, for so many moves at most.
-pub(crate) fn drive(setup: Setup, picker: &mut Box<dyn Picker>, peer: &mut Box<dyn Peer>) -> Ran {
+pub(crate) fn drive(setup: Setup, picker: &mut Box<dyn Picker>, peer: &mut Box<dyn Peer>) -> Ran
+    requires spare { setup.steps ≤ (⟦<dyn Picker as Picker>⟧ picker.old.vtable).spare picker.old.value }
+    requires nodes { length setup.net.first ≤ nodes picker.old }
+    requires room { 2 * setup.steps + 1 + external_channels setup.net ≤
+        (⟦<dyn Peer as Peer>⟧ peer.old.vtable).spare peer.old.value }
+    ensures log { (⟦<dyn Picker as Picker>⟧ picker.new.vtable).log picker.new.value ≡
+        (⟦<dyn Picker as Picker>⟧ picker.old.vtable).log picker.old.value
+        ++ growth ((⟦<dyn Picker as Picker>⟧ picker.old.vtable).log picker.old.value)
+        ((⟦<dyn Picker as Picker>⟧ picker.new.vtable).log picker.new.value) }
+    ensures noted { (⟦<dyn Peer as Peer>⟧ peer.new.vtable).log peer.new.value ≡
+        (⟦<dyn Peer as Peer>⟧ peer.old.vtable).log peer.old.value
+        ++ noted_since ((⟦<dyn Peer as Peer>⟧ peer.old.vtable).log peer.old.value)
+        ((⟦<dyn Peer as Peer>⟧ peer.new.vtable).log peer.new.value) }
+    ensures run { IsBenchRun (λ p. peer_value ((⟦<dyn Peer as Peer>⟧ p.vtable).name p.value)
+        ((⟦<dyn Peer as Peer>⟧ p.vtable).log p.value) ((⟦<dyn Peer as Peer>⟧ p.vtable).spare p.value) (due p)
+        (willing p)) setup
+        (growth ((⟦<dyn Picker as Picker>⟧ picker.old.vtable).log picker.old.value)
+        ((⟦<dyn Picker as Picker>⟧ picker.new.vtable).log picker.new.value))
+        (noted_since ((⟦<dyn Peer as Peer>⟧ peer.old.vtable).log peer.old.value)
+        ((⟦<dyn Peer as Peer>⟧ peer.new.vtable).log peer.new.value))
+        peer.old peer.new result }
+    ensures device { (⟦<dyn Peer as Peer>⟧ peer.new.vtable).name peer.new.value ≡
+        (⟦<dyn Peer as Peer>⟧ peer.old.vtable).name peer.old.value }
+    ensures spare { (⟦<dyn Picker as Picker>⟧ picker.new.vtable).spare picker.new.value + result.moves ≡
+        (⟦<dyn Picker as Picker>⟧ picker.old.vtable).spare picker.old.value }
+    ensures name { (⟦<dyn Picker as Picker>⟧ picker.new.vtable).name picker.new.value ≡
+        (⟦<dyn Picker as Picker>⟧ picker.old.vtable).name picker.old.value }
+    ensures nodes { nodes picker.new ≡ nodes picker.old }
+    ensures seeded { seeded picker.new ≡ seeded picker.old }
+{
     let Setup { mut stage, steps } = setup;
-    if !stage.in_reset() {
-        ask_all(&mut stage, peer, 0);
-    }
+    let is_in_reset = stage.in_reset();
+    ask_if(&mut stage, peer, !is_in_reset, 0);
     let mut hazard = stage.first_hazard();
     for made in 0..steps {
         match early_end(hazard, stage.moves()) {

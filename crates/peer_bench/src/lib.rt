@@ -5,6 +5,7 @@ mod ask;
 mod bench;
 mod course;
 mod echo;
+pub mod laws;
 mod note;
 mod peer;
 mod ramp;
