@@ -25,13 +25,15 @@ use Rattle.peer_bench.specs.Growing.{offer_by, offer_on, script_by}
 use Rattle.peer_bench.specs.Asking.{PeerValue}
 use Rattle.peer_bench.specs.Along.{is_external, low_reset, IsAskedIf, NothingComes, at_first}
 use Rattle.peer_bench.specs.Steps.{IsAskedByIf, AreOffered, free_from, free_on}
-use Rattle.peer_bench.specs.Benches.{IsUnasked, bench_start, external_channels}
+use Rattle.peer_bench.specs.Benches.{SetupValue, IsUnasked, bench_start, external_channels}
 use Rattle.peer_bench.proofs.Growth.{until_at}
 use Rattle.peer_bench.proofs.Liking.{StandsFor, like_itself, script_at}
 use Rattle.peer_bench.proofs.Moments.{AskedOnIf, asked_on_if}
 use Rattle.peer_bench.proofs.Quiet.{asked_quiet}
 use Rattle.peer_bench.proofs.Rails.{rails_first}
+use Rattle.peer_bench.proofs.Room.{weight}
 use Rattle.peer_bench.proofs.Underway.{IsDriven}
+use Rattle.peer_bench.proofs.Ending.{HasDriven, has_begun}
 
 -- nothing has completed
 
@@ -53,9 +55,9 @@ offered_first s steps is =
 
 -- each external channel waits for a first offer
 
-one_first : (kind : Kind) (c done : ℕ) → cond (is_done (number_of (offer_by kind c [])) done) 1 0 ≡ cond (is_external kind) 1 0
-one_first In c done = ap (λ (b : Bool). cond b 1 0) (le-leb 0 done (omega arith))
-one_first Out c done = ap (λ (b : Bool). cond b 1 0) (le-leb 0 done (omega arith))
+one_first : (kind : Kind) (c done : ℕ) → weight (is_done (number_of (offer_by kind c [])) done) ≡ weight (is_external kind)
+one_first In c done = ap weight (le-leb 0 done (omega arith))
+one_first Out c done = ap weight (le-leb 0 done (omega arith))
 one_first Chan c done = refl
 
 free_first : (net : NetValue) (done : ℕ → ℕ) (c : ℕ) (ws : List Wires) → ((i : ℕ) → slice_get net.channels (c + i) ≡ slice_get ws i) →
@@ -65,11 +67,11 @@ free_first net done c (w ∷ ws) here =
     let start : c + 0 ≡ c = omega arith in
     let first : slice_get net.channels c ≡ Some w = ap (slice_get net.channels) (sym start) ∙ here 0 in
     let offer : offer_at (script_by net []) c ≡ offer_by w.channel.kind c [] = script_at net [] c ∙ ap (λ (o : Option Wires). offer_on o c []) first in
-    ap (λ (o : OfferValue). cond (is_done (number_of o) (done c)) 1 0 + free_from (offer_at (script_by net [])) done (c + 1) ws) offer
+    ap (λ (o : OfferValue). weight (is_done (number_of o) (done c)) + free_from (offer_at (script_by net [])) done (c + 1) ws) offer
     ∙ ap (λ (k : ℕ). k + free_from (offer_at (script_by net [])) done (c + 1) ws) (one_first w.channel.kind c (done c))
-    ∙ ap (λ (k : ℕ). cond (is_external w.channel.kind) 1 0 + k)
+    ∙ ap (λ (k : ℕ). weight (is_external w.channel.kind) + k)
     (free_first net done (c + 1) ws (λ i. let same : c + 1 + i ≡ c + suc i = omega arith in ap (slice_get net.channels) same ∙ here (suc i)))
-    ∙ sym (sum_by-cons (λ (x : Wires). cond (is_external x.channel.kind) 1 0) w ws)
+    ∙ sym (sum_by-cons (λ (x : Wires). weight (is_external x.channel.kind)) w ws)
 
 pub free_begun : (s : StageValue) (steps : ℕ) → IsUnasked s steps → free_on s.net s.script (now_of s) ≡ external_channels s.net
 free_begun s steps is =
@@ -141,3 +143,15 @@ begun {P} known s now steps asks on more was is last net unasked on_is asks_is s
     by_asks : (b : Bool) → b ≡ true → IsAskedIf b known s.net (now_of now) 0 [] more was is → NothingComes s.net more (now_of now) (known is)
     by_asks true e asked = asked_quiet known s.net (now_of now) 0 [] more was is asked
     by_asks false e asked = absurd (cc e)
+
+pub begins : {P : Type 0} (known : P → PeerValue) (v : SetupValue) (s now : StageValue) (steps : ℕ) (on : Bool) (more : List Note) (was is : P)
+    (last : Option Hazard) (log : List ℕ) → IsNet s.net → record { net = s.net; steps = steps } ≡ v → IsUnasked s steps →
+    on ≡ in_reset s.net.reset (high s.values) → now ≡ record s { script = now.script } →
+    IsAskedByIf (not on) known s.net (now_of s) 0 s.script now.script more was is → AreOffered now.script (now_of now) →
+    (known is).spare + free_on s.net s.script (now_of s) ≡ (known was).spare + free_on now.net now.script (now_of now) →
+    2 * v.steps + 1 + external_channels v.net ≤ (known was).spare → last ≡ first_hazard now.net (now_of now) →
+    HasDriven known v.net v.steps log log 0 was is now last
+begins known v s now steps on more was is last log net view unasked on_is same asked offered room spare hazard =
+    subst (λ (x : SetupValue). 2 * x.steps + 1 + external_channels x.net ≤ (known was).spare → HasDriven known x.net x.steps log log 0 was is now last) view
+    (λ enough. has_begun known s.net steps log more was is now last
+    (begun known s now steps (not on) on more was is last net unasked on_is refl same asked offered room enough hazard)) spare

@@ -27,7 +27,7 @@ use Rattle.peer_bench.specs.Asking.{PeerValue}
 use Rattle.peer_bench.specs.Along.{NothingComes}
 use Rattle.peer_bench.specs.Steps.{IsMoveNoted, AreOffered, AreRailsHeld, free_on}
 use Rattle.peer_bench.specs.Benches.{SetupValue, bench_start, bench_moves, noted_since, IsBenchRun}
-use Rattle.peer_bench.proofs.Underway.{IsDriven, IsMade, moves_count, listed_now, end_now, step}
+use Rattle.peer_bench.proofs.Underway.{IsDriven, IsMade, goes_calm, moves_count, listed_now, end_now, step}
 
 -- a picker's log has grown by so many picks, and these have led to the stage
 pub record HasDriven {P : Type 0} (known : P → PeerValue) (net : NetValue) (steps : ℕ) (before now : List ℕ) (count : ℕ) (was is : P)
@@ -76,6 +76,33 @@ choice_list stage net last nodes xs same listed none wide = record {
       enabled_below stage.net stage.script (now_of stage) k d within in
       let fits : length stage.net.first ≡ length net.first = ap (λ (w : NetValue). length w.first) same in
       omega arith);
+}
+
+-- within a list the default plays no part
+pub any_default : (xs : List ℕ) (k d e : ℕ) → k < length xs → get_or xs k d ≡ get_or xs k e
+any_default [] k d e within = absurd (omega arith)
+any_default (x ∷ xs) zero d e within = refl
+any_default (x ∷ xs) (suc k) d e within = any_default xs k d e (omega arith)
+
+pub picked_within : (stage : StageValue) (xs : List ℕ) (p d : ℕ) → xs ≡ moves_now stage → p < length xs → get_or xs p d < length stage.net.first
+picked_within stage xs p d listed within =
+    subst (λ (ys : List ℕ). All (λ n. n < length stage.net.first) ys) (sym listed) (enabled_below stage.net stage.script (now_of stage)) p d within
+
+-- what a move asks for
+pub record IsReady {P : Type 0} (known : P → PeerValue) (stage : StageValue) (is : P) : Type 0 where
+  pub room : 1 ≤ stage.room
+  pub rails : AreRailsHeld stage.net stage.script (now_of stage)
+  pub spare : free_on stage.net stage.script (now_of stage) + 3 ≤ (known is).spare
+
+pub is_ready : {P : Type 0} (known : P → PeerValue) (net : NetValue) (steps : ℕ) (before now : List ℕ) (count : ℕ) (was is : P) (stage : StageValue)
+    (last : Option Hazard) → HasDriven known net steps before now count was is stage last → count < steps → end_with last (moves_now stage) false ≡ None →
+    IsReady known stage is
+is_ready known net steps before now count was is stage last h few goes = record {
+  room = omega (arith, h.driven.room, h.counted);
+  rails = subst (λ (w : NetValue). AreRailsHeld w stage.script (now_of stage)) (sym h.driven.net_is) (h.driven.rails (goes_calm last (moves_now stage) goes));
+  spare = let free : free_on stage.net stage.script (now_of stage) ≡ free_on net stage.script (now_of stage) =
+      ap (λ (w : NetValue). free_on w stage.script (now_of stage)) h.driven.net_is in
+      omega (arith, h.driven.spare, h.counted);
 }
 
 -- the end
@@ -142,10 +169,10 @@ pub record IsOver {P : Type 0} (known : P → PeerValue) (s : SetupValue) (befor
       (record { net = stage.net; end = end; moves = count; done_high = high stage.values 1; passed = stage.passed })
   pub within : IsEndIn s.net end
 
-pub over : {P : Type 0} (known : P → PeerValue) (s : SetupValue) (before now : List ℕ) (count : ℕ) (was is : P) (stage : StageValue) (last : Option Hazard)
-    (spent : Bool) (end : End) → IsNet s.net → HasDriven known s.net s.steps before now count was is stage last → (count == s.steps) ≡ spent →
-    end_with last (moves_now stage) spent ≡ Some end → IsOver known s before now count was is stage end
-over {P} known s before now count was is stage last spent end net h counted ended = record {
+pub over : {P : Type 0} (known : P → PeerValue) (s : SetupValue) (before now : List ℕ) (count total : ℕ) (was is : P) (stage : StageValue)
+    (last : Option Hazard) (spent : Bool) (end : End) → IsNet s.net → HasDriven known s.net s.steps before now count was is stage last → total ≡ count →
+    (count == s.steps) ≡ spent → end_with last (moves_now stage) spent ≡ Some end → IsOver known s before now total was is stage end
+over {P} known s before now count total was is stage last spent end net h all counted ended = record {
   log = h.grown ∙ ap (λ (xs : List ℕ). before ++ xs) (sym picked);
   noted = h.driven.logged.log ∙ ap (λ (xs : List Note). (known was).log ++ xs) (sym noted);
   name = h.driven.logged.name;
@@ -161,7 +188,7 @@ over {P} known s before now count was is stage last spent end net h counted ende
         };
         quiet = λ e. quiet e;
         net = h.driven.net_is;
-        moves = sym h.counted;
+        moves = all ∙ sym h.counted;
         done = ap (λ (r : RunState). high r.values 1) h.driven.now;
         passed = h.driven.passed;
       }));
@@ -169,7 +196,7 @@ over {P} known s before now count was is stage last spent end net h counted ende
 }
   where
     ran : RanValue
-    ran = record { net = stage.net; end = end; moves = count; done_high = high stage.values 1; passed = stage.passed }
+    ran = record { net = stage.net; end = end; moves = total; done_high = high stage.values 1; passed = stage.passed }
 
     moves : List ℕ
     moves = bench_moves s.net h.notes h.picks

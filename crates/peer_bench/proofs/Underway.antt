@@ -278,7 +278,7 @@ pub record IsMade (s later : StageValue) (n : ℕ) (brought : Option Hazard) : T
   pub room : s.room ≤ later.room + 1
   pub hazard : brought ≡ hazard_of s.net s.script (now_of s) n
 
-goes_calm : (last : Option Hazard) (xs : List ℕ) → end_with last xs false ≡ None → last ≡ None
+pub goes_calm : (last : Option Hazard) (xs : List ℕ) → end_with last xs false ≡ None → last ≡ None
 goes_calm None xs none = refl
 goes_calm (Some h) xs none = absurd (cc none)
 

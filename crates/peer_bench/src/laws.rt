@@ -1,6 +1,6 @@
 //! Laws of runs on a bench.
 
-ghost use Rattle.std.specs.Prelude.{◌≡◌, ℕ, List, [], length, filter, None, IsSome};
+ghost use Rattle.std.specs.Prelude.{◌≡◌, ℕ, false, List, [], length, filter, None, IsSome};
 ghost use Rattle.prs_core.specs.Nets.{NetValue, IsNet};
 ghost use Rattle.env_script.specs.Runs.{IsRun, IsAtRest, IsPowered, after, begin_at, run_start};
 ghost use Rattle.event_sim.specs.declared.ran.End.TheVariants.{AtRest};
