@@ -39,17 +39,17 @@ pub channel_at : (net : NetValue) (c : ℕ) (w : Wires) → IsNet net → slice_
 channel_at net c w is here =
     subst (λ (x : Wires). IsChannel net x) (sym (at_place net.channels c w here)) (is.channels c w (slice_get_within net.channels c w here))
 
-rail_wire : (w : Wires) (r : ℕ) → list_any (λ rail. r == rail) w.rails ≡ true → is_wire w r ≡ true
+pub rail_wire : (w : Wires) (r : ℕ) → list_any (λ rail. r == rail) w.rails ≡ true → is_wire w r ≡ true
 rail_wire w r found = or_right (r == w.ack) _ found
 
 pub ack_wire : (w : Wires) (n : ℕ) → n ≡ w.ack → is_wire w n ≡ true
 ack_wire w n same = or_left (n == w.ack) _ (eq-eqb n w.ack same)
 
-rail_undriven : (net : NetValue) (w : Wires) (r : ℕ) → IsChannel net w → w.channel.kind ≡ In → list_any (λ rail. r == rail) w.rails ≡ true → IsUndriven net r
+pub rail_undriven : (net : NetValue) (w : Wires) (r : ℕ) → IsChannel net w → w.channel.kind ≡ In → list_any (λ rail. r == rail) w.rails ≡ true → IsUndriven net r
 rail_undriven net w r is kind found =
     among (IsUndriven net) r w.rails (subst (λ (k : Kind). All (IsUndriven net) (wires_from_outside k w.rails w.ack)) kind is.outside) found
 
-ack_undriven : (net : NetValue) (w : Wires) → IsChannel net w → w.channel.kind ≡ Out → IsUndriven net w.ack
+pub ack_undriven : (net : NetValue) (w : Wires) → IsChannel net w → w.channel.kind ≡ Out → IsUndriven net w.ack
 ack_undriven net w is kind =
     subst (λ (k : Kind). All (IsUndriven net) (wires_from_outside k w.rails w.ack)) kind is.outside 0 0 (omega arith)
 
@@ -69,7 +69,7 @@ next_value v xs done n rails raises = by_order (cases_lt done (length xs))
     by_order (inl less) = less
     by_order (inr past) = absurd (cc (sym (ap (λ (o : Option ℕ). raises_next v o rails n) (slice_get_past xs done past)) ∙ raises))
 
-when_low : {A : Type 0} (b : Bool) (x y : A) → b ≡ false → (if b then x else y) ≡ y
+pub when_low : {A : Type 0} (b : Bool) (x y : A) → b ≡ false → (if b then x else y) ≡ y
 when_low true x y low = absurd (cc low)
 when_low false x y low = refl
 
@@ -191,7 +191,7 @@ count_stays s n c w net here apart = by_completion (completion s.net (high s.val
 
 -- through a move that keeps the phases
 
-turned : (values : List Bool) (n : ℕ) → n < length values → high (fired values n) n ≡ not (high values n)
+pub turned : (values : List Bool) (n : ℕ) → n < length values → high (fired values n) n ≡ not (high values n)
 turned values n within = get_or-set_same values n (not (high values n)) false within
 
 pub rails_moved : (s : StageValue) (n : ℕ) (script : List OfferValue) → IsNet s.net → length s.values ≡ length s.net.first →

@@ -21,13 +21,13 @@ use Rattle.peer_bench.proofs.Liking.{script_at}
 use Rattle.peer_bench.proofs.Noting.{offered_more, ready_more}
 use Rattle.peer_bench.proofs.Rails.{next_value}
 
-abbrev CountGrows : Count → Count → Type 0
+abbrev pub CountGrows : Count → Count → Type 0
 CountGrows Each Each = Unit {0}
 CountGrows Each (Times n) = ⊥
 CountGrows (Times k) Each = ⊥
 CountGrows (Times k) (Times n) = k ≤ n
 
-abbrev Grows : OfferValue → OfferValue → Type 0
+abbrev pub Grows : OfferValue → OfferValue → Type 0
 Grows (gives xs) (gives ys) = (more : List ℕ) × (ys ≡ xs ++ more)
 Grows (gives xs) (takes b) = ⊥
 Grows (gives xs) nothing = ⊥
@@ -47,7 +47,7 @@ offer_grows (Some w) c notes more = by_kind w.channel.kind
     by_kind Chan = tt
 offer_grows None c notes more = tt
 
-script_grows : (net : NetValue) (notes more : List Note) (c : ℕ) → Grows (offer_at (script_by net notes) c) (offer_at (script_by net (notes ++ more)) c)
+pub script_grows : (net : NetValue) (notes more : List Note) (c : ℕ) → Grows (offer_at (script_by net notes) c) (offer_at (script_by net (notes ++ more)) c)
 script_grows net notes more c =
     subst (λ (o : OfferValue). Grows o (offer_at (script_by net (notes ++ more)) c)) (sym (script_at net notes c))
     (subst (λ (o : OfferValue). Grows (offer_on (slice_get net.channels c) c notes) o) (sym (script_at net (notes ++ more) c))
@@ -55,7 +55,7 @@ script_grows net notes more c =
 
 -- a move of the environment
 
-front_get : (xs ys : List ℕ) (k : ℕ) → k < length xs → slice_get (xs ++ ys) k ≡ slice_get xs k
+pub front_get : (xs ys : List ℕ) (k : ℕ) → k < length xs → slice_get (xs ++ ys) k ≡ slice_get xs k
 front_get [] ys k less = absurd (omega arith)
 front_get (x ∷ xs) ys zero less = refl
 front_get (x ∷ xs) ys (suc k) less = front_get xs ys k (omega arith)
