@@ -78,7 +78,7 @@ free_begun s steps is =
     ap (λ (script : List OfferValue). free_on s.net script (now_of s)) is.script
     ∙ free_first s.net (completed (now_of s).histories) 0 s.net.channels (λ i. let same : 0 + i ≡ i = omega arith in ap (slice_get s.net.channels) same)
 
-power_length : (net : NetValue) → length (power_of net false) ≡ length net.first
+pub power_length : (net : NetValue) → length (power_of net false) ≡ length net.first
 power_length net = by_reset (is_some net.reset)
   where
     by_reset : (b : Bool) → length (cond b (map (power_value net false) (range_with_len 0 (length net.first))) net.first) ≡ length net.first

@@ -20,3 +20,5 @@ pub mod Ending
 pub mod Seen
 pub mod Placed
 pub mod Resting
+pub mod Calm
+pub mod Safe

@@ -110,7 +110,7 @@ passes_of known net st at notes was (and_pass more last mid is before pass) =
     of_both at more last (known was) (known mid) (known is) (passes_of known net st at notes was before)
     (pass_of known net st at (range_with_len 0 (length net.channels)) (notes ++ more) last mid is pass)
 
-asked_of : {P : Type 0} (known : P → PeerValue) (net : NetValue) (st : RunState) (at : ℕ) (notes more : List Note) (was is : P) →
+pub asked_of : {P : Type 0} (known : P → PeerValue) (net : NetValue) (st : RunState) (at : ℕ) (notes more : List Note) (was is : P) →
     IsAsked known net st at notes more was is → AreOf at more (known was) (known is)
 asked_of known net st at notes more was is asked =
     let first = passes_of known net st at notes was asked.passes in

@@ -20,7 +20,7 @@ use Rattle.peer_bench.proofs.Growth.{AreUntil, script_now}
 use Rattle.peer_bench.proofs.Placed.{along_placed}
 use Rattle.peer_bench.proofs.Seen.{itself}
 
-until_placed : (net : NetValue) (start : RunState) (moves : List ℕ) (before notes : List Note) → AreNotesAt net start moves before notes →
+pub until_placed : (net : NetValue) (start : RunState) (moves : List ℕ) (before notes : List Note) → AreNotesAt net start moves before notes →
     AreUntil (length moves) notes
 until_placed net start moves before [] are = tt
 until_placed net start moves before (Offered at chan value ∷ notes) are =

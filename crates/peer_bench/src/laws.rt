@@ -1,9 +1,10 @@
 //! Laws of runs on a bench.
 
-ghost use Rattle.std.specs.Prelude.{◌≡◌, ℕ, false, List, [], length, filter, None, IsSome};
+ghost use Rattle.std.specs.Prelude.{◌≡◌, ◌⊎◌, ℕ, false, List, [], length, filter, None, IsSome};
 ghost use Rattle.prs_core.specs.Nets.{NetValue, IsNet};
 ghost use Rattle.env_script.specs.Runs.{IsRun, IsAtRest, IsPowered, after, begin_at, run_start};
-ghost use Rattle.event_sim.specs.declared.ran.End.TheVariants.{AtRest};
+ghost use Rattle.env_script.specs.OneLength.{AllSafe};
+ghost use Rattle.event_sim.specs.declared.ran.End.TheVariants.{AtRest, Spent};
 ghost use Rattle.event_sim.specs.Following.{power_of};
 ghost use Rattle.event_sim.specs.Simulating.{RanValue};
 ghost use Rattle.peer_bench.specs.declared.note.Note.{Note};
@@ -44,4 +45,13 @@ pub fn notes_are_placed()
     ensures took { (s : SetupValue) (picks : List ℕ) (notes : List Note) (was is : PeerValue) (ran : RanValue)
         → IsBenchRun (λ p. p) s picks notes was is ran
         → filter is_took notes ≡ taken_in s.net (bench_start s.net) 0 (bench_moves s.net notes picks) }
+{}
+
+/// Law: where every run of the net under that script is safe, a run on a bench ends at rest, or for want of moves.
+pub fn bench_runs_are_calm()
+    ensures { (s : SetupValue) (picks : List ℕ) (notes : List Note) (was is : PeerValue) (ran : RanValue)
+        → IsNet s.net
+        → IsBenchRun (λ p. p) s picks notes was is ran
+        → AllSafe s.net (script_by s.net notes) (bench_start s.net)
+        → ((ran.end ≡ AtRest) ⊎ (ran.end ≡ Spent)) }
 {}
