@@ -22,3 +22,4 @@ pub mod Placed
 pub mod Resting
 pub mod Calm
 pub mod Safe
+pub mod Listed
