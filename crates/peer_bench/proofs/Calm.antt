@@ -68,11 +68,11 @@ some_channel v script done c (w ∷ ws) m moves =
         (i : ℕ) × ((x : Wires) × (slice_get (w ∷ ws) i ≡ Some x) × (offer_moves v x (script (c + i)) (done (c + i)) m ≡ true))
     by_case (inl here) later =
         let start : c ≡ c + 0 = omega arith in
-        (0, (w, (refl, subst (λ (k : ℕ). offer_moves v w (script k) (done k) m ≡ true) start here)))
+        (0, (w, refl, subst (λ (k : ℕ). offer_moves v w (script k) (done k) m ≡ true) start here))
     by_case (inr there) later =
         let rest = later there in
         let same : suc c + rest.0 ≡ c + suc rest.0 = omega arith in
-        (suc rest.0, (rest.1.0, (rest.1.1, subst (λ (k : ℕ). offer_moves v rest.1.0 (script k) (done k) m ≡ true) same rest.1.2)))
+        (suc rest.0, (rest.1.0, rest.1.1, subst (λ (k : ℕ). offer_moves v rest.1.0 (script k) (done k) m ≡ true) same rest.1.2))
 
 raised_rail : (v : ℕ → Bool) (value m : ℕ) (rails : List ℕ) → raises_value v value rails m ≡ true → list_any (λ rail. m == rail) rails ≡ true
 raised_rail v value m [] raises = absurd (cc raises)
