@@ -18,7 +18,7 @@ use Rattle.peer_bench.specs.declared.note.Note.{Note}
 use Rattle.peer_bench.specs.declared.note.Note.TheVariants.{Offered, Ready, Took}
 use Rattle.peer_bench.specs.Growing.{script_by}
 use Rattle.peer_bench.specs.Asking.{PeerValue, HasNoted, offer_note, ready_note, answer, answer_on, asked_on, IsPassOver, ArePasses, no_pass, and_pass, IsAsked}
-use Rattle.peer_bench.specs.Along.{is_external, is_out, chan_is, lets_ask, told, IsAskedIf, IsNotedAlong, behind_move}
+use Rattle.peer_bench.specs.Along.{is_external, is_out, chan_is, lets_ask, told_passed, IsAskedIf, IsNotedAlong, behind_move}
 use Rattle.peer_bench.specs.Steps.{IsAskedByIf}
 use Rattle.peer_bench.proofs.Growth.{AreAt, at_both}
 use Rattle.peer_bench.proofs.Liking.{StandsFor}
@@ -27,7 +27,7 @@ use Rattle.peer_bench.proofs.Passes.{asked_on_notes}
 
 -- when it was noted
 
-pub told_at : (net : NetValue) (at : ℕ) (o : Option (ℕ × ℕ)) → AreAt at (told net at o)
+pub told_at : (net : NetValue) (at : ℕ) (o : Option (ℕ × ℕ)) → AreAt at (told_passed net at o)
 told_at net at None = tt
 told_at net at (Some p) = by_kind (chan_is is_out net (Some p.0))
   where
@@ -141,7 +141,7 @@ asked_on_if false known net st at notes script behind more was is stands by = re
 }
 
 pub told_stands : (net : NetValue) (st : RunState) (notes : List Note) (script : List OfferValue) (at : ℕ) (o : Option (ℕ × ℕ)) →
-    StandsFor net st notes script → StandsFor net st (notes ++ told net at o) script
+    StandsFor net st notes script → StandsFor net st (notes ++ told_passed net at o) script
 told_stands net st notes script at o stands = by_passed o
   where
     unchanged : StandsFor net st (notes ++ []) script
@@ -151,7 +151,7 @@ told_stands net st notes script at o stands = by_passed o
     by_kind c value true = took_stands net st notes script at c value stands
     by_kind c value false = unchanged
 
-    by_passed : (o : Option (ℕ × ℕ)) → StandsFor net st (notes ++ told net at o) script
+    by_passed : (o : Option (ℕ × ℕ)) → StandsFor net st (notes ++ told_passed net at o) script
     by_passed None = unchanged
     by_passed (Some p) = by_kind p.0 p.1 (chan_is is_out net (Some p.0))
 
@@ -174,18 +174,18 @@ asked_then known s l now n at asks on was_on ack more was is net script same tes
     (subst (λ (x : List OfferValue). IsAskedByIf asks known s.net (now_of l) at x now.script more was is) script
     (subst (λ (w : NetValue). IsAskedByIf asks known w (now_of l) at l.script now.script more was is) net asked)))
 
-pub told_then : (net other : NetValue) (at : ℕ) (o p : Option (ℕ × ℕ)) (was is : PeerValue) → other ≡ net → o ≡ p → HasNoted (told other at o) was is →
-    HasNoted (told net at p) was is
+pub told_then : (net other : NetValue) (at : ℕ) (o p : Option (ℕ × ℕ)) (was is : PeerValue) → other ≡ net → o ≡ p → HasNoted (told_passed other at o) was is →
+    HasNoted (told_passed net at p) was is
 told_then net other at o p was is same passed noted =
-    subst (λ (q : Option (ℕ × ℕ)). HasNoted (told net at q) was is) passed
-    (subst (λ (w : NetValue). HasNoted (told w at o) was is) same noted)
+    subst (λ (q : Option (ℕ × ℕ)). HasNoted (told_passed net at q) was is) passed
+    (subst (λ (w : NetValue). HasNoted (told_passed w at o) was is) same noted)
 
 -- a run that goes on by one move
 pub noted_next : {P : Type 0} (known : P → PeerValue) (net : NetValue) (start : RunState) (was : P) (ns : List ℕ) (notes : List Note) (mid : P)
     (n at : ℕ) (st behind : RunState) (more : List Note) (late is : P) → IsNotedAlong known net start was ns notes mid → after net start ns ≡ st →
-    after net start (ns ++ n ∷ []) ≡ behind → length ns + 1 ≡ at → HasNoted (told net at (completion net (high st.values) n)) (known mid) (known late) →
-    IsAskedIf (lets_ask net st behind n) known net behind at (notes ++ told net at (completion net (high st.values) n)) more late is →
-    IsNotedAlong known net start was (ns ++ n ∷ []) ((notes ++ told net at (completion net (high st.values) n)) ++ more) is
+    after net start (ns ++ n ∷ []) ≡ behind → length ns + 1 ≡ at → HasNoted (told_passed net at (completion net (high st.values) n)) (known mid) (known late) →
+    IsAskedIf (lets_ask net st behind n) known net behind at (notes ++ told_passed net at (completion net (high st.values) n)) more late is →
+    IsNotedAlong known net start was (ns ++ n ∷ []) ((notes ++ told_passed net at (completion net (high st.values) n)) ++ more) is
 noted_next {P} known net start was ns notes mid n at st behind more late is before there later moment =
     subst (λ (a : ℕ). Step a st behind) moment
     (subst (λ (r : RunState). Step (length ns + 1) st r) later
@@ -193,6 +193,6 @@ noted_next {P} known net start was ns notes mid n at st behind more late is befo
     (λ noted asked. behind_move ns n notes more mid late is before noted asked)))
   where
     Step : ℕ → RunState → RunState → Type 0
-    Step a r b = HasNoted (told net a (completion net (high r.values) n)) (known mid) (known late) →
-        IsAskedIf (lets_ask net r b n) known net b a (notes ++ told net a (completion net (high r.values) n)) more late is →
-        IsNotedAlong known net start was (ns ++ n ∷ []) ((notes ++ told net a (completion net (high r.values) n)) ++ more) is
+    Step a r b = HasNoted (told_passed net a (completion net (high r.values) n)) (known mid) (known late) →
+        IsAskedIf (lets_ask net r b n) known net b a (notes ++ told_passed net a (completion net (high r.values) n)) more late is →
+        IsNotedAlong known net start was (ns ++ n ∷ []) ((notes ++ told_passed net a (completion net (high r.values) n)) ++ more) is

@@ -20,7 +20,7 @@ use Rattle.peer_bench.specs.declared.note.Note.TheVariants.{Offered, Ready, Took
 use Rattle.peer_bench.specs.Notes.{is_offer_on, is_ready_on, value_of, offered_on, times_ready}
 use Rattle.peer_bench.specs.Growing.{offer_by, offer_on, script_by}
 use Rattle.peer_bench.specs.Asking.{PeerValue, offer_note, ready_note, answer, answer_on, asked_on}
-use Rattle.peer_bench.specs.Steps.{script_noting, asked_by}
+use Rattle.peer_bench.specs.Steps.{script_noting, asked_under}
 use Rattle.peer_bench.proofs.Holding.{count_more}
 use Rattle.peer_bench.proofs.Liking.{IsLike, like_given, script_at, StandsFor, idle_like}
 
@@ -185,12 +185,12 @@ took_stands net st notes script at c value stands = record {
 -- an answer
 
 pub asked_same : (net : NetValue) (st : RunState) (notes : List Note) (script : List OfferValue) (p : PeerValue) (at c : ℕ) → StandsFor net st notes script →
-    asked_by net script st p at c ≡ asked_on net notes st p at c
+    asked_under net script st p at c ≡ asked_on net notes st p at c
 asked_same net st notes script p at c stands =
     ap (λ (b : Bool). if b then answer_on p (slice_get net.channels c) at c else []) (idle_like net st notes script c stands)
 
 pub answer_stands : (net : NetValue) (st : RunState) (notes : List Note) (script : List OfferValue) (p : PeerValue) (at c : ℕ) → StandsFor net st notes script →
-    StandsFor net st (notes ++ asked_by net script st p at c) (script_noting (asked_by net script st p at c) script)
+    StandsFor net st (notes ++ asked_under net script st p at c) (script_noting (asked_under net script st p at c) script)
 answer_stands net st notes script p at c stands = by_idle (is_idle net script st c) refl
   where
     asked : Bool → List Note

@@ -7,7 +7,7 @@ use Rattle.env_script.specs.Scripts.{OfferValue}
 use Rattle.env_script.specs.Runs.{RunState}
 use Rattle.peer_bench.specs.declared.note.Note.{Note}
 use Rattle.peer_bench.specs.Asking.{PeerValue, HasNoted, asked_on, IsPassOver, ArePasses, no_pass, and_pass, IsAsked}
-use Rattle.peer_bench.specs.Steps.{script_noting, asked_by, IsPassBy, ArePassesBy, no_pass_by, and_pass_by, IsAskedBy}
+use Rattle.peer_bench.specs.Steps.{script_noting, asked_under, IsPassBy, ArePassesBy, no_pass_by, and_pass_by, IsAskedBy}
 use Rattle.peer_bench.proofs.Liking.{StandsFor}
 use Rattle.peer_bench.proofs.Noting.{asked_same, answer_stands}
 
@@ -42,9 +42,9 @@ pass_on {P} known net st at (c ∷ cs) notes script behind more was is stands by
     }
   where
     given : List Note
-    given = asked_by net script st (known was) at c
+    given = asked_under net script st (known was) at c
 
-    same : asked_by net script st (known was) at c ≡ asked_on net notes st (known was) at c
+    same : asked_under net script st (known was) at c ≡ asked_on net notes st (known was) at c
     same = asked_same net st notes script (known was) at c stands
 
 pub record PassedOn {P : Type 0} (known : P → PeerValue) (net : NetValue) (st : RunState) (at : ℕ) (notes more : List Note)

@@ -16,7 +16,7 @@ use Rattle.peer_bench.specs.declared.note.Note.{Note}
 use Rattle.peer_bench.specs.declared.note.Note.TheVariants.{Offered, Ready, Took}
 use Rattle.peer_bench.specs.Growing.{script_by}
 use Rattle.peer_bench.specs.Asking.{PeerValue, offer_note, ready_note, answer, answer_on, asked_on, IsPassOver, ArePasses, no_pass, and_pass, IsAsked}
-use Rattle.peer_bench.specs.Along.{is_out, chan_is, low_reset, lets_ask, told, IsAskedIf, IsNotedAlong, at_first, behind_move}
+use Rattle.peer_bench.specs.Along.{is_out, chan_is, low_reset, lets_ask, told_passed, IsAskedIf, IsNotedAlong, at_first, behind_move}
 use Rattle.peer_bench.specs.Instants.{may_ask_after, IsAnswerAt, IsNoteAt, AreNotesAt, is_took, taken_in}
 
 -- one more move leaves what was noted before it as it is
@@ -146,7 +146,7 @@ asked_placed known false net start moves at notes more was is within asks asked 
 -- what a device is told
 
 told_placed : (net : NetValue) (start : RunState) (moves : List ℕ) (before : List Note) (at : ℕ) (o : Option (ℕ × ℕ)) → at ≤ length moves →
-    AreNotesAt net start moves before (told net at o) × (filter is_took (told net at o) ≡ told net at o)
+    AreNotesAt net start moves before (told_passed net at o) × (filter is_took (told_passed net at o) ≡ told_passed net at o)
 told_placed net start moves before at None within = (tt, refl)
 told_placed net start moves before at (Some p) within = by_kind (chan_is is_out net (Some p.0))
   where
@@ -158,15 +158,15 @@ told_placed net start moves before at (Some p) within = by_kind (chan_is is_out 
     by_kind false = (tt, refl)
 
 taken_more : (net : NetValue) (st : RunState) (count : ℕ) (ns : List ℕ) (n : ℕ) → taken_in net st count (ns ++ n ∷ []) ≡ taken_in net st count ns
-    ++ told net (count + length ns + 1) (completion net (high (after net st ns).values) n)
+    ++ told_passed net (count + length ns + 1) (completion net (high (after net st ns).values) n)
 taken_more net st count [] n =
     let same : count + 1 ≡ count + 0 + 1 = omega arith in
-    append-nil (told net (count + 1) (completion net (high st.values) n)) ∙ ap (λ k. told net k (completion net (high st.values) n)) same
+    append-nil (told_passed net (count + 1) (completion net (high st.values) n)) ∙ ap (λ k. told_passed net k (completion net (high st.values) n)) same
 taken_more net st count (m ∷ ns) n =
     let same : count + 1 + length ns + 1 ≡ count + length (m ∷ ns) + 1 = omega arith in
-    let first : List Note = told net (count + 1) (completion net (high st.values) m) in
+    let first : List Note = told_passed net (count + 1) (completion net (high st.values) m) in
     ap (λ (xs : List Note). first ++ xs) (taken_more net (moved net st m) (count + 1) ns n
-    ∙ ap (λ k. taken_in net (moved net st m) (count + 1) ns ++ told net k (completion net (high (after net st (m ∷ ns)).values) n)) same)
+    ∙ ap (λ k. taken_in net (moved net st m) (count + 1) ns ++ told_passed net k (completion net (high (after net st (m ∷ ns)).values) n)) same)
     ∙ sym (append_assoc first (taken_in net (moved net st m) (count + 1) ns) _)
 
 -- all notes
@@ -199,7 +199,7 @@ along_placed known net start was (at_first more is asked) =
 along_placed {P} known net start was (behind_move ns n notes more mid late is before noted asked) =
     let one = along_placed known net start was before in
     let at : ℕ = length ns + 1 in
-    let news : List Note = told net at (completion net (high (after net start ns).values) n) in
+    let news : List Note = told_passed net at (completion net (high (after net start ns).values) n) in
     let within : at ≤ length (ns ++ n ∷ []) = omega (arith, length_push ns n) in
     let whole : take at (ns ++ n ∷ []) ≡ ns ++ n ∷ [] = take_all at (ns ++ n ∷ []) (omega (arith, length_push ns n)) in
     let heard = told_placed net start (ns ++ n ∷ []) notes at (completion net (high (after net start ns).values) n) within in
@@ -213,6 +213,6 @@ along_placed {P} known net start was (behind_move ns n notes more mid late is be
       took = filter-append is_took (notes ++ news) more ∙ ap (λ (xs : List Note). filter is_took (notes ++ news) ++ xs) answers.no_took
           ∙ append-nil (filter is_took (notes ++ news)) ∙ filter-append is_took notes news ∙ ap (λ (xs : List Note). xs ++ filter is_took news) one.took
           ∙ ap (λ (xs : List Note). taken_in net start 0 ns ++ xs) heard.1
-          ∙ ap (λ k. taken_in net start 0 ns ++ told net k (completion net (high (after net start ns).values) n))
+          ∙ ap (λ k. taken_in net start 0 ns ++ told_passed net k (completion net (high (after net start ns).values) n))
           (let same : at ≡ 0 + length ns + 1 = omega arith in same) ∙ sym (taken_more net start 0 ns n);
     }

@@ -18,8 +18,8 @@ use Rattle.chp_base.specs.declared.channel.Kind.TheVariants.{In, Out, Chan}
 use Rattle.peer_bench.specs.declared.note.Note.{Note}
 use Rattle.peer_bench.specs.declared.note.Note.TheVariants.{Took}
 use Rattle.peer_bench.specs.Asking.{PeerValue, offer_note, ready_note, answer, answer_on}
-use Rattle.peer_bench.specs.Along.{is_out, chan_is, told}
-use Rattle.peer_bench.specs.Steps.{script_noting, asked_by, AreOffered, free_from, free_on}
+use Rattle.peer_bench.specs.Along.{is_out, chan_is, told_passed}
+use Rattle.peer_bench.specs.Steps.{script_noting, asked_under, AreOffered, free_from, free_on}
 use Rattle.peer_bench.proofs.Counting.{counts_none, counts_elsewhere, channel_of}
 
 abbrev pub bit_at : (ℕ → OfferValue) → (ℕ → ℕ) → ℕ → Bool
@@ -135,7 +135,7 @@ add_room net st script chan value note idle within offered = record {
 -- an answer
 
 pub asked_room : (net : NetValue) (st : RunState) (script : List OfferValue) (p : PeerValue) (at chan : ℕ) → chan < length net.channels →
-    AreOffered script st → HasRoom net st script (script_noting (asked_by net script st p at chan) script) (asked_by net script st p at chan)
+    AreOffered script st → HasRoom net st script (script_noting (asked_under net script st p at chan) script) (asked_under net script st p at chan)
 asked_room net st script p at chan within offered = by_idle (is_idle net script st chan) refl
   where
     unchanged : HasRoom net st script script []
@@ -199,7 +199,7 @@ free_moved s n script net = by_completion (completion s.net (high s.values) n) r
         let most = few (bit_at (offer_at script) later p.0) in
         omega arith
 
-pub told_few : (net : NetValue) (at : ℕ) (o : Option (ℕ × ℕ)) → length (told net at o) ≤ 1
+pub told_few : (net : NetValue) (at : ℕ) (o : Option (ℕ × ℕ)) → length (told_passed net at o) ≤ 1
 told_few net at None = omega arith
 told_few net at (Some p) = by_kind (chan_is is_out net (Some p.0))
   where

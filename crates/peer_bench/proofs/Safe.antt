@@ -22,7 +22,7 @@ use Rattle.peer_bench.specs.declared.note.Note.{Note}
 use Rattle.peer_bench.specs.Growing.{script_by, script_after}
 use Rattle.peer_bench.specs.Running.{hazard_under}
 use Rattle.peer_bench.specs.Asking.{PeerValue}
-use Rattle.peer_bench.specs.Along.{lets_ask, told, IsAskedIf, IsNotedAlong, at_first, behind_move}
+use Rattle.peer_bench.specs.Along.{lets_ask, told_passed, IsAskedIf, IsNotedAlong, at_first, behind_move}
 use Rattle.peer_bench.specs.Benches.{SetupValue, bench_start, bench_moves, IsBenchRun}
 use Rattle.peer_bench.proofs.Beginning.{power_length}
 use Rattle.peer_bench.proofs.Calm.{IsWhole, whole_after, safe_sooner}
@@ -57,7 +57,7 @@ no_hazard known net start was is_net whole (behind_move ns n notes more mid late
     let at : ℕ = length ns + 1 in
     let st : RunState = after net start ns in
     let behind : RunState = after net start (ns ++ n ∷ []) in
-    let news : List Note = told net at (completion net (high st.values) n) in
+    let news : List Note = told_passed net at (completion net (high st.values) n) in
     let all : (notes ++ news) ++ more ≡ notes ++ (news ++ more) = append_assoc notes news more in
     let moment : AreAt at (news ++ more) = at_both at news more (told_at net at (completion net (high st.values) n))
     (asked_if_at known (lets_ask net st behind n) net behind at (notes ++ news) more late is asked) in
@@ -66,9 +66,11 @@ no_hazard known net start was is_net whole (behind_move ns n notes more mid late
     ∙ script_now net notes (length ns) (until_placed net start ns [] notes (along_placed known net start was before).placed) in
     let last = last_of net (script_by net ((notes ++ news) ++ more)) start ns n safe in
     hazard_more net (script_after net ((notes ++ news) ++ more)) start ns n ∙ ap (λ (e : List OfferValue). hazard_of net e st n) script
-    ∙ (safe_is_calm net (script_by net notes) st n is_net).0
-    (safe_sooner net notes (news ++ more) st n is_net (whole_after net start ns whole)
-    (subst (λ (xs : List Note). IsSafeMove net (script_by net xs) st n) all last.0), last.1)
+    ∙ (safe_is_calm net (script_by net notes) st n is_net).0 (
+      safe_sooner net notes (news ++ more) st n is_net (whole_after net start ns whole)
+          (subst (λ (xs : List Note). IsSafeMove net (script_by net xs) st n) all last.0),
+      last.1,
+    )
 
 rests_or_spends : (xs : List ℕ) (spent : Bool) (end : End) → end_with None xs spent ≡ Some end → (end ≡ AtRest) ⊎ (end ≡ Spent)
 rests_or_spends [] spent end ended = inl (same_end end AtRest (sym ended))

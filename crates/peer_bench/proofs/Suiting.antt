@@ -12,8 +12,8 @@ use Rattle.env_script.specs.Scripts.{OfferValue, gives, takes, nothing, Suits, I
 use Rattle.env_script.specs.Runs.{RunState}
 use Rattle.event_sim.specs.Standings.{one_more, script_and, is_idle}
 use Rattle.peer_bench.specs.Asking.{PeerValue, offer_note, ready_note, answer, answer_on}
-use Rattle.peer_bench.specs.Along.{has_kind, chan_is}
-use Rattle.peer_bench.specs.Steps.{asked_by}
+use Rattle.peer_bench.specs.Along.{kind_passes, chan_is}
+use Rattle.peer_bench.specs.Steps.{asked_under}
 
 all_same : (n value bound : ℕ) → value < bound → All (λ v. v < bound) (replicate n value)
 all_same n value bound less = λ i d within. let e = get_or-replicate n i value d (omega (arith, length-replicate n value)) in omega arith
@@ -52,12 +52,12 @@ read_at ws all k d same within = ap (λ (xs : List Wires). get_or xs k d) same �
 -- what comes of asking on a channel
 
 pub asked_not : (net : NetValue) (script : List OfferValue) (st : RunState) (p : PeerValue) (at chan : ℕ) → is_idle net script st chan ≡ false →
-    asked_by net script st p at chan ≡ []
+    asked_under net script st p at chan ≡ []
 asked_not net script st p at chan busy = ap (λ (b : Bool). if b then answer_on p (slice_get net.channels chan) at chan else []) busy
 
 pub asked_is : (net : NetValue) (script : List OfferValue) (st : RunState) (p : PeerValue) (at chan : ℕ) (w : Wires) (kind : Kind) →
     is_idle net script st chan ≡ true → chan < length net.channels → w ≡ get_or net.channels chan w → w.channel.kind ≡ kind →
-    asked_by net script st p at chan ≡ answer p kind w.channel.width at chan
+    asked_under net script st p at chan ≡ answer p kind w.channel.width at chan
 asked_is net script st p at chan w kind idle within here is =
     ap (λ (b : Bool). if b then answer_on p (slice_get net.channels chan) at chan else []) idle
     ∙ ap (λ (o : Option Wires). answer_on p o at chan) (slice_get_read net.channels (length net.channels) chan w refl within here)
@@ -76,4 +76,4 @@ came_ready at chan true = refl
 -- the kind of the channel at a place
 pub kind_at : (net : NetValue) (p : Kind → Bool) (chan : ℕ) (w : Wires) → chan < length net.channels → w ≡ get_or net.channels chan w →
     p w.channel.kind ≡ chan_is p net (Some chan)
-kind_at net p chan w within here = sym (ap (has_kind p) (slice_get_read net.channels (length net.channels) chan w refl within here))
+kind_at net p chan w within here = sym (ap (kind_passes p) (slice_get_read net.channels (length net.channels) chan w refl within here))

@@ -10,7 +10,7 @@ use Rattle.env_script.specs.Runs.{RunState}
 use Rattle.peer_bench.specs.declared.note.Note.{Note}
 use Rattle.peer_bench.specs.Asking.{PeerValue, HasNoted}
 use Rattle.event_sim.specs.Stages.{StageValue, now_of}
-use Rattle.peer_bench.specs.Steps.{script_noting, asked_by, IsPassBy, IsWholePassBy, ArePassesBy, and_pass_by, IsAskedBy}
+use Rattle.peer_bench.specs.Steps.{script_noting, asked_under, IsPassBy, IsWholePassBy, ArePassesBy, and_pass_by, IsAskedBy}
 
 pub range_more : (a n : ℕ) → range_with_len a (suc n) ≡ range_with_len a n ++ (a + n) ∷ []
 range_more a zero = let same : a ≡ a + 0 = omega arith in ap (λ (k : ℕ). k ∷ []) same
@@ -34,23 +34,23 @@ some_both xs ys = ap (nat_lt 0) (length-append xs ys) ∙ some_more (length xs) 
 
 pub pass_more : {P : Type 0} (known : P → PeerValue) (net : NetValue) (st : RunState) (at : ℕ) (cs : List ℕ) (c : ℕ) (script mid : List OfferValue)
     (more : List Note) (was between is : P) → IsPassBy known net st at cs script mid more was between →
-    HasNoted (asked_by net mid st (known between) at c) (known between) (known is) →
-    IsPassBy known net st at (cs ++ c ∷ []) script (script_noting (asked_by net mid st (known between) at c) mid)
-    (more ++ asked_by net mid st (known between) at c) was is
+    HasNoted (asked_under net mid st (known between) at c) (known between) (known is) →
+    IsPassBy known net st at (cs ++ c ∷ []) script (script_noting (asked_under net mid st (known between) at c) mid)
+    (more ++ asked_under net mid st (known between) at c) was is
 pass_more {P} known net st at [] c script mid more was between is by noted =
-    subst (λ (m : List OfferValue). IsPassBy known net st at (c ∷ []) script (script_noting (asked_by net m st (known between) at c) m)
-    (more ++ asked_by net m st (known between) at c) was is) (sym by.1)
-    (subst (λ (b : P). IsPassBy known net st at (c ∷ []) script (script_noting (asked_by net script st (known b) at c) script)
-    (more ++ asked_by net script st (known b) at c) was is) (sym by.2)
+    subst (λ (m : List OfferValue). IsPassBy known net st at (c ∷ []) script (script_noting (asked_under net m st (known between) at c) m)
+    (more ++ asked_under net m st (known between) at c) was is) (sym by.1)
+    (subst (λ (b : P). IsPassBy known net st at (c ∷ []) script (script_noting (asked_under net script st (known b) at c) script)
+    (more ++ asked_under net script st (known b) at c) was is) (sym by.2)
     (is, ([], ap (λ (xs : List Note). xs ++ given) by.0 ∙ sym (append-nil given), noted_then, (refl, refl, refl))))
   where
     given : List Note
-    given = asked_by net script st (known was) at c
+    given = asked_under net script st (known was) at c
 
-    noted_then : HasNoted (asked_by net script st (known was) at c) (known was) (known is)
+    noted_then : HasNoted (asked_under net script st (known was) at c) (known was) (known is)
     noted_then =
-        subst (λ (b : P). HasNoted (asked_by net script st (known b) at c) (known b) (known is)) by.2
-        (subst (λ (m : List OfferValue). HasNoted (asked_by net m st (known between) at c) (known between) (known is)) by.1 noted)
+        subst (λ (b : P). HasNoted (asked_under net script st (known b) at c) (known b) (known is)) by.2
+        (subst (λ (m : List OfferValue). HasNoted (asked_under net m st (known between) at c) (known between) (known is)) by.1 noted)
 pass_more {P} known net st at (d ∷ cs) c script mid more was between is by noted = (
   by.0,
   (
@@ -62,20 +62,20 @@ pass_more {P} known net st at (d ∷ cs) c script mid more was between is by not
 )
   where
     first : List Note
-    first = asked_by net script st (known was) at d
+    first = asked_under net script st (known was) at d
 
     given : List Note
-    given = asked_by net mid st (known between) at c
+    given = asked_under net mid st (known between) at c
 
 pub pass_up : {P : Type 0} (known : P → PeerValue) (net : NetValue) (st : RunState) (at k : ℕ) (script mid behind : List OfferValue)
     (more : List Note) (was between is : P) → IsPassBy known net st at (range_with_len 0 k) script mid more was between →
-    behind ≡ script_noting (asked_by net mid st (known between) at k) mid →
-    HasNoted (asked_by net mid st (known between) at k) (known between) (known is) →
-    IsPassBy known net st at (range_with_len 0 (k + 1)) script behind (more ++ asked_by net mid st (known between) at k) was is
+    behind ≡ script_noting (asked_under net mid st (known between) at k) mid →
+    HasNoted (asked_under net mid st (known between) at k) (known between) (known is) →
+    IsPassBy known net st at (range_with_len 0 (k + 1)) script behind (more ++ asked_under net mid st (known between) at k) was is
 pass_up known net st at k script mid behind more was between is by same noted =
-    subst (λ (cs : List ℕ). IsPassBy known net st at cs script behind (more ++ asked_by net mid st (known between) at k) was is) (sym (range_up k))
+    subst (λ (cs : List ℕ). IsPassBy known net st at cs script behind (more ++ asked_under net mid st (known between) at k) was is) (sym (range_up k))
     (subst (λ (s : List OfferValue). IsPassBy known net st at (range_with_len 0 k ++ k ∷ []) script s
-    (more ++ asked_by net mid st (known between) at k) was is) (sym same)
+    (more ++ asked_under net mid st (known between) at k) was is) (sym same)
     (pass_more known net st at (range_with_len 0 k) k script mid more was between is by noted))
 
 -- whoever noted an answer has room for fewer
@@ -98,7 +98,7 @@ pass_none {P} known net st at (c ∷ cs) script behind was is by =
     ∙ ap (λ (xs : List Note). script_noting xs script) none.0
   where
     first : List Note
-    first = asked_by net script st (known was) at c
+    first = asked_under net script st (known was) at c
 
     none : (first ≡ []) × (by.1.0 ≡ [])
     none = nothing_first first by.1.0 by.1.1

@@ -28,7 +28,7 @@ use Rattle.peer_bench.specs.declared.note.Note.TheVariants.{Took}
 use Rattle.peer_bench.specs.Growing.{script_by, script_after}
 use Rattle.peer_bench.specs.Running.{Scripts, follow_under, ArePicksUnder, hazard_under, end_under}
 use Rattle.peer_bench.specs.Asking.{PeerValue, HasNoted}
-use Rattle.peer_bench.specs.Along.{is_external, is_out, has_kind, chan_is, lets_ask, told, IsAskedIf, IsNotedAlong, IsSilent, NothingComes}
+use Rattle.peer_bench.specs.Along.{is_external, is_out, kind_passes, chan_is, lets_ask, told_passed, IsAskedIf, IsNotedAlong, IsSilent, NothingComes}
 use Rattle.peer_bench.specs.Steps.{IsMoveNoted, AreOffered, AreRailsHeld, free_on}
 use Rattle.peer_bench.specs.Benches.{bench_start, bench_moves}
 use Rattle.peer_bench.proofs.Counting.{stands_moved, listed_like, hazard_like}
@@ -176,16 +176,16 @@ out_is_external Out off = absurd (cc off)
 out_is_external Chan off = refl
 
 told_none : (net : NetValue) (v : ℕ → Bool) (n at : ℕ) → chan_is is_external net (channel_acknowledged net.channels n) ≡ false →
-    told net at (completion net v n) ≡ []
+    told_passed net at (completion net v n) ≡ []
 told_none net v n at off = by_completion (completion net v n) refl
   where
-    by_completion : (o : Option (ℕ × ℕ)) → completion net v n ≡ o → told net at (completion net v n) ≡ []
-    by_completion None none = ap (told net at) none
+    by_completion : (o : Option (ℕ × ℕ)) → completion net v n ≡ o → told_passed net at (completion net v n) ≡ []
+    by_completion None none = ap (told_passed net at) none
     by_completion (Some p) some =
         let on = completes_on net v n p some in
-        let inside : is_external on.wires.channel.kind ≡ false = sym (ap (chan_is is_external net) on.found ∙ ap (has_kind is_external) on.here) ∙ off in
-        let quiet : chan_is is_out net (Some p.0) ≡ false = ap (has_kind is_out) on.here ∙ out_is_external on.wires.channel.kind inside in
-        ap (told net at) some ∙ ap (λ (b : Bool). if b then Took at p.0 p.1 ∷ [] else []) quiet
+        let inside : is_external on.wires.channel.kind ≡ false = sym (ap (chan_is is_external net) on.found ∙ ap (kind_passes is_external) on.here) ∙ off in
+        let quiet : chan_is is_out net (Some p.0) ≡ false = ap (kind_passes is_out) on.here ∙ out_is_external on.wires.channel.kind inside in
+        ap (told_passed net at) some ∙ ap (λ (b : Bool). if b then Took at p.0 p.1 ∷ [] else []) quiet
 
 unasked : (s : StageValue) (n : ℕ) (notes : List Note) (p : PeerValue) → IsNet s.net →
     chan_is is_external s.net (channel_acknowledged s.net.channels n) ≡ false → NothingComes s.net notes (now_of s) p →
@@ -195,7 +195,7 @@ unasked s n notes p net off quiet = λ c w here idle. by_kind c w here idle w.ch
     apart : (c : ℕ) (w : Wires) → slice_get s.net.channels c ≡ Some w → is_external w.channel.kind ≡ true → n ≡ w.ack → ⊥
     apart c w here external same =
         both_ways (chan_is is_external s.net (channel_acknowledged s.net.channels n)) off
-        (ap (chan_is is_external s.net) (ack_found s.net n c w net here same) ∙ ap (has_kind is_external) here ∙ external)
+        (ap (chan_is is_external s.net) (ack_found s.net n c w net here same) ∙ ap (kind_passes is_external) here ∙ external)
 
     was_idle : (c : ℕ) (w : Wires) → slice_get s.net.channels c ≡ Some w → is_external w.channel.kind ≡ true →
         is_idle s.net (script_by s.net notes) (moved s.net (now_of s) n) c ≡ true → is_idle s.net (script_by s.net notes) (now_of s) c ≡ true
@@ -216,16 +216,16 @@ unasked s n notes p net off quiet = λ c w here idle. by_kind c w here idle w.ch
 
 quiet_next : {P : Type 0} (known : P → PeerValue) (s : StageValue) (n at : ℕ) (notes more : List Note) (mid late is : P) → IsNet s.net →
     (in_reset s.net.reset (high s.values) ≡ false → NothingComes s.net notes (now_of s) (known mid)) →
-    HasNoted (told s.net at (completion s.net (high s.values) n)) (known mid) (known late) →
+    HasNoted (told_passed s.net at (completion s.net (high s.values) n)) (known mid) (known late) →
     IsAskedIf (lets_ask s.net (now_of s) (moved s.net (now_of s) n) n) known s.net (moved s.net (now_of s) n) at
-    (notes ++ told s.net at (completion s.net (high s.values) n)) more late is →
+    (notes ++ told_passed s.net at (completion s.net (high s.values) n)) more late is →
     in_reset s.net.reset (high (moved s.net (now_of s) n).values) ≡ false →
-    NothingComes s.net ((notes ++ told s.net at (completion s.net (high s.values) n)) ++ more) (moved s.net (now_of s) n) (known is)
+    NothingComes s.net ((notes ++ told_passed s.net at (completion s.net (high s.values) n)) ++ more) (moved s.net (now_of s) n) (known is)
 quiet_next {P} known s n at notes more mid late is net quiet noted asked low =
     by_asks (lets_ask s.net (now_of s) (moved s.net (now_of s) n) n) refl asked
   where
     news : List Note
-    news = told s.net at (completion s.net (high s.values) n)
+    news = told_passed s.net at (completion s.net (high s.values) n)
 
     st : RunState
     st = moved s.net (now_of s) n
@@ -340,7 +340,7 @@ step_here {P} known s later steps picks notes was mid is last brought p n at net
     moves = bench_moves s.net notes picks
 
     news : List Note
-    news = told s.net at (completion s.net (high s.values) n)
+    news = told_passed s.net at (completion s.net (high s.values) n)
 
     extra : List Note
     extra = news ++ noted.more

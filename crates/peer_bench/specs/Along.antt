@@ -25,13 +25,13 @@ is_out Out = true
 is_out Chan = false
 
 -- the channel of this number, if there is one, is of such a kind
-abbrev pub has_kind : (Kind → Bool) → Option Wires → Bool
-has_kind p None = false
-has_kind p (Some w) = p w.channel.kind
+abbrev pub kind_passes : (Kind → Bool) → Option Wires → Bool
+kind_passes p None = false
+kind_passes p (Some w) = p w.channel.kind
 
 abbrev pub chan_is : (Kind → Bool) → NetValue → Option ℕ → Bool
 chan_is p net None = false
-chan_is p net (Some c) = has_kind p (slice_get net.channels c)
+chan_is p net (Some c) = kind_passes p (slice_get net.channels c)
 
 -- The move of the node from one state to another lets the device be asked: reset is low behind it, and it lowered reset
 -- or changed the acknowledge of an external channel.
@@ -40,9 +40,9 @@ lets_ask net was is n = not (in_reset net.reset (high is.values))
     && (in_reset net.reset (high was.values) || chan_is is_external net (channel_acknowledged net.channels n))
 
 -- what the device is told where this completes: a value that it took on an `out` channel
-abbrev pub told : NetValue → (at : ℕ) → Option (ℕ × ℕ) → List Note
-told net at None = []
-told net at (Some p) = if chan_is is_out net (Some p.0) then Took at p.0 p.1 ∷ [] else []
+abbrev pub told_passed : NetValue → (at : ℕ) → Option (ℕ × ℕ) → List Note
+told_passed net at None = []
+told_passed net at (Some p) = if chan_is is_out net (Some p.0) then Took at p.0 p.1 ∷ [] else []
 
 -- it is asked, where the test passes
 abbrev pub IsAskedIf : {P : Type 0} → Bool → (known : P → PeerValue) → NetValue → RunState → (at : ℕ) →
@@ -61,12 +61,12 @@ pub data IsNotedAlong {P : Type 0} (known : P → PeerValue) (net : NetValue) (s
       IsNotedAlong known net start was [] more is
   behind_move : (ns : List ℕ) (n : ℕ) (notes more : List Note) (mid late is : P) →
       IsNotedAlong known net start was ns notes mid →
-      HasNoted (told net (length ns + 1) (completion net (high (after net start ns).values) n)) (known mid) (known late) →
+      HasNoted (told_passed net (length ns + 1) (completion net (high (after net start ns).values) n)) (known mid) (known late) →
       IsAskedIf (lets_ask net (after net start ns) (after net start (ns ++ n ∷ [])) n) known net
       (after net start (ns ++ n ∷ [])) (length ns + 1)
-      (notes ++ told net (length ns + 1) (completion net (high (after net start ns).values) n)) more late is →
+      (notes ++ told_passed net (length ns + 1) (completion net (high (after net start ns).values) n)) more late is →
       IsNotedAlong known net start was (ns ++ n ∷ [])
-      ((notes ++ told net (length ns + 1) (completion net (high (after net start ns).values) n)) ++ more) is
+      ((notes ++ told_passed net (length ns + 1) (completion net (high (after net start ns).values) n)) ++ more) is
 
 -- nothing is due on a channel of this kind, and no value is taken on it
 abbrev pub IsSilent : PeerValue → Kind → (width chan : ℕ) → Type 0

@@ -11,7 +11,7 @@ use Rattle.event_sim.specs.Standings.{is_idle}
 use Rattle.peer_bench.specs.declared.note.Note.{Note}
 use Rattle.peer_bench.specs.declared.note.Note.TheVariants.{Offered, Ready, Took}
 use Rattle.peer_bench.specs.Growing.{script_by}
-use Rattle.peer_bench.specs.Along.{has_kind, low_reset, lets_ask, told}
+use Rattle.peer_bench.specs.Along.{kind_passes, low_reset, lets_ask, told_passed}
 
 -- After so many moves the device may be asked: at the start unless reset is high, else where the last of them changed
 -- the acknowledge of an external channel or lowered reset, and reset is low.
@@ -49,4 +49,4 @@ is_took (Took at chan value) = true
 abbrev pub taken_in : NetValue → RunState → (before : ℕ) → (moves : List ℕ) → List Note
 taken_in net st before [] = []
 taken_in net st before (n ∷ ns) =
-    told net (before + 1) (completion net (high st.values) n) ++ taken_in net (moved net st n) (before + 1) ns
+    told_passed net (before + 1) (completion net (high st.values) n) ++ taken_in net (moved net st n) (before + 1) ns

@@ -13,7 +13,7 @@ use Rattle.event_sim.specs.Standings.{number_of, is_done, script_and, is_idle}
 use Rattle.peer_bench.specs.declared.note.Note.{Note}
 use Rattle.peer_bench.specs.declared.note.Note.TheVariants.{Offered, Ready, Took}
 use Rattle.peer_bench.specs.Asking.{PeerValue, HasNoted, answer_on}
-use Rattle.peer_bench.specs.Along.{told, lets_ask}
+use Rattle.peer_bench.specs.Along.{told_passed, lets_ask}
 
 -- with what these notes add
 abbrev pub script_noting : List Note → List OfferValue → List OfferValue
@@ -22,17 +22,17 @@ script_noting (Offered at chan value ∷ notes) script = script_noting notes (sc
 script_noting (Ready at chan ∷ notes) script = script_noting notes (script_and chan 0 script)
 script_noting (Took at chan value ∷ notes) script = script_noting notes script
 
-abbrev pub asked_by : NetValue → List OfferValue → RunState → PeerValue → (at chan : ℕ) → List Note
-asked_by net script st p at chan =
+abbrev pub asked_under : NetValue → List OfferValue → RunState → PeerValue → (at chan : ℕ) → List Note
+asked_under net script st p at chan =
     if is_idle net script st chan then answer_on p (slice_get net.channels chan) at chan else []
 
 abbrev pub IsPassBy : {P : Type 0} (known : P → PeerValue) → NetValue → RunState → (at : ℕ) → (channels : List ℕ) →
     (script behind : List OfferValue) → List Note → (was is : P) → Type 0
 IsPassBy known net st at [] script behind more was is = (more ≡ []) × (behind ≡ script) × (is ≡ was)
 IsPassBy {P} known net st at (c ∷ cs) script behind more was is = (mid : P) × ((rest : List Note)
-    × (more ≡ asked_by net script st (known was) at c ++ rest)
-    × HasNoted (asked_by net script st (known was) at c) (known was) (known mid)
-    × IsPassBy known net st at cs (script_noting (asked_by net script st (known was) at c) script) behind rest mid is)
+    × (more ≡ asked_under net script st (known was) at c ++ rest)
+    × HasNoted (asked_under net script st (known was) at c) (known was) (known mid)
+    × IsPassBy known net st at cs (script_noting (asked_under net script st (known was) at c) script) behind rest mid is)
 
 abbrev pub IsWholePassBy : {P : Type 0} (known : P → PeerValue) → NetValue → RunState → (at : ℕ) →
     (script behind : List OfferValue) → List Note → (was is : P) → Type 0
@@ -63,7 +63,7 @@ pub record IsMoveNoted {P : Type 0} (known : P → PeerValue) (net : NetValue) (
     (script later : List OfferValue) (was is : P) : Type 0 where
   pub mid : P
   pub more : List Note
-  pub told_is : HasNoted (told net at (completion net (high st.values) node)) (known was) (known mid)
+  pub told_is : HasNoted (told_passed net at (completion net (high st.values) node)) (known was) (known mid)
   pub asked : IsAskedByIf (lets_ask net st behind node) known net behind at script later more mid is
 
 -- on how many channels all that is offered has completed

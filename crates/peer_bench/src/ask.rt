@@ -11,7 +11,7 @@ ghost use Rattle.event_sim.specs.Stages.{now_of};
 ghost use Rattle.peer_bench.specs.declared.note.Note.{Note};
 ghost use Rattle.peer_bench.specs.declared.note.Note.TheVariants.{Ready};
 ghost use Rattle.peer_bench.specs.Asking.{peer_value, HasNoted, offer_note, ready_note};
-ghost use Rattle.peer_bench.specs.Steps.{script_noting, asked_by, IsWholePassBy, IsAskedBy, AreOffered, free_on};
+ghost use Rattle.peer_bench.specs.Steps.{script_noting, asked_under, IsWholePassBy, IsAskedBy, AreOffered, free_on};
 
 use crate::peer::Peer;
 use chp_base::Kind;
@@ -72,15 +72,15 @@ fn ask(stage: &mut Stage, peer: &mut Box<dyn Peer>, chan: u32, at: u32) -> bool
     requires low { in_reset stage.old.net.reset (high stage.old.values) ≡ false }
     requires room { 1 ≤ spare peer.old }
     ensures stage { stage.new ≡ record stage.old {
-      script = script_noting (asked_by stage.old.net stage.old.script (now_of stage.old)
+      script = script_noting (asked_under stage.old.net stage.old.script (now_of stage.old)
           (peer_value (name peer.old) (log peer.old) (spare peer.old) (due peer.old) (willing peer.old)) at chan)
           stage.old.script;
     } }
-    ensures noted { HasNoted (asked_by stage.old.net stage.old.script (now_of stage.old)
+    ensures noted { HasNoted (asked_under stage.old.net stage.old.script (now_of stage.old)
         (peer_value (name peer.old) (log peer.old) (spare peer.old) (due peer.old) (willing peer.old)) at chan)
         (peer_value (name peer.old) (log peer.old) (spare peer.old) (due peer.old) (willing peer.old))
         (peer_value (name peer.new) (log peer.new) (spare peer.new) (due peer.new) (willing peer.new)) }
-    ensures came { result ≡ nat_lt 0 (length (asked_by stage.old.net stage.old.script (now_of stage.old)
+    ensures came { result ≡ nat_lt 0 (length (asked_under stage.old.net stage.old.script (now_of stage.old)
         (peer_value (name peer.old) (log peer.old) (spare peer.old) (due peer.old) (willing peer.old)) at chan)) }
 {
     if !stage.is_idle(chan) {

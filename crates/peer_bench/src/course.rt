@@ -13,7 +13,7 @@ ghost use Rattle.event_sim.specs.Stages.{now_of};
 ghost use Rattle.peer_bench.specs.declared.note.Note.{Note};
 ghost use Rattle.peer_bench.specs.declared.note.Note.TheVariants.{Took};
 ghost use Rattle.peer_bench.specs.Asking.{peer_value, HasNoted};
-ghost use Rattle.peer_bench.specs.Along.{is_external, is_out, chan_is, told};
+ghost use Rattle.peer_bench.specs.Along.{is_external, is_out, chan_is, told_passed};
 ghost use Rattle.peer_bench.specs.Benches.{external_channels, noted_since, IsBenchRun};
 ghost use Rattle.peer_bench.specs.Steps.{IsAskedByIf, IsMoveNoted, AreOffered, AreRailsHeld, free_on};
 
@@ -72,7 +72,7 @@ fn tell_taken(peer: &mut Box<dyn Peer>, chan: u32, value: u64, at: u32)
 fn tell_value(stage: &Stage, peer: &mut Box<dyn Peer>, chan: u32, value: u64, at: u32)
     requires chan { chan < length stage.now.net.channels }
     requires room { 1 ≤ spare peer.old }
-    ensures { HasNoted (told stage.now.net at (Some (chan, value)))
+    ensures { HasNoted (told_passed stage.now.net at (Some (chan, value)))
         (peer_value (name peer.old) (log peer.old) (spare peer.old) (due peer.old) (willing peer.old))
         (peer_value (name peer.new) (log peer.new) (spare peer.new) (due peer.new) (willing peer.new)) }
 {
@@ -85,7 +85,7 @@ fn tell_value(stage: &Stage, peer: &mut Box<dyn Peer>, chan: u32, value: u64, at
 fn tell(stage: &Stage, peer: &mut Box<dyn Peer>, passed: Option<(u32, u64)>, at: u32)
     requires chan { IfSome passed (λ p. p.0 < length stage.now.net.channels) }
     requires room { 1 ≤ spare peer.old }
-    ensures { HasNoted (told stage.now.net at passed)
+    ensures { HasNoted (told_passed stage.now.net at passed)
         (peer_value (name peer.old) (log peer.old) (spare peer.old) (due peer.old) (willing peer.old))
         (peer_value (name peer.new) (log peer.new) (spare peer.new) (due peer.new) (willing peer.new)) }
 {

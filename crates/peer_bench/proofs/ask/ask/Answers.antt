@@ -5,7 +5,7 @@ use Rattle.prs_core.specs.Nets.{NetValue}
 use Rattle.event_sim.specs.Stages.{now_of}
 use Rattle.peer_bench.specs.declared.note.Note.{Note}
 use Rattle.peer_bench.specs.Asking.{PeerValue, peer_value, HasNoted, answer}
-use Rattle.peer_bench.specs.Steps.{script_noting, asked_by}
+use Rattle.peer_bench.specs.Steps.{script_noting, asked_under}
 use Rattle.peer_bench.proofs.Known.{noted_none}
 use Rattle.peer_bench.proofs.Suiting.{read_at, script_adds, asked_is, came_offer, came_ready}
 use Rattle.peer_bench.proofs.ask.ask.Goals as goal
@@ -40,7 +40,7 @@ returns-in-In-clause-stage g c =
     let p : PeerValue = peer_value (q.name v) (q.log v) (q.spare v) (q.due v) (q.willing v) in
     let w = get_or c.channels.result.now k c.index-channels-chan.result in
     let all : c.channels.result.now ≡ net.channels = c.channels.ensures.channels ∙ ap (λ (x : NetValue). x.channels) c.net.ensures.net in
-    let same : asked_by net stage.script st p at k ≡ answer p In w.channel.width at k =
+    let same : asked_under net stage.script st p at k ≡ answer p In w.channel.width at k =
     asked_is net stage.script st p at k w In (sym c.if-not-is_idle.ensures) c.requires.chan
     (read_at net.channels c.channels.result.now k c.index-channels-chan.result all c.requires.chan) c.in-In.is in
     c.ask_value.ensures.stage ∙ ap (λ (xs : List Note). record stage { script = script_noting xs stage.script }) (sym same)
@@ -57,7 +57,7 @@ returns-in-In-clause-noted g c =
     let p : PeerValue = peer_value (q.name v) (q.log v) (q.spare v) (q.due v) (q.willing v) in
     let w = get_or c.channels.result.now k c.index-channels-chan.result in
     let all : c.channels.result.now ≡ net.channels = c.channels.ensures.channels ∙ ap (λ (x : NetValue). x.channels) c.net.ensures.net in
-    let same : asked_by net stage.script st p at k ≡ answer p In w.channel.width at k =
+    let same : asked_under net stage.script st p at k ≡ answer p In w.channel.width at k =
     asked_is net stage.script st p at k w In (sym c.if-not-is_idle.ensures) c.requires.chan
     (read_at net.channels c.channels.result.now k c.index-channels-chan.result all c.requires.chan) c.in-In.is in
     let r = goal.Peer-dyn g (c.ask_value.new.peer.vtable, c.ask_value.new.peer.value) in
@@ -77,7 +77,7 @@ returns-in-In-clause-came g c =
     let p : PeerValue = peer_value (q.name v) (q.log v) (q.spare v) (q.due v) (q.willing v) in
     let w = get_or c.channels.result.now k c.index-channels-chan.result in
     let all : c.channels.result.now ≡ net.channels = c.channels.ensures.channels ∙ ap (λ (x : NetValue). x.channels) c.net.ensures.net in
-    let same : asked_by net stage.script st p at k ≡ answer p In w.channel.width at k =
+    let same : asked_under net stage.script st p at k ≡ answer p In w.channel.width at k =
     asked_is net stage.script st p at k w In (sym c.if-not-is_idle.ensures) c.requires.chan
     (read_at net.channels c.channels.result.now k c.index-channels-chan.result all c.requires.chan) c.in-In.is in
     c.ask_value.ensures.came ∙ came_offer at k (q.due v k w.channel.width) ∙ ap (λ (xs : List Note). nat_lt 0 (length xs)) (sym same)
@@ -94,7 +94,7 @@ returns-in-Out-clause-stage g c =
     let p : PeerValue = peer_value (q.name v) (q.log v) (q.spare v) (q.due v) (q.willing v) in
     let w = get_or c.channels.result.now k c.index-channels-chan.result in
     let all : c.channels.result.now ≡ net.channels = c.channels.ensures.channels ∙ ap (λ (x : NetValue). x.channels) c.net.ensures.net in
-    let same : asked_by net stage.script st p at k ≡ answer p Out w.channel.width at k =
+    let same : asked_under net stage.script st p at k ≡ answer p Out w.channel.width at k =
     asked_is net stage.script st p at k w Out (sym c.if-not-is_idle.ensures) c.requires.chan
     (read_at net.channels c.channels.result.now k c.index-channels-chan.result all c.requires.chan) c.in-Out.is in
     c.ask_ready.ensures.stage ∙ ap (λ (xs : List Note). record stage { script = script_noting xs stage.script }) (sym same)
@@ -111,7 +111,7 @@ returns-in-Out-clause-noted g c =
     let p : PeerValue = peer_value (q.name v) (q.log v) (q.spare v) (q.due v) (q.willing v) in
     let w = get_or c.channels.result.now k c.index-channels-chan.result in
     let all : c.channels.result.now ≡ net.channels = c.channels.ensures.channels ∙ ap (λ (x : NetValue). x.channels) c.net.ensures.net in
-    let same : asked_by net stage.script st p at k ≡ answer p Out w.channel.width at k =
+    let same : asked_under net stage.script st p at k ≡ answer p Out w.channel.width at k =
     asked_is net stage.script st p at k w Out (sym c.if-not-is_idle.ensures) c.requires.chan
     (read_at net.channels c.channels.result.now k c.index-channels-chan.result all c.requires.chan) c.in-Out.is in
     let r = goal.Peer-dyn g (c.ask_ready.new.peer.vtable, c.ask_ready.new.peer.value) in
@@ -131,7 +131,7 @@ returns-in-Out-clause-came g c =
     let p : PeerValue = peer_value (q.name v) (q.log v) (q.spare v) (q.due v) (q.willing v) in
     let w = get_or c.channels.result.now k c.index-channels-chan.result in
     let all : c.channels.result.now ≡ net.channels = c.channels.ensures.channels ∙ ap (λ (x : NetValue). x.channels) c.net.ensures.net in
-    let same : asked_by net stage.script st p at k ≡ answer p Out w.channel.width at k =
+    let same : asked_under net stage.script st p at k ≡ answer p Out w.channel.width at k =
     asked_is net stage.script st p at k w Out (sym c.if-not-is_idle.ensures) c.requires.chan
     (read_at net.channels c.channels.result.now k c.index-channels-chan.result all c.requires.chan) c.in-Out.is in
     c.ask_ready.ensures.came ∙ came_ready at k (q.willing v k) ∙ ap (λ (xs : List Note). nat_lt 0 (length xs)) (sym same)
@@ -148,7 +148,7 @@ returns-in-Chan-clause-stage g c =
     let p : PeerValue = peer_value (q.name v) (q.log v) (q.spare v) (q.due v) (q.willing v) in
     let w = get_or c.channels.result.now k c.index-channels-chan.result in
     let all : c.channels.result.now ≡ net.channels = c.channels.ensures.channels ∙ ap (λ (x : NetValue). x.channels) c.net.ensures.net in
-    let same : asked_by net stage.script st p at k ≡ answer p Chan w.channel.width at k =
+    let same : asked_under net stage.script st p at k ≡ answer p Chan w.channel.width at k =
     asked_is net stage.script st p at k w Chan (sym c.if-not-is_idle.ensures) c.requires.chan
     (read_at net.channels c.channels.result.now k c.index-channels-chan.result all c.requires.chan) c.in-Chan.is in
     ap (λ (xs : List Note). record stage { script = script_noting xs stage.script }) (sym same)
@@ -165,7 +165,7 @@ returns-in-Chan-clause-noted g c =
     let p : PeerValue = peer_value (q.name v) (q.log v) (q.spare v) (q.due v) (q.willing v) in
     let w = get_or c.channels.result.now k c.index-channels-chan.result in
     let all : c.channels.result.now ≡ net.channels = c.channels.ensures.channels ∙ ap (λ (x : NetValue). x.channels) c.net.ensures.net in
-    let same : asked_by net stage.script st p at k ≡ answer p Chan w.channel.width at k =
+    let same : asked_under net stage.script st p at k ≡ answer p Chan w.channel.width at k =
     asked_is net stage.script st p at k w Chan (sym c.if-not-is_idle.ensures) c.requires.chan
     (read_at net.channels c.channels.result.now k c.index-channels-chan.result all c.requires.chan) c.in-Chan.is in
     subst (λ (xs : List Note). HasNoted xs p p) (sym same) (noted_none p p refl)
@@ -182,7 +182,7 @@ returns-in-Chan-clause-came g c =
     let p : PeerValue = peer_value (q.name v) (q.log v) (q.spare v) (q.due v) (q.willing v) in
     let w = get_or c.channels.result.now k c.index-channels-chan.result in
     let all : c.channels.result.now ≡ net.channels = c.channels.ensures.channels ∙ ap (λ (x : NetValue). x.channels) c.net.ensures.net in
-    let same : asked_by net stage.script st p at k ≡ answer p Chan w.channel.width at k =
+    let same : asked_under net stage.script st p at k ≡ answer p Chan w.channel.width at k =
     asked_is net stage.script st p at k w Chan (sym c.if-not-is_idle.ensures) c.requires.chan
     (read_at net.channels c.channels.result.now k c.index-channels-chan.result all c.requires.chan) c.in-Chan.is in
     ap (λ (xs : List Note). nat_lt 0 (length xs)) (sym same)

@@ -7,7 +7,7 @@ use Rattle.env_script.proofs.Wires.{few_channels}
 use Rattle.event_sim.specs.Stages.{StageValue, now_of}
 use Rattle.peer_bench.specs.declared.note.Note.{Note}
 use Rattle.peer_bench.specs.Asking.{PeerValue, peer_value, HasNoted}
-use Rattle.peer_bench.specs.Steps.{script_noting, asked_by, AreOffered, free_on}
+use Rattle.peer_bench.specs.Steps.{script_noting, asked_under, AreOffered, free_on}
 use Rattle.peer_bench.proofs.Room.{asked_room}
 use Rattle.peer_bench.proofs.Turns.{some_both, pass_up, fewer_on}
 use Rattle.peer_bench.proofs.ask.ask_each.Goals as goal
@@ -50,8 +50,8 @@ loop-chan-preserved g c =
     let first = goal.Peer-dyn g (c.args.peer.now.vtable, c.args.peer.now.value) in
     let k = c.loop-chan.chan in
     let at = c.args.at in
-    let given : List Note = asked_by net ls.script st p at k in
-    let same : asked_by ls.net ls.script (now_of ls) p at k ≡ given = ap (λ (s : StageValue). asked_by s.net ls.script (now_of s) p at k) i.stage in
+    let given : List Note = asked_under net ls.script st p at k in
+    let same : asked_under ls.net ls.script (now_of ls) p at k ≡ given = ap (λ (s : StageValue). asked_under s.net ls.script (now_of s) p at k) i.stage in
     let script : c.ask-came.new.stage.script ≡ script_noting given ls.script =
     ap (λ (s : StageValue). s.script) c.ask-came.ensures.stage ∙ ap (λ (xs : List Note). script_noting xs ls.script) same in
     let noted : HasNoted given p now = subst (λ (xs : List Note). HasNoted xs p now) same c.ask-came.ensures.noted in
@@ -61,7 +61,7 @@ loop-chan-preserved g c =
     let room = asked_room net st ls.script p at k within i.offered in
     record {
       stage = c.ask-came.ensures.stage
-          ∙ ap (λ (s : StageValue). record s { script = script_noting (asked_by ls.net ls.script (now_of ls) p at k) ls.script }) i.stage
+          ∙ ap (λ (s : StageValue). record s { script = script_noting (asked_under ls.net ls.script (now_of ls) p at k) ls.script }) i.stage
           ∙ ap (λ (x : List OfferValue). record fs { script = x }) (sym (ap (λ (s : StageValue). s.script) c.ask-came.ensures.stage));
       asked = (
         i.asked.0 ++ given,

@@ -8,7 +8,7 @@ use Rattle.env_script.specs.Runs.{RunState, moved}
 use Rattle.event_sim.specs.Passing.{channel_acknowledged}
 use Rattle.event_sim.specs.Stages.{StageValue, now_of}
 use Rattle.peer_bench.specs.Asking.{PeerValue, peer_value, HasNoted}
-use Rattle.peer_bench.specs.Along.{is_external, chan_is, told, lets_ask}
+use Rattle.peer_bench.specs.Along.{is_external, chan_is, told_passed, lets_ask}
 use Rattle.peer_bench.specs.Steps.{IsAskedByIf, AreOffered, free_on}
 use Rattle.peer_bench.proofs.Moments.{asked_then, told_then}
 use Rattle.peer_bench.proofs.Rising.{run_grows}
