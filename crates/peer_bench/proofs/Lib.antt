@@ -23,3 +23,4 @@ pub mod Resting
 pub mod Calm
 pub mod Safe
 pub mod Listed
+pub mod Late

@@ -11,7 +11,7 @@ ghost use Rattle.peer_bench.specs.declared.note.Note.{Note};
 ghost use Rattle.peer_bench.specs.Growing.{script_by};
 ghost use Rattle.peer_bench.specs.Asking.{PeerValue};
 ghost use Rattle.peer_bench.specs.Benches.{SetupValue, bench_start, bench_moves, IsBenchRun};
-ghost use Rattle.peer_bench.specs.Instants.{AreNotesAt, is_took, taken_in};
+ghost use Rattle.peer_bench.specs.Instants.{may_ask_after, AreNotesAt, is_took, taken_in};
 
 /// Law: a run on a bench is a run of the net under the script of all that the device offered and took: from the first
 /// values where the net has no reset node, else from one of its power-up states.
@@ -36,8 +36,8 @@ pub fn bench_rests_are_rests()
 {}
 
 /// Law: a device notes an answer only at the start or at a move that changes the acknowledge of an external channel or
-/// lowers reset, never while reset is high, and of an idle channel of the right kind; and what it notes that it took
-/// are the values that pass on the `out` channels, in order, each at its move.
+/// lowers reset, never while reset is high, and of an idle channel of the right kind; in a net with a reset node none
+/// at the start. What it notes that it took are the values that pass on the `out` channels, in order, each at its move.
 pub fn notes_are_placed()
     ensures placed { (s : SetupValue) (picks : List ℕ) (notes : List Note) (was is : PeerValue) (ran : RanValue)
         → IsBenchRun (λ p. p) s picks notes was is ran
@@ -45,6 +45,11 @@ pub fn notes_are_placed()
     ensures took { (s : SetupValue) (picks : List ℕ) (notes : List Note) (was is : PeerValue) (ran : RanValue)
         → IsBenchRun (λ p. p) s picks notes was is ran
         → filter is_took notes ≡ taken_in s.net (bench_start s.net) 0 (bench_moves s.net notes picks) }
+    ensures late { (net : NetValue)
+        → IsNet net
+        → IsSome net.reset
+        → (moves : List ℕ)
+        → may_ask_after net (bench_start net) moves 0 ≡ false }
 {}
 
 /// Law: where every run of the net under that script is safe, a run on a bench ends at rest, or for want of moves.
