@@ -1,0 +1,188 @@
+use Rattle.std.proofs.Common.{◌≡◌, ◌∙◌, sym, ap, subst, refl, length, get_or, List}
+use Rattle.std.specs.Prelude.{nat_lt}
+use Rattle.chp_base.specs.declared.channel.Kind.TheVariants.{In, Out, Chan}
+use Rattle.prs_core.specs.Nets.{NetValue}
+use Rattle.event_sim.specs.Stages.{now_of}
+use Rattle.peer_bench.specs.declared.note.Note.{Note}
+use Rattle.peer_bench.specs.Asking.{PeerValue, peer_value, HasNoted, answer}
+use Rattle.peer_bench.specs.Steps.{script_noting, asked_under}
+use Rattle.peer_bench.proofs.Known.{noted_none}
+use Rattle.peer_bench.proofs.Suiting.{read_at, script_adds, asked_is, came_offer, came_ready}
+use Rattle.peer_bench.proofs.ask.ask.Goals as goal
+
+pub ask_value-requires-clause-script : goal.ask_value-requires-clause-script
+ask_value-requires-clause-script g c = λ value less.
+    let net = c.args.stage.now.net in
+    let k = c.args.chan in
+    let w = get_or c.channels.result.now k c.index-channels-chan.result in
+    let all : c.channels.result.now ≡ net.channels = c.channels.ensures.channels ∙ ap (λ (x : NetValue). x.channels) c.net.ensures.net in
+    script_adds net.channels c.args.stage.now.script k value w c.requires.chan (read_at net.channels c.channels.result.now k c.index-channels-chan.result all
+    c.requires.chan) (λ kind. less) c.net.ensures.script
+
+pub ask_ready-requires-clause-script : goal.ask_ready-requires-clause-script
+ask_ready-requires-clause-script g c =
+    let net = c.args.stage.now.net in
+    let k = c.args.chan in
+    let w = get_or c.channels.result.now k c.index-channels-chan.result in
+    let all : c.channels.result.now ≡ net.channels = c.channels.ensures.channels ∙ ap (λ (x : NetValue). x.channels) c.net.ensures.net in
+    script_adds net.channels c.args.stage.now.script k 0 w c.requires.chan (read_at net.channels c.channels.result.now k c.index-channels-chan.result all
+    c.requires.chan) (λ kind. absurd (cc (kind, c.in-Out.is))) c.net.ensures.script
+
+pub returns-in-In-clause-stage : goal.returns-in-In-clause-stage
+returns-in-In-clause-stage g c =
+    let stage = c.args.stage.now in
+    let net = stage.net in
+    let st = now_of stage in
+    let k = c.args.chan in
+    let at = c.args.at in
+    let q = goal.Peer-dyn g (c.args.peer.now.vtable, c.args.peer.now.value) in
+    let v = c.args.peer.now.value in
+    let p : PeerValue = peer_value (q.name v) (q.log v) (q.spare v) (q.due v) (q.willing v) in
+    let w = get_or c.channels.result.now k c.index-channels-chan.result in
+    let all : c.channels.result.now ≡ net.channels = c.channels.ensures.channels ∙ ap (λ (x : NetValue). x.channels) c.net.ensures.net in
+    let same : asked_under net stage.script st p at k ≡ answer p In w.channel.width at k =
+    asked_is net stage.script st p at k w In (sym c.if-not-is_idle.ensures) c.requires.chan
+    (read_at net.channels c.channels.result.now k c.index-channels-chan.result all c.requires.chan) c.in-In.is in
+    c.ask_value.ensures.stage ∙ ap (λ (xs : List Note). record stage { script = script_noting xs stage.script }) (sym same)
+
+pub returns-in-In-clause-noted : goal.returns-in-In-clause-noted
+returns-in-In-clause-noted g c =
+    let stage = c.args.stage.now in
+    let net = stage.net in
+    let st = now_of stage in
+    let k = c.args.chan in
+    let at = c.args.at in
+    let q = goal.Peer-dyn g (c.args.peer.now.vtable, c.args.peer.now.value) in
+    let v = c.args.peer.now.value in
+    let p : PeerValue = peer_value (q.name v) (q.log v) (q.spare v) (q.due v) (q.willing v) in
+    let w = get_or c.channels.result.now k c.index-channels-chan.result in
+    let all : c.channels.result.now ≡ net.channels = c.channels.ensures.channels ∙ ap (λ (x : NetValue). x.channels) c.net.ensures.net in
+    let same : asked_under net stage.script st p at k ≡ answer p In w.channel.width at k =
+    asked_is net stage.script st p at k w In (sym c.if-not-is_idle.ensures) c.requires.chan
+    (read_at net.channels c.channels.result.now k c.index-channels-chan.result all c.requires.chan) c.in-In.is in
+    let r = goal.Peer-dyn g (c.ask_value.new.peer.vtable, c.ask_value.new.peer.value) in
+    let u = c.ask_value.new.peer.value in
+    let now : PeerValue = peer_value (r.name u) (r.log u) (r.spare u) (r.due u) (r.willing u) in
+    subst (λ (xs : List Note). HasNoted xs p now) (sym same) c.ask_value.ensures.noted
+
+pub returns-in-In-clause-came : goal.returns-in-In-clause-came
+returns-in-In-clause-came g c =
+    let stage = c.args.stage.now in
+    let net = stage.net in
+    let st = now_of stage in
+    let k = c.args.chan in
+    let at = c.args.at in
+    let q = goal.Peer-dyn g (c.args.peer.now.vtable, c.args.peer.now.value) in
+    let v = c.args.peer.now.value in
+    let p : PeerValue = peer_value (q.name v) (q.log v) (q.spare v) (q.due v) (q.willing v) in
+    let w = get_or c.channels.result.now k c.index-channels-chan.result in
+    let all : c.channels.result.now ≡ net.channels = c.channels.ensures.channels ∙ ap (λ (x : NetValue). x.channels) c.net.ensures.net in
+    let same : asked_under net stage.script st p at k ≡ answer p In w.channel.width at k =
+    asked_is net stage.script st p at k w In (sym c.if-not-is_idle.ensures) c.requires.chan
+    (read_at net.channels c.channels.result.now k c.index-channels-chan.result all c.requires.chan) c.in-In.is in
+    c.ask_value.ensures.came ∙ came_offer at k (q.due v k w.channel.width) ∙ ap (λ (xs : List Note). nat_lt 0 (length xs)) (sym same)
+
+pub returns-in-Out-clause-stage : goal.returns-in-Out-clause-stage
+returns-in-Out-clause-stage g c =
+    let stage = c.args.stage.now in
+    let net = stage.net in
+    let st = now_of stage in
+    let k = c.args.chan in
+    let at = c.args.at in
+    let q = goal.Peer-dyn g (c.args.peer.now.vtable, c.args.peer.now.value) in
+    let v = c.args.peer.now.value in
+    let p : PeerValue = peer_value (q.name v) (q.log v) (q.spare v) (q.due v) (q.willing v) in
+    let w = get_or c.channels.result.now k c.index-channels-chan.result in
+    let all : c.channels.result.now ≡ net.channels = c.channels.ensures.channels ∙ ap (λ (x : NetValue). x.channels) c.net.ensures.net in
+    let same : asked_under net stage.script st p at k ≡ answer p Out w.channel.width at k =
+    asked_is net stage.script st p at k w Out (sym c.if-not-is_idle.ensures) c.requires.chan
+    (read_at net.channels c.channels.result.now k c.index-channels-chan.result all c.requires.chan) c.in-Out.is in
+    c.ask_ready.ensures.stage ∙ ap (λ (xs : List Note). record stage { script = script_noting xs stage.script }) (sym same)
+
+pub returns-in-Out-clause-noted : goal.returns-in-Out-clause-noted
+returns-in-Out-clause-noted g c =
+    let stage = c.args.stage.now in
+    let net = stage.net in
+    let st = now_of stage in
+    let k = c.args.chan in
+    let at = c.args.at in
+    let q = goal.Peer-dyn g (c.args.peer.now.vtable, c.args.peer.now.value) in
+    let v = c.args.peer.now.value in
+    let p : PeerValue = peer_value (q.name v) (q.log v) (q.spare v) (q.due v) (q.willing v) in
+    let w = get_or c.channels.result.now k c.index-channels-chan.result in
+    let all : c.channels.result.now ≡ net.channels = c.channels.ensures.channels ∙ ap (λ (x : NetValue). x.channels) c.net.ensures.net in
+    let same : asked_under net stage.script st p at k ≡ answer p Out w.channel.width at k =
+    asked_is net stage.script st p at k w Out (sym c.if-not-is_idle.ensures) c.requires.chan
+    (read_at net.channels c.channels.result.now k c.index-channels-chan.result all c.requires.chan) c.in-Out.is in
+    let r = goal.Peer-dyn g (c.ask_ready.new.peer.vtable, c.ask_ready.new.peer.value) in
+    let u = c.ask_ready.new.peer.value in
+    let now : PeerValue = peer_value (r.name u) (r.log u) (r.spare u) (r.due u) (r.willing u) in
+    subst (λ (xs : List Note). HasNoted xs p now) (sym same) c.ask_ready.ensures.noted
+
+pub returns-in-Out-clause-came : goal.returns-in-Out-clause-came
+returns-in-Out-clause-came g c =
+    let stage = c.args.stage.now in
+    let net = stage.net in
+    let st = now_of stage in
+    let k = c.args.chan in
+    let at = c.args.at in
+    let q = goal.Peer-dyn g (c.args.peer.now.vtable, c.args.peer.now.value) in
+    let v = c.args.peer.now.value in
+    let p : PeerValue = peer_value (q.name v) (q.log v) (q.spare v) (q.due v) (q.willing v) in
+    let w = get_or c.channels.result.now k c.index-channels-chan.result in
+    let all : c.channels.result.now ≡ net.channels = c.channels.ensures.channels ∙ ap (λ (x : NetValue). x.channels) c.net.ensures.net in
+    let same : asked_under net stage.script st p at k ≡ answer p Out w.channel.width at k =
+    asked_is net stage.script st p at k w Out (sym c.if-not-is_idle.ensures) c.requires.chan
+    (read_at net.channels c.channels.result.now k c.index-channels-chan.result all c.requires.chan) c.in-Out.is in
+    c.ask_ready.ensures.came ∙ came_ready at k (q.willing v k) ∙ ap (λ (xs : List Note). nat_lt 0 (length xs)) (sym same)
+
+pub returns-in-Chan-clause-stage : goal.returns-in-Chan-clause-stage
+returns-in-Chan-clause-stage g c =
+    let stage = c.args.stage.now in
+    let net = stage.net in
+    let st = now_of stage in
+    let k = c.args.chan in
+    let at = c.args.at in
+    let q = goal.Peer-dyn g (c.args.peer.now.vtable, c.args.peer.now.value) in
+    let v = c.args.peer.now.value in
+    let p : PeerValue = peer_value (q.name v) (q.log v) (q.spare v) (q.due v) (q.willing v) in
+    let w = get_or c.channels.result.now k c.index-channels-chan.result in
+    let all : c.channels.result.now ≡ net.channels = c.channels.ensures.channels ∙ ap (λ (x : NetValue). x.channels) c.net.ensures.net in
+    let same : asked_under net stage.script st p at k ≡ answer p Chan w.channel.width at k =
+    asked_is net stage.script st p at k w Chan (sym c.if-not-is_idle.ensures) c.requires.chan
+    (read_at net.channels c.channels.result.now k c.index-channels-chan.result all c.requires.chan) c.in-Chan.is in
+    ap (λ (xs : List Note). record stage { script = script_noting xs stage.script }) (sym same)
+
+pub returns-in-Chan-clause-noted : goal.returns-in-Chan-clause-noted
+returns-in-Chan-clause-noted g c =
+    let stage = c.args.stage.now in
+    let net = stage.net in
+    let st = now_of stage in
+    let k = c.args.chan in
+    let at = c.args.at in
+    let q = goal.Peer-dyn g (c.args.peer.now.vtable, c.args.peer.now.value) in
+    let v = c.args.peer.now.value in
+    let p : PeerValue = peer_value (q.name v) (q.log v) (q.spare v) (q.due v) (q.willing v) in
+    let w = get_or c.channels.result.now k c.index-channels-chan.result in
+    let all : c.channels.result.now ≡ net.channels = c.channels.ensures.channels ∙ ap (λ (x : NetValue). x.channels) c.net.ensures.net in
+    let same : asked_under net stage.script st p at k ≡ answer p Chan w.channel.width at k =
+    asked_is net stage.script st p at k w Chan (sym c.if-not-is_idle.ensures) c.requires.chan
+    (read_at net.channels c.channels.result.now k c.index-channels-chan.result all c.requires.chan) c.in-Chan.is in
+    subst (λ (xs : List Note). HasNoted xs p p) (sym same) (noted_none p p refl)
+
+pub returns-in-Chan-clause-came : goal.returns-in-Chan-clause-came
+returns-in-Chan-clause-came g c =
+    let stage = c.args.stage.now in
+    let net = stage.net in
+    let st = now_of stage in
+    let k = c.args.chan in
+    let at = c.args.at in
+    let q = goal.Peer-dyn g (c.args.peer.now.vtable, c.args.peer.now.value) in
+    let v = c.args.peer.now.value in
+    let p : PeerValue = peer_value (q.name v) (q.log v) (q.spare v) (q.due v) (q.willing v) in
+    let w = get_or c.channels.result.now k c.index-channels-chan.result in
+    let all : c.channels.result.now ≡ net.channels = c.channels.ensures.channels ∙ ap (λ (x : NetValue). x.channels) c.net.ensures.net in
+    let same : asked_under net stage.script st p at k ≡ answer p Chan w.channel.width at k =
+    asked_is net stage.script st p at k w Chan (sym c.if-not-is_idle.ensures) c.requires.chan
+    (read_at net.channels c.channels.result.now k c.index-channels-chan.result all c.requires.chan) c.in-Chan.is in
+    ap (λ (xs : List Note). nat_lt 0 (length xs)) (sym same)

@@ -1,0 +1,68 @@
+use Rattle.std.proofs.Common.{◌≡◌, ◌≤◌, ◌+◌, ◌∙◌, ℕ, Bool, List, length, sym, ap, subst, arith}
+use Rattle.std.specs.Prelude.{not, ◌&&◌, ◌||◌, Option}
+use Rattle.prs_core.specs.Nets.{NetValue}
+use Rattle.prs_core.specs.Moves.{high}
+use Rattle.env_script.specs.Scripts.{OfferValue}
+use Rattle.env_script.specs.Environment.{in_reset}
+use Rattle.env_script.specs.Runs.{RunState, moved}
+use Rattle.event_sim.specs.Passing.{channel_acknowledged}
+use Rattle.event_sim.specs.Stages.{StageValue, now_of}
+use Rattle.peer_bench.specs.Asking.{PeerValue, peer_value, HasNoted}
+use Rattle.peer_bench.specs.Along.{is_external, chan_is, told_passed, lets_ask}
+use Rattle.peer_bench.specs.Steps.{IsAskedByIf, AreOffered, free_on}
+use Rattle.peer_bench.proofs.Moments.{asked_then, told_then}
+use Rattle.peer_bench.proofs.Rising.{run_grows}
+use Rattle.peer_bench.proofs.Rails.{offered_moved}
+use Rattle.peer_bench.proofs.Room.{free_moved, told_few}
+use Rattle.peer_bench.proofs.course.make.Goals as goal
+
+pub ask_if-requires-clause-offered : goal.ask_if-requires-clause-offered
+ask_if-requires-clause-offered g c =
+    let s = c.args.stage.now in
+    let e = c.make-hazard.ensures in
+    subst (λ (st : RunState). AreOffered c.make-hazard.new.self.script st) (sym e.moved)
+    (subst (λ (script : List OfferValue). AreOffered script (moved s.net (now_of s) c.args.node)) (sym e.script)
+    (offered_moved s c.args.node s.script c.is_external_ack-is_ack.ensures.net c.is_external_ack-is_ack.ensures.script c.requires.enabled
+    c.requires.rails c.requires.offered))
+
+pub ask_if-requires-clause-room : goal.ask_if-requires-clause-room
+ask_if-requires-clause-room g c =
+    let s = c.args.stage.now in
+    let l = c.make-hazard.new.self in
+    let e = c.make-hazard.ensures in
+    let free : free_on l.net l.script (now_of l) ≡ free_on s.net s.script (moved s.net (now_of s) c.args.node) =
+    ap (λ (w : NetValue). free_on w l.script (now_of l)) e.net ∙ ap (λ (script : List OfferValue). free_on s.net script (now_of l)) e.script
+    ∙ ap (free_on s.net s.script) e.moved in
+    let more = free_moved s c.args.node s.script c.is_external_ack-is_ack.ensures.net in
+    let few = told_few l.net c.args.at c.completion-passed.result in
+    omega (arith, c.tell.ensures.spare, c.requires.spare)
+
+pub returns-clause-noted : goal.returns-clause-noted
+returns-clause-noted g c =
+    let s = c.args.stage.now in
+    let l = c.make-hazard.new.self in
+    let now = c.ask_if.new.stage in
+    let e = c.make-hazard.ensures in
+    record {
+      mid = c.tell.new.peer;
+      more = c.ask_if.ensures.asked.0;
+      told_is = told_then s.net l.net c.args.at c.completion-passed.result _ _ _ e.net c.completion-passed.ensures c.tell.ensures;
+      asked = asked_then _ s l now c.args.node c.args.at c.may_ask-asks.result c.in_reset.result c.in_reset-was_in_reset.result c.is_external_ack-is_ack.result
+          c.ask_if.ensures.asked.0 c.tell.new.peer c.ask_if.new.peer e.net e.script c.ask_if.ensures.stage c.may_ask-asks.ensures c.in_reset.ensures
+          c.in_reset-was_in_reset.ensures c.is_external_ack-is_ack.ensures.ack c.ask_if.ensures.asked.1;
+    }
+
+pub returns-clause-spare : goal.returns-clause-spare
+returns-clause-spare g c =
+    let s = c.args.stage.now in
+    let l = c.make-hazard.new.self in
+    let now = c.ask_if.new.stage in
+    let e = c.make-hazard.ensures in
+    let free : free_on l.net l.script (now_of l) ≡ free_on s.net s.script (moved s.net (now_of s) c.args.node) =
+    ap (λ (w : NetValue). free_on w l.script (now_of l)) e.net ∙ ap (λ (script : List OfferValue). free_on s.net script (now_of l)) e.script
+    ∙ ap (free_on s.net s.script) e.moved in
+    let more = free_moved s c.args.node s.script c.is_external_ack-is_ack.ensures.net in
+    let few = told_few l.net c.args.at c.completion-passed.result in
+    let same : free_on now.net now.script (now_of now) ≡ free_on s.net now.script (now_of now) =
+    ap (λ (w : NetValue). free_on w now.script (now_of now)) (ap (λ (t : StageValue). t.net) c.ask_if.ensures.stage ∙ e.net) in
+    omega (arith, c.tell.ensures.spare, c.ask_if.ensures.room)
