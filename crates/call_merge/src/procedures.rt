@@ -1,0 +1,62 @@
+//! The procedures of a program by name, with the numbers of their bodies' forms.
+
+ghost use Rattle.std.specs.Prelude.{◌≡◌, ◌<◌, ◌-◌, ◌^◌, ◌++◌, ◌∷◌, [], ℕ, List, map, length, IfSome, IfNone, IfOk, OnOk, Some, None, Contains};
+ghost use Rattle.chp_syntax.specs.declared.tree.Ident.{Ident};
+ghost use Rattle.chp_syntax.specs.Trees.{calls};
+ghost use Rattle.chp_syntax.specs.View.{procedure_of, statement_of};
+ghost use Rattle.call_merge.specs.CallForms.{counted, statement_forms};
+ghost use Rattle.call_merge.specs.Inlining.{procedure_named, body_or_call};
+ghost use Rattle.call_merge.specs.Bodies.{procedures_of, procedures_in};
+
+use chp_base::{Name, Symbols};
+use chp_syntax::Proc;
+use std::alloc::{AllocError, Global};
+
+/// A procedure and the number of forms of its body.
+#[derive(Drop)]
+pub(crate) struct Body {
+    pub procedure: Proc,
+    pub forms: u64,
+    pub ghost counts: { forms ≡ counted (statement_forms (statement_of procedure.body)) },
+}
+
+/// Procedures, none of a name twice, and a table of their names.
+#[derive(Drop)]
+pub(crate) struct Procedures {
+    pub names: Symbols,
+    pub bodies: Vec<Body>,
+    pub ghost in_order: { names ≡ map (λ b. b.procedure.name.name) bodies.items },
+}
+
+impl Procedures {
+    /// No procedures. It takes no memory.
+    pub(crate) fn new(alloc: Global) -> Procedures
+        ensures { procedures_in result ≡ [] }
+    {
+        Procedures {
+            names: Symbols::new(alloc),
+            bodies: Vec::new(alloc),
+        }
+    }
+
+    /// The procedure of a name, and the number of its body's forms.
+    pub(crate) fn find(&self, name: &Name) -> Option<&Body>
+        ensures some { IfSome result (λ b. procedure_named (procedures_in self.now) name.now ≡
+            Some (procedure_of b.now.procedure)) }
+        ensures none { IfNone result (procedure_named (procedures_in self.now) name.now ≡ None) }
+    {
+        let place = self.names.find(name)?;
+        Some(&self.bodies[place as usize])
+    }
+
+    /// The number of forms of what a call of this name is replaced by.
+    pub(crate) fn forms_of(&self, name: &Name) -> u64
+        ensures { (of : Ident) → of.name ≡ name.now →
+            result ≡ counted (statement_forms (body_or_call (procedure_named (procedures_in self.now) of.name) of)) }
+    {
+        match self.find(name) {
+            Some(body) => body.forms,
+            None => 1,
+        }
+    }
+}
