@@ -1,0 +1,4 @@
+pub mod Copying
+pub mod Collecting
+pub mod Counting
+pub mod Mapping

@@ -215,23 +215,23 @@ fn own_name(alloc: Global, number: u64) -> Result<Name, AllocError>
 
 /// A name `h` with a number.
 #[derive(Drop)]
-struct Numbered {
+struct FreeName {
     name: Name,
     number: u64,
     ghost numbered: { name ≡ own_name number },
 }
 
-fn numbered(alloc: Global, number: u64) -> Result<Numbered, AllocError>
+fn numbered(alloc: Global, number: u64) -> Result<FreeName, AllocError>
     ensures { IfOk result (λ made. made.number ≡ number) }
 {
-    Ok(Numbered {
+    Ok(FreeName {
         name: own_name(alloc, number)?,
         number,
     })
 }
 
 /// The first such name that isn't taken, where those of the numbers below `from` are.
-fn free_name(alloc: Global, taken: &HashSet<Name>, from: u64) -> Result<Numbered, AllocError>
+fn free_name(alloc: Global, taken: &HashSet<Name>, from: u64) -> Result<FreeName, AllocError>
     requires { (j : ℕ) → j < from → contains bytes_eq taken.now (own_name j) ≡ true }
     ensures free { IfOk result (λ made. contains bytes_eq taken.now made.name ≡ false) }
     ensures least { IfOk result (λ made. (j : ℕ) → j < made.number →
