@@ -2,3 +2,8 @@ pub mod Copying
 pub mod Collecting
 pub mod Counting
 pub mod Mapping
+pub mod CallsAlone
+pub mod CallRefusals
+pub mod OnlySends
+pub mod FirstCalls
+pub mod FormSteps

@@ -6,7 +6,7 @@ ghost use Rattle.call_merge.specs.CallForms.{counted, expression_forms, statemen
 ghost use Rattle.call_merge.specs.Inlining.{inlined_statement};
 ghost use Rattle.call_merge.specs.Bodies.{procedures_in};
 
-use crate::procedures::Procedures;
+use crate::bodies::Procedures;
 use chp_syntax::{Expr, Stmt};
 use std::alloc::Global;
 

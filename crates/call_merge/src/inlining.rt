@@ -15,7 +15,7 @@ use crate::copies::{copied, copied_decls, copied_expression, copied_name};
 use crate::error::CallError;
 use crate::forms::{inlined_forms, statement_forms};
 use crate::own_vars::own_vars;
-use crate::procedures::{Body, Procedures};
+use crate::bodies::{Body, Procedures};
 use crate::splits::split_procedures;
 use chp_base::Symbols;
 use chp_syntax::{Arm, Proc, Program, Stmt};

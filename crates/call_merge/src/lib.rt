@@ -1,6 +1,7 @@
 //! Procedures that many calls share: what is refused of them, and the program in which each call is a copy.
 #![tactic(auto)]
 
+mod bodies;
 mod causes;
 mod channels;
 mod copies;

@@ -1,32 +1,15 @@
-//! The procedures of a program by name, with the numbers of their bodies' forms.
+//! Procedures, found by their names.
 
-ghost use Rattle.std.specs.Prelude.{◌≡◌, ◌<◌, ◌-◌, ◌^◌, ◌++◌, ◌∷◌, [], ℕ, List, map, length, IfSome, IfNone, IfOk, OnOk, Some, None, Contains};
+ghost use Rattle.std.specs.Prelude.{◌≡◌, [], IfSome, IfNone, Some, None};
 ghost use Rattle.chp_syntax.specs.declared.tree.Ident.{Ident};
-ghost use Rattle.chp_syntax.specs.Trees.{calls};
-ghost use Rattle.chp_syntax.specs.View.{procedure_of, statement_of};
+ghost use Rattle.chp_syntax.specs.View.{procedure_of};
 ghost use Rattle.call_merge.specs.CallForms.{counted, statement_forms};
 ghost use Rattle.call_merge.specs.Inlining.{procedure_named, body_or_call};
-ghost use Rattle.call_merge.specs.Bodies.{procedures_of, procedures_in};
+ghost use Rattle.call_merge.specs.Bodies.{procedures_in};
 
+use crate::bodies::{Body, Procedures};
 use chp_base::{Name, Symbols};
-use chp_syntax::Proc;
-use std::alloc::{AllocError, Global};
-
-/// A procedure and the number of forms of its body.
-#[derive(Drop)]
-pub(crate) struct Body {
-    pub procedure: Proc,
-    pub forms: u64,
-    pub ghost counts: { forms ≡ counted (statement_forms (statement_of procedure.body)) },
-}
-
-/// Procedures, none of a name twice, and a table of their names.
-#[derive(Drop)]
-pub(crate) struct Procedures {
-    pub names: Symbols,
-    pub bodies: Vec<Body>,
-    pub ghost in_order: { names ≡ map (λ b. b.procedure.name.name) bodies.items },
-}
+use std::alloc::Global;
 
 impl Procedures {
     /// No procedures. It takes no memory.
