@@ -68,3 +68,45 @@ pub select_collected : {A : Type 0} {f : Statement → List A} {each : Statement
 select_collected {A} {f} {each} {arms} all s again v xs i old new is items over so_far =
     at_end old new (arms (arms_in (drop i xs))) (old ++ arms (arms_in xs)) so_far (ap arms (arms_end xs i over) ∙ all.no_arm)
     ∙ ap (λ z. old ++ z) (ap (λ (ys : List Arm). arms (arms_in ys)) items ∙ sym (ap f (select_is s again v is) ∙ all.choices again (arms_in v.items)))
+
+-- of expressions
+
+pub record CollectsReads {A : Type 0} (f : Expression → List A) (each : Expressions → List A) (links : Links → List A) : Type 0 where
+  pub no_part : each no_parts ≡ []
+  pub one_part : (e : Expression) (more : Expressions) → each (and_part e more) ≡ f e ++ each more
+  pub no_link : links no_links ≡ []
+  pub one_link : (op : Op) (e : Expression) (more : Links) → links (and_link op e more) ≡ f e ++ links more
+  pub joins : (parts : Expressions) (at : Span) → f (join parts at) ≡ each parts
+  pub chains : (e : Expression) (more : Links) (at : Span) → f (chain e more at) ≡ f e ++ links more
+
+pub part_collected : {A : Type 0} {f : Expression → List A} {each : Expressions → List A} {links : Links → List A} → CollectsReads f each links
+    → (es : List Expr) (i : ℕ) (e : Expr) (old new whole : List A) → i < length es → e ≡ get_or es i e
+    → old ++ each (join_parts (drop i es)) ≡ whole → new ≡ old ++ f (expression_of e) → new ++ each (join_parts (drop (i + 1) es)) ≡ whole
+part_collected {A} {f} {each} all es i e old new whole within is so_far next =
+    next_one old new (f (expression_of e)) (each (join_parts (drop (i + 1) es))) (each (join_parts (drop i es))) whole so_far
+    (ap each (parts_more es i e within is) ∙ all.one_part (expression_of e) (join_parts (drop (i + 1) es))) next
+
+pub link_collected : {A : Type 0} {f : Expression → List A} {each : Expressions → List A} {links : Links → List A} → CollectsReads f each links
+    → (ls : List Link) (i : ℕ) (l : Link) (old new whole : List A) → i < length ls → l ≡ get_or ls i l
+    → old ++ links (links_in (drop i ls)) ≡ whole → new ≡ old ++ f (expression_of l.right) → new ++ links (links_in (drop (i + 1) ls)) ≡ whole
+link_collected {A} {f} {each} {links} all ls i l old new whole within is so_far next =
+    next_one old new (f (expression_of l.right)) (links (links_in (drop (i + 1) ls))) (links (links_in (drop i ls))) whole so_far
+    (ap links (links_more ls i l within is) ∙ all.one_link l.op (expression_of l.right) (links_in (drop (i + 1) ls))) next
+
+pub join_collected : {A : Type 0} {f : Expression → List A} {each : Expressions → List A} {links : Links → List A} → CollectsReads f each links
+    → (e : Expr) (v : Vec Expr Global) (at : Span) (es : List Expr) (i : ℕ) (old new : List A) → e ≡ Join v at → es ≡ v.items → length es ≤ i
+    → new ++ each (join_parts (drop i es)) ≡ old ++ each (join_parts es) → new ≡ old ++ f (expression_of e)
+join_collected {A} {f} {each} all e v at es i old new is items over so_far =
+    at_end old new (each (join_parts (drop i es))) (old ++ each (join_parts es)) so_far (ap each (parts_end es i over) ∙ all.no_part)
+    ∙ ap (λ z. old ++ z) (ap (λ (xs : List Expr). each (join_parts xs)) items ∙ sym (ap f (join_is e v at is) ∙ all.joins (join_parts v.items) at))
+
+pub chain_collected : {A : Type 0} {f : Expression → List A} {each : Expressions → List A} {links : Links → List A} → CollectsReads f each links
+    → (e : Expr) (first : Box Expr Global) (v : Vec Link Global) (at : Span) (ls : List Link) (i : ℕ) (old mid new : List A) → e ≡ Chain first v at
+    → ls ≡ v.items → length ls ≤ i → mid ≡ old ++ f (expression_of first.value)
+    → new ++ links (links_in (drop i ls)) ≡ mid ++ links (links_in ls) → new ≡ old ++ f (expression_of e)
+chain_collected {A} {f} {each} {links} all e first v at ls i old mid new is items over front so_far =
+    let x = f (expression_of first.value) in
+    at_end mid new (links (links_in (drop i ls))) (mid ++ links (links_in ls)) so_far (ap links (links_end ls i over) ∙ all.no_link)
+    ∙ (ap (λ z. z ++ links (links_in ls)) front ∙ (append_assoc old x (links (links_in ls))
+    ∙ ap (λ z. old ++ z) (ap (λ (xs : List Link). x ++ links (links_in xs)) items
+    ∙ sym (ap f (chain_is e first v at is) ∙ all.chains (expression_of first.value) (links_in v.items) at))))

@@ -7,3 +7,5 @@ pub mod CallRefusals
 pub mod OnlySends
 pub mod FirstCalls
 pub mod FormSteps
+pub mod SplitSteps
+pub mod Flats
