@@ -1,7 +1,8 @@
 -- The first place of a call in a procedure and of a procedure that no call names, as it is found.
 use Rattle.std.proofs.Common.{◌≡◌, ◌≢◌, ◌⊎◌, ℕ, Bool, true, false, List, [], map, Option, Some, None, refl, sym, ap, ◌∙◌, subst, ⊎_elim}
-use Rattle.std.specs.Prelude.{Contains, not, ◌↔◌, IfErr, OnOk, Result}
-use Rattle.std.proofs.lemmas.Result.{IfErr-weaker, on_ok_weaker}
+use Rattle.std.specs.Prelude.{Contains, not}
+use Rattle.std.specs.List.{list_any}
+use Rattle.std.specs.Str.{bytes_eq}
 use Rattle.chp_base.specs.declared.span.Span.{Span}
 use Rattle.chp_base.specs.declared.fault.FaultCode.{FaultCode}
 use Rattle.chp_base.specs.declared.fault.FaultCode.TheVariants as code
@@ -12,6 +13,7 @@ use Rattle.chp_syntax.specs.Trees.{Procedure, ProgramTree}
 use Rattle.chp_syntax.specs.View.{procedure_of, program_tree}
 use Rattle.width_check.specs.Order.{IsFirst}
 use Rattle.width_check.specs.Walk.{first_of}
+use Rattle.width_check.proofs.Doubles.{any_there, there_any}
 use Rattle.width_check.proofs.Least.{IsLeast, Passes, least_same, least_in}
 use Rattle.call_merge.specs.declared.error.CallError.{CallError}
 use Rattle.call_merge.specs.declared.error.CallError.TheVariants.{Refused}
@@ -44,7 +46,7 @@ abbrev names_in : List Ident → List (List ℕ)
 names_in is = map (λ (i : Ident). i.name) is
 
 abbrev pub IsCalledTest : (List ℕ → Bool) → ProgramTree → Type 0
-IsCalledTest test p = (name : List ℕ) → (test name ≡ true) ↔ Contains (map (λ (i : Ident). i.name) (all_calls p)) name
+IsCalledTest test p = (name : List ℕ) → test name ≡ list_any (bytes_eq name) (map (λ (i : Ident). i.name) (all_calls p))
 
 pub unused_least : (program : Program) (procs : List Proc) (test : List ℕ → Bool) (o : Option Span) → procs ≡ program.procs.items
     → IsCalledTest test (program_tree program)
@@ -64,7 +66,7 @@ unused_least program procs test o is called found =
       among = in_map procedure_of program.procs.items h.item (subst (λ (qs : List Proc). Contains qs h.item) is h.among);
       unused = λ call c same.
           let there : Contains (names_in (all_calls p)) call.name = in_map (λ (i : Ident). i.name) (all_calls p) call c in
-          let yes : test h.item.name.name ≡ true = subst (λ (n : List ℕ). test n ≡ true) same ((called call.name).1 there) in
+          let yes : test h.item.name.name ≡ true = subst (λ (n : List ℕ). test n ≡ true) same (called call.name ∙ any_there call.name (names_in (all_calls p)) there) in
           let no : test h.item.name.name ≡ false = false_of (test h.item.name.name) h.passed in
           let clash : true ≡ false = sym yes ∙ no in
           cc clash;
@@ -79,7 +81,7 @@ unused_least program procs test o is called found =
           item = q.0;
           among = subst (λ (qs : List Proc). Contains qs q.0) (sym is) q.1;
           passed = not_false (test q.0.name.name) (λ yes.
-              let c = of_map (λ (i : Ident). i.name) (all_calls p) q.0.name.name ((called q.0.name.name).0 yes) in
+              let c = of_map (λ (i : Ident). i.name) (all_calls p) q.0.name.name (there_any q.0.name.name (names_in (all_calls p)) (sym (called q.0.name.name) ∙ yes)) in
               h.unused c.0 c.1 (c.2 ∙ name));
           place = h.at ∙ sym (ap (λ (x : Procedure). x.name.at) q.2);
         }

@@ -9,3 +9,5 @@ pub mod FirstCalls
 pub mod FormSteps
 pub mod SplitSteps
 pub mod Flats
+pub mod OwnNames
+pub mod OwnVars

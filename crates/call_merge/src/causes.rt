@@ -1,7 +1,8 @@
 //! For which calls and procedures a program is refused.
 
-ghost use Rattle.std.specs.Prelude.{◌≡◌, ◌≤◌, ◌↔◌, ℕ, List, true, not, length, map, None, IfOk, IfErr, OnOk, IsErr, Contains};
+ghost use Rattle.std.specs.Prelude.{◌≡◌, ◌≤◌, ℕ, List, true, not, length, map, None, Some, IfOk, IfErr, OnOk, IsErr};
 ghost use Rattle.std.specs.HashSet.{contains};
+ghost use Rattle.std.specs.List.{list_any};
 ghost use Rattle.std.specs.Str.{bytes_eq};
 ghost use Rattle.chp_base.specs.declared.span.Span.{Span};
 ghost use Rattle.chp_base.specs.declared.fault.FaultCode.TheVariants as code;
@@ -80,8 +81,8 @@ fn first_place(names: &[Ident]) -> Option<Span>
 
 /// The names that are called anywhere.
 fn called_names(alloc: Global, program: &Program) -> Result<HashSet<Name>, AllocError>
-    ensures { IfOk result (λ called. (name : List ℕ) → (contains bytes_eq called name ≡ true)
-        ↔ Contains (map (λ i. i.name) (all_calls (tree_of program.now))) name) }
+    ensures { IfOk result (λ called. (name : List ℕ) → contains bytes_eq called name
+        ≡ list_any (bytes_eq name) (map (λ i. i.name) (all_calls (tree_of program.now)))) }
 {
     let mut names = Vec::new(alloc);
     for call in all_calls(alloc, program)? {
