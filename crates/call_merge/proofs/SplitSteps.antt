@@ -15,6 +15,8 @@ use Rattle.chp_syntax.specs.View.{expression_of, statement_of, procedure_of, gua
 use Rattle.chp_syntax.proofs.Rows.{then_tree, beside_tree, select_tree}
 use Rattle.width_check.specs.Walk.{statements_in, arms_in}
 use Rattle.width_check.proofs.Lists.{then_is, beside_is, select_is, members_more, members_end, arms_more, arms_end}
+use Rattle.call_merge.specs.declared.bodies.Body.{Body}
+use Rattle.call_merge.specs.Bodies.{procedures_of}
 use Rattle.call_merge.specs.CallSplits.{own_readers, own_readers_each, own_readers_arms, split_statement, split_members, split_arms, split_procedures}
 
 -- one member more before further ones
@@ -169,21 +171,21 @@ procs_more : (qs : List Proc) (i : ℕ) (q : Proc) → i < length qs → q ≡ g
     map procedure_of (drop i qs) ≡ procedure_of q ∷ map procedure_of (drop (i + 1) qs)
 procs_more qs i q within is = ap (map procedure_of) (drop_more qs i q within) ∙ ap (λ (x : Proc). procedure_of x ∷ map procedure_of (drop (i + 1) qs)) (sym is)
 
-pub procedure_split : (ds : List Decl) (ns : List (List ℕ)) (qs : List Proc) (i : ℕ) (q r : Proc) (old new : List Proc) (n m : ℕ) (whole : List Procedure)
-    → i < length qs → q ≡ get_or qs i q
-    → map procedure_of old ++ split_procedures ds ns n (map procedure_of (drop i qs)) ≡ whole → r.name ≡ q.name
-    → statement_of r.body ≡ split_statement ds ns n (statement_of q.body) → m ≡ n + length (own_readers ds (statement_of q.body)) → new ≡ old ++ r ∷ []
-    → map procedure_of new ++ split_procedures ds ns m (map procedure_of (drop (i + 1) qs)) ≡ whole
-procedure_split ds ns qs i q r old new n m whole within is so_far name made place next =
+pub procedure_split : (ds : List Decl) (ns : List (List ℕ)) (qs : List Proc) (i : ℕ) (q : Proc) (r : Body) (s : Stmt) (old new : List Body) (n m : ℕ)
+    (whole : List Procedure) → i < length qs → q ≡ get_or qs i q
+    → procedures_of old ++ split_procedures ds ns n (map procedure_of (drop i qs)) ≡ whole → r.procedure.name ≡ q.name → r.procedure.body ≡ s
+    → statement_of s ≡ split_statement ds ns n (statement_of q.body) → m ≡ n + length (own_readers ds (statement_of q.body)) → new ≡ old ++ r ∷ []
+    → procedures_of new ++ split_procedures ds ns m (map procedure_of (drop (i + 1) qs)) ≡ whole
+procedure_split ds ns qs i q r s old new n m whole within is so_far name body made place next =
     let rest = map procedure_of (drop (i + 1) qs) in
     let make : Ident → Statement → Procedure = λ x y. record { name = x; body = y } in
-    ap (λ (xs : List Proc). map procedure_of xs ++ split_procedures ds ns m rest) next
-    ∙ (ap (λ z. z ++ split_procedures ds ns m rest) (map-append procedure_of old (r ∷ []))
-    ∙ (append_assoc (map procedure_of old) (procedure_of r ∷ []) (split_procedures ds ns m rest)
-    ∙ (ap (λ x. map procedure_of old ++ make x (statement_of r.body) ∷ split_procedures ds ns m rest) name
-    ∙ (ap (λ x. map procedure_of old ++ make q.name x ∷ split_procedures ds ns m rest) made
-    ∙ (ap (λ k. map procedure_of old ++ make q.name (split_statement ds ns n (statement_of q.body)) ∷ split_procedures ds ns k rest) place
-    ∙ (ap (λ us. map procedure_of old ++ split_procedures ds ns n us) (sym (procs_more qs i q within is)) ∙ so_far))))))
+    ap (λ (xs : List Body). procedures_of xs ++ split_procedures ds ns m rest) next
+    ∙ (ap (λ z. z ++ split_procedures ds ns m rest) (map-append (λ (b : Body). procedure_of b.procedure) old (r ∷ []))
+    ∙ (append_assoc (procedures_of old) (procedure_of r.procedure ∷ []) (split_procedures ds ns m rest)
+    ∙ (ap (λ x. procedures_of old ++ make x (statement_of r.procedure.body) ∷ split_procedures ds ns m rest) name
+    ∙ (ap (λ x. procedures_of old ++ make q.name x ∷ split_procedures ds ns m rest) (ap statement_of body ∙ made)
+    ∙ (ap (λ k. procedures_of old ++ make q.name (split_statement ds ns n (statement_of q.body)) ∷ split_procedures ds ns k rest) place
+    ∙ (ap (λ us. procedures_of old ++ split_procedures ds ns n us) (sym (procs_more qs i q within is)) ∙ so_far))))))
 
 pub procedure_placed : (ds : List Decl) (qs : List Proc) (i : ℕ) (q : Proc) (n m whole : ℕ) → i < length qs → q ≡ get_or qs i q
     → n + length (readers_of ds (map procedure_of (drop i qs))) ≡ whole → m ≡ n + length (own_readers ds (statement_of q.body))
@@ -202,8 +204,14 @@ procedure_fits ds qs i q n whole most within is so_far fits =
     let more : n + length (ys ++ zs) ≡ whole = ap (λ us. n + length (readers_of ds us)) (sym (procs_more qs i q within is)) ∙ so_far in
     omega (arith, more, fits, length-append ys zs)
 
-pub procedures_split : (ds : List Decl) (ns : List (List ℕ)) (qs : List Proc) (i : ℕ) (made : List Proc) (m : ℕ) (whole : List Procedure) → length qs ≤ i
-    → map procedure_of made ++ split_procedures ds ns m (map procedure_of (drop i qs)) ≡ whole → map procedure_of made ≡ whole
+pub procedures_split : (ds : List Decl) (ns : List (List ℕ)) (qs : List Proc) (i : ℕ) (made : List Body) (m : ℕ) (whole : List Procedure) → length qs ≤ i
+    → procedures_of made ++ split_procedures ds ns m (map procedure_of (drop i qs)) ≡ whole → procedures_of made ≡ whole
 procedures_split ds ns qs i made m whole over so_far =
-    sym (append-nil (map procedure_of made))
-    ∙ (ap (λ (xs : List Proc). map procedure_of made ++ split_procedures ds ns m (map procedure_of xs)) (sym (drop_all i qs over)) ∙ so_far)
+    sym (append-nil (procedures_of made))
+    ∙ (ap (λ (xs : List Proc). procedures_of made ++ split_procedures ds ns m (map procedure_of xs)) (sym (drop_all i qs over)) ∙ so_far)
+
+-- splitting keeps the names of procedures
+pub names_kept : (ds : List Decl) (ns : List (List ℕ)) (n : ℕ) (qs : List Procedure) →
+    map (λ (q : Procedure). q.name.name) (split_procedures ds ns n qs) ≡ map (λ (q : Procedure). q.name.name) qs
+names_kept ds ns n [] = refl
+names_kept ds ns n (q ∷ qs) = ap (λ z. q.name.name ∷ z) (names_kept ds ns (n + length (own_readers ds q.body)) qs)

@@ -19,7 +19,7 @@ ghost use Rattle.call_merge.specs.declared.error.CallError.TheVariants.{Refused}
 
 use crate::channels::calls_program;
 use crate::error::CallError;
-use crate::sites::{all_calls, nested_calls};
+use crate::sites::{all_calls, nested_calls, note_names};
 use chp_base::{Fault, FaultCode, Name, Span, TextError};
 use chp_syntax::{Ident, Proc, Program};
 use sharing_check::share;
@@ -85,9 +85,7 @@ fn called_names(alloc: Global, program: &Program) -> Result<HashSet<Name>, Alloc
         ≡ list_any (bytes_eq name) (map (λ i. i.name) (all_calls (tree_of program.now)))) }
 {
     let mut names = Vec::new(alloc);
-    for call in all_calls(alloc, program)? {
-        names.push(call.name)?;
-    }
+    note_names(&mut names, &all_calls(alloc, program)?)?;
     names.into_iter().collect(alloc)
 }
 

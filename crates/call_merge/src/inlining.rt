@@ -2,7 +2,7 @@
 
 ghost use Rattle.std.specs.Prelude.{◌≡◌, ◌<◌, ◌≤◌, ℕ, List, length, map, slice_get, Some, IfOk, IfErr, OnOk};
 ghost use Rattle.chp_syntax.specs.Shape.{IsShaped};
-ghost use Rattle.chp_syntax.specs.View.{program_tree as tree_of, procedure_of, statement_of};
+ghost use Rattle.chp_syntax.specs.View.{program_tree as tree_of, statement_of};
 ghost use Rattle.width_check.specs.Calls.{IsCallFree};
 ghost use Rattle.call_merge.specs.CallFaults.{call_faults, IsFirstCallFault, MeetsCalling};
 ghost use Rattle.call_merge.specs.CallEnds.{IfRefusedCall, IfTooManyForms};
@@ -13,9 +13,9 @@ ghost use Rattle.call_merge.specs.Inlining.{inlined_statement, IsInlined, HasToo
 use crate::causes::refuse_calls;
 use crate::copies::{copied, copied_decls, copied_expression, copied_name};
 use crate::error::CallError;
-use crate::forms::{inlined_forms, statement_forms};
+use crate::forms::inlined_forms;
 use crate::own_vars::own_vars;
-use crate::bodies::{Body, Procedures};
+use crate::bodies::Procedures;
 use crate::splits::split_procedures;
 use chp_base::Symbols;
 use chp_syntax::{Arm, Proc, Program, Stmt};
@@ -24,21 +24,18 @@ use std::alloc::{AllocError, Global};
 /// The most forms of an inlined program.
 const MOST_FORMS: u64 = 1_048_576;
 
-/// The procedures by name, with the numbers of their forms.
-fn by_name(alloc: Global, procs: Vec<Proc>) -> Result<Procedures, AllocError>
-    requires few { length procs.items ≤ 300000 }
-    requires distinct { (k j : ℕ) (name : List ℕ) → k < j → slice_get (map (λ q. q.name.name) procs.items) k ≡ Some name
-        → ¬ (slice_get (map (λ q. q.name.name) procs.items) j ≡ Some name) }
-    ensures { IfOk result (λ made. procedures_in made ≡ map procedure_of procs.items) }
+/// The names of procedures, none of which is there twice, in their order.
+fn names_of(alloc: Global, procs: &[Proc]) -> Result<Symbols, AllocError>
+    requires few { length procs.now ≤ 300000 }
+    requires distinct { (k j : ℕ) (name : List ℕ) → k < j → slice_get (map (λ q. q.name.name) procs.now) k ≡ Some name
+        → ¬ (slice_get (map (λ q. q.name.name) procs.now) j ≡ Some name) }
+    ensures { IfOk result (λ names. names ≡ map (λ q. q.name.name) procs.now) }
 {
     let mut names = Symbols::new(alloc);
-    let mut bodies = Vec::new(alloc);
     for procedure in procs {
         names.add(procedure.name.name.copy()?)?;
-        let forms = statement_forms(alloc, &procedure.body);
-        bodies.push(Body { procedure, forms })?;
     }
-    Ok(Procedures { names, bodies })
+    Ok(names)
 }
 
 /// The statement with each call its procedure's body.
@@ -121,17 +118,16 @@ pub fn inline(alloc: Global, program: &Program) -> Result<Program, CallError>
     ensures counted { IfErr result (IfTooManyForms (λ _. MeetsCalling (tree_of program.now))) }
 {
     refuse_calls(alloc, program)?;
-    let vars = own_vars(alloc, program)?;
-    let split = split_procedures(alloc, program, &vars)?;
-    let procs = by_name(alloc, split)?;
+    let mut vars = own_vars(alloc, program)?;
+    let names = names_of(alloc, &program.procs)?;
+    let bodies = split_procedures(alloc, program, &vars)?;
+    let procs = Procedures { names, bodies };
     let forms = inlined_forms(&procs, &program.body);
     if forms > MOST_FORMS {
         return Err(CallError::TooManyForms(forms));
     }
     let mut decls = copied_decls(alloc, &program.decls)?;
-    for var in vars {
-        decls.push(var)?;
-    }
+    decls.append(&mut vars)?;
     let body = inlined(alloc, &procs, &program.body)?;
     Ok(Program {
         decls,

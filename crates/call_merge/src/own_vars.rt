@@ -9,7 +9,7 @@ ghost use Rattle.width_check.specs.Places.{is_var, uses_in, declared_width};
 ghost use Rattle.call_merge.specs.CallSplits.{names_read, is_var_name, reads_itself, own_readers, all_own_readers, declared_names, all_uses, all_names, own_name, width_place, own_var, AreOwnVars};
 
 use crate::copies::copied_name;
-use crate::sites::all_calls;
+use crate::sites::{all_calls, note_names};
 use chp_base::{Name, Span, name_of};
 use chp_syntax::{Decl, DeclKind, Expr, Ident, Proc, Program, Stmt};
 use itoa::Buffer;
@@ -197,9 +197,7 @@ fn all_names(alloc: Global, program: &Program) -> Result<Vec<Name>, AllocError>
     let mut names = Vec::new(alloc);
     note_declared(&mut names, program)?;
     note_all_uses(&mut names, program)?;
-    for call in all_calls(alloc, program)? {
-        names.push(call.name)?;
-    }
+    note_names(&mut names, &all_calls(alloc, program)?)?;
     Ok(names)
 }
 

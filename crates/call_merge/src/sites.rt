@@ -5,6 +5,7 @@ ghost use Rattle.chp_syntax.specs.View.{program_tree as tree_of, procedure_of, s
 ghost use Rattle.call_merge.specs.CallSites.{calls_in, nested_calls, all_calls};
 
 use crate::copies::copied_name;
+use chp_base::Name;
 use chp_syntax::{Ident, Proc, Program, Stmt};
 use std::alloc::{AllocError, Global};
 
@@ -58,4 +59,14 @@ pub(crate) fn all_calls(alloc: Global, program: &Program) -> Result<Vec<Ident>, 
     let mut found = nested_calls(alloc, &program.procs)?;
     note_calls(&mut found, &program.body)?;
     Ok(found)
+}
+
+/// Adds the names, without their places.
+pub(crate) fn note_names(names: &mut Vec<Name>, found: &[Ident]) -> Result<(), AllocError>
+    ensures { OnOk result (names.new.items ≡ names.old.items ++ map (λ i. i.name) found.now) }
+{
+    for one in found {
+        names.push(one.name.copy()?)?;
+    }
+    Ok(())
 }

@@ -1,10 +1,13 @@
 //! Procedures in which each assignment that reads its own target goes by a variable of its own.
 
-ghost use Rattle.std.specs.Prelude.{◌≡◌, ◌+◌, ◌≤◌, length, map, IfOk, OnOk};
-ghost use Rattle.chp_syntax.specs.View.{procedure_of, expression_of, statement_of, program_tree as tree_of};
+ghost use Rattle.std.specs.Prelude.{◌≡◌, ◌+◌, ◌≤◌, length, IfOk, OnOk};
+ghost use Rattle.chp_syntax.specs.View.{expression_of, statement_of, program_tree as tree_of};
+ghost use Rattle.call_merge.specs.Bodies.{procedures_of};
 ghost use Rattle.call_merge.specs.CallSplits.{reads_itself, own_readers, all_own_readers, in_halves, split_statement, split_procedures, own_names};
 
+use crate::bodies::Body;
 use crate::copies::{copied, copied_expression, copied_name};
+use crate::forms::statement_forms;
 use crate::own_vars::reads_itself;
 use chp_base::Name;
 use chp_syntax::{Arm, Decl, Expr, Ident, Proc, Program, Stmt};
@@ -101,14 +104,26 @@ fn split(
     }
 }
 
+/// The procedure with the number of its forms.
+fn body_of(alloc: Global, name: Ident, body: Stmt) -> Body
+    ensures name { result.procedure.name ≡ name }
+    ensures body { result.procedure.body ≡ body }
+{
+    let forms = statement_forms(alloc, &body);
+    Body {
+        procedure: Proc { name, body },
+        forms,
+    }
+}
+
 /// The procedures, each with its body split.
 pub(crate) fn split_procedures(
     alloc: Global,
     program: &Program,
     vars: &[Decl],
-) -> Result<Vec<Proc>, AllocError>
+) -> Result<Vec<Body>, AllocError>
     requires { length (all_own_readers (tree_of program.now)) ≤ length vars.now }
-    ensures { IfOk result (λ made. map procedure_of made.items ≡
+    ensures { IfOk result (λ made. procedures_of made.items ≡
         split_procedures program.now.decls.items (own_names vars.now) 0 (tree_of program.now).procs) }
 {
     let mut made = Vec::new(alloc);
@@ -116,7 +131,7 @@ pub(crate) fn split_procedures(
     for procedure in &program.procs {
         let name = copied_name(&procedure.name)?;
         let body = split(alloc, &program.decls, vars, &mut place, &procedure.body)?;
-        made.push(Proc { name, body })?;
+        made.push(body_of(alloc, name, body))?;
     }
     Ok(made)
 }
