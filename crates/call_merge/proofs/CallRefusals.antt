@@ -13,7 +13,7 @@ use Rattle.chp_syntax.specs.Trees.{Procedure, ProgramTree}
 use Rattle.width_check.specs.Faults.{IsDouble, IsUndeclared, FaultAt, naming_faults, HasNone, IsFirstFault}
 use Rattle.width_check.specs.Order.{IsNoLater, IsFirst}
 use Rattle.width_check.specs.Places.{declaration, Use, uses_in}
-use Rattle.width_check.specs.Sharing.{IsFirstShared, IsUnshared}
+use Rattle.width_check.specs.Sharing.{IsUnshared}
 use Rattle.width_check.proofs.Least.{in_rest, front_or_rest, no_item}
 use Rattle.call_merge.specs.CallSites.{calls_in, nested_calls, all_calls, call_channel, calls_program, calls_process}
 use Rattle.call_merge.specs.CallFaults.{IsDoubleProcedure, IsNestedCall, IsUnknownCall, IsUnusedProcedure, CallFaultAt, call_faults, LacksCallFaults, IsFirstCallFault, MeetsCalling}
@@ -127,12 +127,8 @@ undeclared_of_unknown p flat s h = ⊎_elim
 pub refused_double : (p : ProgramTree) (s : Span) → IsFirst (IsDouble (calls_program p)) s → IsFirstCallFault p call_faults code.DoubleProcedure s s
 refused_double p s h = inl (refl, first_same _ _ s (double_of_channels p) (channels_double p) h, refl)
 
-no_double : (p : ProgramTree) → ((t : Span) → ¬ IsDouble (calls_program p) t) → (t : Span) → ¬ IsDoubleProcedure p t
+pub no_double : (p : ProgramTree) → ((t : Span) → ¬ IsDouble (calls_program p) t) → (t : Span) → ¬ IsDoubleProcedure p t
 no_double p none t h = none t (channels_double p t h)
-
-pub refused_nested : (p : ProgramTree) (s : Span) → ((t : Span) → ¬ IsDouble (calls_program p) t) → IsFirst (IsNestedCall p) s →
-    IsFirstCallFault p call_faults code.NestedCall s s
-refused_nested p s none h = inr (no_double p none, inl (refl, h, refl))
 
 pub refused_unknown : (p : ProgramTree) (s : Span) → ((t : Span) → ¬ IsDouble (calls_program p) t) → ((t : Span) → ¬ IsNestedCall p t)
     → IsFirst (IsUndeclared (calls_program p)) s → IsFirstCallFault p call_faults code.UnknownProcedure s s
@@ -141,19 +137,8 @@ refused_unknown p s none flat h = inr (
   inr (flat, inl (refl, first_same _ _ s (unknown_of_undeclared p) (undeclared_of_unknown p flat) h, refl)),
 )
 
-no_unknown : (p : ProgramTree) → HasNone (calls_program p) naming_faults → ((t : Span) → ¬ IsNestedCall p t) → (t : Span) → ¬ IsUnknownCall p t
+pub no_unknown : (p : ProgramTree) → HasNone (calls_program p) naming_faults → ((t : Span) → ¬ IsNestedCall p t) → (t : Span) → ¬ IsUnknownCall p t
 no_unknown p none flat t h = none.1.1.0 t (undeclared_of_unknown p flat t h)
-
-pub refused_unused : (p : ProgramTree) (s : Span) → HasNone (calls_program p) naming_faults → ((t : Span) → ¬ IsNestedCall p t)
-    → IsFirst (IsUnusedProcedure p) s → IsFirstCallFault p call_faults code.UnusedProcedure s s
-refused_unused p s none flat h =
-    inr (no_double p none.0, inr (flat, inr (no_unknown p none flat, inl (refl, h, refl))))
-
-pub refused_shared : (p : ProgramTree) (s t : Span) → HasNone (calls_program p) naming_faults → ((t : Span) → ¬ IsNestedCall p t)
-    → ((t : Span) → ¬ IsUnusedProcedure p t) → IsFirstShared (calls_process p) code.SharedSend s t
-    → IsFirstCallFault p call_faults code.SharedProcedure s t
-refused_shared p s t none flat used h =
-    inr (no_double p none.0, inr (flat, inr (no_unknown p none flat, inr (used, (refl, h)))))
 
 pub meets_calling : (p : ProgramTree) → HasNone (calls_program p) naming_faults → ((t : Span) → ¬ IsNestedCall p t)
     → ((t : Span) → ¬ IsUnusedProcedure p t) → IsUnshared (calls_process p) code.SharedSend → MeetsCalling p

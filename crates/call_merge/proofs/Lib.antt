@@ -11,3 +11,6 @@ pub mod SplitSteps
 pub mod Flats
 pub mod OwnNames
 pub mod OwnVars
+pub mod Whole
+pub mod NamedBodies
+pub mod CallEndings

