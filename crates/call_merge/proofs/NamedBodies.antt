@@ -11,7 +11,7 @@ use Rattle.chp_syntax.specs.View.{procedure_of, statement_of}
 use Rattle.width_check.proofs.Least.{in_rest}
 use Rattle.call_merge.specs.declared.bodies.Body.{Body}
 use Rattle.call_merge.specs.Bodies.{procedures_of}
-use Rattle.call_merge.specs.CallForms.{counted, statement_forms}
+use Rattle.call_merge.specs.CallForms.{capped_forms, statement_forms}
 use Rattle.call_merge.specs.Inlining.{procedure_named, body_or_call}
 
 abbrev pub body_names : List Body → List (List ℕ)
@@ -52,11 +52,11 @@ no_body (b ∷ bs) name none = not_here b bs name (bytes_eq b.procedure.name.nam
 -- the forms of what a call is replaced by
 
 pub forms_found : (procs : List Procedure) (name : List ℕ) (b : Body) (n : ℕ) → procedure_named procs name ≡ Some (procedure_of b.procedure) → n ≡ b.forms
-    → b.forms ≡ counted (statement_forms (statement_of b.procedure.body)) → (of : Ident) → of.name ≡ name
-    → n ≡ counted (statement_forms (body_or_call (procedure_named procs of.name) of))
+    → b.forms ≡ capped_forms (statement_forms (statement_of b.procedure.body)) → (of : Ident) → of.name ≡ name
+    → n ≡ capped_forms (statement_forms (body_or_call (procedure_named procs of.name) of))
 forms_found procs name b n found is counts of same =
-    is ∙ (counts ∙ sym (ap (λ o. counted (statement_forms (body_or_call o of))) (ap (procedure_named procs) same ∙ found)))
+    is ∙ (counts ∙ sym (ap (λ o. capped_forms (statement_forms (body_or_call o of))) (ap (procedure_named procs) same ∙ found)))
 
 pub forms_lacking : (procs : List Procedure) (name : List ℕ) → procedure_named procs name ≡ None → (of : Ident) → of.name ≡ name
-    → 1 ≡ counted (statement_forms (body_or_call (procedure_named procs of.name) of))
-forms_lacking procs name none of same = sym (ap (λ o. counted (statement_forms (body_or_call o of))) (ap (procedure_named procs) same ∙ none))
+    → 1 ≡ capped_forms (statement_forms (body_or_call (procedure_named procs of.name) of))
+forms_lacking procs name none of same = sym (ap (λ o. capped_forms (statement_forms (body_or_call o of))) (ap (procedure_named procs) same ∙ none))

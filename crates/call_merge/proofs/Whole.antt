@@ -13,7 +13,7 @@ use Rattle.width_check.specs.Calls.{IsCallFree}
 use Rattle.call_merge.specs.declared.bodies.Body.{Body}
 use Rattle.call_merge.specs.Bodies.{procedures_of}
 use Rattle.call_merge.specs.CallFaults.{IsDoubleProcedure}
-use Rattle.call_merge.specs.CallForms.{counted, statement_forms, most_forms}
+use Rattle.call_merge.specs.CallForms.{capped_forms, statement_forms, most_forms}
 use Rattle.call_merge.specs.CallSplits.{all_own_readers, all_names, own_names, split_procedures, AreOwnVars}
 use Rattle.call_merge.specs.Inlining.{inlined_statement, inlined_members, inlined_arms, inlined_with, IsInlined, HasTooManyForms}
 use Rattle.call_merge.proofs.SplitSteps.{names_kept}
@@ -86,18 +86,18 @@ is_inlined p vars decls procs body bodies own split declared none made =
     }
 
 pub too_many : (p : ProgramTree) (vars : List Decl) (bodies : List Procedure) (n : ℕ) → AreOwnVars p.decls (all_names p) (all_own_readers p) vars
-    → bodies ≡ split_procedures p.decls (own_names vars) 0 p.procs → n ≡ counted (statement_forms (inlined_statement bodies p.body)) → most_forms < n
+    → bodies ≡ split_procedures p.decls (own_names vars) 0 p.procs → n ≡ capped_forms (statement_forms (inlined_statement bodies p.body)) → most_forms < n
     → HasTooManyForms p n
 too_many p vars bodies n own split number more =
-    let here : n ≡ counted (statement_forms (inlined_with p vars).body) = number ∙ ap (λ x. counted (statement_forms (inlined_statement x p.body))) split in
+    let here : n ≡ capped_forms (statement_forms (inlined_with p vars).body) = number ∙ ap (λ x. capped_forms (statement_forms (inlined_statement x p.body))) split in
     record {
-      inlined = inlined_with p vars;
+      program = inlined_with p vars;
       is = record { vars = vars; own = own; tree = refl };
       more = (let forms = statement_forms (inlined_with p vars).body in omega (arith, here, more));
       number = here;
     }
 
-pub few_forms : (n forms : ℕ) → n ≡ counted forms → n ≤ most_forms → forms ≤ most_forms
+pub few_forms : (n forms : ℕ) → n ≡ capped_forms forms → n ≤ most_forms → forms ≤ most_forms
 few_forms n forms is few = omega (arith, is, few)
 
 -- with neither procedures nor calls

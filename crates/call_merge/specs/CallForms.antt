@@ -36,8 +36,8 @@ abbrev mutual
   forms_of_arms (and_arm g s more) = expression_forms g + statement_forms s + forms_of_arms more
 
 -- a number of forms over 2^64 - 1 counts as 2^64 - 1
-abbrev pub counted : ℕ → ℕ
-counted n = min n (2 ^ 64 - 1)
+abbrev pub capped_forms : ℕ → ℕ
+capped_forms n = min n (2 ^ 64 - 1)
 
 abbrev pub most_forms : ℕ
 most_forms = 1048576

@@ -41,13 +41,13 @@ abbrev mutual
   own_readers_arms decls (and_arm g s more) = own_readers decls s ++ own_readers_arms decls more
 
 -- `h := e; x := h`, both names where x stands
-abbrev pub in_halves : List ℕ → Ident → Expression → Statement
-in_halves h target e = follows (and_member (assigns (record { name = h; at = target.at }) e)
+abbrev pub through_own : List ℕ → Ident → Expression → Statement
+through_own h target e = follows (and_member (assigns (record { name = h; at = target.at }) e)
     (and_member (assigns target (whole (record { name = h; at = target.at }))) no_members))
 
 abbrev pub assigns_by : Option (List ℕ) → Ident → Expression → Statement
 assigns_by None target e = assigns target e
-assigns_by (Some h) target e = in_halves h target e
+assigns_by (Some h) target e = through_own h target e
 
 -- each such assignment by its own one of some names, of which as many were taken before as n says
 abbrev mutual
@@ -84,12 +84,12 @@ all_own_readers p = flat_map (λ (q : Procedure). own_readers p.decls q.body) p.
 abbrev pub all_uses : ProgramTree → List Use
 all_uses p = flat_map (λ (q : Procedure). uses_in q.body) p.procs ++ uses_in p.body
 
-abbrev pub declared_names : ProgramTree → List (List ℕ)
-declared_names p = map (λ (d : Decl). d.name.name) p.decls ++ map (λ (q : Procedure). q.name.name) p.procs
+abbrev pub program_names : ProgramTree → List (List ℕ)
+program_names p = map (λ (d : Decl). d.name.name) p.decls ++ map (λ (q : Procedure). q.name.name) p.procs
 
 -- every name of the text
 abbrev pub all_names : ProgramTree → List (List ℕ)
-all_names p = declared_names p ++ map (λ (u : Use). u.name) (all_uses p) ++ map (λ (i : Ident). i.name) (all_calls p)
+all_names p = program_names p ++ map (λ (u : Use). u.name) (all_uses p) ++ map (λ (i : Ident). i.name) (all_calls p)
 
 abbrev pub own_name : ℕ → List ℕ
 own_name k = codes "h" ++ decimal k

@@ -4,7 +4,7 @@ use Rattle.std.specs.Str.{bytes_eq}
 use Rattle.chp_syntax.specs.declared.tree.Ident.{Ident}
 use Rattle.chp_syntax.specs.declared.tree.Decl.{Decl}
 use Rattle.chp_syntax.specs.Trees.{Statement, follows, besides, selects, repeats, calls, Statements, no_members, and_member, Arms, no_arms, and_arm, Procedure, ProgramTree}
-use Rattle.call_merge.specs.CallForms.{statement_forms, counted, most_forms}
+use Rattle.call_merge.specs.CallForms.{statement_forms, capped_forms, most_forms}
 use Rattle.call_merge.specs.CallSplits.{split_procedures, all_own_readers, all_names, own_names, AreOwnVars}
 
 abbrev pub procedure_named : List Procedure → List ℕ → Option Procedure
@@ -48,7 +48,7 @@ pub record IsInlined (p r : ProgramTree) : Type 0 where
 
 -- that program has more forms than are allowed, and their number is this
 pub record HasTooManyForms (p : ProgramTree) (n : ℕ) : Type 0 where
-  pub inlined : ProgramTree
-  pub is : IsInlined p inlined
-  pub more : most_forms < statement_forms inlined.body
-  pub number : n ≡ counted (statement_forms inlined.body)
+  pub program : ProgramTree
+  pub is : IsInlined p program
+  pub more : most_forms < statement_forms program.body
+  pub number : n ≡ capped_forms (statement_forms program.body)

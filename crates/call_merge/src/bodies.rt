@@ -2,7 +2,7 @@
 
 ghost use Rattle.std.specs.Prelude.{◌≡◌, map};
 ghost use Rattle.chp_syntax.specs.View.{statement_of};
-ghost use Rattle.call_merge.specs.CallForms.{counted, statement_forms};
+ghost use Rattle.call_merge.specs.CallForms.{capped_forms, statement_forms};
 
 use chp_base::Symbols;
 use chp_syntax::Proc;
@@ -12,7 +12,7 @@ use chp_syntax::Proc;
 pub(crate) struct Body {
     pub procedure: Proc,
     pub forms: u64,
-    pub ghost counts: { forms ≡ counted (statement_forms (statement_of procedure.body)) },
+    pub ghost counts: { forms ≡ capped_forms (statement_forms (statement_of procedure.body)) },
 }
 
 /// Procedures, none of a name twice, and a table of their names.

@@ -2,7 +2,7 @@
 
 ghost use Rattle.std.specs.Prelude.{◌≡◌, ◌+◌};
 ghost use Rattle.chp_syntax.specs.View.{expression_of, statement_of};
-ghost use Rattle.call_merge.specs.CallForms.{counted, expression_forms, statement_forms};
+ghost use Rattle.call_merge.specs.CallForms.{capped_forms, expression_forms, statement_forms};
 ghost use Rattle.call_merge.specs.Inlining.{inlined_statement};
 ghost use Rattle.call_merge.specs.Bodies.{procedures_in};
 
@@ -12,7 +12,7 @@ use std::alloc::Global;
 
 /// The number of forms of an expression.
 fn expression_forms(e: &Expr) -> u64
-    ensures { result ≡ counted (expression_forms (expression_of e.now)) }
+    ensures { result ≡ capped_forms (expression_forms (expression_of e.now)) }
 {
     match e {
         Expr::Number { .. } | Expr::Whole { .. } | Expr::Slice { .. } | Expr::Bit { .. } => 1,
@@ -36,7 +36,7 @@ fn expression_forms(e: &Expr) -> u64
 
 /// The number of forms of a statement in which each call is its procedure's body.
 pub(crate) fn inlined_forms(procs: &Procedures, s: &Stmt) -> u64
-    ensures { result ≡ counted (statement_forms (inlined_statement (procedures_in procs.now) (statement_of s.now))) }
+    ensures { result ≡ capped_forms (statement_forms (inlined_statement (procedures_in procs.now) (statement_of s.now))) }
 {
     match s {
         Stmt::Skip { .. } | Stmt::Receive { .. } => 1,
@@ -72,7 +72,7 @@ pub(crate) fn inlined_forms(procs: &Procedures, s: &Stmt) -> u64
 
 /// The number of forms of a statement.
 pub(crate) fn statement_forms(alloc: Global, s: &Stmt) -> u64
-    ensures { result ≡ counted (statement_forms (statement_of s.now)) }
+    ensures { result ≡ capped_forms (statement_forms (statement_of s.now)) }
 {
     inlined_forms(&Procedures::new(alloc), s)
 }

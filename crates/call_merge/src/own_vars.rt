@@ -6,7 +6,7 @@ ghost use Rattle.std.specs.Str.{bytes_eq};
 ghost use Rattle.chp_syntax.specs.declared.tree.Ident.{Ident};
 ghost use Rattle.chp_syntax.specs.View.{program_tree as tree_of, expression_of, statement_of, procedure_of};
 ghost use Rattle.width_check.specs.Places.{is_var, uses_in, declared_width};
-ghost use Rattle.call_merge.specs.CallSplits.{names_read, is_var_name, reads_itself, own_readers, all_own_readers, declared_names, all_uses, all_names, own_name, width_place, own_var, AreOwnVars};
+ghost use Rattle.call_merge.specs.CallSplits.{names_read, is_var_name, reads_itself, own_readers, all_own_readers, program_names, all_uses, all_names, own_name, width_place, own_var, AreOwnVars};
 
 use crate::copies::copied_name;
 use crate::sites::{all_calls, note_names};
@@ -169,7 +169,7 @@ fn all_own_readers(alloc: Global, program: &Program) -> Result<Vec<Ident>, Alloc
 
 /// Adds the names of declarations and procedures.
 fn note_declared(names: &mut Vec<Name>, program: &Program) -> Result<(), AllocError>
-    ensures { OnOk result (names.new.items ≡ names.old.items ++ declared_names (tree_of program.now)) }
+    ensures { OnOk result (names.new.items ≡ names.old.items ++ program_names (tree_of program.now)) }
 {
     for decl in &program.decls {
         names.push(decl.name.name.copy()?)?;

@@ -3,7 +3,7 @@
 ghost use Rattle.std.specs.Prelude.{◌≡◌, [], IfSome, IfNone, Some, None};
 ghost use Rattle.chp_syntax.specs.declared.tree.Ident.{Ident};
 ghost use Rattle.chp_syntax.specs.View.{procedure_of};
-ghost use Rattle.call_merge.specs.CallForms.{counted, statement_forms};
+ghost use Rattle.call_merge.specs.CallForms.{capped_forms, statement_forms};
 ghost use Rattle.call_merge.specs.Inlining.{procedure_named, body_or_call};
 ghost use Rattle.call_merge.specs.Bodies.{procedures_in};
 
@@ -35,7 +35,7 @@ impl Procedures {
     /// The number of forms of what a call of this name is replaced by.
     pub(crate) fn forms_of(&self, name: &Name) -> u64
         ensures { (of : Ident) → of.name ≡ name.now →
-            result ≡ counted (statement_forms (body_or_call (procedure_named (procedures_in self.now) of.name) of)) }
+            result ≡ capped_forms (statement_forms (body_or_call (procedure_named (procedures_in self.now) of.name) of)) }
     {
         match self.find(name) {
             Some(body) => body.forms,

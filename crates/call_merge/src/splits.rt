@@ -3,7 +3,7 @@
 ghost use Rattle.std.specs.Prelude.{◌≡◌, ◌+◌, ◌≤◌, length, IfOk, OnOk};
 ghost use Rattle.chp_syntax.specs.View.{expression_of, statement_of, program_tree as tree_of};
 ghost use Rattle.call_merge.specs.Bodies.{procedures_of};
-ghost use Rattle.call_merge.specs.CallSplits.{reads_itself, own_readers, all_own_readers, in_halves, split_statement, split_procedures, own_names};
+ghost use Rattle.call_merge.specs.CallSplits.{reads_itself, own_readers, all_own_readers, through_own, split_statement, split_procedures, own_names};
 
 use crate::bodies::Body;
 use crate::copies::{copied, copied_expression, copied_name};
@@ -24,9 +24,9 @@ fn name_at(name: &Name, target: &Ident) -> Result<Ident, AllocError>
 }
 
 /// `h := e; x := h`
-fn in_halves(alloc: Global, name: &Name, target: &Ident, value: &Expr) -> Result<Stmt, AllocError>
+fn through_own(alloc: Global, name: &Name, target: &Ident, value: &Expr) -> Result<Stmt, AllocError>
     ensures { IfOk result (λ made.
-        statement_of made ≡ in_halves name.now target.now (expression_of value.now)) }
+        statement_of made ≡ through_own name.now target.now (expression_of value.now)) }
 {
     let keeps = Stmt::Assign {
         target: name_at(name, target)?,
@@ -65,7 +65,7 @@ fn split(
             if !reads_itself(alloc, decls, target, value)? {
                 return copied(alloc, s);
             }
-            let made = in_halves(alloc, &vars[*place].name.name, target, value)?;
+            let made = through_own(alloc, &vars[*place].name.name, target, value)?;
             *place += 1;
             Ok(made)
         }
