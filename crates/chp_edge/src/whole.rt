@@ -65,14 +65,14 @@ pub fn read_all<S: Shelf>(
     Err(ReadEnd::TooLong)
 }
 
-/// Puts the whole text, piece by piece. After `Failed` a prefix of it was taken.
+/// Puts the whole text, piece by piece. After `Failed` less than the whole was taken, a prefix of it.
 pub fn write_all<K: Sink>(sink: &mut K, text: &[u8]) -> Result<(), Failed>
     ensures faults { K.faults sink.old ≤ K.faults sink.new }
     ensures same { K.tells sink.new ≡ K.tells sink.old }
     ensures whole { OnOk result (K.tells sink.old ≡ true → K.written sink.new ≡ K.written sink.old ++ text.now) }
     ensures failed { OnErr result (Rose (K.faults sink.old) (K.faults sink.new)) }
-    ensures prefix { OnErr result (K.tells sink.old ≡ true →
-        (n : ℕ) × (n ≤ length text.now) × (K.written sink.new ≡ K.written sink.old ++ take n text.now)) }
+    ensures prefix { OnErr result ((n : ℕ) × (n < length text.now)
+        × (K.tells sink.old ≡ true → K.written sink.new ≡ K.written sink.old ++ take n text.now)) }
 {
     let mut done = 0;
     while done < text.len() {

@@ -1,4 +1,4 @@
--- What a core promises to its guards and to its branches, and where it comes to rest.
+-- Where a core comes to rest.
 use Rattle.std.proofs.Common.{◌≡◌, ℕ, Bool, true, false, refl, ◌∙◌}
 use Rattle.std.specs.Prelude.{◌&&◌}
 use Rattle.circuit_places.specs.Heads.{Index, bit_of, hot, all_neutral, all_valid, alone, over}
@@ -6,8 +6,6 @@ use Rattle.circuit_places.specs.Cores.{of_joined, of_ask, of_any, of_latch, of_s
 use Rattle.circuit_places.proofs.HeadFacts.{both_true, bit_hot}
 use Rattle.circuit_places.proofs.CoreControl.{Mode, idle, running, answered, returning, asks, acks, noted, spread, freed, uncalled, called, evaluating, latched, leaving, isnt_running, works, worked, reported, letting, backs}
 use Rattle.circuit_places.proofs.CoreMoves.{Guards, Branches, CoreAt, in_control, in_branch, CoreSpot, own, guard, branch, core_moves, core_turning, CoreFits, Arrives}
-
-module _ {again : Bool} {n : ℕ} {G Q B C S T : Type 0} (W : Guards n G Q) (K : Branches n B C S T) where
 
 -- Where none of a core's nodes moves: it is called and answered alike; or its guards are full and no latch may rise; or a branch is
 -- under way of which no node moves.

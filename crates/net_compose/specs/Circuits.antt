@@ -15,10 +15,12 @@ reset_rules reset high r =
     record { up = reset_guard reset high r.up; down = reset_guard reset (not high) r.down }
     else no_rules
 
+-- the rules of each node, one behind the other, where the net has a reset node
 abbrev pub each_reset : (reset : ℕ) → List Bool → List NodeRules → List NodeRules
 each_reset reset (high ∷ first) (r ∷ rs) = reset_rules reset high r ∷ each_reset reset first rs
 each_reset reset first rs = []
 
+-- the rules of all nodes, with a reset node or without one
 abbrev pub circuit_rules : Option ℕ → List Bool → List NodeRules → List NodeRules
 circuit_rules None first rs = rs
 circuit_rules (Some reset) first rs = each_reset reset first rs
@@ -27,25 +29,29 @@ circuit_rules (Some reset) first rs = each_reset reset first rs
 abbrev pub side : (up : Bool) → NodeRules → GuardValue
 side up r = if up then r.up else r.down
 
+-- the net with these names, first values, rules and channels, with a reset node or without one
 abbrev pub circuit_net : List (List ℕ) → List Bool → List NodeRules → List Wires → Option ℕ → NetValue
 circuit_net names first rs channels reset =
     let rules = circuit_rules reset first rs in
     net_of names first (record { up = map (side true) rules; down = map (side false) rules }) channels reset
 
--- what the reset puts at the end of each term, and behind the last one
+-- what the reset puts at the end of each term
 abbrev pub term_end : Ending → List Literal
 term_end Plain = []
 term_end (Held reset) = is_low reset ∷ []
 term_end (Forced reset) = []
 
+-- what it puts behind the last term
 abbrev pub guard_end : Ending → GuardValue
 guard_end Plain = []
 guard_end (Held reset) = []
 guard_end (Forced reset) = (is_high reset ∷ []) ∷ []
 
+-- the guard with this at the end of each term
 abbrev pub with_ends : Ending → GuardValue → GuardValue
 with_ends ending g = map (λ t. t ++ term_end ending) g
 
+-- the whole guard with what the reset adds
 abbrev pub with_ending : Ending → GuardValue → GuardValue
 with_ending ending g = with_ends ending g ++ guard_end ending
 

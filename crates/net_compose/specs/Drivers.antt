@@ -19,6 +19,7 @@ wanted_latch request wanted = record { up = one_term (map is_high wanted); down 
 abbrev pub let_go : (latch until : ℕ) → List ℕ → NodeRules
 let_go latch until rails = record { up = one_term (is_high latch ∷ lows rails); down = one_term (is_low until ∷ []) }
 
+-- the two rules of the node that is driven so
 abbrev pub driven : Pattern → NodeRules
 driven (Rail rail) = rail_driven rail
 driven (Until request over) = q_child request over

@@ -56,12 +56,14 @@ listed (Kept set other reset) = []
 listed (Written x w) = []
 listed (Turn request joined) = []
 
+-- the form of the guard by which a node of an expression rises
 abbrev pub up_rail_shape : RailPattern → Shape
 up_rail_shape Undriven = Never
 up_rail_shape (Follow request) = One (is_high request)
 up_rail_shape (Read request rail) = Two (is_high request) (is_high rail)
 up_rail_shape (Gate function one left right below) = Rows function one left right below
 
+-- the form of the guard by which a node rises
 abbrev pub up_shape : Pattern → Shape
 up_shape (Rail rail) = up_rail_shape rail
 up_shape (Until request over) = Two (is_high request) (is_low over)
@@ -77,16 +79,19 @@ up_shape (Wanted request wanted) = Highs
 up_shape (Started latch until rails) = With (is_high latch)
 up_shape (Turn request joined) = Two (is_high request) (is_low joined)
 
+-- all listed nodes are low; no term, where none is listed
 abbrev pub lows_or_never : List ℕ → Shape
 lows_or_never [] = Never
 lows_or_never (n ∷ ns) = Lows
 
+-- the form of the guard by which a node of an expression falls
 abbrev pub down_rail_shape : RailPattern → Shape
 down_rail_shape Undriven = Never
 down_rail_shape (Follow request) = One (is_low request)
 down_rail_shape (Read request rail) = One (is_low request)
 down_rail_shape (Gate function one left right below) = Neutral left right below
 
+-- the form of the guard by which a node falls
 abbrev pub down_shape : Pattern → Shape
 down_shape (Rail rail) = down_rail_shape rail
 down_shape (Until request over) = One (is_high over)
@@ -102,5 +107,6 @@ down_shape (Wanted request wanted) = One (is_low request)
 down_shape (Started latch until rails) = One (is_low until)
 down_shape (Turn request joined) = Either (is_high joined) (is_low request)
 
+-- the form of the guard by which a node rises, or falls
 abbrev pub shape_of : (up : Bool) → Pattern → Shape
 shape_of up d = if up then up_shape d else down_shape d

@@ -131,7 +131,7 @@ fn guards(
 /// Adds the drivers of a selection's own nodes, numbered from `from` on, and of its guards behind them. The joined
 /// answer isn't driven until the answers of the branches are known: `join_answers` sets it.
 #[tactic(auto, using(handshake_expand::proofs::Branches::choosing_size, handshake_expand::proofs::Rows::arms_counted))]
-fn selection(
+fn selection_nodes(
     alloc: Global,
     program: &Typed,
     arms: &[TArm],
@@ -173,9 +173,10 @@ fn selection(
     Ok(())
 }
 
-/// The same of a guarded repetition.
+/// Adds the drivers of a guarded repetition's own nodes, numbered from `from` on, and of its guards behind them. The
+/// joined answer isn't driven until the answers of the branches are known: `join_answers` sets it.
 #[tactic(auto, using(handshake_expand::proofs::Branches::choosing_size, handshake_expand::proofs::Rows::arms_counted))]
-fn repetition(
+fn repetition_nodes(
     alloc: Global,
     program: &Typed,
     arms: &[TArm],
@@ -222,7 +223,8 @@ fn repetition(
     Ok(())
 }
 
-/// The same of either.
+/// Adds the drivers of the own nodes of a selection or, where `again`, of a guarded repetition, and of its guards.
+/// `join_answers` sets the joined answer, which isn't driven yet.
 pub(crate) fn choice(
     alloc: Global,
     program: &Typed,
@@ -251,13 +253,13 @@ pub(crate) fn choice(
         (guards_from (choices_in arms.now) again_own from))) }
 {
     if again {
-        repetition(alloc, program, arms, request, from, vars, drivers)
+        repetition_nodes(alloc, program, arms, request, from, vars, drivers)
     } else {
-        selection(alloc, program, arms, request, from, vars, drivers)
+        selection_nodes(alloc, program, arms, request, from, vars, drivers)
     }
 }
 
-/// Sets the joined answer of either, whose own nodes are numbered from `from` on and whose drivers begin at `place`:
+/// Sets the joined answer of a selection or guarded repetition, whose own nodes are numbered from `from` on and whose drivers begin at `place`:
 /// the first one of a selection, and the third one, where `again`, of a guarded repetition. `answers` are the nodes
 /// that answer the branches.
 pub(crate) fn join_answers(

@@ -1,12 +1,14 @@
 //! A program's circuit, told by the drivers of its nodes.
 
-ghost use Rattle.std.specs.Prelude.{◌≡◌, ◌<◌, ◌≤◌, true, length, if◌then◌else◌, IfOk, OnOk, [], ◌∷◌, ◌++◌, Some, None};
+ghost use Rattle.std.specs.Prelude.{◌≡◌, ◌<◌, ◌≤◌, true, length, if◌then◌else◌, IfOk, OnOk, IfErr, [], ◌∷◌, ◌++◌, Some, None};
 ghost use Rattle.chp_base.specs.Names.{IsNodeName};
 ghost use Rattle.prs_core.specs.Nets.{IsBelow, IsNet, name_at, up_of, down_of};
 ghost use Rattle.prs_core.specs.Pairs.{no_rules};
 ghost use Rattle.reset_net.specs.Resets.{reset_of};
 ghost use Rattle.width_check.specs.Typed.{program_of};
-ghost use Rattle.handshake_expand.specs.Layout.{nodes_of};
+ghost use Rattle.handshake_expand.specs.Layout.{node_count, nodes_of};
+ghost use Rattle.net_compose.specs.Points.{IsTranslated};
+ghost use Rattle.net_compose.specs.Errors.{IfTooMany};
 ghost use Rattle.net_compose.specs.Translation.{translation};
 ghost use Rattle.net_compose.specs.Circuits.{IsEnding, with_ending, side};
 
@@ -17,11 +19,17 @@ use crate::first::declared_values;
 use crate::firsts::firsts_of;
 use crate::laws::{all_counted, whole_nets};
 use crate::names::{Names, names_of};
+use crate::net::NetError;
 use crate::wires::wires_of;
+use handshake_expand::count_nodes;
 use prs_core::Wires;
+use sharing_check::Disjoint;
 use std::alloc::{AllocError, Global};
 use std::marker::Model;
 use width_check::Typed;
+
+/// How many nodes a net has at most that a rule file can hold.
+const MOST_NODES: u64 = 65_536;
 
 /// A circuit: the names and first values of its nodes, what drives each of them, and its channels. Contracts see the
 /// net.
@@ -128,14 +136,14 @@ fn add_reset(
 }
 
 /// The circuit of a program that has at most 65,536 nodes, with a reset node where one is asked for.
-pub fn circuit_of(alloc: Global, program: &Typed, reset: bool) -> Result<Circuit, AllocError>
+fn make(alloc: Global, program: &Typed, reset: bool) -> Result<Circuit, AllocError>
     requires { nodes_of (program_of program.now) ≤ 65536 }
     ensures { IfOk result (λ net. net
         ≡ if reset then reset_of (translation (program_of program.now)) else translation (program_of program.now)) }
 {
     whole_nets();
     all_counted();
-    // what the program's type keeps is told of its body
+    // the contract of `body` says what holds of a checked program
     let _kept = program.body();
     let firsts = firsts_of(alloc, program)?;
     let mut first = declared_values(alloc, program, &firsts.vars)?;
@@ -150,4 +158,27 @@ pub fn circuit_of(alloc: Global, program: &Typed, reset: bool) -> Result<Circuit
         channels,
         reset: at,
     })
+}
+
+/// The circuit of a program, with a reset node where one is asked for. One that would have more than 65,536 nodes, the
+/// reset node left out of the count, is refused with their number.
+pub fn circuit_of(alloc: Global, program: &Disjoint, reset: bool) -> Result<Circuit, NetError>
+    ensures net { IfOk result (λ net. net
+        ≡ if reset then reset_of (translation (program_of program.now)) else translation (program_of program.now)) }
+    ensures translated { OnOk result (IsTranslated (program_of program.now)) }
+    ensures fits { OnOk result (nodes_of (program_of program.now) ≤ 65536) }
+    ensures count { IfErr result (IfTooMany (λ count. count ≡ node_count (program_of program.now))) }
+    ensures too_many { IfErr result (IfTooMany (λ _. 65536 < nodes_of (program_of program.now))) }
+{
+    let typed = program.typed();
+    // the contract of `body` says what holds of a checked program
+    let _kept = typed.body();
+    let count = count_nodes(typed);
+    if count > MOST_NODES {
+        return Err(NetError::TooManyNodes(count));
+    }
+    match make(alloc, typed, reset) {
+        Ok(circuit) => Ok(circuit),
+        Err(e) => Err(NetError::NoMemory(e)),
+    }
 }

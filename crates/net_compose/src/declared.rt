@@ -37,7 +37,7 @@ fn channel(
         ++ channel_rules (program_of program.now) chan
         (channel_width program.now.channels chan) (kind_at program.now.channels chan)) }
 {
-    // what the program's type keeps is told of its body
+    // the contract of `body` says what holds of a checked program
     let _kept = program.body();
     let channels = program.channels();
     let declared = &channels[chan];
@@ -93,7 +93,7 @@ fn var(
         ++ variable_rules (var_width program.now.vars number) (var_from (program_of program.now) number)
         (in_body (program_of program.now) (write_site (program_of program.now) number))) }
 {
-    // what the program's type keeps is told of its body
+    // the contract of `body` says what holds of a checked program
     let _kept = program.body();
     let vars = program.vars();
     let declared = &vars[number];

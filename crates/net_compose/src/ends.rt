@@ -38,7 +38,7 @@ pub(crate) fn first_of(firsts: &[u32], place: u32) -> u32
     }
 }
 
-/// The number of bits, 1 to 64, of the channel number `chan`: channels are numbered from 0 in order of declaration. 0
+/// The number of bits of the channel number `chan`: channels are numbered from 0 in order of declaration. 0
 /// where there is none.
 #[tactic(auto, using(crate::proofs::EndsReady::channel_declared, crate::proofs::EndsReady::channel_missing))]
 pub(crate) fn channel_bits(program: &Typed, chan: u32) -> u8
@@ -50,7 +50,7 @@ pub(crate) fn channel_bits(program: &Typed, chan: u32) -> u8
     }
 }
 
-/// The number of bits, 1 to 64, of the variable number `var`: variables are numbered from 0 in order of declaration. 0
+/// The number of bits of the variable number `var`: variables are numbered from 0 in order of declaration. 0
 /// where there is none.
 #[tactic(auto, using(crate::proofs::EndsReady::var_declared, crate::proofs::EndsReady::var_missing))]
 pub(crate) fn var_bits(program: &Typed, var: u32) -> u8
@@ -83,7 +83,7 @@ pub(crate) fn written_node(program: &Typed, var: u32, vars: &[u32]) -> u32
     ensures written { result ≡ written_at (program_of program.now) var }
     ensures before { result < root_request (program_of program.now) }
 {
-    // what the program's type keeps is told of its body
+    // the contract of `body` says what holds of a checked program
     let _kept = program.body();
     first_of(vars, var) + (6 * u32::from(var_bits(program, var)) - 2)
 }

@@ -14,15 +14,10 @@ use crate::circuit::{Circuit, circuit_of};
 use crate::guard::guard_of;
 use crate::laws::{carries, runs_end};
 use chp_base::{Name, node_name_of};
-use handshake_expand::count_nodes;
 use prs_core::{Net, Rules};
 use sharing_check::Disjoint;
 use std::alloc::{AllocError, Global};
 use thiserror::Error;
-use width_check::Typed;
-
-/// How many nodes a net has at most that a rule file can hold.
-const MOST_NODES: u64 = 65_536;
 
 /// Why there is no net.
 #[derive(Debug, Drop, Error)]
@@ -46,7 +41,7 @@ fn name_from(alloc: Global, text: &[u8]) -> Result<Name, AllocError>
 }
 
 /// The names of a circuit's nodes.
-fn names_of(alloc: Global, circuit: &Circuit) -> Result<Vec<Name>, AllocError>
+fn names_in(alloc: Global, circuit: &Circuit) -> Result<Vec<Name>, AllocError>
     ensures { IfOk result (λ names. names.items ≡ circuit.now.names) }
 {
     let count = circuit.first().len() as u32;
@@ -58,7 +53,7 @@ fn names_of(alloc: Global, circuit: &Circuit) -> Result<Vec<Name>, AllocError>
 }
 
 /// The guards of a circuit's nodes.
-fn rules_of(alloc: Global, circuit: &Circuit) -> Result<Rules, AllocError>
+fn rules_in(alloc: Global, circuit: &Circuit) -> Result<Rules, AllocError>
     requires { circuit.now.reset ≡ None }
     ensures { IfOk result (λ rules. rules ≡ net_rules circuit.now) }
 {
@@ -74,14 +69,13 @@ fn rules_of(alloc: Global, circuit: &Circuit) -> Result<Rules, AllocError>
     Ok(rules)
 }
 
-/// The net of a program that has at most 65,536 nodes.
-fn net_of(alloc: Global, program: &Typed) -> Result<Net, AllocError>
-    requires { nodes_of (program_of program.now) ≤ 65536 }
-    ensures { IfOk result (λ net. net ≡ translation (program_of program.now)) }
+/// The net of a circuit without a reset node.
+fn net_of(alloc: Global, circuit: Circuit) -> Result<Net, AllocError>
+    requires { circuit.reset ≡ None }
+    ensures { IfOk result (λ net. net ≡ circuit) }
 {
-    let circuit = circuit_of(alloc, program, false)?;
-    let names = names_of(alloc, &circuit)?;
-    let rules = rules_of(alloc, &circuit)?;
+    let names = names_in(alloc, &circuit)?;
+    let rules = rules_in(alloc, &circuit)?;
     Ok(Net::new(names, circuit.first, rules, circuit.channels))
 }
 
@@ -98,14 +92,8 @@ pub fn translate(alloc: Global, program: &Disjoint) -> Result<Net, NetError>
 {
     carries();
     runs_end();
-    let typed = program.typed();
-    // what the program's type keeps is told of its body
-    let _kept = typed.body();
-    let count = count_nodes(typed);
-    if count > MOST_NODES {
-        return Err(NetError::TooManyNodes(count));
-    }
-    match net_of(alloc, typed) {
+    let circuit = circuit_of(alloc, program, false)?;
+    match net_of(alloc, circuit) {
         Ok(net) => Ok(net),
         Err(e) => Err(NetError::NoMemory(e)),
     }

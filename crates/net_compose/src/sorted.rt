@@ -72,7 +72,7 @@ pub(crate) fn sort_contacts(
     requires { contacts.items ≡ in_body (program_of program.now) (every_contact (program_of program.now)) }
     ensures { IfOk result (λ sorted. AreSortedContacts (program_of program.now) sorted) }
 {
-    // what the program's type keeps is told of its body
+    // the contract of `body` says what holds of a checked program
     let _kept = program.body();
     let sent = no_lists(alloc, program.channels().len())?;
     let taken = no_lists(alloc, program.channels().len())?;

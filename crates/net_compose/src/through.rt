@@ -82,7 +82,7 @@ pub(crate) fn through(
     ensures bits { IfOk result (λ written. written.1.items
         ≡ read_back (through_at (var_width program.now.vars var) (formula_size (formula_of value.now)) from)) }
 {
-    // what the program's type keeps is told of its body
+    // the contract of `body` says what holds of a checked program
     let _kept = program.body();
     let width = var_bits(program, var);
     let size = expr_nodes(value) as u32;

@@ -14,7 +14,6 @@ ghost use Rattle.net_compose.specs.Translation.{translation};
 use crate::buffer::line_buffer;
 use crate::cursor::{Cursor, give};
 use crate::place::Place;
-use handshake_expand::count_nodes;
 use net_compose::laws::{carries, carries_reset, runs_end, runs_end_reset, whole_nets};
 use net_compose::{Circuit, NetError, circuit_of};
 use sharing_check::Disjoint;
@@ -39,9 +38,6 @@ impl Model for Streamer {
 
     ghost invariant = { λ s. IsCursor s.net s.cursor };
 }
-
-/// The most nodes of a net that a rule file can hold.
-const MOST_NODES: u64 = 65_536;
 
 /// The streamer of the circuit's file.
 fn stream(alloc: Global, net: Circuit) -> Result<Streamer, AllocError>
@@ -71,17 +67,7 @@ fn stream_program(alloc: Global, program: &Disjoint, reset: bool) -> Result<Stre
     carries();
     runs_end();
     whole_nets();
-    let typed = program.typed();
-    // what the program's type keeps is told of its body
-    let _kept = typed.body();
-    let count = count_nodes(typed);
-    if count > MOST_NODES {
-        return Err(NetError::TooManyNodes(count));
-    }
-    let net = match circuit_of(alloc, typed, reset) {
-        Ok(net) => net,
-        Err(e) => return Err(NetError::NoMemory(e)),
-    };
+    let net = circuit_of(alloc, program, reset)?;
     match stream(alloc, net) {
         Ok(streamer) => Ok(streamer),
         Err(e) => Err(NetError::NoMemory(e)),

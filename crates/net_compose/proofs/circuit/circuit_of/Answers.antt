@@ -1,41 +1,19 @@
-use Rattle.std.proofs.Common.{◌∙◌, [], ◌∷◌, ◌++◌, Bool, List, length, ap, sym, arith}
+use Rattle.std.proofs.Common.{◌∙◌, ap, subst}
 use Rattle.std.specs.Prelude.{if◌then◌else◌}
-use Rattle.std.proofs.lemmas.List.{length-map}
-use Rattle.prs_core.specs.Nets.{NodeRules}
-use Rattle.prs_core.specs.Pairs.{no_rules}
-use Rattle.width_check.specs.Typed.{program_of}
-use Rattle.handshake_expand.specs.Sites.{in_body}
-use Rattle.net_compose.specs.Translation.{all_rules, hidden_high}
-use Rattle.net_compose.proofs.Raised.{with_raised}
-use Rattle.net_compose.proofs.Composed.{all_values, written_over}
-use Rattle.net_compose.proofs.NamesFree.{names_free}
-use Rattle.net_compose.proofs.CircuitNets.{circuit_is, circuit_holds}
+use Rattle.reset_net.specs.Resets.{reset_of}
+use Rattle.width_check.specs.Typed.{TypedValue, program_of}
+use Rattle.width_check.specs.Typing.{IsTyped}
+use Rattle.width_check.specs.View.{process_of}
+use Rattle.net_compose.specs.Translation.{translation}
 use Rattle.net_compose.proofs.circuit.circuit_of.Goals as goal
 
-pub drivers_of-requires-clause-own : goal.drivers_of-requires-clause-own
-drivers_of-requires-clause-own c = sym (ap (λ (l : List Bool). length l) c.deref_mut.ensures.value ∙ c.in_ok-first.ensures.count)
+pub returns-in-Ok-clause-net : goal.returns-in-Ok-clause-net
+returns-in-Ok-clause-net c =
+    c.in-Ok.ensures
+    ∙ ap (λ v. if c.args.reset then reset_of (translation (program_of v)) else translation (program_of v)) c.typed-typed.ensures.program
 
-pub invariant_of-result : goal.invariant_of-result
-invariant_of-result c =
-    let p = program_of c.args.program.now in
-    let size = c.all_counted.ensures p c.body-kept.ensures.typed in
-    let over = written_over c.drivers_of.new.first c.in_ok-first.first.items c.in_ok-first.first.len (omega
-    (arith, c.drivers_of.ensures.count, ap (λ (l : List Bool). length l) c.deref_mut.ensures.value, c.in_ok-first.first.ok.0)) in
-    let values = over ∙ all_values p c.in_ok-first.first.items c.drivers_of.new.first c.in_ok-first.ensures.values
-    (c.in_ok-drivers.ensures.first ∙ ap (λ vs. with_raised vs (in_body p (hidden_high p))) c.deref_mut.ensures.value) in
-    circuit_holds p c.args.reset _ _ _ _ _ _ c.in_ok-names.ensures values c.in_ok-at.ensures.first
-    (c.in_ok-at.ensures.drivers ∙ ap (λ rs. rs ++ (if c.args.reset then no_rules ∷ [] else [])) c.in_ok-drivers.ensures.made) c.in_ok-channels.ensures
-    c.in_ok-at.ensures.at (sym (length-map (all_rules p) (λ (r : NodeRules). r.up)) ∙ (size.up ∙ sym size.first))
-    (c.whole_nets.ensures p c.body-kept.ensures.typed c.requires) (names_free p)
-
-pub returns : goal.returns
-returns c =
-    let p = program_of c.args.program.now in
-    let size = c.all_counted.ensures p c.body-kept.ensures.typed in
-    let over = written_over c.drivers_of.new.first c.in_ok-first.first.items c.in_ok-first.first.len (omega
-    (arith, c.drivers_of.ensures.count, ap (λ (l : List Bool). length l) c.deref_mut.ensures.value, c.in_ok-first.first.ok.0)) in
-    let values = over ∙ all_values p c.in_ok-first.first.items c.drivers_of.new.first c.in_ok-first.ensures.values
-    (c.in_ok-drivers.ensures.first ∙ ap (λ vs. with_raised vs (in_body p (hidden_high p))) c.deref_mut.ensures.value) in
-    circuit_is p c.args.reset _ _ _ _ _ _ c.in_ok-names.ensures values c.in_ok-at.ensures.first
-    (c.in_ok-at.ensures.drivers ∙ ap (λ rs. rs ++ (if c.args.reset then no_rules ∷ [] else [])) c.in_ok-drivers.ensures.made) c.in_ok-channels.ensures
-    c.in_ok-at.ensures.at (sym (length-map (all_rules p) (λ (r : NodeRules). r.up)) ∙ (size.up ∙ sym size.first))
+pub returns-in-Ok-clause-translated : goal.returns-in-Ok-clause-translated
+returns-in-Ok-clause-translated c = record {
+  typed = subst (λ (t : TypedValue). IsTyped t.channels t.vars (process_of t.body)) c.typed-typed.ensures.program c.body-kept.ensures.typed;
+  sharing = c.typed-typed.ensures.meets;
+}

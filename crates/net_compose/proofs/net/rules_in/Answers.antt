@@ -1,7 +1,7 @@
 use Rattle.std.proofs.Common.{◌≡◌, ◌∙◌, ◌+◌, [], length, ap, sym, subst, arith}
 use Rattle.prs_core.specs.Nets.{RulesValue, IsBelow}
 use Rattle.net_compose.proofs.NetWritten.{none_written, written_length, written_more, all_written}
-use Rattle.net_compose.proofs.net.rules_of.Goals as goal
+use Rattle.net_compose.proofs.net.rules_in.Goals as goal
 
 pub loop-node-init : goal.loop-node-init
 loop-node-init c =

@@ -12,7 +12,7 @@ use Rattle.net_compose.specs.Translation.{branch_answers, guard_pairs, guards_ru
 use Rattle.net_compose.specs.Drivers.{wanted_latch, let_go}
 use Rattle.net_compose.specs.Wanted.{all_unwanted}
 use Rattle.net_compose.proofs.ChoiceDriven.{again_driven}
-use Rattle.net_compose.proofs.choice.repetition.Goals as goal
+use Rattle.net_compose.proofs.choice.repetition_nodes.Goals as goal
 
 leaves_are : (from count n : ℕ) → count ≡ n → range_with_len (from + 5) (count + 1) ≡ (from + 5) ∷ range_with_len (from + 6) n
 leaves_are from count n e =

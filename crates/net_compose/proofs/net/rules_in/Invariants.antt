@@ -1,6 +1,6 @@
 use Rattle.std.proofs.Common.{◌≡◌, []}
 use Rattle.net_compose.proofs.NetWritten.{written}
-use Rattle.net_compose.proofs.net.rules_of.Given as goal
+use Rattle.net_compose.proofs.net.rules_in.Given as goal
 
 abbrev pub invariant-loop-node : goal.invariant-loop-node
 invariant-loop-node l = record {

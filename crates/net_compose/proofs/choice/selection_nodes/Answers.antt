@@ -10,7 +10,7 @@ use Rattle.handshake_expand.proofs.Rows.{arms_counted}
 use Rattle.cell_select.specs.Selections.{latches, starts}
 use Rattle.net_compose.specs.Translation.{branch_answers, guard_pairs, guards_rules}
 use Rattle.net_compose.proofs.ChoiceDriven.{select_driven}
-use Rattle.net_compose.proofs.choice.selection.Goals as goal
+use Rattle.net_compose.proofs.choice.selection_nodes.Goals as goal
 
 pub returns : goal.returns
 returns c =
