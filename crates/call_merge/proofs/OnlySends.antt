@@ -1,13 +1,17 @@
 -- The program of calls alone does nothing but send.
-use Rattle.std.proofs.Common.{◌≡◌, ◌⊎◌, ℕ, List, [], ◌∷◌, ◌++◌, inl, inr, ⊎_elim, subst, sym}
+use Rattle.std.proofs.Common.{◌≡◌, ◌⊎◌, ℕ, List, [], ◌∷◌, ◌++◌, inl, inr, ⊎_elim, subst, sym, ap, ◌∙◌}
 use Rattle.std.specs.Prelude.{Contains}
 use Rattle.std.proofs.lemmas.List.Elements.{Contains-append_cases}
+use Rattle.chp_base.specs.declared.fault.FaultCode.{FaultCode}
 use Rattle.chp_base.specs.declared.fault.FaultCode.TheVariants as code
+use Rattle.chp_base.specs.declared.span.Span.{Span}
 use Rattle.chp_syntax.specs.declared.tree.Decl.{Decl}
 use Rattle.chp_syntax.specs.Trees.{Statement, skips, assigns, sends, receives, follows, besides, selects, repeats, calls, Statements, no_members, and_member, Arms, no_arms, and_arm, ProgramTree}
-use Rattle.width_check.specs.Form.{process_form, processes_form, choices_form}
-use Rattle.width_check.specs.Processes.{Process}
-use Rattle.width_check.specs.Sharing.{Deed, reads_var, writes_var, sends_on, receives_on, Occurrence, occurrences, occurrences_of_each, occurrences_of_choices, IsAcross, Parallel, ParallelInside, ParallelInChoices, ParallelAcross, Clashes, IsUnshared}
+use Rattle.width_check.specs.Form.{process_form, processes_form, choices_form, typed_form}
+use Rattle.width_check.specs.Processes.{Process, TypedProgram}
+use Rattle.width_check.specs.Sharing.{Deed, reads_var, writes_var, sends_on, receives_on, Occurrence, occurrences, occurrences_of_each, occurrences_of_choices, IsAcross, Parallel, ParallelInside, ParallelInChoices, ParallelAcross, Clashes, IsUnshared, IsFirstShared, IsFirstSharedFault, sharing_faults}
+use Rattle.width_check.specs.Typed.{TypedValue, program_of}
+use Rattle.width_check.specs.View.{process_of}
 use Rattle.width_check.proofs.Least.{front_or_rest, no_item}
 use Rattle.call_merge.specs.CallSites.{call_sends, call_sends_each, call_sends_arms, call_channel, calls_program, calls_process}
 
@@ -96,3 +100,21 @@ variables_unshared p a b h = no_variable a.deed b.deed (parallel_sends _ p.body 
 
 pub receives_unshared : (p : ProgramTree) → IsUnshared (calls_process p) code.SharedReceive
 receives_unshared p a b h = no_receive a.deed b.deed (parallel_sends _ p.body a b h)
+
+-- a fault of sharing there is of sends
+
+unshared_at : (body : Process) (c : FaultCode) (s t : Span) → IsUnshared body c → ¬ IsFirstShared body c s t
+unshared_at body c s t none h = none h.shared.a h.shared.b h.shared.parallel h.shared.clash
+
+pub sends_alone : (body : Process) (c : FaultCode) (s t : Span) → IsUnshared body code.SharedVariable → IsUnshared body code.SharedReceive
+    → IsFirstSharedFault body sharing_faults c s t → IsFirstShared body code.SharedSend s t
+sends_alone body c s t vars takes (inl h) = absurd (unshared_at body code.SharedVariable s t vars h.1)
+sends_alone body c s t vars takes (inr (k, inl h)) = h.1
+sends_alone body c s t vars takes (inr (k, inr (l, inl h))) = absurd (unshared_at body code.SharedReceive s t takes h.1)
+sends_alone body c s t vars takes (inr (k, inr (l, inr h))) = absurd h.1
+
+-- the typed program of calls alone
+
+pub typed_calls : (p : ProgramTree) (tree : ProgramTree) (typed : TypedValue) → tree ≡ calls_program p → program_of typed ≡ typed_form tree →
+    process_of typed.body ≡ calls_process p
+typed_calls p tree typed is form = ap (λ (t : TypedProgram). t.body) form ∙ ap (λ (q : ProgramTree). (typed_form q).body) is

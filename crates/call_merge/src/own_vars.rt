@@ -2,6 +2,7 @@
 
 ghost use Rattle.std.specs.Prelude.{◌≡◌, ◌<◌, ◌≤◌, ◌^◌, ◌++◌, ◌∷◌, ◌↔◌, ℕ, List, map, false, true, decimal, Contains, IfOk, OnOk, IsTrue, flat_map};
 ghost use Rattle.std.specs.HashSet.{contains};
+ghost use Rattle.std.specs.List.{list_any};
 ghost use Rattle.std.specs.Str.{bytes_eq};
 ghost use Rattle.chp_syntax.specs.declared.tree.Ident.{Ident};
 ghost use Rattle.chp_syntax.specs.View.{program_tree as tree_of, expression_of, statement_of, procedure_of};
@@ -100,6 +101,12 @@ fn is_var_name(decls: &[Decl], name: &Name) -> bool
         .map_or(false, |decl| is_var(decl.kind))
 }
 
+fn has_name(names: &[Name], name: &Name) -> bool
+    ensures { result ≡ list_any (bytes_eq name.now) names.now }
+{
+    names.iter().any(|one| *name == *one)
+}
+
 /// Whether an assignment reads its own target, which is a variable.
 pub(crate) fn reads_itself(
     alloc: Global,
@@ -114,7 +121,7 @@ pub(crate) fn reads_itself(
     }
     let mut read = Vec::new(alloc);
     note_reads(&mut read, value)?;
-    Ok(read.iter().any(|name| target.name == *name))
+    Ok(has_name(&read, &target.name))
 }
 
 /// Adds the targets of the assignments that read their own target.
