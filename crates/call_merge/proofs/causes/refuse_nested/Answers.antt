@@ -9,9 +9,9 @@ use Rattle.call_merge.specs.CallFaults.{IsNestedCall}
 use Rattle.call_merge.specs.CallSites.{nested_calls}
 use Rattle.call_merge.proofs.FirstCalls.{IsRefusedAt, nested_least, nowhere, refused_for, refused_alone}
 use Rattle.call_merge.proofs.causes.refuse_nested.Goals as goal
-use Rattle.call_merge.proofs.causes.refuse_nested.Goals.{After-refuse}
+use Rattle.call_merge.proofs.causes.refuse_nested.Goals.{After-drop-nested}
 
-least : (c : After-refuse) → IsLeast (λ s. IsNestedCall (program_tree c.args.program.now) s) c.first_place.result
+least : (c : After-drop-nested) → IsLeast (λ s. IsNestedCall (program_tree c.args.program.now) s) c.first_place.result
 least c = nested_least (program_tree c.args.program.now) c.deref-2.result.now c.first_place.result (c.deref-2.ensures.value ∙ (c.in_ok-nested.ensures
     ∙ ap (λ (qs : List Proc). nested_calls (map procedure_of qs)) c.deref.ensures.value)) c.first_place.ensures
 

@@ -9,9 +9,9 @@ use Rattle.call_merge.specs.CallEnds.{IfRefusedCall, IsRefusedFor, IsNoCount}
 use Rattle.call_merge.specs.CallFaults.{IsUnusedProcedure}
 use Rattle.call_merge.proofs.FirstCalls.{IsRefusedAt, unused_least, nowhere, refused_for, refused_alone}
 use Rattle.call_merge.proofs.causes.refuse_unused.Goals as goal
-use Rattle.call_merge.proofs.causes.refuse_unused.Goals.{After-refuse}
+use Rattle.call_merge.proofs.causes.refuse_unused.Goals.{After-drop-called}
 
-least : (c : After-refuse) → IsLeast (λ s. IsUnusedProcedure (program_tree c.args.program.now) s) c.first_unused.result
+least : (c : After-drop-called) → IsLeast (λ s. IsUnusedProcedure (program_tree c.args.program.now) s) c.first_unused.result
 least c = unused_least c.args.program.now c.deref.result.now (λ n. contains bytes_eq c.in_ok-called.called n) c.first_unused.result c.deref.ensures.value
     c.in_ok-called.ensures c.first_unused.ensures
 
