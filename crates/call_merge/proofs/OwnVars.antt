@@ -3,7 +3,7 @@ use Rattle.std.proofs.Common.{◌≡◌, ◌≢◌, ◌⊎◌, ℕ, ◌+◌, ◌
 use Rattle.std.specs.Prelude.{◌||◌, Contains}
 use Rattle.std.specs.List.{list_any}
 use Rattle.std.specs.Str.{bytes_eq}
-use Rattle.std.proofs.lemmas.List.{take_more, map-append}
+use Rattle.std.proofs.lemmas.List.{take_more, take_all, map-append}
 use Rattle.std.proofs.lemmas.Slice.Eq.{bytes_eq-Decides}
 use Rattle.chp_syntax.specs.declared.tree.Decl.{Decl}
 use Rattle.chp_syntax.specs.declared.tree.Ident.{Ident}
@@ -95,3 +95,7 @@ var_more ds names targets i x has now from vars next v name number within is so_
     all_names : names ++ own_names (vars ++ v ∷ []) ≡ (names ++ own_names vars) ++ name ∷ []
     all_names = ap (λ z. names ++ z) (map-append (λ (d : Decl). d.name.name) vars (v ∷ [])) ∙ (sym (append_assoc names (own_names vars) (v.name.name ∷ []))
         ∙ ap (λ (n : List ℕ). (names ++ own_names vars) ++ n ∷ []) v_name)
+
+pub own_done : (ds : List Decl) (names : List (List ℕ)) (targets : List Ident) (i : ℕ) (has : List ℕ → Bool) (from : ℕ) (vars : List Decl) → length targets ≤ i
+    → OwnVarsSoFar ds names (take i targets) has from vars → AreOwnVars ds names targets vars
+own_done ds names targets i has from vars over so_far = subst (λ (xs : List Ident). AreOwnVars ds names xs vars) (take_all i targets over) so_far.own

@@ -19,7 +19,7 @@ ghost use Rattle.call_merge.specs.declared.error.CallError.TheVariants.{Refused}
 
 use crate::channels::calls_program;
 use crate::error::CallError;
-use crate::sites::{all_calls, nested_calls, note_names};
+use crate::sites::{all_calls, nested_calls, note_names, table_of};
 use chp_base::{Fault, FaultCode, Name, Span, TextError};
 use chp_syntax::{Ident, Proc, Program};
 use sharing_check::share;
@@ -86,7 +86,7 @@ fn called_names(alloc: Global, program: &Program) -> Result<HashSet<Name>, Alloc
 {
     let mut names = Vec::new(alloc);
     note_names(&mut names, &all_calls(alloc, program)?)?;
-    names.into_iter().collect(alloc)
+    table_of(alloc, names)
 }
 
 /// The first of the places of the procedures that aren't among the called names.

@@ -10,7 +10,7 @@ ghost use Rattle.width_check.specs.Places.{is_var, uses_in, declared_width};
 ghost use Rattle.call_merge.specs.CallSplits.{names_read, is_var_name, reads_itself, own_readers, all_own_readers, program_names, all_uses, all_names, own_name, width_place, own_var, AreOwnVars};
 
 use crate::copies::copied_name;
-use crate::sites::{all_calls, note_names};
+use crate::sites::{all_calls, note_names, table_of};
 use chp_base::{Name, Span, name_of};
 use chp_syntax::{Decl, DeclKind, Expr, Ident, Proc, Program, Stmt};
 use itoa::Buffer;
@@ -296,7 +296,7 @@ fn vars_for(
 ) -> Result<Vec<Decl>, AllocError>
     ensures { IfOk result (λ vars. AreOwnVars decls.now names.items targets.now vars.items) }
 {
-    let mut taken: HashSet<Name> = names.into_iter().collect(alloc)?;
+    let mut taken = table_of(alloc, names)?;
     let mut vars = Vec::new(alloc);
     let mut from = 0;
     for target in targets {

@@ -1,6 +1,9 @@
 //! Where a program calls its procedures.
 
-ghost use Rattle.std.specs.Prelude.{◌≡◌, ◌++◌, map, IfOk, OnOk};
+ghost use Rattle.std.specs.Prelude.{◌≡◌, ◌++◌, ℕ, List, map, IfOk, OnOk};
+ghost use Rattle.std.specs.HashSet.{contains};
+ghost use Rattle.std.specs.List.{list_any};
+ghost use Rattle.std.specs.Str.{bytes_eq};
 ghost use Rattle.chp_syntax.specs.View.{program_tree as tree_of, procedure_of, statement_of};
 ghost use Rattle.call_merge.specs.CallSites.{calls_in, nested_calls, all_calls};
 
@@ -8,6 +11,7 @@ use crate::copies::copied_name;
 use chp_base::Name;
 use chp_syntax::{Ident, Proc, Program, Stmt};
 use std::alloc::{AllocError, Global};
+use std::collections::HashSet;
 
 /// Adds the names that the statement calls.
 pub(crate) fn note_calls(found: &mut Vec<Ident>, s: &Stmt) -> Result<(), AllocError>
@@ -69,4 +73,12 @@ pub(crate) fn note_names(names: &mut Vec<Name>, found: &[Ident]) -> Result<(), A
         names.push(one.name.copy()?)?;
     }
     Ok(())
+}
+
+/// A table of the names.
+pub(crate) fn table_of(alloc: Global, names: Vec<Name>) -> Result<HashSet<Name>, AllocError>
+    ensures { IfOk result (λ table. (name : List ℕ) → contains bytes_eq table name
+        ≡ list_any (bytes_eq name) names.items) }
+{
+    names.into_iter().collect(alloc)
 }
