@@ -1,5 +1,6 @@
 -- What is refused, as the first fault of procedures and calls.
 use Rattle.std.proofs.Common.{◌≡◌, ◌⊎◌, Bool, true, false, refl, sym, ap, ◌∙◌, subst, inl, inr, ⊎_elim}
+use Rattle.std.specs.Prelude.{IfErr, OnOk, Result, Ok, Err}
 use Rattle.chp_base.specs.declared.fault.Fault.{Fault}
 use Rattle.chp_base.specs.declared.fault.FaultCode.{FaultCode}
 use Rattle.chp_base.specs.declared.fault.FaultCode.TheVariants as code
@@ -7,13 +8,14 @@ use Rattle.chp_base.specs.declared.span.Span.{Span}
 use Rattle.chp_syntax.specs.Trees.{ProgramTree}
 use Rattle.width_check.specs.Faults.{IsDouble, IsUndeclared, naming_faults, HasNone, IsFirstFault}
 use Rattle.width_check.specs.Order.{IsFirst}
-use Rattle.width_check.specs.Sharing.{IsFirstShared}
+use Rattle.width_check.specs.Processes.{Process}
+use Rattle.width_check.specs.Sharing.{IsFirstShared, IsUnshared}
 use Rattle.call_merge.specs.declared.error.CallError.{CallError}
 use Rattle.call_merge.specs.declared.error.CallError.TheVariants.{Refused, TooManyForms, NoMemory}
 use Rattle.call_merge.specs.CallSites.{calls_program, calls_process}
-use Rattle.call_merge.specs.CallFaults.{IsNestedCall, IsUnusedProcedure, call_faults, IsFirstCallFault}
+use Rattle.call_merge.specs.CallFaults.{IsNestedCall, IsUnusedProcedure, call_faults, IsFirstCallFault, MeetsCalling}
 use Rattle.call_merge.specs.CallEnds.{IfRefusedCall, IsRefusedFor}
-use Rattle.call_merge.proofs.CallRefusals.{names_alone, refused_double, refused_unknown, no_double, no_unknown}
+use Rattle.call_merge.proofs.CallRefusals.{names_alone, refused_double, refused_unknown, no_double, no_unknown, meets_calling}
 
 abbrev pub IsFirstOf : ProgramTree → Fault → Type 0
 IsFirstOf p f = IsFirstCallFault p call_faults f.code f.at f.other
@@ -73,3 +75,18 @@ other_first p f h other = by_cause (names_alone p f.code f.at h)
 pub unknown_first : (p : ProgramTree) (f : Fault) → IsUndeclaredAlone p f → ((t : Span) → ¬ IsNestedCall p t)
     → IsFirstCallFault p call_faults code.UnknownProcedure f.at f.at
 unknown_first p f h flat = refused_unknown p f.at h.0 flat h.1
+
+-- what comes of the sharing of calls
+
+pub shared_ends : {X : Type 0} (p : ProgramTree) (body : Process) (r : Result X CallError) → body ≡ calls_process p → HasNone (calls_program p) naming_faults
+    → ((t : Span) → ¬ IsNestedCall p t) → ((t : Span) → ¬ IsUnusedProcedure p t)
+    → IfErr r (IfRefusedCall (λ f. f.code ≡ code.SharedProcedure))
+    → IfErr r (IfRefusedCall (λ f. IsFirstShared body code.SharedSend f.at f.other)) → IfErr r (IfRefusedCall (IsFirstOf p))
+shared_ends p body (Ok x) is none flat used cause first = tt
+shared_ends p body (Err e) is none flat used cause first =
+    shared_first p e none flat used cause (subst (λ (q : Process). IfRefusedCall (λ f. IsFirstShared q code.SharedSend f.at f.other) e) is first)
+
+pub shared_met : {X : Type 0} (p : ProgramTree) (body : Process) (r : Result X CallError) → body ≡ calls_process p → HasNone (calls_program p) naming_faults
+    → ((t : Span) → ¬ IsNestedCall p t) → ((t : Span) → ¬ IsUnusedProcedure p t) → OnOk r (IsUnshared body code.SharedSend) → OnOk r (MeetsCalling p)
+shared_met p body (Ok x) is none flat used apart = meets_calling p none flat used (subst (λ (q : Process). IsUnshared q code.SharedSend) is apart)
+shared_met p body (Err e) is none flat used apart = tt

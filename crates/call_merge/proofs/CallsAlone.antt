@@ -3,7 +3,7 @@ use Rattle.std.proofs.Common.{◌≡◌, ◌≢◌, ◌⊎◌, ℕ, zero, suc, �
 use Rattle.std.specs.Prelude.{◌||◌, Contains, slice_get, find, All}
 use Rattle.std.specs.List.{flat_map}
 use Rattle.std.specs.Str.{bytes_eq}
-use Rattle.std.proofs.lemmas.List.{map-append}
+use Rattle.std.proofs.lemmas.List.{map-append, length-map}
 use Rattle.std.proofs.lemmas.List.Elements.{Contains-append_left, Contains-append_right, Contains-append_cases, All-map, All-contains}
 use Rattle.std.proofs.lemmas.Slice.Eq.{bytes_eq-Decides}
 use Rattle.chp_base.specs.declared.span.Span.{Span}
@@ -11,6 +11,8 @@ use Rattle.chp_base.specs.Names.{IsName}
 use Rattle.chp_syntax.specs.declared.tree.Ident.{Ident}
 use Rattle.chp_syntax.specs.declared.tree.Decl.{Decl}
 use Rattle.chp_syntax.specs.declared.tree.DeclKind.TheVariants.{In, Out, Chan, Var}
+use Rattle.chp_syntax.specs.declared.tree.Program.{Program}
+use Rattle.chp_syntax.specs.View.{program_tree, procedure_of}
 use Rattle.chp_syntax.specs.Reading.{arm_count}
 use Rattle.chp_syntax.specs.Shape.{statement_count, IsShapedStatement, AreShapedMembers, AreShapedArms, IsShapedDecl, IsShapedProcedure, IsShaped}
 use Rattle.chp_syntax.specs.Trees.{Expression, number, Statement, skips, assigns, sends, receives, follows, besides, selects, repeats, calls, Statements, no_members, and_member, Arms, no_arms, and_arm, Procedure, ProgramTree}
@@ -289,3 +291,12 @@ no_wide p s (inl h) =
     let wide = h.wide in
     absurd (omega (arith, wide, none, some))
 no_wide p s (inr h) = first_fits p s h
+
+-- as many channels as procedures
+pub few_channels : (program made : Program) → program_tree made ≡ calls_program (program_tree program) → length program.procs.items ≤ 300000
+    → length made.decls.items ≤ 300000
+few_channels program made is few =
+    let decls : made.decls.items ≡ map call_channel (map procedure_of program.procs.items) = ap (λ (p : ProgramTree). p.decls) is in
+    let long : length made.decls.items ≡ length program.procs.items =
+    ap length decls ∙ (length-map (map procedure_of program.procs.items) call_channel ∙ length-map program.procs.items procedure_of) in
+    omega (arith, long, few)
