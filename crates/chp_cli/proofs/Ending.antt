@@ -1,5 +1,5 @@
 -- What follows from the way in which a call ended.
-use Rattle.std.proofs.Common.{◌≡◌, ◌≢◌, ℕ, ◌≤◌, List, [], ◌++◌, length, take, Bool, true, false, Option, Some, None, ◌⊎◌, inl, inr, refl, sym, ap, subst}
+use Rattle.std.proofs.Common.{◌≡◌, ◌≢◌, ℕ, List, [], true, false, Option, Some, None, ◌⊎◌, inl, inr, refl, sym, ap, subst}
 use Rattle.chp_edge.specs.Faults.{Rose, IsReadFault}
 use Rattle.command_answers.specs.declared.answer.Stop.{Stop}
 use Rattle.command_answers.specs.declared.answer.Stop.TheVariants as stopped
@@ -82,9 +82,3 @@ module _ (asked : Option Asked) (given : Given) (played : Played) (rb ra pb pa :
       missed (inl rose) = inl rose
       missed (inr answer) = inr (answers_of asked given played command (misses name.now) is answer)
   stopped_ends command is stopped.NoMemory s = no_memory
-
--- how long the front was, where the output tells it
-pub front_of : (tells : Bool) (before after text : List ℕ) → (tells ≡ true → (n : ℕ) × (n ≤ length text) × (after ≡ before ++ take n text))
-    → (n : ℕ) × (tells ≡ true → after ≡ before ++ take n text)
-front_of true before after text front = ((front refl).0, λ told. (front refl).2)
-front_of false before after text front = (0, λ told. absurd (cc told))

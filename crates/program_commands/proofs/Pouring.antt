@@ -1,5 +1,5 @@
 -- How much of a text that is made piece by piece a sink has taken.
-use Rattle.std.proofs.Common.{◌≡◌, ◌∙◌, ◌↔◌, ℕ, ◌+◌, ◌≤◌, List, [], ◌++◌, length, take, Bool, true, sym, ap, append_assoc, arith, length-append}
+use Rattle.std.proofs.Common.{◌≡◌, ◌∙◌, ◌↔◌, ℕ, ◌+◌, ◌<◌, ◌≤◌, List, [], ◌++◌, length, take, Bool, true, sym, ap, append_assoc, arith, length-append}
 use Rattle.std.specs.Prelude.{Result, Ok, Err, OnErr}
 use Rattle.std.proofs.Math.Seq.{take-append-add}
 use Rattle.std.proofs.lemmas.List.{take-append-le, append-nil}
@@ -36,18 +36,18 @@ poured_more {written = written} {left = left} {later = later} {piece = piece} {n
 -- a front of the piece was taken, and so a front of the text
 pub poured_front : {before now : ℕ} {tells tells_now : Bool} {written written_now written_after text left piece : List ℕ} {n : ℕ}
     → PouredSoFar before now tells tells_now written written_now text left piece n
-    → (tells_now ≡ true → (k : ℕ) × (k ≤ length (take n piece)) × (written_after ≡ written_now ++ take k (take n piece)))
-    → tells ≡ true → (k : ℕ) × (k ≤ length text) × (written_after ≡ written ++ take k text)
-poured_front {written = written} {written_after = written_after} {text = text} {left = left} {piece = piece} {n = n} so front t =
-    let (k, few, wrote) = front (so.same ∙ t) in
+    → (k : ℕ) × (k < length (take n piece)) × (tells_now ≡ true → written_after ≡ written_now ++ take k (take n piece))
+    → (k : ℕ) × (k < length text) × (tells ≡ true → written_after ≡ written ++ take k text)
+poured_front {written = written} {written_after = written_after} {text = text} {left = left} {piece = piece} {n = n} so (k, less, wrote) =
+    let few : k ≤ length (take n piece) = omega (arith, less) in
     let long : length text ≡ length so.gone + (length (take n piece) + length left) =
     ap length so.rest ∙ (length-append so.gone (take n piece ++ left) ∙ ap (λ m. length so.gone + m) (length-append (take n piece) left)) in
     let taken : take (length so.gone + k) text ≡ so.gone ++ take k (take n piece) =
     ap (take (length so.gone + k)) so.rest ∙ (take-append-add so.gone (take n piece ++ left) k
     ∙ ap (λ l. so.gone ++ l) (take-append-le k (take n piece) left few)) in (
       length so.gone + k,
-      omega (arith, long, few),
-      wrote ∙ (ap (λ w. w ++ take k (take n piece)) (so.told t) ∙ (append_assoc written so.gone (take k (take n piece)) ∙ ap (λ l. written ++ l) (sym taken))),
+      omega (arith, long, less),
+      λ t. wrote (so.same ∙ t) ∙ (ap (λ w. w ++ take k (take n piece)) (so.told t) ∙ (append_assoc written so.gone (take k (take n piece)) ∙ ap (λ l. written ++ l) (sym taken))),
     )
 
 -- nothing is left

@@ -48,15 +48,15 @@ pub enum Reply {
     Made { streamer: Streamer, piece: Piece },
 }
 
-/// Puts what is left of the streamer's text, piece by piece. After `Failed` a prefix of it was taken.
+/// Puts what is left of the streamer's text, piece by piece. After `Failed` less than all of it was taken, a prefix.
 fn pour<K: Sink>(sink: &mut K, streamer: &mut Streamer, piece: &mut [u8]) -> Result<(), Failed>
     requires { 0 < length piece.old }
     ensures faults { K.faults sink.old ≤ K.faults sink.new }
     ensures same { K.tells sink.new ≡ K.tells sink.old }
     ensures whole { OnOk result (K.tells sink.old ≡ true → K.written sink.new ≡ K.written sink.old ++ streamer.old) }
     ensures failed { OnErr result (Rose (K.faults sink.old) (K.faults sink.new)) }
-    ensures prefix { OnErr result (K.tells sink.old ≡ true →
-        (n : ℕ) × (n ≤ length streamer.old) × (K.written sink.new ≡ K.written sink.old ++ take n streamer.old)) }
+    ensures prefix { OnErr result ((n : ℕ) × (n < length streamer.old)
+        × (K.tells sink.old ≡ true → K.written sink.new ≡ K.written sink.old ++ take n streamer.old)) }
 {
     let mut count = streamer.next(piece);
     while count > 0 {
@@ -77,16 +77,16 @@ impl Reply {
         }
     }
 
-    /// Puts all of it, and takes no memory. After `Failed` a prefix of it was taken.
+    /// Puts all of it, and takes no memory. After `Failed` less than all of it was taken, a prefix.
     pub fn write<K: Sink>(&mut self, sink: &mut K) -> Result<(), Failed>
         ensures faults { K.faults sink.old ≤ K.faults sink.new }
         ensures same { K.tells sink.new ≡ K.tells sink.old }
         ensures whole { OnOk result (K.tells sink.old ≡ true →
             K.written sink.new ≡ K.written sink.old ++ reply_bytes self.old) }
         ensures failed { OnErr result (Rose (K.faults sink.old) (K.faults sink.new)) }
-        ensures prefix { OnErr result (K.tells sink.old ≡ true →
-            (n : ℕ) × (n ≤ length (reply_bytes self.old))
-            × (K.written sink.new ≡ K.written sink.old ++ take n (reply_bytes self.old))) }
+        ensures prefix { OnErr result ((n : ℕ) × (n < length (reply_bytes self.old))
+            × (K.tells sink.old ≡ true →
+            K.written sink.new ≡ K.written sink.old ++ take n (reply_bytes self.old))) }
     {
         match self {
             Reply::Held(output) => write_all(sink, &output.text),

@@ -2,7 +2,7 @@ use Rattle.std.proofs.Common.{◌≡◌, [], Some, None, rules, take, sym, appen
 use Rattle.command_words.specs.CommandWords.{asked, asked_by}
 use Rattle.chp_cli.specs.Ends.{formless, whole, cut_off, no_memory}
 use Rattle.program_commands.specs.RepliesTold.{reply_bytes, reply_end, told_reply}
-use Rattle.chp_cli.proofs.Ending.{answers_of, front_of, stopped_ends}
+use Rattle.chp_cli.proofs.Ending.{answers_of, stopped_ends}
 use Rattle.chp_cli.proofs.main_call.run.Goals as goal
 
 pub returns-in-Ok-None-clause-ended : goal.returns-in-Ok-None-clause-ended
@@ -30,13 +30,12 @@ returns-in-Ok-write-clause-ended g c =
 
 pub returns-clause-ended : goal.returns-clause-ended
 returns-clause-ended g c =
-    let K = g.K.Sink in
     let named : asked_by c.args.words.now ≡ Some (asked c.in-Ok-Some.command) = search rules in
     let reply = c.in-Ok.reply in
     let bytes = reply_bytes reply in
-    let front = front_of (K.tells c.args.out.now) (K.written c.args.out.now) (K.written c.write.new.sink) bytes c.in-Err-write.ensures.prefix in (
+    let front = c.in-Err-write.ensures.prefix in (
       take front.0 bytes,
       cut_off (reply_end reply) bytes front.0 (answers_of _ _ _ (asked c.in-Ok-Some.command) (told_reply reply) named c.in-Ok.ensures.answered)
           c.in-Err-write.ensures.failed,
-      front.1,
+      front.2,
     )
