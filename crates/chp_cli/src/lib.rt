@@ -3,7 +3,8 @@
 
 pub mod laws;
 mod main_call;
+mod players;
 
 pub use command_answers::Status;
-pub use command_steps::Players;
 pub use main_call::chp_main;
+pub use players::Players;

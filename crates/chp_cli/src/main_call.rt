@@ -20,9 +20,9 @@ use crate::laws::{
     compiled_runs_rest, one_answer, serves_all, simulated_right, timed_right, timed_runs_agree,
     timed_runs_are_safe, traced_right, traced_runs_are_safe,
 };
+use crate::players::Players;
 use chp_edge::{Failed, Shelf, Sink};
 use command_answers::{End, Status, Stop, tell};
-use command_steps::Players;
 use command_words::{Command, command_in};
 use grown_commands::grow::grow;
 use program_commands::Reply;
@@ -69,12 +69,17 @@ fn answer<'a, S: Shelf>(
         Command::Migrate { net } => Ok(Reply::Held(migrate(alloc, shelf, net)?)),
         Command::Check { file } => Ok(Reply::Held(check(alloc, shelf, file)?)),
         Command::Expand { file } => Ok(Reply::Held(expand(alloc, shelf, file)?)),
-        Command::Simulate(run) => Ok(Reply::Held(simulate(alloc, shelf, players, run)?)),
+        Command::Simulate(run) => Ok(Reply::Held(simulate(
+            alloc,
+            shelf,
+            &mut players.orders,
+            run,
+        )?)),
         Command::Time(timing) => Ok(Reply::Held(time(alloc, shelf, timing)?)),
         Command::Waves(asked) => Ok(Reply::Held(waves(alloc, shelf, asked)?)),
         Command::Unwave { file } => Ok(Reply::Held(unwave(alloc, shelf, file)?)),
         Command::Run(asked) => Ok(Reply::Held(rounds(alloc, shelf, asked)?)),
-        Command::Grow(growth) => Ok(Reply::Held(grow(alloc, players, growth)?)),
+        Command::Grow(growth) => Ok(Reply::Held(grow(alloc, &mut players.orders, growth)?)),
     }
 }
 

@@ -4,7 +4,7 @@
 mod buffered;
 mod delay_files;
 mod files;
-mod players;
+mod order_places;
 mod program_files;
 mod reference;
 mod run_files;
@@ -14,7 +14,7 @@ pub use delay_files::{delays_if, delays_in};
 pub use files::{
     MOST_OF_NET, MOST_OF_TEXT, checked_program, counted, net_of_text, program_of_text, text_of_file,
 };
-pub use players::{Players, place_of};
+pub use order_places::place_of;
 pub use program_files::accepted_program;
 pub use reference::reference_in;
 pub use run_files::{channels_of, net_in, script_in};

@@ -8,8 +8,8 @@ ghost use Rattle.command_answers.specs.Replies.{Halts, told_answer};
 
 use crate::grow_summary::sum_up;
 use command_answers::{Ending, Output, Stop};
-use command_steps::Players;
 use command_words::Growth;
+use event_sim::Picker;
 use program_maker::grow_text;
 use std::alloc::Global;
 
@@ -29,22 +29,26 @@ fn grown<'a>(alloc: Global, growth: &Growth) -> Result<Output, Stop<'a>>
 }
 
 /// What `grow` answers.
-pub fn grow<'a>(alloc: Global, players: &mut Players, growth: &Growth) -> Result<Output, Stop<'a>>
+pub fn grow<'a>(
+    alloc: Global,
+    orders: &mut Vec<Box<dyn Picker>>,
+    growth: &Growth,
+) -> Result<Output, Stop<'a>>
     requires { IsGrowable growth.now }
     ensures answered { IfOk result (λ output. Grows growth.now (played_by
-        (map (λ order. order_state (name order) (log order) (seeded order)) players.old.orders.items)
-        (map (λ order. order_state (name order) (log order) (seeded order)) players.new.orders.items))
+        (map (λ order. order_state (name order) (log order) (seeded order)) orders.old.items)
+        (map (λ order. order_state (name order) (log order) (seeded order)) orders.new.items))
         (told_answer output)) }
     ensures stopped { IfErr result (Halts (Grows growth.now (played_by
-        (map (λ order. order_state (name order) (log order) (seeded order)) players.old.orders.items)
-        (map (λ order. order_state (name order) (log order) (seeded order)) players.new.orders.items)))) }
+        (map (λ order. order_state (name order) (log order) (seeded order)) orders.old.items)
+        (map (λ order. order_state (name order) (log order) (seeded order)) orders.new.items)))) }
     ensures orders { let before = map (λ order. order_state (name order) (log order) (seeded order))
-        players.old.orders.items in
+        orders.old.items in
         KeepsOrders (grow_order growth.now.sum before) (played_by before
-        (map (λ order. order_state (name order) (log order) (seeded order)) players.new.orders.items)) }
+        (map (λ order. order_state (name order) (log order) (seeded order)) orders.new.items)) }
 {
     if growth.sum {
-        sum_up(alloc, players, growth)
+        sum_up(alloc, orders, growth)
     } else {
         grown(alloc, growth)
     }

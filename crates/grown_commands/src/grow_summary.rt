@@ -18,12 +18,11 @@ ghost use Rattle.simulation_commands.specs.Simulating.{HasPlayed, simulation_for
 ghost use Rattle.grown_commands.specs.Summing.{SumsUp, Summarizes, grown_script, guard_rules, most_of_summed_moves, rule_count, summary_of, summing_order};
 
 use command_answers::{Ending, Output, Refusal, Stop};
-use command_steps::{Players, place_of};
-use command_steps::accepted_program;
+use command_steps::{accepted_program, place_of};
 use command_words::Growth;
 use env_script::{Count, Offer, Script};
-use event_sim::{Picker, Ran, Sim};
 use event_sim::laws::{power_is_powered, safe_moves_bring_no_hazard};
+use event_sim::{Picker, Ran, Sim};
 use grown_programs::grown_served;
 use history_report::report_text;
 use itoa::Buffer;
@@ -156,20 +155,20 @@ fn run_summed(
 /// What is answered, where the order at this place is wanted. Only want of memory stops it.
 fn sum_up_at<'a>(
     alloc: Global,
-    players: &mut Players,
+    orders: &mut Vec<Box<dyn Picker>>,
     place: usize,
     growth: &Growth,
 ) -> Result<Output, Stop<'a>>
-    requires place { place < length players.old.orders.items }
+    requires place { place < length orders.old.items }
     requires growth { IsGrowable growth.now }
     ensures answered { IfOk result (λ output. SumsUp growth.now (played_by
-        (map (λ order. order_state (name order) (log order) (seeded order)) players.old.orders.items)
-        (map (λ order. order_state (name order) (log order) (seeded order)) players.new.orders.items))
+        (map (λ order. order_state (name order) (log order) (seeded order)) orders.old.items)
+        (map (λ order. order_state (name order) (log order) (seeded order)) orders.new.items))
         place (told_answer output)) }
     ensures stopped { IfErr result (λ stop. stop ≡ Stop.NoMemory) }
     ensures played { IsPlayedAt place (played_by
-        (map (λ order. order_state (name order) (log order) (seeded order)) players.old.orders.items)
-        (map (λ order. order_state (name order) (log order) (seeded order)) players.new.orders.items)) }
+        (map (λ order. order_state (name order) (log order) (seeded order)) orders.old.items)
+        (map (λ order. order_state (name order) (log order) (seeded order)) orders.new.items)) }
 {
     power_is_powered();
     safe_moves_bring_no_hazard();
@@ -179,7 +178,7 @@ fn sum_up_at<'a>(
         Ok(script) => script,
         Err(_) => return Err(Stop::NoMemory),
     };
-    let ran = match run_summed(alloc, &mut players.orders, place, net, script) {
+    let ran = match run_summed(alloc, orders, place, net, script) {
         Ok(ran) => ran,
         Err(_) => return Err(Stop::NoMemory),
     };
@@ -193,22 +192,26 @@ fn sum_up_at<'a>(
 }
 
 /// What `grow` answers, where a summary is wanted.
-pub fn sum_up<'a>(alloc: Global, players: &mut Players, growth: &Growth) -> Result<Output, Stop<'a>>
+pub fn sum_up<'a>(
+    alloc: Global,
+    orders: &mut Vec<Box<dyn Picker>>,
+    growth: &Growth,
+) -> Result<Output, Stop<'a>>
     requires { IsGrowable growth.now }
     ensures answered { IfOk result (λ output. Summarizes growth.now (played_by
-        (map (λ order. order_state (name order) (log order) (seeded order)) players.old.orders.items)
-        (map (λ order. order_state (name order) (log order) (seeded order)) players.new.orders.items))
+        (map (λ order. order_state (name order) (log order) (seeded order)) orders.old.items)
+        (map (λ order. order_state (name order) (log order) (seeded order)) orders.new.items))
         (told_answer output)) }
     ensures stopped { IfErr result (Halts (Summarizes growth.now (played_by
-        (map (λ order. order_state (name order) (log order) (seeded order)) players.old.orders.items)
-        (map (λ order. order_state (name order) (log order) (seeded order)) players.new.orders.items)))) }
+        (map (λ order. order_state (name order) (log order) (seeded order)) orders.old.items)
+        (map (λ order. order_state (name order) (log order) (seeded order)) orders.new.items)))) }
     ensures orders { let before = map (λ order. order_state (name order) (log order) (seeded order))
-        players.old.orders.items in
+        orders.old.items in
         KeepsOrders (place_named before summing_order) (played_by before
-        (map (λ order. order_state (name order) (log order) (seeded order)) players.new.orders.items)) }
+        (map (λ order. order_state (name order) (log order) (seeded order)) orders.new.items)) }
 {
-    match place_of(players, ORDER) {
-        Some(place) => sum_up_at(alloc, players, place, growth),
+    match place_of(orders, ORDER) {
+        Some(place) => sum_up_at(alloc, orders, place, growth),
         None => Err(Stop::Refused(Refusal::NoOrder(ORDER))),
     }
 }

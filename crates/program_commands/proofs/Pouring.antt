@@ -33,22 +33,21 @@ poured_more {written = written} {left = left} {later = later} {piece = piece} {n
   over = none_left next ends made;
 }
 
--- less than the piece was taken, and so less than the text
+-- a front of the piece was taken, and so a front of the text
 pub poured_front : {before now : ℕ} {tells tells_now : Bool} {written written_now written_after text left piece : List ℕ} {n : ℕ}
     → PouredSoFar before now tells tells_now written written_now text left piece n
-    → ((k : ℕ) × (k < length (take n piece)) × (tells_now ≡ true → written_after ≡ written_now ++ take k (take n piece)))
+    → (k : ℕ) × (k < length (take n piece)) × (tells_now ≡ true → written_after ≡ written_now ++ take k (take n piece))
     → (k : ℕ) × (k < length text) × (tells ≡ true → written_after ≡ written ++ take k text)
-poured_front {written = written} {written_after = written_after} {text = text} {left = left} {piece = piece} {n = n} so front =
-    let (k, few, wrote) = front in
+poured_front {written = written} {written_after = written_after} {text = text} {left = left} {piece = piece} {n = n} so (k, less, wrote) =
+    let few : k ≤ length (take n piece) = omega (arith, less) in
     let long : length text ≡ length so.gone + (length (take n piece) + length left) =
     ap length so.rest ∙ (length-append so.gone (take n piece ++ left) ∙ ap (λ m. length so.gone + m) (length-append (take n piece) left)) in
     let taken : take (length so.gone + k) text ≡ so.gone ++ take k (take n piece) =
     ap (take (length so.gone + k)) so.rest ∙ (take-append-add so.gone (take n piece ++ left) k
-    ∙ ap (λ l. so.gone ++ l) (take-append-le k (take n piece) left (omega (arith, few)))) in (
+    ∙ ap (λ l. so.gone ++ l) (take-append-le k (take n piece) left few)) in (
       length so.gone + k,
-      omega (arith, long, few),
-      λ t. wrote (so.same ∙ t)
-          ∙ (ap (λ w. w ++ take k (take n piece)) (so.told t) ∙ (append_assoc written so.gone (take k (take n piece)) ∙ ap (λ l. written ++ l) (sym taken))),
+      omega (arith, long, less),
+      λ t. wrote (so.same ∙ t) ∙ (ap (λ w. w ++ take k (take n piece)) (so.told t) ∙ (append_assoc written so.gone (take k (take n piece)) ∙ ap (λ l. written ++ l) (sym taken))),
     )
 
 -- nothing is left

@@ -48,7 +48,7 @@ pub enum Reply {
     Made { streamer: Streamer, piece: Piece },
 }
 
-/// Puts what is left of the streamer's text, piece by piece. After `Failed` less than that was taken, a prefix of it.
+/// Puts what is left of the streamer's text, piece by piece. After `Failed` less than all of it was taken, a prefix.
 fn pour<K: Sink>(sink: &mut K, streamer: &mut Streamer, piece: &mut [u8]) -> Result<(), Failed>
     requires { 0 < length piece.old }
     ensures faults { K.faults sink.old ≤ K.faults sink.new }
@@ -77,7 +77,7 @@ impl Reply {
         }
     }
 
-    /// Puts all of it, and takes no memory. After `Failed` less than all was taken, a prefix of it.
+    /// Puts all of it, and takes no memory. After `Failed` less than all of it was taken, a prefix.
     pub fn write<K: Sink>(&mut self, sink: &mut K) -> Result<(), Failed>
         ensures faults { K.faults sink.old ≤ K.faults sink.new }
         ensures same { K.tells sink.new ≡ K.tells sink.old }
@@ -85,7 +85,8 @@ impl Reply {
             K.written sink.new ≡ K.written sink.old ++ reply_bytes self.old) }
         ensures failed { OnErr result (Rose (K.faults sink.old) (K.faults sink.new)) }
         ensures prefix { OnErr result ((n : ℕ) × (n < length (reply_bytes self.old))
-            × (K.tells sink.old ≡ true → K.written sink.new ≡ K.written sink.old ++ take n (reply_bytes self.old))) }
+            × (K.tells sink.old ≡ true →
+            K.written sink.new ≡ K.written sink.old ++ take n (reply_bytes self.old))) }
     {
         match self {
             Reply::Held(output) => write_all(sink, &output.text),

@@ -15,8 +15,7 @@ ghost use Rattle.round_commands.specs.RoundsReporting.{ReportsRounds, Runs, most
 use chp_edge::Shelf;
 use chp_meaning::{RunEnd, run_rounds, start};
 use command_answers::{Ending, Output, Refusal, Stop};
-use command_steps::buffered_program_in;
-use command_steps::script_in;
+use command_steps::{buffered_program_in, script_in};
 use command_words::Rounds;
 use env_script::Script;
 use history_report::rounds_text;

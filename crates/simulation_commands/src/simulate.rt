@@ -16,7 +16,7 @@ ghost use Rattle.width_check.specs.Typed.{program_of as typed_of};
 use crate::run_reports::{copied_script, reported};
 use chp_edge::Shelf;
 use command_answers::{Output, Refusal, Stop};
-use command_steps::{Players, channels_of, net_in, place_of, reference_in, script_in};
+use command_steps::{channels_of, net_in, place_of, reference_in, script_in};
 use command_words::Simulation;
 use env_script::Script;
 use event_sim::{Picker, Ran, Sim};
@@ -108,25 +108,25 @@ pub fn play_at(
 /// Lets the order at this place choose the moves of the run of the net under the script, and reports it.
 fn report_at(
     alloc: Global,
-    players: &mut Players,
+    orders: &mut Vec<Box<dyn Picker>>,
     place: usize,
     net: Net,
     script: Script,
     program: &Option<Disjoint>,
     run: &Simulation,
 ) -> Result<Output, AllocError>
-    requires place { place < length players.old.orders.items }
+    requires place { place < length orders.old.items }
     requires script { IsScript (net_channels net) script }
     requires steps { run.now.steps ≤ 1000000 }
     requires power { lacks_reset run.now.power net.reset ≡ false }
     ensures answered { IfOk result (λ output. SimulatesNet (played_by
-        (map (λ order. order_state (name order) (log order) (seeded order)) players.old.orders.items)
-        (map (λ order. order_state (name order) (log order) (seeded order)) players.new.orders.items))
+        (map (λ order. order_state (name order) (log order) (seeded order)) orders.old.items)
+        (map (λ order. order_state (name order) (log order) (seeded order)) orders.new.items))
         place run.now.seed (simulation_for net script run.now.steps run.now.power)
         (λ ran. IsReported script None ran (option_map typed_of program.now)) (told_answer output)) }
     ensures played { IsPlayedAt place (played_by
-        (map (λ order. order_state (name order) (log order) (seeded order)) players.old.orders.items)
-        (map (λ order. order_state (name order) (log order) (seeded order)) players.new.orders.items)) }
+        (map (λ order. order_state (name order) (log order) (seeded order)) orders.old.items)
+        (map (λ order. order_state (name order) (log order) (seeded order)) orders.new.items)) }
 {
     let room = Room {
         picks: run.steps,
@@ -134,7 +134,7 @@ fn report_at(
     };
     let told = copied_script(alloc, &script)?;
     let sim = simulation(alloc, net, script, run.steps, run.power)?;
-    let ran = play_at(&mut players.orders, place, sim, run.seed, room)?;
+    let ran = play_at(orders, place, sim, run.seed, room)?;
     reported(alloc, &ran, None, &told, program)
 }
 
@@ -142,27 +142,27 @@ fn report_at(
 fn simulate_at<'a, S: Shelf>(
     alloc: Global,
     shelf: &mut S,
-    players: &mut Players,
+    orders: &mut Vec<Box<dyn Picker>>,
     place: usize,
     run: &Simulation<'a>,
 ) -> Result<Output, Stop<'a>>
-    requires place { place < length players.old.orders.items }
+    requires place { place < length orders.old.items }
     requires steps { run.now.steps ≤ 1000000 }
     ensures answered { IfOk result (λ output. SimulatesAt (run_asked run.now)
         (given_by (S.tells shelf.old) (S.holds shelf.old)) (played_by
-        (map (λ order. order_state (name order) (log order) (seeded order)) players.old.orders.items)
-        (map (λ order. order_state (name order) (log order) (seeded order)) players.new.orders.items))
+        (map (λ order. order_state (name order) (log order) (seeded order)) orders.old.items)
+        (map (λ order. order_state (name order) (log order) (seeded order)) orders.new.items))
         place (told_answer output)) }
     ensures stopped { IfErr result (Stops (SimulatesAt (run_asked run.now)
         (given_by (S.tells shelf.old) (S.holds shelf.old)) (played_by
-        (map (λ order. order_state (name order) (log order) (seeded order)) players.old.orders.items)
-        (map (λ order. order_state (name order) (log order) (seeded order)) players.new.orders.items)) place)
+        (map (λ order. order_state (name order) (log order) (seeded order)) orders.old.items)
+        (map (λ order. order_state (name order) (log order) (seeded order)) orders.new.items)) place)
         (run.now.net.now ∷ run.now.script.now ∷ option_to_list (text_given run.now.against))
         (given_by (S.tells shelf.old) (S.holds shelf.old))
         (S.faults shelf.old) (S.faults shelf.new)) }
     ensures played { IsPlayedAt place (played_by
-        (map (λ order. order_state (name order) (log order) (seeded order)) players.old.orders.items)
-        (map (λ order. order_state (name order) (log order) (seeded order)) players.new.orders.items)) }
+        (map (λ order. order_state (name order) (log order) (seeded order)) orders.old.items)
+        (map (λ order. order_state (name order) (log order) (seeded order)) orders.new.items)) }
     ensures same { S.tells shelf.new ≡ S.tells shelf.old }
     ensures kept { S.holds shelf.new ≡ S.holds shelf.old }
     ensures faults { S.faults shelf.old ≤ S.faults shelf.new }
@@ -177,7 +177,7 @@ fn simulate_at<'a, S: Shelf>(
     };
     let script = script_in(alloc, shelf, run.script, &channels)?;
     let program = reference_in(alloc, shelf, run.against)?;
-    match report_at(alloc, players, place, net, script, &program, run) {
+    match report_at(alloc, orders, place, net, script, &program, run) {
         Ok(output) => Ok(output),
         Err(_) => Err(Stop::NoMemory),
     }
@@ -187,32 +187,32 @@ fn simulate_at<'a, S: Shelf>(
 pub fn simulate<'a, S: Shelf>(
     alloc: Global,
     shelf: &mut S,
-    players: &mut Players,
+    orders: &mut Vec<Box<dyn Picker>>,
     run: &Simulation<'a>,
 ) -> Result<Output, Stop<'a>>
     requires { run.now.steps ≤ 1000000 }
     ensures answered { IfOk result (λ output. Simulates (run_asked run.now)
         (given_by (S.tells shelf.old) (S.holds shelf.old)) (played_by
-        (map (λ order. order_state (name order) (log order) (seeded order)) players.old.orders.items)
-        (map (λ order. order_state (name order) (log order) (seeded order)) players.new.orders.items))
+        (map (λ order. order_state (name order) (log order) (seeded order)) orders.old.items)
+        (map (λ order. order_state (name order) (log order) (seeded order)) orders.new.items))
         (told_answer output)) }
     ensures stopped { IfErr result (Stops (Simulates (run_asked run.now)
         (given_by (S.tells shelf.old) (S.holds shelf.old)) (played_by
-        (map (λ order. order_state (name order) (log order) (seeded order)) players.old.orders.items)
-        (map (λ order. order_state (name order) (log order) (seeded order)) players.new.orders.items)))
+        (map (λ order. order_state (name order) (log order) (seeded order)) orders.old.items)
+        (map (λ order. order_state (name order) (log order) (seeded order)) orders.new.items)))
         (run.now.net.now ∷ run.now.script.now ∷ option_to_list (text_given run.now.against))
         (given_by (S.tells shelf.old) (S.holds shelf.old))
         (S.faults shelf.old) (S.faults shelf.new)) }
     ensures orders { let before = map (λ order. order_state (name order) (log order) (seeded order))
-        players.old.orders.items in
+        orders.old.items in
         KeepsOrders (place_named before run.now.order.now) (played_by before
-        (map (λ order. order_state (name order) (log order) (seeded order)) players.new.orders.items)) }
+        (map (λ order. order_state (name order) (log order) (seeded order)) orders.new.items)) }
     ensures same { S.tells shelf.new ≡ S.tells shelf.old }
     ensures kept { S.holds shelf.new ≡ S.holds shelf.old }
     ensures faults { S.faults shelf.old ≤ S.faults shelf.new }
 {
-    match place_of(players, run.order) {
-        Some(place) => simulate_at(alloc, shelf, players, place, run),
+    match place_of(orders, run.order) {
+        Some(place) => simulate_at(alloc, shelf, orders, place, run),
         None => Err(Stop::Refused(Refusal::NoOrder(run.order))),
     }
 }

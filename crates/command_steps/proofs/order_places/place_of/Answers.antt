@@ -1,7 +1,7 @@
 use Rattle.std.proofs.Common.{◌∙◌, sym}
 use Rattle.command_steps.specs.Orders.{order_state}
 use Rattle.command_steps.proofs.OrderNames.{found_within, named_mapped}
-use Rattle.command_steps.proofs.players.place_of.Goals as goal
+use Rattle.command_steps.proofs.order_places.place_of.Goals as goal
 
 pub returns : goal.returns
 returns g c =
@@ -11,6 +11,6 @@ returns g c =
           ∙ sym (named_mapped
           (λ order. order_state ((goal.Picker-dyn g (order.vtable, order.value)).name order.value)
           ((goal.Picker-dyn g (order.vtable, order.value)).log order.value) ((goal.Picker-dyn g (order.vtable, order.value)).seeded order.value))
-          c.args.players.now.orders.items c.args.wanted.now);
+          c.args.orders.now.items c.args.wanted.now);
       within = found_within _ _ _ found;
     }
