@@ -21,7 +21,8 @@ use Rattle.command_steps.specs.BufferSteps.{FromBuffer, IsBuffered, no_channel, 
 use Rattle.command_steps.specs.Orders.{Played, place_named}
 use Rattle.command_steps.specs.References.{FromReference, IsToReferTo}
 use Rattle.command_steps.specs.RunSteps.{FromOrder, FromPower, FromScript, no_order, an_order, no_reset, has_power, no_script, a_script, lacks_reset}
-use Rattle.command_steps.specs.Steps.{FromFile, HoldsText, FromProgram, FromChecks, FromNodes, FromNet, IsFaulty, no_file, long_file, a_file, no_program, a_program, has_calls, faulty, accepted, too_many, few_enough, no_net, a_net, most_of_nodes, most_of_text}
+use Rattle.chp_cli.specs.Serving.{HoldsText}
+use Rattle.command_steps.specs.Steps.{FromFile, FromProgram, FromChecks, FromNodes, FromNet, IsFaulty, no_file, long_file, a_file, no_program, a_program, has_calls, faulty, accepted, too_many, few_enough, no_net, a_net, most_of_nodes, most_of_text}
 use Rattle.command_steps.specs.DelaySteps.{FromDelays, delays_refused, delays_read}
 use Rattle.command_steps.proofs.OneAnswers.{same_text, too_long, not_there, needs_channel, one_buffered}
 

@@ -1,5 +1,5 @@
 -- What a command's files and orders have to hold for it to be served: no other answer of it is to refuse then.
-use Rattle.std.specs.Prelude.{◌≡◌, ℕ, ◌≤◌, Bool, true, false, List, [], Option, Some, None}
+use Rattle.std.specs.Prelude.{◌≡◌, ℕ, ◌≤◌, Bool, true, false, List, [], length, Option, Some, None}
 use Rattle.chp_base.specs.declared.channel.Channel.{Channel}
 use Rattle.chp_meaning.specs.Ends.{held_in}
 use Rattle.chp_meaning.specs.Rounds.{rounds}
@@ -33,7 +33,7 @@ use Rattle.command_words.specs.RoundsWords.{AskedRounds}
 use Rattle.command_steps.specs.RunSteps.{lacks_reset, most_of_script}
 use Rattle.chp_cli.specs.Simulated.{IsToSimulate}
 use Rattle.command_answers.specs.Statuses.{is_whole}
-use Rattle.command_steps.specs.Steps.{HoldsText, most_of_net, most_of_nodes, most_of_text}
+use Rattle.command_steps.specs.Steps.{most_of_net, most_of_nodes, most_of_text}
 use Rattle.grown_commands.specs.Summing.{summing_order}
 use Rattle.command_words.specs.SimulateWords.{AskedTiming}
 use Rattle.command_steps.specs.DelaySteps.{most_of_delays}
@@ -41,6 +41,11 @@ use Rattle.command_words.specs.WavesWords.{AskedWaves}
 use Rattle.simulation_commands.specs.Unwaving.{most_of_wave}
 
 -- ---- what a file holds
+
+-- this text, which has at most so many bytes
+pub record HoldsText (given : Given) (name : List ℕ) (most : ℕ) (text : List ℕ) : Type 0 where
+  pub held : given.files name ≡ Some text
+  pub short : length text ≤ most
 
 -- the text of this program, which is accepted
 pub record IsSource (given : Given) (file : List ℕ) (program : ProgramTree) : Type 0 where

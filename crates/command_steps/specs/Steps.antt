@@ -48,11 +48,6 @@ pub data FromFile (given : Given) (name : List ℕ) (most : ℕ) (Next : List �
   a_file : {text : List ℕ} {answer : Answer} → Gives given name text → length text ≤ most → Next text answer →
       FromFile given name most Next answer
 
--- the file holds this text, which has at most so many bytes
-pub record HoldsText (given : Given) (name : List ℕ) (most : ℕ) (text : List ℕ) : Type 0 where
-  pub held : given.files name ≡ Some text
-  pub short : length text ≤ most
-
 -- ---- from a text to a program
 
 -- the text reads as this program, and as no other one
