@@ -47,7 +47,8 @@ poured_front {written = written} {written_after = written_after} {text = text} {
     ∙ ap (λ l. so.gone ++ l) (take-append-le k (take n piece) left few)) in (
       length so.gone + k,
       omega (arith, long, less),
-      λ t. wrote (so.same ∙ t) ∙ (ap (λ w. w ++ take k (take n piece)) (so.told t) ∙ (append_assoc written so.gone (take k (take n piece)) ∙ ap (λ l. written ++ l) (sym taken))),
+      λ t. wrote (so.same ∙ t) ∙ (ap (λ w. w ++ take k (take n piece)) (so.told t)
+          ∙ (append_assoc written so.gone (take k (take n piece)) ∙ ap (λ l. written ++ l) (sym taken))),
     )
 
 -- nothing is left
