@@ -28,7 +28,7 @@ use Rattle.command_answers.specs.Statuses.{is_whole}
 use Rattle.command_steps.specs.Steps.{FromChecks, IsFaulty, no_file, long_file, a_file, no_net, a_net, no_program, a_program, has_calls, faulty, accepted}
 use Rattle.command_steps.proofs.OneAnswers.{same_text, too_long, not_there}
 
-whole_end : (e : End) → is_whole (status_with (ending_for e)) ≡ true
+pub whole_end : (e : End) → is_whole (status_with (ending_for e)) ≡ true
 whole_end end.AtRest = refl
 whole_end end.Spent = refl
 whole_end (end.Unstable n) = refl
@@ -40,7 +40,7 @@ whole_against against.Agrees = refl
 whole_against against.Channels = refl
 whole_against (against.Differs chan place) = refl
 
-whole_report : (script : List OfferValue) (time : Option ℕ) (r : RanValue) (p : Option TypedProgram) (a : Answer) → IsReported script time r p a →
+pub whole_report : (script : List OfferValue) (time : Option ℕ) (r : RanValue) (p : Option TypedProgram) (a : Answer) → IsReported script time r p a →
     is_whole (status_of a) ≡ true
 whole_report script time r p a alone = whole_end r.end
 whole_report script time r p a (hazardous hazard) = refl
