@@ -62,7 +62,7 @@ module _ (law : (r : RanValue) (p : TypedProgram) (script : List OfferValue) (a 
       ap (λ (against : Against). writes (ending_against against) (report_of r time ++ against_line r.net against)) (law r p script x y is are)
 
 module _ (cause : (text : List ℕ) (k j : FaultCode) (s t : Span) → IsRefusedText text k s → IsRefusedText text j t → k ≡ j)
-    (place : (text : List ℕ) (k j : FaultCode) (s t : Span) → IsRefusedText text k s → IsRefusedText text j t → s ≡ t)
+    (placed : (text : List ℕ) (k j : FaultCode) (s t : Span) → IsRefusedText text k s → IsRefusedText text j t → s ≡ t)
     (checked : (program : ProgramTree) (Next : Answer → Type 0) → OneAnswer Next → OneAnswer (FromChecks program Next))
     (once : (text : List ℕ) (f g : NetFault) (l m : ℕ) → IsRefused text f l → IsRefused text g m → (f ≡ g) × (l ≡ m))
     (law : (r : RanValue) (p : TypedProgram) (script : List OfferValue) (a b : Against) → IsAgainst r p script a → IsAgainst r p script b → a ≡ b) where
@@ -70,7 +70,7 @@ module _ (cause : (text : List ℕ) (k j : FaultCode) (s t : Span) → IsRefused
       OneAnswer (SimulatesFile run given played place net)
   file_run_once run given played told place net = power_once net run.power _
       (file_once given run.script _ _ told (λ text. script_once (net_channels net) text _
-      (λ script. reference_once cause place checked given told _
+      (λ script. reference_once cause placed checked given told _
       (λ p. net_run_once (λ ran. IsReported script None ran p) (λ ran. reported_once law script None ran p) played place run.seed
       (simulation_for net script run.steps run.power)) run.against)))
 
