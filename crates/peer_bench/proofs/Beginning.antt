@@ -136,7 +136,8 @@ begun {P} known s now steps asks on more was is last net unasked on_is asks_is s
     first =
         asked_on_if (low_reset s.net (now_of now)) known s.net (now_of now) 0 [] (script_by s.net []) now.script more was is
         (stands_first s.net (now_of now))
-        (subst (λ (script : List OfferValue). IsAskedByIf (low_reset s.net (now_of now)) known s.net (now_of now) 0 script now.script more was is) unasked.script
+        (subst (λ (script : List OfferValue). IsAskedByIf (low_reset s.net (now_of now)) known s.net (now_of now) 0 script now.script more was is)
+        unasked.script
         (subst (λ (r : RunState). IsAskedByIf (low_reset s.net (now_of now)) known s.net r 0 s.script now.script more was is) (sym still)
         (subst (λ (b : Bool). IsAskedByIf b known s.net (now_of s) 0 s.script now.script more was is) low asked)))
 

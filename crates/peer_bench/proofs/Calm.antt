@@ -103,7 +103,8 @@ raised_low v value m (t ∷ f ∷ rest) raises =
         let parts = and_parts (m == f) (not (v t) && not (v f)) here in
         ap v (eqb-true m f parts.0) ∙ not-true (v f) (and_parts (not (v t)) (not (v f)) parts.1).1
 
-    by_case : (raises_bit v (is_odd value) t f m ≡ true) ⊎ (raises_value v (value / 2) rest m ≡ true) → (raises_value v (value / 2) rest m ≡ true → v m ≡ false) →
+    by_case : (raises_bit v (is_odd value) t f m ≡ true) ⊎ (raises_value v (value / 2) rest m ≡ true) →
+        (raises_value v (value / 2) rest m ≡ true → v m ≡ false) →
         v m ≡ false
     by_case (inl here) later = by_bit (is_odd value) here
     by_case (inr there) later = later there
@@ -177,7 +178,8 @@ still_moves v u w (takes a) (takes b) done later n m grows apart agree turns cou
     and_from (m == w.ack) _ before.0 (by_ack (u w.ack) (v w.ack) refl refl (agree w.ack (λ e. other (sym e))) (counts other) before.1 behind.1)
   where
     by_ack : (t s : Bool) → u w.ack ≡ t → v w.ack ≡ s → u w.ack ≡ v w.ack → later ≡ done →
-        (if s then neutral v w.rails else valid v w.rails && is_over a done) ≡ true → (if t then neutral u w.rails else valid u w.rails && is_over b later) ≡ true →
+        (if s then neutral v w.rails else valid v w.rails && is_over a done) ≡ true →
+        (if t then neutral u w.rails else valid u w.rails && is_over b later) ≡ true →
         (if t then neutral u w.rails else valid u w.rails && is_over a later) ≡ true
     by_ack true s up was_up same still before behind = behind
     by_ack false true low up same still before behind = absurd (both_ways (v w.ack) (sym same ∙ low) up)

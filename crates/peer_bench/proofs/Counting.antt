@@ -130,7 +130,8 @@ listed_like net st notes script stands =
 pub hazard_like : (net : NetValue) (st : RunState) (notes : List Note) (script : List OfferValue) (n : ℕ) → StandsFor net st notes script →
     StandsFor net (moved net st n) notes script → hazard_of net script st n ≡ hazard_of net (script_by net notes) st n
 hazard_like net st notes script n stands later =
-    ap (λ (o : Option ℕ). or_else (first_hazard net (moved net st n)) (or_else (option_map Unstable o) (option_map Protocol (phase_fault net (high st.values) n))))
+    ap (λ (o : Option ℕ). or_else (first_hazard net (moved net st n))
+    (or_else (option_map Unstable o) (option_map Protocol (phase_fault net (high st.values) n))))
     (least_agrees (length net.first) (takes_away net script st n) (takes_away net (script_by net notes) st n) (λ m less. same m))
   where
     same : (m : ℕ) → takes_away net script st n m ≡ takes_away net (script_by net notes) st n m

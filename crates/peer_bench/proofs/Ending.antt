@@ -131,7 +131,8 @@ rest_low net script st rest = by_reset net.reset refl
         absurd (falls (rule_enabled net v r) (in_reset net.reset v) (is_reset net.reset r) (rules_rest net v) (raises_go v r
         || channels_move v (offer_at script) (completed st.histories) 0 net.channels r) (rest r) (ap (λ (o : Option ℕ). in_reset o v) at ∙ e)
         (ap (λ (o : Option ℕ). is_reset o r) at ∙ eq-eqb r r refl)
-        (every (length net.first) (λ n. not (rule_enabled net v n)) (λ n. not_from_false (rule_enabled net v n) (or_parts (rule_enabled net v n) _ (rest n)).0)))
+        (every (length net.first) (λ n. not (rule_enabled net v n))
+        (λ n. not_from_false (rule_enabled net v n) (or_parts (rule_enabled net v n) _ (rest n)).0)))
 
     by_reset : (o : Option ℕ) → net.reset ≡ o → in_reset net.reset v ≡ false
     by_reset None at = ap (λ (o : Option ℕ). in_reset o v) at

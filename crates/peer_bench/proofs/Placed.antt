@@ -30,7 +30,8 @@ ask_same net start moves n zero less = refl
 ask_same net start moves n (suc k) less =
     ap (λ (xs : List ℕ). lets_ask net (after net start xs) (after net start (take (suc k) (moves ++ n ∷ []))) (slice_index (moves ++ n ∷ []) k))
     (same_front moves n k (omega arith))
-    ∙ ap (λ (xs : List ℕ). lets_ask net (after net start (take k moves)) (after net start xs) (slice_index (moves ++ n ∷ []) k)) (same_front moves n (suc k) less)
+    ∙ ap (λ (xs : List ℕ). lets_ask net (after net start (take k moves)) (after net start xs) (slice_index (moves ++ n ∷ []) k))
+    (same_front moves n (suc k) less)
     ∙ ap (lets_ask net (after net start (take k moves)) (after net start (take (suc k) moves))) (get_or_append_left moves (n ∷ []) 0 k (omega arith))
 
 answer_on_later : (net : NetValue) (start : RunState) (moves : List ℕ) (n : ℕ) (before : List Note) (kind : Kind) (at chan : ℕ) →

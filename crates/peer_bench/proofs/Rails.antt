@@ -1,4 +1,5 @@
--- The rails that are high on an `in` channel bring a value that was offered, as long as the phases are kept; so no channel completes more than was offered.
+-- The rails that are high on an `in` channel bring a value that was offered, as long as the phases are kept; so no channel
+-- completes more than was offered.
 use Rattle.std.proofs.Common.{◌≡◌, ◌≢◌, ℕ, zero, suc, ◌+◌, ◌*◌, ◌<◌, ◌≤◌, Bool, true, false, List, [], ◌∷◌, length, get_or, map, refl, sym, ap, subst, ◌∙◌, inl, inr, arith}
 use Rattle.std.specs.Prelude.{◌⊎◌, not, ◌&&◌, ◌||◌, ◌==◌, if◌then◌else◌, All, slice_get, slice_index_or, position, Option, Some, None, option_map, option_and_then, is_some}
 use Rattle.std.specs.List.{list_any, list_all, range_with_len}
@@ -45,7 +46,8 @@ rail_wire w r found = or_right (r == w.ack) _ found
 pub ack_wire : (w : Wires) (n : ℕ) → n ≡ w.ack → is_wire w n ≡ true
 ack_wire w n same = or_left (n == w.ack) _ (eq-eqb n w.ack same)
 
-pub rail_undriven : (net : NetValue) (w : Wires) (r : ℕ) → IsChannel net w → w.channel.kind ≡ In → list_any (λ rail. r == rail) w.rails ≡ true → IsUndriven net r
+pub rail_undriven : (net : NetValue) (w : Wires) (r : ℕ) → IsChannel net w → w.channel.kind ≡ In →
+    list_any (λ rail. r == rail) w.rails ≡ true → IsUndriven net r
 rail_undriven net w r is kind found =
     among (IsUndriven net) r w.rails (subst (λ (k : Kind). All (IsUndriven net) (wires_from_outside k w.rails w.ack)) kind is.outside) found
 
@@ -395,5 +397,6 @@ pub rails_grow : (net : NetValue) (script later : List OfferValue) (st : RunStat
     AreRailsHeld net later st
 rails_grow net script later st grows held = record {
   low = held.low;
-  brings = λ c n r w here kind low found up number. let was = grows c n number in let less = held.brings c was.0 r w here kind low found up was.1 in omega arith;
+  brings = λ c n r w here kind low found up number. let was = grows c n number in
+      let less = held.brings c was.0 r w here kind low found up was.1 in omega arith;
 }

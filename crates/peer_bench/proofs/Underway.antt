@@ -202,7 +202,8 @@ unasked s n notes p net off quiet = λ c w here idle. by_kind c w here idle w.ch
     was_idle c w here external idle =
         let other = apart c w here external in
         let low : is_low_ack (high s.values) (slice_get s.net.channels c) ≡ is_low_ack (high (fired s.values n)) (slice_get s.net.channels c) =
-        ap (is_low_ack (high s.values)) here ∙ ap not (sym (fired_agree s.values n w.ack (λ e. other (sym e)))) ∙ sym (ap (is_low_ack (high (fired s.values n))) here) in
+        ap (is_low_ack (high s.values)) here ∙ ap not (sym (fired_agree s.values n w.ack (λ e. other (sym e))))
+        ∙ sym (ap (is_low_ack (high (fired s.values n))) here) in
         ap (λ (b : Bool). b && is_done (number_of (offer_at (script_by s.net notes) c)) (completed (now_of s).histories c)) low
         ∙ ap (λ (k : ℕ). is_low_ack (high (fired s.values n)) (slice_get s.net.channels c) && is_done (number_of (offer_at (script_by s.net notes) c)) k)
         (sym (count_stays s n c w net here other)) ∙ idle
