@@ -7,10 +7,9 @@ use Rattle.std.proofs.lemmas.List.Elements.{filter-append}
 use Rattle.std.proofs.lemmas.List.FromFn.{get_or-map-range_with_len, length-map-range_with_len}
 use Rattle.prs_core.specs.Nets.{NetValue, IsNet}
 use Rattle.prs_core.specs.Moves.{high}
-use Rattle.env_script.specs.declared.hazard.Hazard.{Hazard}
 use Rattle.env_script.specs.declared.hazard.Hazard.TheVariants.{Unstable, Protocol}
 use Rattle.env_script.specs.Phases.{phase_fault}
-use Rattle.env_script.specs.Hazards.{or_else, least_below, takes_away, first_hazard, hazard_of}
+use Rattle.env_script.specs.Hazards.{or_else, takes_away, first_hazard, hazard_of}
 use Rattle.env_script.specs.Scripts.{OfferValue, offer_at}
 use Rattle.env_script.specs.Runs.{RunState, completed, move_enabled, moved}
 use Rattle.event_sim.specs.Following.{enabled_moves}

@@ -15,7 +15,7 @@ use Rattle.env_script.specs.Environment.{in_reset, is_reset, rules_rest, raises_
 use Rattle.env_script.specs.Runs.{RunState, IsRun, after, moved, completed, move_enabled}
 use Rattle.event_sim.specs.Standings.{number_of}
 use Rattle.peer_bench.specs.declared.note.Note.{Note}
-use Rattle.peer_bench.specs.Notes.{offered_on, times_ready}
+use Rattle.peer_bench.specs.Notes.{offered_on}
 use Rattle.peer_bench.specs.Growing.{offer_by, offer_on, script_by}
 use Rattle.peer_bench.proofs.Liking.{script_at}
 use Rattle.peer_bench.proofs.Noting.{offered_more, ready_more}
