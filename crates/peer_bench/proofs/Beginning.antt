@@ -1,8 +1,8 @@
 -- How a run on a bench begins.
-use Rattle.std.proofs.Common.{◌≡◌, ℕ, zero, suc, ◌+◌, ◌*◌, ◌<◌, ◌≤◌, Bool, true, false, cond, List, [], ◌∷◌, ◌++◌, length, get_or, map, replicate, refl, sym, ap, subst, ◌∙◌, arith}
-use Rattle.std.specs.Prelude.{not, count_by, nat_le, slice_get, is_some, Option, Some, None}
+use Rattle.std.proofs.Common.{◌≡◌, ℕ, zero, suc, ◌+◌, ◌*◌, ◌≤◌, Bool, true, false, cond, List, [], ◌∷◌, length, map, replicate, refl, sym, ap, subst, ◌∙◌, arith}
+use Rattle.std.specs.Prelude.{not, count_by, slice_get, is_some, Option, Some}
 use Rattle.std.specs.List.{range_with_len}
-use Rattle.std.proofs.lemmas.Bool.{le-leb, not-true, not_from_false, both_ways}
+use Rattle.std.proofs.lemmas.Bool.{le-leb, not_from_false}
 use Rattle.std.proofs.lemmas.List.FromFn.{length-map-range_with_len}
 use Rattle.std.proofs.lemmas.List.Sums.{sum_by-cons}
 use Rattle.chp_base.specs.declared.channel.Kind.{Kind}
@@ -136,7 +136,8 @@ begun {P} known s now steps asks on more was is last net unasked on_is asks_is s
     first =
         asked_on_if (low_reset s.net (now_of now)) known s.net (now_of now) 0 [] (script_by s.net []) now.script more was is
         (stands_first s.net (now_of now))
-        (subst (λ (script : List OfferValue). IsAskedByIf (low_reset s.net (now_of now)) known s.net (now_of now) 0 script now.script more was is) unasked.script
+        (subst (λ (script : List OfferValue). IsAskedByIf (low_reset s.net (now_of now)) known s.net (now_of now) 0 script now.script more was is)
+        unasked.script
         (subst (λ (r : RunState). IsAskedByIf (low_reset s.net (now_of now)) known s.net r 0 s.script now.script more was is) (sym still)
         (subst (λ (b : Bool). IsAskedByIf b known s.net (now_of s) 0 s.script now.script more was is) low asked)))
 

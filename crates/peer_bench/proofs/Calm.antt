@@ -1,32 +1,27 @@
 -- A move that is safe under the script of all notes is safe under the script of its moment.
-use Rattle.std.proofs.Common.{◌≡◌, ◌≢◌, ℕ, zero, suc, ◌+◌, ◌/◌, ◌<◌, ◌≤◌, Bool, true, false, List, [], ◌∷◌, ◌++◌, length, get_or, map, replicate, refl, sym, ap, subst, ◌∙◌, inl, inr, arith}
-use Rattle.std.specs.Prelude.{◌⊎◌, not, ◌&&◌, ◌||◌, ◌==◌, if◌then◌else◌, slice_get, is_some, Option, Some, None}
+use Rattle.std.proofs.Common.{◌≡◌, ◌≢◌, ℕ, suc, ◌+◌, ◌/◌, ◌<◌, Bool, true, false, List, [], ◌∷◌, ◌++◌, length, refl, sym, ap, subst, ◌∙◌, inl, inr, arith}
+use Rattle.std.specs.Prelude.{◌⊎◌, not, ◌&&◌, ◌||◌, ◌==◌, if◌then◌else◌, slice_get, Option, Some, None}
 use Rattle.std.specs.List.{list_any}
-use Rattle.std.proofs.lemmas.Bool.{eqb-true, eq-eqb, ne_eqb, cases_eq, or_cases, or_left, or_right, and_parts, and_from, not-true, both_ways}
-use Rattle.std.proofs.lemmas.List.{append_assoc, length-set, length-replicate}
+use Rattle.std.proofs.lemmas.Bool.{eqb-true, ne_eqb, cases_eq, or_cases, or_left, or_right, and_parts, and_from, not-true, both_ways}
+use Rattle.std.proofs.lemmas.List.{length-set}
 use Rattle.std.proofs.lemmas.Option.{slice_get_within}
 use Rattle.chp_base.specs.declared.channel.Kind.{Kind}
 use Rattle.chp_base.specs.declared.channel.Kind.TheVariants.{In, Out, Chan}
 use Rattle.prs_core.specs.declared.wires.Wires.{Wires}
 use Rattle.prs_core.specs.Nets.{NetValue, IsNet, IsUndriven}
 use Rattle.prs_core.specs.Moves.{high, fired, rule_enabled, neutral}
-use Rattle.env_script.specs.declared.hazard.Hazard.{Hazard}
-use Rattle.env_script.specs.declared.script.Count.{Count}
 use Rattle.env_script.specs.Scripts.{OfferValue, gives, takes, nothing, offer_at, is_over}
 use Rattle.env_script.specs.Environment.{in_reset, is_reset, rules_rest, is_odd, raises_bit, raises_value, raises_next, lowers, valid, raises_go, offer_moves, channels_move}
-use Rattle.env_script.specs.Runs.{RunState, IsRun, IsSafeMove, IsSafeRun, IsApart, moved, after, move_enabled, completed, with_value, with_values, completes, histories_after}
-use Rattle.env_script.specs.Hazards.{first_hazard, hazard_of}
-use Rattle.env_script.specs.OneLength.{AllSafe}
-use Rattle.event_sim.specs.Locality.{is_wire, IsHome}
+use Rattle.env_script.specs.Runs.{RunState, IsSafeMove, moved, after, move_enabled, completed, with_values}
+use Rattle.event_sim.specs.Locality.{is_wire}
 use Rattle.event_sim.proofs.HomeLemmas.{offered_there}
 use Rattle.event_sim.proofs.Near.{counts_kept, fired_agree}
-use Rattle.event_sim.proofs.Wholes.{safe_is_calm}
 use Rattle.peer_bench.specs.declared.note.Note.{Note}
 use Rattle.peer_bench.specs.Growing.{offer_by, offer_on, script_by}
 use Rattle.peer_bench.proofs.Liking.{script_at}
-use Rattle.peer_bench.proofs.Outside.{IsFromOutside, home_of, from_outside}
-use Rattle.peer_bench.proofs.Rails.{at_place, channel_at, rail_wire, ack_wire, rail_undriven, ack_undriven, next_value, when_low, turned}
-use Rattle.peer_bench.proofs.Rising.{Grows, CountGrows, script_grows, front_get, enabled_grows}
+use Rattle.peer_bench.proofs.Outside.{home_of, from_outside}
+use Rattle.peer_bench.proofs.Rails.{at_place, channel_at, rail_wire, ack_wire, rail_undriven, ack_undriven, next_value, turned}
+use Rattle.peer_bench.proofs.Rising.{Grows, script_grows, front_get, enabled_grows}
 
 -- a state has a value for each node and a history for each channel
 
@@ -103,7 +98,8 @@ raised_low v value m (t ∷ f ∷ rest) raises =
         let parts = and_parts (m == f) (not (v t) && not (v f)) here in
         ap v (eqb-true m f parts.0) ∙ not-true (v f) (and_parts (not (v t)) (not (v f)) parts.1).1
 
-    by_case : (raises_bit v (is_odd value) t f m ≡ true) ⊎ (raises_value v (value / 2) rest m ≡ true) → (raises_value v (value / 2) rest m ≡ true → v m ≡ false) →
+    by_case : (raises_bit v (is_odd value) t f m ≡ true) ⊎ (raises_value v (value / 2) rest m ≡ true) →
+        (raises_value v (value / 2) rest m ≡ true → v m ≡ false) →
         v m ≡ false
     by_case (inl here) later = by_bit (is_odd value) here
     by_case (inr there) later = later there
@@ -177,7 +173,8 @@ still_moves v u w (takes a) (takes b) done later n m grows apart agree turns cou
     and_from (m == w.ack) _ before.0 (by_ack (u w.ack) (v w.ack) refl refl (agree w.ack (λ e. other (sym e))) (counts other) before.1 behind.1)
   where
     by_ack : (t s : Bool) → u w.ack ≡ t → v w.ack ≡ s → u w.ack ≡ v w.ack → later ≡ done →
-        (if s then neutral v w.rails else valid v w.rails && is_over a done) ≡ true → (if t then neutral u w.rails else valid u w.rails && is_over b later) ≡ true →
+        (if s then neutral v w.rails else valid v w.rails && is_over a done) ≡ true →
+        (if t then neutral u w.rails else valid u w.rails && is_over b later) ≡ true →
         (if t then neutral u w.rails else valid u w.rails && is_over a later) ≡ true
     by_ack true s up was_up same still before behind = behind
     by_ack false true low up same still before behind = absurd (both_ways (v w.ack) (sym same ∙ low) up)

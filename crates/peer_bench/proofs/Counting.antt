@@ -7,10 +7,9 @@ use Rattle.std.proofs.lemmas.List.Elements.{filter-append}
 use Rattle.std.proofs.lemmas.List.FromFn.{get_or-map-range_with_len, length-map-range_with_len}
 use Rattle.prs_core.specs.Nets.{NetValue, IsNet}
 use Rattle.prs_core.specs.Moves.{high}
-use Rattle.env_script.specs.declared.hazard.Hazard.{Hazard}
 use Rattle.env_script.specs.declared.hazard.Hazard.TheVariants.{Unstable, Protocol}
 use Rattle.env_script.specs.Phases.{phase_fault}
-use Rattle.env_script.specs.Hazards.{or_else, least_below, takes_away, first_hazard, hazard_of}
+use Rattle.env_script.specs.Hazards.{or_else, takes_away, first_hazard, hazard_of}
 use Rattle.env_script.specs.Scripts.{OfferValue, offer_at}
 use Rattle.env_script.specs.Runs.{RunState, completed, move_enabled, moved}
 use Rattle.event_sim.specs.Following.{enabled_moves}
@@ -130,7 +129,8 @@ listed_like net st notes script stands =
 pub hazard_like : (net : NetValue) (st : RunState) (notes : List Note) (script : List OfferValue) (n : ℕ) → StandsFor net st notes script →
     StandsFor net (moved net st n) notes script → hazard_of net script st n ≡ hazard_of net (script_by net notes) st n
 hazard_like net st notes script n stands later =
-    ap (λ (o : Option ℕ). or_else (first_hazard net (moved net st n)) (or_else (option_map Unstable o) (option_map Protocol (phase_fault net (high st.values) n))))
+    ap (λ (o : Option ℕ). or_else (first_hazard net (moved net st n))
+    (or_else (option_map Unstable o) (option_map Protocol (phase_fault net (high st.values) n))))
     (least_agrees (length net.first) (takes_away net script st n) (takes_away net (script_by net notes) st n) (λ m less. same m))
   where
     same : (m : ℕ) → takes_away net script st n m ≡ takes_away net (script_by net notes) st n m

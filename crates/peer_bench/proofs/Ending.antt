@@ -1,7 +1,7 @@
 -- A run on a bench goes on by one move, and ends.
 use Rattle.std.proofs.Common.{◌≡◌, ℕ, zero, suc, ◌+◌, ◌<◌, ◌≤◌, Bool, true, false, List, [], ◌∷◌, ◌++◌, length, get_or, drop, refl, sym, ap, subst, ◌∙◌, inl, inr, arith}
 use Rattle.std.specs.Prelude.{◌⊎◌, not, ◌&&◌, ◌||◌, ◌==◌, if◌then◌else◌, All, AllPairs, Option, Some, None}
-use Rattle.std.proofs.lemmas.Bool.{ne_eqb, eq-eqb, or_parts, and_from, not_from_false, both_ways}
+use Rattle.std.proofs.lemmas.Bool.{eq-eqb, or_parts, and_from, not_from_false}
 use Rattle.std.proofs.lemmas.List.{append-nil, append_assoc, length_push}
 use Rattle.prs_core.specs.Nets.{NetValue, IsNet}
 use Rattle.prs_core.specs.Moves.{high, rule_enabled}
@@ -9,10 +9,9 @@ use Rattle.env_script.specs.declared.hazard.Hazard.{Hazard}
 use Rattle.env_script.specs.declared.hazard.Hazard.TheVariants.{BothWays as Torn, Unstable as Lost, Protocol as Broken}
 use Rattle.env_script.specs.Scripts.{OfferValue, offer_at}
 use Rattle.env_script.specs.Environment.{all_below, in_reset, is_reset, rules_rest, raises_go, channels_move}
-use Rattle.env_script.specs.Runs.{RunState, after, moved, move_enabled, completed, IsAtRest}
+use Rattle.env_script.specs.Runs.{RunState, after, moved, completed, IsAtRest}
 use Rattle.event_sim.specs.declared.ran.End.{End}
 use Rattle.event_sim.specs.declared.ran.End.TheVariants.{AtRest, Spent}
-use Rattle.event_sim.specs.Following.{enabled_moves}
 use Rattle.event_sim.specs.Ends.{end_from, end_with, last_hazard}
 use Rattle.event_sim.specs.Picking.{IsChoiceList}
 use Rattle.event_sim.specs.Simulating.{RanValue, IsEndIn, growth}
@@ -22,7 +21,7 @@ use Rattle.event_sim.proofs.Following.{ascending, enabled_below}
 use Rattle.event_sim.proofs.Ranges.{rests, end_within}
 use Rattle.peer_bench.specs.declared.note.Note.{Note}
 use Rattle.peer_bench.specs.Growing.{script_by, script_after}
-use Rattle.peer_bench.specs.Running.{Scripts, later, follow_under, hazard_under}
+use Rattle.peer_bench.specs.Running.{Scripts, later, hazard_under}
 use Rattle.peer_bench.specs.Asking.{PeerValue}
 use Rattle.peer_bench.specs.Along.{NothingComes}
 use Rattle.peer_bench.specs.Steps.{IsMoveNoted, AreOffered, AreRailsHeld, free_on}
@@ -131,7 +130,8 @@ rest_low net script st rest = by_reset net.reset refl
         absurd (falls (rule_enabled net v r) (in_reset net.reset v) (is_reset net.reset r) (rules_rest net v) (raises_go v r
         || channels_move v (offer_at script) (completed st.histories) 0 net.channels r) (rest r) (ap (λ (o : Option ℕ). in_reset o v) at ∙ e)
         (ap (λ (o : Option ℕ). is_reset o r) at ∙ eq-eqb r r refl)
-        (every (length net.first) (λ n. not (rule_enabled net v n)) (λ n. not_from_false (rule_enabled net v n) (or_parts (rule_enabled net v n) _ (rest n)).0)))
+        (every (length net.first) (λ n. not (rule_enabled net v n))
+        (λ n. not_from_false (rule_enabled net v n) (or_parts (rule_enabled net v n) _ (rest n)).0)))
 
     by_reset : (o : Option ℕ) → net.reset ≡ o → in_reset net.reset v ≡ false
     by_reset None at = ap (λ (o : Option ℕ). in_reset o v) at

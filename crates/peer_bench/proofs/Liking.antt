@@ -126,6 +126,6 @@ channels_like v script later done c (w ∷ ws) n each =
 pub enabled_like : (net : NetValue) (st : RunState) (notes : List Note) (script : List OfferValue) (n : ℕ) → StandsFor net st notes script →
     move_enabled net script st n ≡ move_enabled net (script_by net notes) st n
 enabled_like net st notes script n stands =
-    ap (λ (b : Bool). rule_enabled net (high st.values) n || (if in_reset net.reset (high st.values) then is_reset net.reset n && rules_rest net (high st.values)
-    else raises_go (high st.values) n || b))
+    ap (λ (b : Bool). rule_enabled net (high st.values) n || (if in_reset net.reset (high st.values) then is_reset net.reset n
+    && rules_rest net (high st.values) else raises_go (high st.values) n || b))
     (channels_like (high st.values) (offer_at (script_by net notes)) (offer_at script) (completed st.histories) 0 net.channels n stands.each)

@@ -15,7 +15,7 @@ use Rattle.event_sim.specs.Passing.{channel_acknowledged, completion}
 use Rattle.event_sim.specs.Standings.{is_idle}
 use Rattle.event_sim.specs.Stages.{StageValue, now_of}
 use Rattle.peer_bench.specs.declared.note.Note.{Note}
-use Rattle.peer_bench.specs.declared.note.Note.TheVariants.{Offered, Ready, Took}
+use Rattle.peer_bench.specs.declared.note.Note.TheVariants.{Took}
 use Rattle.peer_bench.specs.Growing.{script_by}
 use Rattle.peer_bench.specs.Asking.{PeerValue, HasNoted, offer_note, ready_note, answer, answer_on, asked_on, IsPassOver, ArePasses, no_pass, and_pass, IsAsked}
 use Rattle.peer_bench.specs.Along.{is_external, is_out, chan_is, lets_ask, told_passed, IsAskedIf, IsNotedAlong, behind_move}

@@ -79,7 +79,8 @@ offer_out w c notes kind = ap (λ (k : Kind). offer_by k c notes) kind
 
 offered_here : (at c value : ℕ) (notes : List Note) → offered_on c (notes ++ Offered at c value ∷ []) ≡ offered_on c notes ++ value ∷ []
 offered_here at c value notes =
-    offered_more c notes (Offered at c value ∷ []) ∙ ap (λ (b : Bool). offered_on c notes ++ map value_of (cond b (Offered at c value ∷ []) [])) (eq-eqb c c refl)
+    offered_more c notes (Offered at c value ∷ [])
+    ∙ ap (λ (b : Bool). offered_on c notes ++ map value_of (cond b (Offered at c value ∷ []) [])) (eq-eqb c c refl)
 
 ready_here : (at c : ℕ) (notes : List Note) → times_ready c (notes ++ Ready at c ∷ []) ≡ times_ready c notes + 1
 ready_here at c notes = ready_more c notes (Ready at c ∷ []) ∙ ap (λ (b : Bool). times_ready c notes + count_of b) (eq-eqb c c refl)
@@ -199,7 +200,8 @@ answer_stands net st notes script p at c stands = by_idle (is_idle net script st
     unchanged : StandsFor net st (notes ++ []) script
     unchanged = subst (λ (xs : List Note). StandsFor net st xs script) (sym (append-nil notes)) stands
 
-    by_idle : (b : Bool) → is_idle net script st c ≡ b → StandsFor net st (notes ++ asked (is_idle net script st c)) (script_noting (asked (is_idle net script st c)) script)
+    by_idle : (b : Bool) → is_idle net script st c ≡ b → StandsFor net st (notes ++ asked (is_idle net script st c))
+        (script_noting (asked (is_idle net script st c)) script)
     by_idle false e = subst (λ (b : Bool). StandsFor net st (notes ++ asked b) (script_noting (asked b) script)) (sym e) unchanged
     by_idle true e =
         subst (λ (b : Bool). StandsFor net st (notes ++ asked b) (script_noting (asked b) script)) (sym e) (by_channel (slice_get net.channels c) refl)
@@ -219,19 +221,22 @@ answer_stands net st notes script p at c stands = by_idle (is_idle net script st
             by_kind : (kind : Kind) → w.channel.kind ≡ kind →
                 StandsFor net st (notes ++ answer p w.channel.kind w.channel.width at c) (script_noting (answer p w.channel.kind w.channel.width at c) script)
             by_kind In kind =
-                subst (λ (k : Kind). StandsFor net st (notes ++ answer p k w.channel.width at c) (script_noting (answer p k w.channel.width at c) script)) (sym kind)
+                subst (λ (k : Kind). StandsFor net st (notes ++ answer p k w.channel.width at c) (script_noting (answer p k w.channel.width at c) script))
+                (sym kind)
                 (by_due (p.due c w.channel.width))
               where
                 by_due : (o : Option ℕ) → StandsFor net st (notes ++ offer_note at c o) (script_noting (offer_note at c o) script)
                 by_due None = unchanged
                 by_due (Some value) = offered_stands net st notes script at c value w here kind done stands
             by_kind Out kind =
-                subst (λ (k : Kind). StandsFor net st (notes ++ answer p k w.channel.width at c) (script_noting (answer p k w.channel.width at c) script)) (sym kind)
+                subst (λ (k : Kind). StandsFor net st (notes ++ answer p k w.channel.width at c) (script_noting (answer p k w.channel.width at c) script))
+                (sym kind)
                 (by_willing (p.willing c))
               where
                 by_willing : (b : Bool) → StandsFor net st (notes ++ ready_note at c b) (script_noting (ready_note at c b) script)
                 by_willing false = unchanged
                 by_willing true = ready_stands net st notes script at c w here kind stands
             by_kind Chan kind =
-                subst (λ (k : Kind). StandsFor net st (notes ++ answer p k w.channel.width at c) (script_noting (answer p k w.channel.width at c) script)) (sym kind)
+                subst (λ (k : Kind). StandsFor net st (notes ++ answer p k w.channel.width at c) (script_noting (answer p k w.channel.width at c) script))
+                (sym kind)
                 unchanged

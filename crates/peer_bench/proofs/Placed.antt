@@ -1,5 +1,5 @@
 -- Along a run on a bench each note stands at a move that lets the device be asked, or tells what a move completed.
-use Rattle.std.proofs.Common.{◌≡◌, ℕ, zero, suc, ◌+◌, ◌<◌, ◌≤◌, Bool, true, false, List, [], ◌∷◌, ◌++◌, length, get_or, take, filter, refl, sym, ap, subst, ◌∙◌, arith}
+use Rattle.std.proofs.Common.{◌≡◌, ℕ, zero, suc, ◌+◌, ◌≤◌, Bool, true, false, List, [], ◌∷◌, ◌++◌, length, take, filter, refl, sym, ap, subst, ◌∙◌, arith}
 use Rattle.std.specs.Prelude.{if◌then◌else◌, slice_get, slice_index, Option, Some, None, IfSome}
 use Rattle.std.specs.List.{range_with_len}
 use Rattle.std.proofs.lemmas.List.{append-nil, append_assoc, length_push, take-append-le, take_all, get_or_append_left}
@@ -15,7 +15,7 @@ use Rattle.event_sim.specs.Standings.{is_idle}
 use Rattle.peer_bench.specs.declared.note.Note.{Note}
 use Rattle.peer_bench.specs.declared.note.Note.TheVariants.{Offered, Ready, Took}
 use Rattle.peer_bench.specs.Growing.{script_by}
-use Rattle.peer_bench.specs.Asking.{PeerValue, offer_note, ready_note, answer, answer_on, asked_on, IsPassOver, ArePasses, no_pass, and_pass, IsAsked}
+use Rattle.peer_bench.specs.Asking.{PeerValue, offer_note, ready_note, answer, answer_on, asked_on, IsPassOver, ArePasses, no_pass, and_pass}
 use Rattle.peer_bench.specs.Along.{is_out, chan_is, low_reset, lets_ask, told_passed, IsAskedIf, IsNotedAlong, at_first, behind_move}
 use Rattle.peer_bench.specs.Instants.{may_ask_after, IsAnswerAt, IsNoteAt, AreNotesAt, is_took, taken_in}
 
@@ -30,7 +30,8 @@ ask_same net start moves n zero less = refl
 ask_same net start moves n (suc k) less =
     ap (λ (xs : List ℕ). lets_ask net (after net start xs) (after net start (take (suc k) (moves ++ n ∷ []))) (slice_index (moves ++ n ∷ []) k))
     (same_front moves n k (omega arith))
-    ∙ ap (λ (xs : List ℕ). lets_ask net (after net start (take k moves)) (after net start xs) (slice_index (moves ++ n ∷ []) k)) (same_front moves n (suc k) less)
+    ∙ ap (λ (xs : List ℕ). lets_ask net (after net start (take k moves)) (after net start xs) (slice_index (moves ++ n ∷ []) k))
+    (same_front moves n (suc k) less)
     ∙ ap (lets_ask net (after net start (take k moves)) (after net start (take (suc k) moves))) (get_or_append_left moves (n ∷ []) 0 k (omega arith))
 
 answer_on_later : (net : NetValue) (start : RunState) (moves : List ℕ) (n : ℕ) (before : List Note) (kind : Kind) (at chan : ℕ) →

@@ -1,22 +1,21 @@
--- The rails that are high on an `in` channel bring a value that was offered, as long as the phases are kept; so no channel completes more than was offered.
-use Rattle.std.proofs.Common.{◌≡◌, ◌≢◌, ℕ, zero, suc, ◌+◌, ◌*◌, ◌<◌, ◌≤◌, Bool, true, false, List, [], ◌∷◌, length, get_or, map, refl, sym, ap, subst, ◌∙◌, inl, inr, arith}
-use Rattle.std.specs.Prelude.{◌⊎◌, not, ◌&&◌, ◌||◌, ◌==◌, if◌then◌else◌, All, slice_get, slice_index_or, position, Option, Some, None, option_map, option_and_then, is_some}
+-- The rails that are high on an `in` channel bring a value that was offered, as long as the phases are kept; so no channel
+-- completes more than was offered.
+use Rattle.std.proofs.Common.{◌≡◌, ℕ, zero, suc, ◌<◌, ◌≤◌, Bool, true, false, List, [], ◌∷◌, length, get_or, map, refl, sym, ap, subst, ◌∙◌, inl, inr, arith}
+use Rattle.std.specs.Prelude.{◌⊎◌, not, ◌&&◌, ◌||◌, ◌==◌, if◌then◌else◌, All, slice_get, Option, Some, None, option_map, option_and_then, is_some}
 use Rattle.std.specs.List.{list_any, list_all, range_with_len}
-use Rattle.std.proofs.lemmas.Bool.{eqb-true, eqb-false, eq-eqb, ne_eqb, cases_eq, cases_lt, or_cases, or_left, or_right, and_parts, not-true, both_ways, ltb-true}
+use Rattle.std.proofs.lemmas.Bool.{eqb-true, eq-eqb, cases_eq, cases_lt, or_cases, or_left, or_right, and_parts, not-true, both_ways, ltb-true}
 use Rattle.std.proofs.lemmas.List.{get_or_past, get_or-set_same}
 use Rattle.std.proofs.lemmas.List.FromFn.{get_or-map-range_with_len, length-map-range_with_len}
 use Rattle.std.proofs.lemmas.Option.{slice_get_within, slice_get_past, get_or_from_slice_get}
-use Rattle.std.proofs.lemmas.List.Quantifiers.{position-Some}
 use Rattle.chp_base.specs.declared.channel.Kind.{Kind}
 use Rattle.chp_base.specs.declared.channel.Kind.TheVariants.{In, Out, Chan}
 use Rattle.prs_core.specs.declared.wires.Wires.{Wires}
 use Rattle.prs_core.specs.Nets.{NetValue, IsNet, IsChannel, IsUndriven, first_at, up_of, down_of, wires_from_outside}
 use Rattle.prs_core.specs.Moves.{high, fired, bit_value, with_bit, rail_value_of, neutral}
 use Rattle.reset_net.specs.Resets.{has_rules}
-use Rattle.env_script.specs.declared.script.Count.{Count}
 use Rattle.env_script.specs.declared.script.Count.TheVariants.{All as Each, Times}
 use Rattle.env_script.specs.Scripts.{OfferValue, gives, takes, nothing, offer_at, is_over, Suits, IsScript}
-use Rattle.env_script.specs.Environment.{net_channels, in_reset, offer_moves, raises_next, lowers, valid, sender_moves, receiver_moves}
+use Rattle.env_script.specs.Environment.{net_channels, in_reset, offer_moves, raises_next, lowers, valid}
 use Rattle.env_script.specs.Phases.{rails_keep, ack_keeps, phases_keep, phase_fault}
 use Rattle.env_script.specs.Runs.{RunState, completed, completes, move_enabled, moved}
 use Rattle.event_sim.specs.Following.{power_value, power_of}
@@ -45,7 +44,8 @@ rail_wire w r found = or_right (r == w.ack) _ found
 pub ack_wire : (w : Wires) (n : ℕ) → n ≡ w.ack → is_wire w n ≡ true
 ack_wire w n same = or_left (n == w.ack) _ (eq-eqb n w.ack same)
 
-pub rail_undriven : (net : NetValue) (w : Wires) (r : ℕ) → IsChannel net w → w.channel.kind ≡ In → list_any (λ rail. r == rail) w.rails ≡ true → IsUndriven net r
+pub rail_undriven : (net : NetValue) (w : Wires) (r : ℕ) → IsChannel net w → w.channel.kind ≡ In →
+    list_any (λ rail. r == rail) w.rails ≡ true → IsUndriven net r
 rail_undriven net w r is kind found =
     among (IsUndriven net) r w.rails (subst (λ (k : Kind). All (IsUndriven net) (wires_from_outside k w.rails w.ack)) kind is.outside) found
 
@@ -395,5 +395,6 @@ pub rails_grow : (net : NetValue) (script later : List OfferValue) (st : RunStat
     AreRailsHeld net later st
 rails_grow net script later st grows held = record {
   low = held.low;
-  brings = λ c n r w here kind low found up number. let was = grows c n number in let less = held.brings c was.0 r w here kind low found up was.1 in omega arith;
+  brings = λ c n r w here kind low found up number. let was = grows c n number in
+      let less = held.brings c was.0 r w here kind low found up was.1 in omega arith;
 }

@@ -1,5 +1,5 @@
 -- Rest under the script of the last moment is rest under the script of all notes.
-use Rattle.std.proofs.Common.{◌≡◌, ℕ, ◌+◌, ◌<◌, ◌≤◌, List, [], ◌∷◌, ◌++◌, length, sym, ap, subst, ◌∙◌}
+use Rattle.std.proofs.Common.{◌≡◌, ℕ, List, [], ◌∷◌, ◌++◌, length, ap, subst, ◌∙◌}
 use Rattle.std.specs.Prelude.{◌==◌, Some}
 use Rattle.prs_core.specs.Nets.{NetValue, IsNet}
 use Rattle.env_script.specs.Scripts.{OfferValue}
@@ -14,7 +14,7 @@ use Rattle.peer_bench.specs.Growing.{script_by, script_after}
 use Rattle.peer_bench.specs.Running.{hazard_under}
 use Rattle.peer_bench.specs.Asking.{PeerValue}
 use Rattle.peer_bench.specs.Benches.{SetupValue, bench_start, bench_moves, IsBenchRun}
-use Rattle.peer_bench.specs.Instants.{IsNoteAt, AreNotesAt}
+use Rattle.peer_bench.specs.Instants.{AreNotesAt}
 use Rattle.peer_bench.proofs.Ending.{rest_empties}
 use Rattle.peer_bench.proofs.Growth.{AreUntil, script_now}
 use Rattle.peer_bench.proofs.Placed.{along_placed}

@@ -15,7 +15,7 @@ use Rattle.env_script.specs.Environment.{in_reset, is_reset, rules_rest, raises_
 use Rattle.env_script.specs.Runs.{RunState, IsRun, after, moved, completed, move_enabled}
 use Rattle.event_sim.specs.Standings.{number_of}
 use Rattle.peer_bench.specs.declared.note.Note.{Note}
-use Rattle.peer_bench.specs.Notes.{offered_on, times_ready}
+use Rattle.peer_bench.specs.Notes.{offered_on}
 use Rattle.peer_bench.specs.Growing.{offer_by, offer_on, script_by}
 use Rattle.peer_bench.proofs.Liking.{script_at}
 use Rattle.peer_bench.proofs.Noting.{offered_more, ready_more}
@@ -127,7 +127,8 @@ enabled_grows net notes more st n enabled = by_rule (or_cases (rule_enabled net 
     by_reset true e = e
     by_reset false e = by_go (or_cases (raises_go v n) (moves notes) e)
 
-    by_rule : (rule_enabled net v n ≡ true) ⊎ ((if in_reset net.reset v then is_reset net.reset n && rules_rest net v else raises_go v n || moves notes) ≡ true) →
+    by_rule : (rule_enabled net v n ≡ true) ⊎ ((if in_reset net.reset v then is_reset net.reset n && rules_rest net v else raises_go v n
+        || moves notes) ≡ true) →
         move_enabled net (script_by net (notes ++ more)) st n ≡ true
     by_rule (inl rule) = or_left (rule_enabled net v n) _ rule
     by_rule (inr env) = or_right (rule_enabled net v n) _ (by_reset (in_reset net.reset v) env)

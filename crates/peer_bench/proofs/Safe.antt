@@ -1,5 +1,5 @@
 -- Where every run under the script of all notes is safe, a run on a bench ends at rest or for want of moves.
-use Rattle.std.proofs.Common.{◌≡◌, ℕ, ◌+◌, ◌<◌, ◌≤◌, Bool, true, false, List, [], ◌∷◌, ◌++◌, length, refl, sym, ap, subst, ◌∙◌, inl, inr, arith}
+use Rattle.std.proofs.Common.{◌≡◌, ℕ, ◌+◌, Bool, true, false, List, [], ◌∷◌, ◌++◌, length, sym, ap, subst, ◌∙◌, inl, inr, arith}
 use Rattle.std.specs.Prelude.{◌⊎◌, ◌==◌, option_map, Option, Some, None}
 use Rattle.std.proofs.lemmas.List.{append_assoc, length-replicate}
 use Rattle.prs_core.specs.Nets.{NetValue, IsNet}

@@ -1,11 +1,11 @@
 -- What is known of a device along a run on a bench, whatever the device is.
-use Rattle.std.proofs.Common.{◌≡◌, ℕ, ◌+◌, Bool, true, false, List, [], ◌∷◌, ◌++◌, length, ap}
+use Rattle.std.proofs.Common.{ℕ, ◌+◌, Bool, true, false, List, [], ◌∷◌, ◌++◌, length, ap}
 use Rattle.std.specs.List.{range_with_len}
 use Rattle.prs_core.specs.Nets.{NetValue}
 use Rattle.env_script.specs.Runs.{RunState, after}
 use Rattle.event_sim.specs.Simulating.{RanValue}
 use Rattle.peer_bench.specs.declared.note.Note.{Note}
-use Rattle.peer_bench.specs.Asking.{PeerValue, asked_on, IsPassOver, ArePasses, no_pass, and_pass, IsAsked}
+use Rattle.peer_bench.specs.Asking.{PeerValue, asked_on, IsPassOver, ArePasses, no_pass, and_pass}
 use Rattle.peer_bench.specs.Along.{low_reset, lets_ask, IsAskedIf, IsNotedAlong, at_first, behind_move}
 use Rattle.peer_bench.specs.Benches.{SetupValue, IsBenchRun}
 

@@ -1,7 +1,7 @@
 -- A run on a bench that is underway, and one more move of it.
-use Rattle.std.proofs.Common.{◌≡◌, ◌≢◌, ℕ, zero, suc, ◌+◌, ◌*◌, ◌<◌, ◌≤◌, Bool, true, false, List, [], ◌∷◌, ◌++◌, length, get_or, take, refl, sym, ap, subst, ◌∙◌, inl, inr, arith}
+use Rattle.std.proofs.Common.{◌≡◌, ℕ, zero, suc, ◌+◌, ◌*◌, ◌<◌, ◌≤◌, Bool, true, false, List, [], ◌∷◌, ◌++◌, length, get_or, take, refl, sym, ap, subst, ◌∙◌, inl, inr, arith}
 use Rattle.std.specs.Prelude.{◌⊎◌, not, ◌&&◌, ◌||◌, ◌==◌, if◌then◌else◌, slice_get, Option, Some, None, option_to_list}
-use Rattle.std.proofs.lemmas.Bool.{ne_eqb, eq-eqb, eqb-true, cases_lt, cases_eq, or_parts, both_ways}
+use Rattle.std.proofs.lemmas.Bool.{ne_eqb, eq-eqb, cases_lt, or_parts, both_ways}
 use Rattle.std.proofs.lemmas.List.{append-nil, append_assoc, length_push, length-set, length-take-le, take-append-le, take_all}
 use Rattle.std.proofs.lemmas.Option.{slice_get_within}
 use Rattle.chp_base.specs.declared.channel.Kind.{Kind}
@@ -37,7 +37,7 @@ use Rattle.peer_bench.proofs.Liking.{StandsFor, like_number}
 use Rattle.peer_bench.proofs.Moments.{HasLogged, AskedOnIf, told_at, noted_logged, logged_both, told_stands, asked_on_if, noted_next}
 use Rattle.peer_bench.proofs.Outside.{home_of}
 use Rattle.peer_bench.proofs.Quiet.{asked_quiet}
-use Rattle.peer_bench.proofs.Rails.{CompletesOn, completes_on, count_stays, at_place, ack_wire, rails_moved, rails_grow}
+use Rattle.peer_bench.proofs.Rails.{completes_on, count_stays, at_place, ack_wire, rails_moved, rails_grow}
 use Rattle.peer_bench.proofs.Rising.{enabled_grows, run_grows, run_more, numbers_grow}
 
 -- so many picks and these notes have led to the stage
@@ -202,7 +202,8 @@ unasked s n notes p net off quiet = λ c w here idle. by_kind c w here idle w.ch
     was_idle c w here external idle =
         let other = apart c w here external in
         let low : is_low_ack (high s.values) (slice_get s.net.channels c) ≡ is_low_ack (high (fired s.values n)) (slice_get s.net.channels c) =
-        ap (is_low_ack (high s.values)) here ∙ ap not (sym (fired_agree s.values n w.ack (λ e. other (sym e)))) ∙ sym (ap (is_low_ack (high (fired s.values n))) here) in
+        ap (is_low_ack (high s.values)) here ∙ ap not (sym (fired_agree s.values n w.ack (λ e. other (sym e))))
+        ∙ sym (ap (is_low_ack (high (fired s.values n))) here) in
         ap (λ (b : Bool). b && is_done (number_of (offer_at (script_by s.net notes) c)) (completed (now_of s).histories c)) low
         ∙ ap (λ (k : ℕ). is_low_ack (high (fired s.values n)) (slice_get s.net.channels c) && is_done (number_of (offer_at (script_by s.net notes) c)) k)
         (sym (count_stays s n c w net here other)) ∙ idle

@@ -61,7 +61,8 @@ pub data IsNotedAlong {P : Type 0} (known : P → PeerValue) (net : NetValue) (s
       IsNotedAlong known net start was [] more is
   behind_move : (ns : List ℕ) (n : ℕ) (notes more : List Note) (mid late is : P) →
       IsNotedAlong known net start was ns notes mid →
-      HasNoted (told_passed net (length ns + 1) (completion net (high (after net start ns).values) n)) (known mid) (known late) →
+      HasNoted (told_passed net (length ns + 1) (completion net (high (after net start ns).values) n)) (known mid)
+      (known late) →
       IsAskedIf (lets_ask net (after net start ns) (after net start (ns ++ n ∷ [])) n) known net
       (after net start (ns ++ n ∷ [])) (length ns + 1)
       (notes ++ told_passed net (length ns + 1) (completion net (high (after net start ns).values) n)) more late is →

@@ -54,10 +54,12 @@ pub record IsBenchRun {P : Type 0} (known : P → PeerValue) (s : SetupValue) (p
   pub run : IsRun s.net (script_by s.net notes) (bench_start s.net) (bench_moves s.net notes picks)
   -- the device was told what it took, and then asked, and noted this and nothing else
   pub noted : IsNotedAlong known s.net (bench_start s.net) was (bench_moves s.net notes picks) notes is
-  pub ends : EndsUnder s.net (script_after s.net notes) s.steps (bench_start s.net) (bench_moves s.net notes picks) ran.end
+  pub ends : EndsUnder s.net (script_after s.net notes) s.steps (bench_start s.net) (bench_moves s.net notes picks)
+      ran.end
   -- where the run rests, or its moves are spent and reset isn't high, nothing more is due
   pub quiet : (ran.end ≡ AtRest) ⊎ ((ran.end ≡ Spent)
-      × (in_reset s.net.reset (high (after s.net (bench_start s.net) (bench_moves s.net notes picks)).values) ≡ false)) →
+      × (in_reset s.net.reset (high (after s.net (bench_start s.net) (bench_moves s.net notes picks)).values) ≡
+      false)) →
       NothingComes s.net notes (after s.net (bench_start s.net) (bench_moves s.net notes picks)) (known is)
   -- and what is answered of it
   pub net : ran.net ≡ s.net

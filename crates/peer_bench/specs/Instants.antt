@@ -1,5 +1,5 @@
 -- At which moves of a run on a bench a device notes something, and of which channels.
-use Rattle.std.specs.Prelude.{◌≡◌, ℕ, zero, suc, ◌+◌, ◌≤◌, Bool, true, false, List, [], ◌∷◌, ◌++◌, length, take, filter, slice_get, slice_index, Some, IfSome}
+use Rattle.std.specs.Prelude.{◌≡◌, ℕ, zero, suc, ◌+◌, ◌≤◌, Bool, true, false, List, [], ◌∷◌, ◌++◌, length, take, slice_get, slice_index, IfSome}
 use Rattle.chp_base.specs.declared.channel.Kind.{Kind}
 use Rattle.chp_base.specs.declared.channel.Kind.TheVariants.{In, Out}
 use Rattle.prs_core.specs.declared.wires.Wires.{Wires}
@@ -11,7 +11,7 @@ use Rattle.event_sim.specs.Standings.{is_idle}
 use Rattle.peer_bench.specs.declared.note.Note.{Note}
 use Rattle.peer_bench.specs.declared.note.Note.TheVariants.{Offered, Ready, Took}
 use Rattle.peer_bench.specs.Growing.{script_by}
-use Rattle.peer_bench.specs.Along.{kind_passes, low_reset, lets_ask, told_passed}
+use Rattle.peer_bench.specs.Along.{low_reset, lets_ask, told_passed}
 
 -- After so many moves the device may be asked: at the start unless reset is high, else where the last of them changed
 -- the acknowledge of an external channel or lowered reset, and reset is low.

@@ -32,7 +32,8 @@ IsPassBy known net st at [] script behind more was is = (more ≡ []) × (behind
 IsPassBy {P} known net st at (c ∷ cs) script behind more was is = (mid : P) × ((rest : List Note)
     × (more ≡ asked_under net script st (known was) at c ++ rest)
     × HasNoted (asked_under net script st (known was) at c) (known was) (known mid)
-    × IsPassBy known net st at cs (script_noting (asked_under net script st (known was) at c) script) behind rest mid is)
+    × IsPassBy known net st at cs (script_noting (asked_under net script st (known was) at c) script) behind rest mid
+    is)
 
 abbrev pub IsWholePassBy : {P : Type 0} (known : P → PeerValue) → NetValue → RunState → (at : ℕ) →
     (script behind : List OfferValue) → List Note → (was is : P) → Type 0

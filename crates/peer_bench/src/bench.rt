@@ -56,9 +56,10 @@ impl Bench {
         }
     }
 
-    /// Runs the net against the device at its place of the list, by the picker's choices. It takes no memory and changes
-    /// no other device. The device is asked at the start and behind each move that changes the acknowledge of an external
-    /// channel, never while a reset node is high, but behind the move that lowers it; before that it is told what it took.
+    /// Runs the net against the device at its place of the list, by the picker's choices. It takes no memory and
+    /// changes no other device. The device is asked at the start and behind each move that changes the acknowledge of
+    /// an external channel, never while a reset node is high, but behind the move that lowers it; before it is asked it
+    /// is told what it took by the move.
     pub fn run(self, picker: &mut Box<dyn Picker>) -> Benched
         requires spare { self.setup.steps ≤ (⟦<dyn Picker as Picker>⟧ picker.old.vtable).spare picker.old.value }
         requires nodes { length self.setup.net.first ≤ nodes picker.old }

@@ -95,8 +95,8 @@ fn tell(stage: &Stage, peer: &mut Box<dyn Peer>, passed: Option<(u32, u64)>, at:
     }
 }
 
-/// Whether a device may be asked behind a move: reset is low, and it was high before or the move changed the acknowledge
-/// of an external channel.
+/// Whether a device may be asked behind a move: reset is low, and it was high before or the move changed the
+/// acknowledge of an external channel.
 fn may_ask(is_in_reset: bool, was_in_reset: bool, is_ack: bool) -> bool
     ensures { result ≡ (not is_in_reset && (was_in_reset || is_ack)) }
 {

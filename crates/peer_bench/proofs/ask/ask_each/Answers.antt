@@ -66,7 +66,8 @@ loop-chan-preserved g c =
       asked = (
         i.asked.0 ++ given,
         ap (λ (b : Bool). b || c.ask-came.result) i.asked.1 ∙ ap (λ (b : Bool). nat_lt 0 (length i.asked.0) || b) came ∙ sym (some_both i.asked.0 given),
-        pass_up _ net st at k fs.script ls.script c.ask-came.new.stage.script i.asked.0 c.args.peer.now c.loop-chan.peer c.ask-came.new.peer i.asked.2 script noted,
+        pass_up _ net st at k fs.script ls.script c.ask-came.new.stage.script i.asked.0 c.args.peer.now c.loop-chan.peer c.ask-came.new.peer
+            i.asked.2 script noted,
       );
       offered = subst (λ (s : List OfferValue). AreOffered s st) (sym script) room.offered;
       room = let free : free_on net c.ask-came.new.stage.script st ≡ free_on net (script_noting given ls.script) st =

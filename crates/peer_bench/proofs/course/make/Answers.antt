@@ -1,17 +1,10 @@
-use Rattle.std.proofs.Common.{◌≡◌, ◌≤◌, ◌+◌, ◌∙◌, ℕ, Bool, List, length, sym, ap, subst, arith}
-use Rattle.std.specs.Prelude.{not, ◌&&◌, ◌||◌, Option}
+use Rattle.std.proofs.Common.{◌≡◌, ◌∙◌, List, sym, ap, subst, arith}
 use Rattle.prs_core.specs.Nets.{NetValue}
-use Rattle.prs_core.specs.Moves.{high}
 use Rattle.env_script.specs.Scripts.{OfferValue}
-use Rattle.env_script.specs.Environment.{in_reset}
 use Rattle.env_script.specs.Runs.{RunState, moved}
-use Rattle.event_sim.specs.Passing.{channel_acknowledged}
 use Rattle.event_sim.specs.Stages.{StageValue, now_of}
-use Rattle.peer_bench.specs.Asking.{PeerValue, peer_value, HasNoted}
-use Rattle.peer_bench.specs.Along.{is_external, chan_is, told_passed, lets_ask}
-use Rattle.peer_bench.specs.Steps.{IsAskedByIf, AreOffered, free_on}
+use Rattle.peer_bench.specs.Steps.{AreOffered, free_on}
 use Rattle.peer_bench.proofs.Moments.{asked_then, told_then}
-use Rattle.peer_bench.proofs.Rising.{run_grows}
 use Rattle.peer_bench.proofs.Rails.{offered_moved}
 use Rattle.peer_bench.proofs.Room.{free_moved, told_few}
 use Rattle.peer_bench.proofs.course.make.Goals as goal

@@ -6,12 +6,14 @@ use Rattle.peer_bench.proofs.bench.Bench.run.Goals as goal
 pub returns-clause-noted : goal.returns-clause-noted
 returns-clause-noted g c =
     let self = c.args.self in
-    both_there self.peers.items self.which c.index_mut.result.now c.drive-ran.new.peer _ (omega (arith, self.within, self.peers.ok.0)) c.index_mut.ensures.value c.drive-ran.ensures.noted
+    both_there self.peers.items self.which c.index_mut.result.now c.drive-ran.new.peer _
+    (omega (arith, self.within, self.peers.ok.0)) c.index_mut.ensures.value c.drive-ran.ensures.noted
 
 pub returns-clause-run : goal.returns-clause-run
 returns-clause-run g c =
     let self = c.args.self in
-    both_there self.peers.items self.which c.index_mut.result.now c.drive-ran.new.peer _ (omega (arith, self.within, self.peers.ok.0)) c.index_mut.ensures.value
+    both_there self.peers.items self.which c.index_mut.result.now c.drive-ran.new.peer _
+    (omega (arith, self.within, self.peers.ok.0)) c.index_mut.ensures.value
     (run_seen _ self.setup _ _ c.index_mut.result.now c.drive-ran.new.peer c.drive-ran.result c.drive-ran.ensures.run)
 
 pub returns-clause-others : goal.returns-clause-others
