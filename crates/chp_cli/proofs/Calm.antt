@@ -133,20 +133,20 @@ module _ (given : Given) (played : Played) (p : TypedProgram) (carries : (file :
       → ((w : AskedWaves) (end : Ending) (text : List ℕ) → Traces w given (writes end text) → IsCalmTrace w given end text)
       → (rb ra pb pa : ℕ) (asked : Option Asked) → RunsCompiled asked given p → {status : Status} {appended line : List ℕ}
       → Ends asked given played rb ra pb pa status appended line → is_whole status ≡ true → Steady asked status appended
-  steady_for run timing wave rb ra pb pa None h e whole = absurd h
-  steady_for run timing wave rb ra pb pa (Some (simulates s)) h e whole =
-      let (end, same, is) = whole_of (Some (simulates s)) given played rb ra pb pa (simulates s) refl e whole in
+  steady_for run timing wave rb ra pb pa None h e written = absurd h
+  steady_for run timing wave rb ra pb pa (Some (simulates s)) h e written =
+      let (end, same, is) = whole_of (Some (simulates s)) given played rb ra pb pa (simulates s) refl e written in
       (end, same, run s (carries s.net h) end _ is)
-  steady_for run timing wave rb ra pb pa (Some (times t)) h e whole =
-      let (end, same, is) = whole_of (Some (times t)) given played rb ra pb pa (times t) refl e whole in
+  steady_for run timing wave rb ra pb pa (Some (times t)) h e written =
+      let (end, same, is) = whole_of (Some (times t)) given played rb ra pb pa (times t) refl e written in
       (end, same, timing t end _ is)
-  steady_for run timing wave rb ra pb pa (Some (traces w)) h e whole =
-      let (end, same, is) = whole_of (Some (traces w)) given played rb ra pb pa (traces w) refl e whole in
+  steady_for run timing wave rb ra pb pa (Some (traces w)) h e written =
+      let (end, same, is) = whole_of (Some (traces w)) given played rb ra pb pa (traces w) refl e written in
       (end, same, wave w end _ is)
-  steady_for run timing wave rb ra pb pa (Some (compiles c)) h e whole = absurd h
-  steady_for run timing wave rb ra pb pa (Some (migrates net)) h e whole = absurd h
-  steady_for run timing wave rb ra pb pa (Some (checks file)) h e whole = absurd h
-  steady_for run timing wave rb ra pb pa (Some (expands file)) h e whole = absurd h
-  steady_for run timing wave rb ra pb pa (Some (unwaves file)) h e whole = absurd h
-  steady_for run timing wave rb ra pb pa (Some (runs r)) h e whole = absurd h
-  steady_for run timing wave rb ra pb pa (Some (grows growth)) h e whole = absurd h
+  steady_for run timing wave rb ra pb pa (Some (compiles c)) h e written = absurd h
+  steady_for run timing wave rb ra pb pa (Some (migrates net)) h e written = absurd h
+  steady_for run timing wave rb ra pb pa (Some (checks file)) h e written = absurd h
+  steady_for run timing wave rb ra pb pa (Some (expands file)) h e written = absurd h
+  steady_for run timing wave rb ra pb pa (Some (unwaves file)) h e written = absurd h
+  steady_for run timing wave rb ra pb pa (Some (runs r)) h e written = absurd h
+  steady_for run timing wave rb ra pb pa (Some (grows growth)) h e written = absurd h
