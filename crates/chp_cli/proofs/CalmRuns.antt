@@ -2,7 +2,6 @@
 use Rattle.std.proofs.Common.{◌≡◌, ◌≢◌, ◌∙◌, ◌↔◌, ℕ, Bool, true, false, List, [], ◌∷◌, Option, Some, None, ◌⊎◌, refl, ap, subst}
 use Rattle.std.specs.Prelude.{IsSome}
 use Rattle.prs_core.specs.Nets.{NetValue, IsNet}
-use Rattle.prs_core.specs.Moves.{high}
 use Rattle.env_script.specs.Scripts.{OfferValue}
 use Rattle.env_script.specs.Runs.{RunState, IsRun, IsAtRest, IsApart, IsSafeMove, IsPowered, after, moved}
 use Rattle.env_script.specs.declared.hazard.Hazard.{Hazard}

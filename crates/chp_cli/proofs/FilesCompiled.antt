@@ -11,9 +11,8 @@ use Rattle.net_compose.proofs.NamesFree.{names_free}
 use Rattle.prs_core.specs.Nets.{NetValue, IsNet}
 use Rattle.prs_file.specs.Spelling.{NetText}
 use Rattle.reset_net.proofs.Whole.{reset_is_net}
-use Rattle.width_check.specs.Accepted.{IsAccepted}
 use Rattle.width_check.specs.Faults.{naming_faults, HasNone}
-use Rattle.width_check.specs.Form.{channels_of, vars_of, process_form, typed_form}
+use Rattle.width_check.specs.Form.{channels_of, vars_of, process_form}
 use Rattle.width_check.specs.Processes.{TypedProgram}
 use Rattle.width_check.specs.Typing.{IsTyped}
 use Rattle.command_answers.specs.Answers.{Given}

@@ -23,15 +23,14 @@ use Rattle.program_commands.specs.Checking.{Checks, AcceptedReport}
 use Rattle.command_words.specs.CommandWords.{Asked, compiles, migrates, checks, expands, simulates, times, traces, unwaves, runs, grows}
 use Rattle.chp_cli.specs.Commands.{IsAnswer}
 use Rattle.program_commands.specs.Expanding.{Expands, TreeReport}
-use Rattle.grown_commands.specs.Growing.{Grows, GrowsTo}
+use Rattle.grown_commands.specs.Growing.{GrowsTo}
 use Rattle.command_steps.specs.Orders.{Played}
-use Rattle.command_steps.specs.References.{FromReference}
 use Rattle.round_commands.specs.RoundsReporting.{most_of_values, ReportsRounds, RunsProgram, Runs, too_full, at_rest, spent}
 use Rattle.command_words.specs.RoundsWords.{AskedRounds}
 use Rattle.command_steps.specs.RunSteps.{FromScript, most_of_script}
 use Rattle.chp_cli.specs.Serving.{EndsServed, HasDelays, IsServed, IsToCheck, IsToExpand, IsToGrow, IsToRun, IsToTime, IsToTrace, IsToUnwave}
 use Rattle.command_answers.specs.Statuses.{is_whole}
-use Rattle.command_steps.specs.Steps.{FromChecks, FromFile, FromNodes, FromNet, IsFaulty, most_of_net}
+use Rattle.command_steps.specs.Steps.{FromNodes, FromNet, IsFaulty, most_of_net}
 use Rattle.grown_commands.specs.Summing.{SumsUp, summing_order}
 use Rattle.command_words.specs.SimulateWords.{AskedTiming}
 use Rattle.command_steps.specs.DelaySteps.{FromDelays, most_of_delays, FromDelayFile}
@@ -40,7 +39,7 @@ use Rattle.command_words.specs.WavesWords.{AskedWaves}
 use Rattle.simulation_commands.specs.Tracing.{Traces, TracesFile, TracesNet, trace_for}
 use Rattle.simulation_commands.specs.Unwaving.{FromWave, PrintsChanges, Unwaves, no_wave, a_wave, most_of_wave}
 use Rattle.chp_cli.proofs.RunsWritten.{simulate_writes, whole_end, whole_report}
-use Rattle.chp_cli.proofs.StepsPassed.{file_passed, program_passed, nodes_passed, buffer_passed, net_passed, order_passed, power_passed, script_passed, delays_passed, checks_passed, text_passed, reference_passed}
+use Rattle.chp_cli.proofs.StepsPassed.{file_passed, nodes_passed, buffer_passed, net_passed, order_passed, power_passed, script_passed, delays_passed, text_passed, reference_passed}
 use Rattle.chp_cli.proofs.Written.{compile_writes, migrate_writes}
 
 -- the command ends well, or the whole output is written

@@ -1,7 +1,7 @@
 -- Where nothing speaks against it a command passes a step: what holds of each answer with which it goes on holds of each answer.
 --
 -- P: what is to hold of each answer; Next: with what the command goes on.
-use Rattle.std.proofs.Common.{◌≡◌, ℕ, ◌<◌, ◌≤◌, true, false, Bool, List, [], Option, Some, None, sym, subst, arith}
+use Rattle.std.proofs.Common.{◌≡◌, ℕ, ◌≤◌, true, false, Bool, List, Option, Some, None, sym, subst, arith}
 use Rattle.chp_base.specs.declared.channel.Channel.{Channel}
 use Rattle.chp_base.specs.declared.fault.Fault.{Fault}
 use Rattle.chp_syntax.specs.Reading.{Reads}

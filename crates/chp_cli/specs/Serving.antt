@@ -17,14 +17,12 @@ use Rattle.wave_file.specs.WaveReading.{IsWaveText}
 use Rattle.wave_file.specs.Waves.{WaveValue}
 use Rattle.width_check.specs.Accepted.{IsAccepted}
 use Rattle.width_check.specs.Form.{typed_form}
-use Rattle.command_words.specs.declared.grow_words.Growth.{Growth}
 use Rattle.command_answers.specs.declared.status.Status.{Status}
 use Rattle.command_answers.specs.declared.status.Status.TheVariants.{Done}
 use Rattle.command_answers.specs.Answers.{Given}
 use Rattle.command_steps.specs.BufferSteps.{IsBuffered}
 use Rattle.command_words.specs.CommandWords.{Asked, compiles, migrates, checks, expands, simulates, times, traces, unwaves, runs, grows}
 use Rattle.program_commands.specs.Compiling.{IsToCompile}
-use Rattle.grown_commands.specs.Growing.{grow_order}
 use Rattle.program_commands.specs.Migrating.{IsToMigrate}
 use Rattle.command_steps.specs.Orders.{Played, place_named}
 use Rattle.command_steps.specs.References.{IsToReferTo}

@@ -1,14 +1,12 @@
 -- What follows from what `simulate` answers.
-use Rattle.std.specs.Prelude.{◌≡◌, ◌⊎◌, ℕ, suc, ◌+◌, ◌*◌, ◌<◌, ◌≤◌, Bool, true, false, List, length, slice_get, Option, Some, None}
+use Rattle.std.specs.Prelude.{◌≡◌, ◌⊎◌, ℕ, ◌≤◌, Bool, false, List, length, slice_get, Option, Some, None}
 use Rattle.env_script.specs.Environment.{net_channels}
 use Rattle.env_script.specs.OneLength.{EndsAll}
-use Rattle.env_script.specs.Runs.{after}
 use Rattle.env_script.specs.Scripts.{OfferValue}
 use Rattle.env_script.specs.ScriptText.{IsScriptText}
 use Rattle.event_sim.specs.declared.ran.End.TheVariants.{AtRest}
 use Rattle.event_sim.specs.Simulating.{picked_moves, start_at}
 use Rattle.handshake_expand.specs.Layout.{nodes_of}
-use Rattle.chp_meaning.specs.Steps.{Configuration}
 use Rattle.net_compose.specs.Carries.{Carries, CarriesReset}
 use Rattle.prs_core.specs.Nets.{NetValue, IsNet}
 use Rattle.prs_file.specs.Spelling.{NetText}

@@ -1,5 +1,5 @@
 -- What follows from what `waves` answers.
-use Rattle.std.specs.Prelude.{◌≡◌, ℕ, List, Option, Some}
+use Rattle.std.specs.Prelude.{◌≡◌, ℕ, List, Some}
 use Rattle.delay_script.specs.DelayTables.{DelayTable}
 use Rattle.env_script.specs.Environment.{net_channels}
 use Rattle.env_script.specs.Scripts.{OfferValue}
