@@ -13,6 +13,7 @@ ghost use Rattle.program_commands.specs.RepliesTold.{told_reply};
 ghost use Rattle.chp_cli.specs.Serving.{EndsServed, IsServed};
 ghost use Rattle.chp_cli.specs.CompiledRuns.{IsCalm, IsComparedWith, RunsCompiled};
 ghost use Rattle.command_answers.specs.Statuses.{is_whole};
+ghost use Rattle.simulation_commands.specs.Simulating.{OthersStay};
 ghost use Rattle.width_check.specs.Processes.{TypedProgram};
 
 use crate::laws::{
@@ -60,6 +61,9 @@ fn answer<'a, S: Shelf>(
         players.old.orders.items in
         KeepsOrders (order_of (asked command.now) before) (played_by before
         (map (λ order. order_state (name order) (log order) (seeded order)) players.new.orders.items)) }
+    ensures others { OthersStay (order_of (asked command.now)
+        (map (λ order. order_state (name order) (log order) (seeded order)) players.old.orders.items))
+        players.old.orders.items players.new.orders.items }
     ensures same { S.tells shelf.new ≡ S.tells shelf.old }
     ensures kept { S.holds shelf.new ≡ S.holds shelf.old }
     ensures faults { S.faults shelf.old ≤ S.faults shelf.new }
@@ -102,6 +106,9 @@ fn run<'a, S: Shelf, K: Sink>(
         players.old.orders.items in
         KeepsOrders (asked_order (asked_by words.now) before) (played_by before
         (map (λ order. order_state (name order) (log order) (seeded order)) players.new.orders.items)) }
+    ensures others { OthersStay (asked_order (asked_by words.now)
+        (map (λ order. order_state (name order) (log order) (seeded order)) players.old.orders.items))
+        players.old.orders.items players.new.orders.items }
     ensures shelf_same { S.tells shelf.new ≡ S.tells shelf.old }
     ensures shelf_kept { S.holds shelf.new ≡ S.holds shelf.old }
     ensures shelf_faults { S.faults shelf.old ≤ S.faults shelf.new }
@@ -178,6 +185,9 @@ pub fn chp_main<S: Shelf, K: Sink, W: Sink>(
         players.old.orders.items in
         KeepsOrders (asked_order (asked_by words.now) before) (played_by before
         (map (λ order. order_state (name order) (log order) (seeded order)) players.new.orders.items)) }
+    ensures others { OthersStay (asked_order (asked_by words.now)
+        (map (λ order. order_state (name order) (log order) (seeded order)) players.old.orders.items))
+        players.old.orders.items players.new.orders.items }
     ensures calm { (p : TypedProgram) → S.tells shelf.old ≡ true →
         RunsCompiled (asked_by words.now) (given_by (S.tells shelf.old) (S.holds shelf.old)) p →
         result ≢ Status.Hazard }

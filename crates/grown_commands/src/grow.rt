@@ -3,6 +3,7 @@
 ghost use Rattle.std.specs.Prelude.{map, IfOk, IfErr};
 ghost use Rattle.command_words.specs.GrowWords.{IsGrowable};
 ghost use Rattle.grown_commands.specs.Growing.{Grows, IsGrownText, grow_order};
+ghost use Rattle.simulation_commands.specs.Simulating.{OthersStay};
 ghost use Rattle.command_steps.specs.Orders.{KeepsOrders, order_state, played_by};
 ghost use Rattle.command_answers.specs.Replies.{Halts, told_answer};
 
@@ -46,6 +47,9 @@ pub fn grow<'a>(
         orders.old.items in
         KeepsOrders (grow_order growth.now.sum before) (played_by before
         (map (λ order. order_state (name order) (log order) (seeded order)) orders.new.items)) }
+    ensures others { OthersStay (grow_order growth.now.sum
+        (map (λ order. order_state (name order) (log order) (seeded order)) orders.old.items))
+        orders.old.items orders.new.items }
 {
     if growth.sum {
         sum_up(alloc, orders, growth)

@@ -14,7 +14,7 @@ ghost use Rattle.command_words.specs.GrowWords.{IsGrowable};
 ghost use Rattle.command_steps.specs.HeldPrograms.{IsProgramOf};
 ghost use Rattle.command_steps.specs.Orders.{IsPlayedAt, KeepsOrders, order_state, place_named, played_by};
 ghost use Rattle.command_answers.specs.Replies.{Halts, told_answer};
-ghost use Rattle.simulation_commands.specs.Simulating.{HasPlayed, simulation_for};
+ghost use Rattle.simulation_commands.specs.Simulating.{OthersStay, HasPlayed, simulation_for};
 ghost use Rattle.grown_commands.specs.Summing.{SumsUp, Summarizes, grown_script, guard_rules, most_of_summed_moves, rule_count, summary_of, summing_order};
 
 use command_answers::{Ending, Output, Refusal, Stop};
@@ -143,6 +143,7 @@ fn run_summed(
     ensures played { IsPlayedAt place (played_by
         (map (λ order. order_state (name order) (log order) (seeded order)) orders.old.items)
         (map (λ order. order_state (name order) (log order) (seeded order)) orders.new.items)) }
+    ensures others { OthersStay (Some place) orders.old.items orders.new.items }
 {
     let room = Room {
         picks: MOST_OF_MOVES,
@@ -169,6 +170,7 @@ fn sum_up_at<'a>(
     ensures played { IsPlayedAt place (played_by
         (map (λ order. order_state (name order) (log order) (seeded order)) orders.old.items)
         (map (λ order. order_state (name order) (log order) (seeded order)) orders.new.items)) }
+    ensures others { OthersStay (Some place) orders.old.items orders.new.items }
 {
     power_is_powered();
     safe_moves_bring_no_hazard();
@@ -209,6 +211,9 @@ pub fn sum_up<'a>(
         orders.old.items in
         KeepsOrders (place_named before summing_order) (played_by before
         (map (λ order. order_state (name order) (log order) (seeded order)) orders.new.items)) }
+    ensures others { OthersStay (place_named
+        (map (λ order. order_state (name order) (log order) (seeded order)) orders.old.items) summing_order)
+        orders.old.items orders.new.items }
 {
     match place_of(orders, ORDER) {
         Some(place) => sum_up_at(alloc, orders, place, growth),

@@ -6,7 +6,7 @@ use Rattle.std.proofs.lemmas.Option.{get_or_from_slice_get, slice_get-get_or, sl
 use Rattle.std.proofs.Math.Seq.{map-set_same}
 use Rattle.event_sim.specs.Simulating.{SimValue, RanValue}
 use Rattle.command_steps.specs.Orders.{OrderState, Played, IsPlayedAt, KeepsOrders, order_state, place_named, played_by}
-use Rattle.simulation_commands.specs.Simulating.{HasPlayed, IsPlayed, ran_value}
+use Rattle.simulation_commands.specs.Simulating.{HasPlayed, IsPlayed, OthersStay, ran_value}
 
 -- ---- lists with one item changed
 
@@ -81,3 +81,11 @@ still_at orders place =
       changed = sym (set-get_or orders place d);
       name = λ was e. ap name_of (get_or_from_slice_get orders place was d e);
     }
+
+-- the others are the very objects that they were
+pub others_at : {X : Type 0} (xs : List X) (place : ℕ) (x : X) → OthersStay (Some place) xs (set xs place x)
+others_at xs place x k other = get_other xs place k x (λ e. other (ap (λ n. Some n) e))
+
+pub others_named : {X : Type 0} (xs ys : List X) (asked : Option ℕ) (place : ℕ) → asked ≡ Some place → OthersStay (Some place) xs ys
+    → OthersStay asked xs ys
+others_named xs ys asked place named stay = subst (λ o. OthersStay o xs ys) (sym named) stay

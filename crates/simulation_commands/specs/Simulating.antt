@@ -1,5 +1,5 @@
 -- What `simulate` answers.
-use Rattle.std.specs.Prelude.{◌≡◌, ℕ, Bool, false, List, ◌++◌, length, slice_get, Option, Some, None}
+use Rattle.std.specs.Prelude.{◌≡◌, ◌≢◌, ℕ, Bool, false, List, ◌++◌, length, slice_get, Option, Some, None}
 use Rattle.prs_core.specs.Nets.{NetValue}
 use Rattle.prs_core.specs.Moves.{high}
 use Rattle.env_script.specs.Environment.{net_channels}
@@ -44,6 +44,10 @@ ran_value s before now end = record {
   done_high = high (after s.net (start_at s) (picked_moves s before now)).values 1;
   passed = passed_in s.net (start_at s) (picked_moves s before now);
 }
+
+-- each order but the one at the place that is asked for, if any is, is the very object that it was
+abbrev pub OthersStay : {Order : Type 0} → (asked : Option ℕ) → (before after : List Order) → Type 0
+OthersStay asked before after = (place : ℕ) → asked ≢ Some place → slice_get after place ≡ slice_get before place
 
 -- the order at this place led to this run of the simulation
 pub record HasPlayed (played : Played) (place seed : ℕ) (s : SimValue) (ran : RanValue) : Type 0 where

@@ -9,7 +9,7 @@ ghost use Rattle.command_steps.specs.Orders.{IsPlayedAt, KeepsOrders, order_stat
 ghost use Rattle.command_answers.specs.Replies.{Stops, told_answer};
 ghost use Rattle.simulation_commands.specs.RunReporting.{IsReported};
 ghost use Rattle.command_steps.specs.RunSteps.{lacks_reset};
-ghost use Rattle.simulation_commands.specs.Simulating.{HasPlayed, IsPlayed, Simulates, SimulatesAt, SimulatesNet, ran_value, simulation_for};
+ghost use Rattle.simulation_commands.specs.Simulating.{OthersStay, HasPlayed, IsPlayed, Simulates, SimulatesAt, SimulatesNet, ran_value, simulation_for};
 ghost use Rattle.command_words.specs.SimulateWords.{text_given};
 ghost use Rattle.width_check.specs.Typed.{program_of as typed_of};
 
@@ -101,6 +101,7 @@ pub fn play_at(
     ensures played { IsPlayedAt place (played_by
         (map (λ order. order_state (name order) (log order) (seeded order)) orders.old.items)
         (map (λ order. order_state (name order) (log order) (seeded order)) orders.new.items)) }
+    ensures others { OthersStay (Some place) orders.old.items orders.new.items }
 {
     play(&mut orders[place], sim, seed, room)
 }
@@ -127,6 +128,7 @@ fn report_at(
     ensures played { IsPlayedAt place (played_by
         (map (λ order. order_state (name order) (log order) (seeded order)) orders.old.items)
         (map (λ order. order_state (name order) (log order) (seeded order)) orders.new.items)) }
+    ensures others { OthersStay (Some place) orders.old.items orders.new.items }
 {
     let room = Room {
         picks: run.steps,
@@ -163,6 +165,7 @@ fn simulate_at<'a, S: Shelf>(
     ensures played { IsPlayedAt place (played_by
         (map (λ order. order_state (name order) (log order) (seeded order)) orders.old.items)
         (map (λ order. order_state (name order) (log order) (seeded order)) orders.new.items)) }
+    ensures others { OthersStay (Some place) orders.old.items orders.new.items }
     ensures same { S.tells shelf.new ≡ S.tells shelf.old }
     ensures kept { S.holds shelf.new ≡ S.holds shelf.old }
     ensures faults { S.faults shelf.old ≤ S.faults shelf.new }
@@ -207,6 +210,9 @@ pub fn simulate<'a, S: Shelf>(
         orders.old.items in
         KeepsOrders (place_named before run.now.order.now) (played_by before
         (map (λ order. order_state (name order) (log order) (seeded order)) orders.new.items)) }
+    ensures others { OthersStay (place_named
+        (map (λ order. order_state (name order) (log order) (seeded order)) orders.old.items) run.now.order.now)
+        orders.old.items orders.new.items }
     ensures same { S.tells shelf.new ≡ S.tells shelf.old }
     ensures kept { S.holds shelf.new ≡ S.holds shelf.old }
     ensures faults { S.faults shelf.old ≤ S.faults shelf.new }

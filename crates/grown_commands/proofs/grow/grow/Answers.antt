@@ -38,3 +38,6 @@ returns-else-growth-clause-stopped g c = rw c.if-growth.false c.grown.ensures.st
 
 pub returns-else-growth-clause-orders : goal.returns-else-growth-clause-orders
 returns-else-growth-clause-orders g c = unplayed _ _
+
+pub returns-then-growth-clause-others : goal.returns-then-growth-clause-others
+returns-then-growth-clause-others g c = rw c.if-growth.true c.sum_up.ensures.others

@@ -1,4 +1,4 @@
-use Rattle.simulation_commands.proofs.Keeping.{led_at, played_at}
+use Rattle.simulation_commands.proofs.Keeping.{led_at, others_at, played_at}
 use Rattle.command_steps.proofs.Stopping.{ok_both}
 use Rattle.simulation_commands.proofs.simulate.play_at.Goals as goal
 
@@ -9,3 +9,6 @@ returns-clause-led g c =
 
 pub returns-clause-played : goal.returns-clause-played
 returns-clause-played g c = played_at _ _ _ _ _ c.requires.place c.index_mut.ensures.value c.play.ensures.name
+
+pub returns-clause-others : goal.returns-clause-others
+returns-clause-others g c = others_at _ _ _

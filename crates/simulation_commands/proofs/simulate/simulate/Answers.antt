@@ -1,6 +1,6 @@
 use Rattle.std.proofs.Common.{◌∙◌, sym}
 use Rattle.command_steps.specs.RunSteps.{an_order, no_order}
-use Rattle.simulation_commands.proofs.Keeping.{only_named, unplayed}
+use Rattle.simulation_commands.proofs.Keeping.{only_named, others_named, unplayed}
 use Rattle.command_steps.proofs.Stopping.{err_in}
 use Rattle.command_words.proofs.Results.{ok_in}
 use Rattle.simulation_commands.proofs.SimulateStopping.{order_stops}
@@ -23,3 +23,6 @@ returns-in-Some-clause-stopped g c =
 
 pub returns-in-Some-clause-orders : goal.returns-in-Some-clause-orders
 returns-in-Some-clause-orders g c = only_named _ _ c.in-Some.place (sym c.place_of.ensures.place ∙ c.in-Some.is) c.simulate_at.ensures.played
+
+pub returns-in-Some-clause-others : goal.returns-in-Some-clause-others
+returns-in-Some-clause-others g c = others_named _ _ _ c.in-Some.place (sym c.place_of.ensures.place ∙ c.in-Some.is) c.simulate_at.ensures.others
