@@ -132,21 +132,23 @@ fn run<'a, S: Shelf, K: Sink>(
 }
 
 /// Runs the command that the words ask for: reads its files from the shelf, writes its output, and says one line where
-/// it doesn't end well. The output is written whole or not at all, but where it fails: then a prefix of it was written.
-/// Faults of `say` change neither the status nor the output.
+/// it doesn't end well. The output is written whole, or where it fails less than the whole, a prefix of it. Faults of
+/// `say` change neither the status nor the output.
 ///
 /// What is answered, written and said is the command's answer to its files, of which there is at most one where the
-/// shelf tells them. Three things may come between: the shelf fails at a file of the command (`Read`), the output
-/// fails, and a prefix of what the command writes was written (`Write`), or memory runs out (`NoMemory`), which may be
-/// at any point and is merged with no other answer.
+/// shelf tells them. Three things may come between: the shelf fails at a file of the command (`Read`), the output fails
+/// before its end (`Write`), or memory runs out (`NoMemory`), which may be at any point and is merged with no other
+/// answer. Where the files hold what the command is served with, and the order that it asks for is there, the answer is
+/// to write.
 ///
-/// The simulation of a rule file that `compile` wrote finds no hazard, under whatever script and by whatever order or
-/// delays, and where it reports rest no order makes more moves. Where its program comes to rest under the script, so
-/// does the run, if the limit is high enough; with delays of at most some time, no later than the most moves at that
-/// time each. The same holds of the run that `waves` tells.
+/// A run of a rule file that `compile` wrote, by an order, by delays or told as a wave, finds no hazard under whatever
+/// script, and where it reports rest no order makes more moves. Where its program comes to rest under the script, so
+/// does the run, if the limit is high enough. With delays of at most some time it does so no later than the most moves
+/// at that time each; and where it goes on for 2 · (2 nodes + 1) of these times for each of n rounds of the program, with
+/// a reset node for two more, it has passed what these rounds pass.
 ///
-/// Of the handed-in orders only the one that the command asks for is used, if it asks for one: the others have the logs
-/// and the last seeds that they had, and all have their names and their places still.
+/// Of the handed-in orders only the one that the command asks for is used, if it asks for one: the others are the very
+/// objects that they were, and all have their names and their places still.
 pub fn chp_main<S: Shelf, K: Sink, W: Sink>(
     alloc: Global,
     words: &[String],
