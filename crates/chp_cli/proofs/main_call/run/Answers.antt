@@ -40,3 +40,18 @@ returns-clause-ended g c =
           prefix.1 c.in-Err-write.ensures.failed,
       prefix.2,
     )
+
+pub returns-in-Err-answer-clause-others : goal.returns-in-Err-answer-clause-others
+returns-in-Err-answer-clause-others g c =
+    let named : asked_by c.args.words.now ≡ Some (asked c.in-Ok-Some.command) = search rules in
+    rw named c.answer.ensures.others
+
+pub returns-in-Ok-write-clause-others : goal.returns-in-Ok-write-clause-others
+returns-in-Ok-write-clause-others g c =
+    let named : asked_by c.args.words.now ≡ Some (asked c.in-Ok-Some.command) = search rules in
+    rw named c.answer.ensures.others
+
+pub returns-clause-others : goal.returns-clause-others
+returns-clause-others g c =
+    let named : asked_by c.args.words.now ≡ Some (asked c.in-Ok-Some.command) = search rules in
+    rw named c.answer.ensures.others
