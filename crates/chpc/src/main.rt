@@ -10,7 +10,7 @@ use std::io::{ErrorKind, Write};
 use std::process::ExitCode;
 use std::rt::{Env, Files};
 
-/// The words behind the program's name. A word that isn't UTF-8 is a wrong word, and no words are wrong words too.
+/// The words after the program's name. No words where one of them isn't UTF-8, since a call without words is refused.
 fn words<R: Env + AllocGlobal>(rt: &R) -> Result<Vec<String>, AllocError> {
     let mut words = match env::args(rt) {
         Ok(args) => args,
@@ -39,7 +39,7 @@ fn run_words<R: AllocGlobal + Files, K: Sink, W: Sink>(
     Ok(chp_main(alloc, words, &mut shelf, out, say, &mut players))
 }
 
-/// Runs the words, or says that there is no memory for what a call is handed.
+/// Runs the words, or says out of memory where there is none for the arguments of a call.
 fn run<R: Env + AllocGlobal + Files, O: Write + Drop, E: Write + Drop>(
     rt: &R,
     out: O,

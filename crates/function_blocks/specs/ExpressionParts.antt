@@ -82,7 +82,7 @@ AreDistinct read =
     (p q : Pair) (one side : Bool) → Contains read p → Contains read q → node_of p one ≡ node_of q side → (p ≡ q)
     × (one ≡ side)
 
--- A well-formed expression whose request and whose variables' rails are nodes apart, and none of its own.
+-- A well-formed expression whose request and whose variables' rails are distinct nodes, and none of its own.
 pub record StandsApart (bits : ℕ → List Pair) (e : Formula) (request from : ℕ) : Type 0 where
   pub formed : IsWellFormed e
   pub there : EachRead (λ x bit. bit < length (bits x)) e

@@ -48,7 +48,7 @@ fn give(guards: Vec<NodeGuards>, from: u32, rules: &mut Rules)
 }
 
 /// Writes the guards of the nodes of an expression's circuit (Martin), which are numbered from `from` on, and no
-/// others, and answers the rails of its value: rail t and rail f of each bit, the lowest bit first. Under `request` the
+/// others, and returns the rails of its value: rail t and rail f of each bit, the lowest bit first. Under `request` the
 /// rails rise to the value, and when it falls they fall. `vars` has for each variable the first node of its block,
 /// which begins with five nodes for each bit, the first two of them the bit's rails. The request and the rails that are
 /// read are none of the own nodes, and the request is none of the rails. Where memory runs out, nothing is written.
