@@ -6,7 +6,7 @@ use chp_edge::{ErrSink, FileShelf, OutSink, Sink, write_all};
 use event_sim::{Lowest, Newest, Oldest, Picker, Random};
 use std::alloc::AllocError;
 use std::env;
-use std::io::{ErrorKind, Write};
+use std::io::{BufWriter, ErrorKind, Write};
 use std::process::ExitCode;
 use std::rt::{Env, Files};
 
@@ -60,6 +60,12 @@ fn run<R: Env + AllocGlobal + Files, O: Write + Drop, E: Write + Drop>(
     }
 }
 
+/// The line on standard error is written at once, so that programs which share it don't mix their lines. Only a line
+/// of more than 8,192 bytes, or without memory for the buffer, goes out in pieces.
 fn main(rt: HostRuntime) -> ExitCode {
-    ExitCode::from(run(&rt, rt.stdout(), rt.stderr()).number())
+    let status = match BufWriter::new(rt.alloc(), rt.stderr()) {
+        Ok(say) => run(&rt, rt.stdout(), say),
+        Err(_) => run(&rt, rt.stdout(), rt.stderr()),
+    };
+    ExitCode::from(status.number())
 }
