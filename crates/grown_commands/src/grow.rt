@@ -3,9 +3,9 @@
 ghost use Rattle.std.specs.Prelude.{map, IfOk, IfErr};
 ghost use Rattle.command_words.specs.GrowWords.{IsGrowable};
 ghost use Rattle.grown_commands.specs.Growing.{Grows, IsGrownText, grow_order};
-ghost use Rattle.simulation_commands.specs.Simulating.{OthersStay};
+ghost use Rattle.simulation_commands.specs.Simulating.{OthersStay, StaysUnasked};
 ghost use Rattle.command_steps.specs.Orders.{KeepsOrders, order_state, played_by};
-ghost use Rattle.command_answers.specs.Replies.{Halts, told_answer};
+ghost use Rattle.command_answers.specs.Replies.{Halts, stop_status, told_answer};
 
 use crate::grow_summary::sum_up;
 use command_answers::{Ending, Output, Stop};
@@ -50,6 +50,7 @@ pub fn grow<'a>(
     ensures others { OthersStay (grow_order growth.now.sum
         (map (λ order. order_state (name order) (log order) (seeded order)) orders.old.items))
         orders.old.items orders.new.items }
+    ensures unasked { IfErr result (λ stop. StaysUnasked (stop_status stop) orders.old.items orders.new.items) }
 {
     if growth.sum {
         sum_up(alloc, orders, growth)

@@ -13,8 +13,8 @@ ghost use Rattle.width_check.specs.Typed.{program_of as typed_of};
 ghost use Rattle.command_words.specs.GrowWords.{IsGrowable};
 ghost use Rattle.command_steps.specs.HeldPrograms.{IsProgramOf};
 ghost use Rattle.command_steps.specs.Orders.{IsPlayedAt, KeepsOrders, order_state, place_named, played_by};
-ghost use Rattle.command_answers.specs.Replies.{Halts, told_answer};
-ghost use Rattle.simulation_commands.specs.Simulating.{OthersStay, HasPlayed, simulation_for};
+ghost use Rattle.command_answers.specs.Replies.{Halts, stop_status, told_answer};
+ghost use Rattle.simulation_commands.specs.Simulating.{OthersStay, StaysUnasked, HasPlayed, simulation_for};
 ghost use Rattle.grown_commands.specs.Summing.{SumsUp, Summarizes, grown_script, guard_rules, most_of_summed_moves, rule_count, summary_of, summing_order};
 
 use command_answers::{Ending, Output, Refusal, Stop};
@@ -214,6 +214,7 @@ pub fn sum_up<'a>(
     ensures others { OthersStay (place_named
         (map (λ order. order_state (name order) (log order) (seeded order)) orders.old.items) summing_order)
         orders.old.items orders.new.items }
+    ensures unasked { IfErr result (λ stop. StaysUnasked (stop_status stop) orders.old.items orders.new.items) }
 {
     match place_of(orders, ORDER) {
         Some(place) => sum_up_at(alloc, orders, place, growth),

@@ -1,5 +1,5 @@
 -- What `simulate` answers.
-use Rattle.std.specs.Prelude.{◌≡◌, ◌≢◌, ℕ, Bool, false, List, ◌++◌, length, slice_get, Option, Some, None}
+use Rattle.std.specs.Prelude.{◌≡◌, ◌≢◌, ℕ, Bool, true, false, List, ◌++◌, length, slice_get, Option, Some, None}
 use Rattle.prs_core.specs.Nets.{NetValue}
 use Rattle.prs_core.specs.Moves.{high}
 use Rattle.env_script.specs.Environment.{net_channels}
@@ -10,6 +10,8 @@ use Rattle.event_sim.specs.Ends.{EndsSo}
 use Rattle.event_sim.specs.Following.{ArePicks}
 use Rattle.event_sim.specs.Passing.{passed_in}
 use Rattle.event_sim.specs.Simulating.{SimValue, RanValue, start_at, growth, picked_moves}
+use Rattle.command_answers.specs.declared.status.Status.{Status}
+use Rattle.command_answers.specs.declared.status.Status.TheVariants.{Done, Hazard, Differs, Write, NoMemory}
 use Rattle.command_answers.specs.Answers.{Given, Answer}
 use Rattle.command_steps.specs.Orders.{OrderState, Played}
 use Rattle.command_steps.specs.References.{FromReference}
@@ -48,6 +50,19 @@ ran_value s before now end = record {
 -- every order except the one at the index that is asked for, if any is, is the very object that it was
 abbrev pub OthersStay : {Order : Type 0} → (asked : Option ℕ) → (before after : List Order) → Type 0
 OthersStay asked before after = (place : ℕ) → asked ≢ Some place → slice_get after place ≡ slice_get before place
+
+-- the statuses of calls in which an order may have been asked: the output was written, or cut off, or memory ran out
+abbrev pub may_have_asked : Status → Bool
+may_have_asked Done = true
+may_have_asked Hazard = true
+may_have_asked Differs = true
+may_have_asked Write = true
+may_have_asked NoMemory = true
+may_have_asked _ = false
+
+-- where the call refuses or can't read a file, no order is asked: all are the very objects that they were
+abbrev pub StaysUnasked : {Order : Type 0} → Status → (before after : List Order) → Type 0
+StaysUnasked status before after = may_have_asked status ≡ false → after ≡ before
 
 -- the order at this index led to this run of the simulation
 pub record HasPlayed (played : Played) (place seed : ℕ) (s : SimValue) (ran : RanValue) : Type 0 where

@@ -6,10 +6,10 @@ ghost use Rattle.env_script.specs.Scripts.{IsScript};
 ghost use Rattle.command_answers.specs.Answers.{given_by};
 ghost use Rattle.command_words.specs.CommandWords.{run_asked};
 ghost use Rattle.command_steps.specs.Orders.{IsPlayedAt, KeepsOrders, order_state, place_named, played_by};
-ghost use Rattle.command_answers.specs.Replies.{Stops, told_answer};
+ghost use Rattle.command_answers.specs.Replies.{Stops, stop_status, told_answer};
 ghost use Rattle.simulation_commands.specs.RunReporting.{IsReported};
 ghost use Rattle.command_steps.specs.RunSteps.{lacks_reset};
-ghost use Rattle.simulation_commands.specs.Simulating.{OthersStay, HasPlayed, IsPlayed, Simulates, SimulatesAt, SimulatesNet, ran_value, simulation_for};
+ghost use Rattle.simulation_commands.specs.Simulating.{OthersStay, StaysUnasked, HasPlayed, IsPlayed, Simulates, SimulatesAt, SimulatesNet, ran_value, simulation_for};
 ghost use Rattle.command_words.specs.SimulateWords.{text_given};
 ghost use Rattle.width_check.specs.Typed.{program_of as typed_of};
 
@@ -166,6 +166,7 @@ fn simulate_at<'a, S: Shelf>(
         (map (λ order. order_state (name order) (log order) (seeded order)) orders.old.items)
         (map (λ order. order_state (name order) (log order) (seeded order)) orders.new.items)) }
     ensures others { OthersStay (Some place) orders.old.items orders.new.items }
+    ensures unasked { IfErr result (λ stop. StaysUnasked (stop_status stop) orders.old.items orders.new.items) }
     ensures same { S.tells shelf.new ≡ S.tells shelf.old }
     ensures kept { S.holds shelf.new ≡ S.holds shelf.old }
     ensures faults { S.faults shelf.old ≤ S.faults shelf.new }
@@ -213,6 +214,7 @@ pub fn simulate<'a, S: Shelf>(
     ensures others { OthersStay (place_named
         (map (λ order. order_state (name order) (log order) (seeded order)) orders.old.items) run.now.order.now)
         orders.old.items orders.new.items }
+    ensures unasked { IfErr result (λ stop. StaysUnasked (stop_status stop) orders.old.items orders.new.items) }
     ensures same { S.tells shelf.new ≡ S.tells shelf.old }
     ensures kept { S.holds shelf.new ≡ S.holds shelf.old }
     ensures faults { S.faults shelf.old ≤ S.faults shelf.new }
