@@ -4,5 +4,6 @@ pub mod RoundsWords
 pub mod CompileWords
 pub mod Forms
 pub mod Words
+pub mod PlainForms
 pub mod GrowWords
 pub mod CommandWords
