@@ -1,8 +1,7 @@
 -- The rules that `clap` makes of a form's arguments.
-use Rattle.std.proofs.Common.{◌≡◌, ◌∙◌, ◌&&◌, ◌||◌, ◌==◌, ◌+◌, ◌≤◌, ℕ, Bool, cond, true, false, not, refl, sym, ap, arith, suc, List, [], ◌∷◌, length, map, min, Option, Some, None, is_some, option_map}
-use Rattle.std.specs.Prelude.{find, nat_le}
+use Rattle.std.proofs.Common.{◌≡◌, ◌∙◌, ◌&&◌, ◌||◌, ◌==◌, ◌+◌, ◌≤◌, ℕ, Bool, cond, true, false, not, refl, sym, ap, arith, suc, List, [], ◌∷◌, length, map, min, Option, Some, None, option_map}
+use Rattle.std.specs.Prelude.{find}
 use Rattle.std.specs.List.{list_all, list_any}
-use Rattle.std.specs.Option.{option_map_or}
 use Rattle.std.specs.Str.{bytes_eq}
 use Rattle.std.proofs.lemmas.Bool.Decides.{nat_tests}
 use Rattle.clap.specs.Lexer.{usize_max}
@@ -194,8 +193,9 @@ comes_from c i (a ∷ rest) agrees within = go a.name a.kind agrees
         → (((p : ℕ) → i ≤ p → arg_by_index c p ≡ arg_by_index (rules_from i rest) p) → Comes c i (word_names rest))
         → Comes c i (word_names (of name k ∷ rest))
     go name a_word agrees word other =
-        let next : min (i + 1) usize_max ≡ i + 1 = next_index i (length rest) within in
-        (agrees i (omega arith) ∙ rw (same_index i) refl,
-        rw next (word (λ p past. agrees p (omega arith) ∙ rw (index_past i p (omega arith), next) refl)))
+        let next : min (i + 1) usize_max ≡ i + 1 = next_index i (length rest) within in (
+          agrees i (omega arith) ∙ rw (same_index i) refl,
+          rw next (word (λ p past. agrees p (omega arith) ∙ rw (index_past i p (omega arith), next) refl)),
+        )
     go name a_flag agrees word other = other (λ p past. agrees p past)
     go name (an_option needed) agrees word other = other (λ p past. agrees p past)

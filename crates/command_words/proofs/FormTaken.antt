@@ -1,6 +1,6 @@
 -- What `clap` takes by a form of words, flags and options is what the plain reading of the words says.
-use Rattle.std.proofs.Common.{◌≡◌, ◌∙◌, ◌&&◌, ◌||◌, ◌==◌, ◌++◌, ◌+◌, ◌≤◌, ℕ, suc, Bool, cond, true, false, not, refl, sym, ap, arith, List, [], ◌∷◌, length, map, min, Option, Some, None, is_some, codes, option_map, subst, nat_lt}
-use Rattle.std.specs.Prelude.{find, fold, option_and_then}
+use Rattle.std.proofs.Common.{◌≡◌, ◌∙◌, ◌&&◌, ◌++◌, ◌+◌, ◌≤◌, ℕ, Bool, cond, true, false, not, refl, ap, arith, List, [], ◌∷◌, length, map, min, Option, Some, None, is_some, codes, nat_lt}
+use Rattle.std.specs.Prelude.{fold, option_and_then}
 use Rattle.std.specs.List.{list_all}
 use Rattle.std.specs.Str.{IsUtf8, bytes_eq}
 use Rattle.std.specs.String.{string_bytes}
@@ -10,16 +10,16 @@ use Rattle.std.proofs.lemmas.Bool.Decides.{nat_tests}
 use Rattle.std.proofs.lemmas.Str.{IsUtf8-string_bytes}
 use Rattle.std.proofs.lemmas.Slice.Eq.{bytes_eq-Decides}
 use Rattle.clap.specs.Lexer.{long_of, usize_max}
-use Rattle.clap.specs.Walk.{Held, Row, Rule, Text, Waiting, Walk, finished, first_of, idle, nothing_held, option, reacted, settled, walk, walked, with_default}
+use Rattle.clap.specs.Walk.{Held, Row, Rule, Text, Waiting, Walk, finished, first_of, idle, nothing_held, option, reacted, walk, walked, with_default}
 use Rattle.clap.specs.Simple.{built, entered, is_simple, matches_of}
-use Rattle.clap.specs.Takes.{default_passes, entered_passes, is_given, is_valid, level_passes, settle_passes, takes, turn_passes, walk_passes}
+use Rattle.clap.specs.Takes.{default_passes, entered_passes, is_valid, level_passes, settle_passes, takes, turn_passes, walk_passes}
 use Rattle.command_words.specs.Forms.{texts_of}
 use Rattle.command_words.specs.PlainForms.{Argument, ArgumentKind, ArgumentsMet, WordPlace, a_word, a_flag, an_option, anywhere, argument_called, before_value, after_dashes, is_a_word, was_met, meets_argument, plain_words, read_words, told_texts, with_argument, with_name, with_kind, with_word, word_names}
 use Rattle.command_words.specs.Words.{is_flag}
-use Rattle.command_words.proofs.FormRules.{Comes, all_found, all_simple, and_true, both_true, comes_from, defaults_pass, filled_free, filled_rule, filled_simple, form_of, found_passes, in_order, of, rules_from}
+use Rattle.command_words.proofs.FormRules.{Comes, all_found, all_simple, both_true, comes_from, defaults_pass, filled_free, filled_rule, filled_simple, form_of, found_passes, in_order, of, rules_from}
 use Rattle.command_words.proofs.FormRows.{made}
 use Rattle.command_words.proofs.FormEnds.{tells_flags, values_told}
-use Rattle.command_words.proofs.FormWalk.{AreRules, IsPlain, Stands, any_turn, any_walked, are_rules, at, attached_turn, attached_twice, attached_walked, awaits, dashes, dashes_turn, dashes_walked, doomed_turn, flag_turn, flag_twice, flag_valued, flag_walked, full_any, full_turn, holds, holds_passes, holds_stands, is_own, lost_any, lost_turn, option_turn, option_walked, plain_word, reacts_stands, shape_with, short_turn, short_word, strange_turn, value_turn, value_walked, word_turn, word_walked}
+use Rattle.command_words.proofs.FormWalk.{AreRules, Stands, any_turn, any_walked, are_rules, at, attached_turn, attached_twice, attached_walked, awaits, dashes, dashes_turn, dashes_walked, doomed_turn, flag_turn, flag_twice, flag_valued, flag_walked, full_any, full_turn, holds, holds_passes, holds_stands, is_own, lost_any, lost_turn, option_turn, option_walked, plain_word, reacts_stands, shape_with, short_turn, short_word, strange_turn, value_turn, value_walked, word_turn, word_walked}
 
 -- each name is that of one argument, and there are few enough to be counted
 abbrev pub is_clear : List Argument → Bool

@@ -1,18 +1,19 @@
 -- The walk over the words of a form, turn by turn.
-use Rattle.std.proofs.Common.{◌≡◌, ◌∙◌, ◌&&◌, ◌||◌, ◌==◌, ◌++◌, ◌+◌, ℕ, Bool, cond, true, false, not, refl, sym, ap, ap₂, List, [], ◌∷◌, length, map, min, Option, Some, None, is_some, codes, option_map, eqb-true, lit<}
+use Rattle.std.proofs.Common.{◌≡◌, ◌∙◌, ◌&&◌, ◌||◌, ◌==◌, ◌++◌, ◌+◌, ℕ, Bool, true, false, not, refl, sym, ap, ap₂, List, [], ◌∷◌, map, min, Option, Some, None, option_map, eqb-true, lit<}
 use Rattle.std.specs.Prelude.{find, slice_get}
 use Rattle.std.specs.Option.{option_map_or}
 use Rattle.std.specs.Str.{IsUtf8, bytes_eq, chars, encode_utf8_all}
 use Rattle.std.proofs.lemmas.Str.{IsUtf8-past_char, encode_ascii, encodes-chars}
 use Rattle.std.proofs.lemmas.Slice.Eq.{bytes_eq-Decides}
 use Rattle.clap.specs.Lexer.{long_of, short_of, usize_max}
-use Rattle.clap.specs.Walk.{Held, Names, Rule, Text, Waiting, Walk, arg_by_id, arg_by_index, arg_by_long, arg_by_short, has_row, idle, is_pending, option, positional, reacted, settled, settled_rows, subcommand_met, used, walked}
+use Rattle.clap.specs.Walk.{Held, Rule, Text, Waiting, Walk, arg_by_id, arg_by_index, arg_by_long, arg_by_short, has_row, idle, is_pending, option, positional, reacted, settled, settled_rows, subcommand_met, used, walked}
 use Rattle.clap.specs.Simple.{Shape, built, with_index}
-use Rattle.clap.specs.Takes.{flag_word_passes, flags_pass, long_passes, settle_passes, turn_passes, use_passes}
-use Rattle.command_words.specs.PlainForms.{Argument, ArgumentKind, ArgumentsMet, a_word, a_flag, an_option, argument_called, is_a_word, was_met}
+use Rattle.clap.specs.Takes.{flags_pass, settle_passes, turn_passes}
+use Rattle.command_words.specs.PlainForms.{Argument, ArgumentKind, ArgumentsMet, a_word, a_flag, an_option, argument_called, was_met}
 use Rattle.command_words.specs.SimulateWords.{bare_form}
 use Rattle.command_words.specs.Words.{is_flag}
-use Rattle.command_words.proofs.FormRules.{Comes, both_true, by_id, by_long, filled_rule, found_passes, no_short, of, rules_from}
+use Rattle.command_words.specs.WrittenForms.{same_kind}
+use Rattle.command_words.proofs.FormRules.{by_id, by_long, filled_rule, found_passes, no_short, of, rules_from}
 use Rattle.command_words.proofs.FormEnds.{is_a_flag}
 use Rattle.command_words.proofs.FormRows.{Fits, made, made_has, used_once, uses}
 
@@ -74,18 +75,11 @@ short_word (x ∷ y ∷ rest) u is ends long = go rest (y == 45) refl u ends lon
 abbrev pub shape_with : Text → List Rule → Shape
 shape_with name c = record (built (bare_form name)).top { rules = c }
 
-abbrev pub same_kind : ArgumentKind → ArgumentKind → Bool
-same_kind a_word a_word = true
-same_kind a_flag a_flag = true
-same_kind (an_option true) (an_option true) = true
-same_kind (an_option false) (an_option false) = true
-same_kind _ _ = false
-
 -- the first argument of this name is of this kind
 abbrev pub is_own : List Argument → Argument → Bool
 is_own arguments a = option_map_or (λ (b : Argument). same_kind b.kind a.kind) (find (λ (b : Argument). bytes_eq b.name a.name) arguments) false
 
-same_kinds : (k l : ArgumentKind) → same_kind k l ≡ true → k ≡ l
+pub same_kinds : (k l : ArgumentKind) → same_kind k l ≡ true → k ≡ l
 same_kinds a_word a_word e = refl
 same_kinds a_flag a_flag e = refl
 same_kinds (an_option true) (an_option true) e = refl

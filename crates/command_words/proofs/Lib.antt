@@ -3,6 +3,7 @@ pub mod FormRows
 pub mod FormEnds
 pub mod FormWalk
 pub mod FormTaken
+pub mod Written
 pub mod PlainCommands
 pub mod Asked
 pub mod Taken

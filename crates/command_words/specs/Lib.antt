@@ -5,5 +5,7 @@ pub mod CompileWords
 pub mod Forms
 pub mod Words
 pub mod PlainForms
+pub mod WrittenForms
 pub mod GrowWords
 pub mod CommandWords
+pub mod WrittenCommands
