@@ -1,8 +1,11 @@
-pub mod Plain
-pub mod PlainCompile
-pub mod PlainGrow
+pub mod FormRules
+pub mod FormRows
+pub mod FormEnds
+pub mod FormWalk
+pub mod FormTaken
+pub mod Written
+pub mod PlainCommands
+pub mod Asked
 pub mod Taken
 pub mod GivenTexts
-pub mod Commanded
-pub mod Waved
 pub mod Results

@@ -6,11 +6,11 @@ use Rattle.std.specs.declared.alloc.Global.{Global}
 use Rattle.std.specs.declared.string.String.{String}
 use Rattle.command_words.specs.CompileWords.{AskedCompilation, compilation_asked, compile_of, plain_compile}
 use Rattle.command_words.specs.GrowWords.{IsGrowable, growth_of, plain_growth}
-use Rattle.command_words.specs.RoundsWords.{AskedRounds, rounds_of}
-use Rattle.command_words.specs.SimulateWords.{AskedRun, AskedSimulation, by_order, by_delays, most_of_steps, simulate_of, AskedTiming}
-use Rattle.command_words.specs.WavesWords.{AskedWaves, waves_of}
+use Rattle.command_words.specs.RoundsWords.{AskedRounds, plain_rounds, rounds_of}
+use Rattle.command_words.specs.SimulateWords.{AskedRun, AskedSimulation, by_order, by_delays, most_of_steps, plain_simulate, simulate_of, AskedTiming}
+use Rattle.command_words.specs.WavesWords.{AskedWaves, plain_waves, waves_of}
 use Rattle.command_words.specs.Forms.{texts_of}
-use Rattle.command_words.specs.Words.{plain_file}
+use Rattle.command_words.specs.PlainForms.{Argument, plain_words, word_named}
 use Rattle.clap.specs.Words.{App, Rule, Text, first_of, matches_of, new_app, new_rule, takes, with_rule}
 use Rattle.clap.specs.Simple.{on_top}
 use Rattle.clap.specs.declared.builder.ArgAction.TheVariants.{Set}
@@ -39,7 +39,7 @@ file_form name = with_rule
     file_rule
 
 -- the file that the words after the command's name give, where its form takes them
-abbrev pub file_of : Text → List Text → Option Text
+unfoldable pub file_of : Text → List Text → Option Text
 file_of name words = if takes (file_form name) words
     then first_of (codes "FILE") (matches_of (file_form name) words) else None
 
@@ -163,21 +163,31 @@ command_of (word ∷ rest) = option_and_then (λ v. command_with v word rest) (v
 
 -- ---- the same in plain words
 
--- the words of `simulate`, of `waves` and of `run` are described by their forms alone
-abbrev pub plain_with : Verb → Text → List Text → Option Asked
-plain_with verb.Compile word rest = option_map compiles (plain_compile rest)
-plain_with verb.Migrate word rest = option_map migrates (plain_file rest)
-plain_with verb.Check word rest = option_map checks (plain_file rest)
-plain_with verb.Expand word rest = option_map expands (plain_file rest)
-plain_with verb.Simulate word rest = option_map simulate_asked (simulate_of word rest)
-plain_with verb.Waves word rest = option_map traces (waves_of word rest)
-plain_with verb.Unwave word rest = option_map unwaves (plain_file rest)
-plain_with verb.Run word rest = option_map runs (rounds_of word rest)
-plain_with verb.Grow word rest = option_map grows (plain_growth rest)
+abbrev pub file_arguments : List Argument
+file_arguments = word_named (codes "FILE") ∷ []
+
+abbrev pub file_by : List (Option Text) → Option Text
+file_by (file ∷ []) = file
+file_by _ = None
+
+-- a file, with nothing beside it
+unfoldable pub plain_file : List Text → Option Text
+plain_file words = option_and_then file_by (plain_words file_arguments words)
+
+abbrev pub plain_with : Verb → List Text → Option Asked
+plain_with verb.Compile rest = option_map compiles (plain_compile rest)
+plain_with verb.Migrate rest = option_map migrates (plain_file rest)
+plain_with verb.Check rest = option_map checks (plain_file rest)
+plain_with verb.Expand rest = option_map expands (plain_file rest)
+plain_with verb.Simulate rest = option_map simulate_asked (plain_simulate rest)
+plain_with verb.Waves rest = option_map traces (plain_waves rest)
+plain_with verb.Unwave rest = option_map unwaves (plain_file rest)
+plain_with verb.Run rest = option_map runs (plain_rounds rest)
+plain_with verb.Grow rest = option_map grows (plain_growth rest)
 
 abbrev pub plain_command : List Text → Option Asked
 plain_command [] = None
-plain_command (word ∷ rest) = option_and_then (λ v. plain_with v word rest) (verb_of word)
+plain_command (word ∷ rest) = option_and_then (λ v. plain_with v rest) (verb_of word)
 
 -- ---- the command of the words
 

@@ -1,10 +1,11 @@
 -- The words of `grow`: a seed, a number of stages, and the flag `--sum`.
-use Rattle.std.specs.Prelude.{ℕ, ◌≤◌, nat_le, Bool, true, false, List, [], ◌∷◌, Option, Some, None, codes, if◌then◌else◌, option_and_then}
+use Rattle.std.specs.Prelude.{ℕ, ◌≤◌, nat_le, Bool, List, [], ◌∷◌, Option, Some, None, codes, if◌then◌else◌, option_and_then}
 use Rattle.clap.specs.Words.{App, Rule, Text, first_of, matches_of, new_rule, takes, with_rule}
 use Rattle.clap.specs.declared.builder.ArgAction.TheVariants.{SetTrue}
 use Rattle.command_words.specs.declared.grow_words.Growth.{Growth}
 use Rattle.command_words.specs.SimulateWords.{bare_form, most_of_seed, number_up_to, word_rule}
-use Rattle.command_words.specs.Words.{is_set, asks, without_first}
+use Rattle.command_words.specs.PlainForms.{Argument, flag_named, plain_words, word_named}
+use Rattle.command_words.specs.Words.{is_set}
 
 abbrev pub sum_rule : Rule
 sum_rule = record (new_rule (codes "sum")) { long = Some (codes "sum"); action = Some SetTrue }
@@ -34,7 +35,7 @@ growth_with (Some seed) (Some stages) sum = growth_in seed stages (is_set sum)
 growth_with _ _ sum = None
 
 -- what the words after `grow` ask for, where its form takes them
-abbrev pub growth_of : Text → List Text → Option Growth
+unfoldable pub growth_of : Text → List Text → Option Growth
 growth_of name words = if takes (grow_form name) words
     then growth_with (first_of (codes "SEED") (matches_of (grow_form name) words))
     (first_of (codes "STAGES") (matches_of (grow_form name) words))
@@ -43,12 +44,14 @@ growth_of name words = if takes (grow_form name) words
 
 -- ---- the same in plain words
 
-abbrev pub two_numbers : List Text → (sum : Bool) → Option Growth
-two_numbers (seed ∷ stages ∷ []) sum = growth_in seed stages sum
-two_numbers _ sum = None
+abbrev pub grow_arguments : List Argument
+grow_arguments =
+    word_named (codes "SEED") ∷ word_named (codes "STAGES") ∷ flag_named (codes "sum") ∷ []
 
--- two numbers, with `--` once at most at any place, and `--sum` once at most at any place before that
-abbrev pub plain_growth : List Text → Option Growth
-plain_growth words = if asks (codes "--sum") words
-    then two_numbers (without_first (codes "--") (without_first (codes "--sum") words)) true
-    else two_numbers (without_first (codes "--") words) false
+abbrev pub grow_by : List (Option Text) → Option Growth
+grow_by (seed ∷ stages ∷ sum ∷ []) = growth_with seed stages sum
+grow_by _ = None
+
+-- two numbers, and beside them `--sum`
+unfoldable pub plain_growth : List Text → Option Growth
+plain_growth words = option_and_then grow_by (plain_words grow_arguments words)

@@ -4,5 +4,8 @@ pub mod RoundsWords
 pub mod CompileWords
 pub mod Forms
 pub mod Words
+pub mod PlainForms
+pub mod WrittenForms
 pub mod GrowWords
 pub mod CommandWords
+pub mod WrittenCommands

@@ -1,6 +1,7 @@
 -- The words of `run`.
-use Rattle.std.specs.Prelude.{ℕ, if◌then◌else◌, List, Option, Some, None, codes, option_map}
+use Rattle.std.specs.Prelude.{ℕ, if◌then◌else◌, List, [], ◌∷◌, Option, Some, None, codes, option_and_then, option_map}
 use Rattle.clap.specs.Words.{App, Text, first_of, matches_of, takes, with_rule}
+use Rattle.command_words.specs.PlainForms.{Argument, option_named, plain_words, word_named}
 use Rattle.command_words.specs.SimulateWords.{bare_form, word_rule, option_rule, number_or}
 
 -- what a run of rounds is asked for: the names of its program text and of its script, how many rounds, and the channel
@@ -25,10 +26,24 @@ rounds_with (Some file) (Some script) rounds buffer =
 rounds_with _ _ rounds buffer = None
 
 -- what the words after `run` ask for, where its form takes them
-abbrev pub rounds_of : Text → List Text → Option AskedRounds
+unfoldable pub rounds_of : Text → List Text → Option AskedRounds
 rounds_of name words = if takes (rounds_form name) words
     then rounds_with (first_of (codes "FILE") (matches_of (rounds_form name) words))
     (first_of (codes "SCRIPT") (matches_of (rounds_form name) words))
     (first_of (codes "rounds") (matches_of (rounds_form name) words))
     (first_of (codes "buffer") (matches_of (rounds_form name) words))
     else None
+
+-- ---- the same in plain words
+
+abbrev pub run_arguments : List Argument
+run_arguments = word_named (codes "FILE") ∷ word_named (codes "SCRIPT")
+    ∷ option_named (codes "rounds") ∷ option_named (codes "buffer") ∷ []
+
+abbrev pub rounds_by : List (Option Text) → Option AskedRounds
+rounds_by (file ∷ script ∷ rounds ∷ buffer ∷ []) = rounds_with file script rounds buffer
+rounds_by _ = None
+
+-- a program text and a script, and beside them `--rounds N` and `--buffer X`
+unfoldable pub plain_rounds : List Text → Option AskedRounds
+plain_rounds words = option_and_then rounds_by (plain_words run_arguments words)

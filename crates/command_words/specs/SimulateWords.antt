@@ -1,5 +1,5 @@
 -- The words of `simulate`.
-use Rattle.std.specs.Prelude.{◌&&◌, ◌||◌, ℕ, nat_le, nat_lt, Bool, true, false, if◌then◌else◌, List, length, Option, Some, None, codes, is_some, option_and_then, option_map}
+use Rattle.std.specs.Prelude.{◌&&◌, ◌||◌, ℕ, nat_le, nat_lt, Bool, true, false, if◌then◌else◌, List, [], ◌∷◌, length, Option, Some, None, codes, is_some, option_and_then, option_map}
 use Rattle.std.specs.List.{list_all}
 use Rattle.std.specs.Str.{bytes_eq}
 use Rattle.chp_base.specs.Names.{digit}
@@ -8,6 +8,7 @@ use Rattle.clap.specs.Words.{App, Row, Rule, Text, first_of, matches_of, new_app
 use Rattle.clap.specs.Simple.{on_top}
 use Rattle.clap.specs.declared.builder.ArgAction.TheVariants.{Set}
 use Rattle.std.specs.Borrow.{Bor}
+use Rattle.command_words.specs.PlainForms.{Argument, option_named, plain_words, word_named}
 use Rattle.command_words.specs.declared.run_words.Texts.{Texts}
 
 -- ---- numbers in words
@@ -170,3 +171,27 @@ simulation_with t = simulation_by t t.delays
 unfoldable pub simulate_of : Text → List Text → Option AskedSimulation
 simulate_of name words = if takes (simulate_form name) words
     then simulation_with (given_texts (matches_of (simulate_form name) words)) else None
+
+-- ---- the same in plain words
+
+abbrev pub simulate_arguments : List Argument
+simulate_arguments = word_named (codes "PRS") ∷ word_named (codes "SCRIPT") ∷ option_named (codes "order")
+    ∷ option_named (codes "seed") ∷ option_named (codes "steps") ∷ option_named (codes "power")
+    ∷ option_named (codes "against") ∷ option_named (codes "delays") ∷ []
+
+abbrev pub simulate_by : List (Option Text) → Option AskedSimulation
+simulate_by (net ∷ script ∷ order ∷ seed ∷ steps ∷ power ∷ against ∷ delays ∷ []) = simulation_with (record {
+  net = net;
+  script = script;
+  order = order;
+  seed = seed;
+  steps = steps;
+  power = power;
+  against = against;
+  delays = delays;
+})
+simulate_by _ = None
+
+-- a rule file and a script, and beside them an option for each of the others
+unfoldable pub plain_simulate : List Text → Option AskedSimulation
+plain_simulate words = option_and_then simulate_by (plain_words simulate_arguments words)

@@ -2,12 +2,11 @@
 
 ghost use Rattle.std.specs.Prelude.{◌≡◌, IfOk, IfSome, Some, is_some, option_map, true};
 ghost use Rattle.clap.specs.Words.{app_of, found_of, matches_of, rows_of, takes};
-ghost use Rattle.command_words.specs.CommandWords.{IsWithinBounds, asked, command_of, file_form, file_of, grows, plain_command, simulate_asked, traces, verb_of};
-ghost use Rattle.command_words.specs.Words.{plain_file};
-ghost use Rattle.command_words.specs.SimulateWords.{simulate_of};
+ghost use Rattle.command_words.specs.CommandWords.{IsWithinBounds, asked, command_of, file_form, file_of, grows, plain_command, plain_file, simulate_asked, traces, verb_of};
+ghost use Rattle.command_words.specs.SimulateWords.{plain_simulate, simulate_of};
 ghost use Rattle.command_words.specs.Forms.{is_form, texts_of};
 ghost use Rattle.command_words.specs.GrowWords.{growth_of, plain_growth};
-ghost use Rattle.command_words.specs.WavesWords.{waves_of};
+ghost use Rattle.command_words.specs.WavesWords.{plain_waves, waves_of};
 ghost use Rattle.command_words.specs.Words.{is_set};
 
 use crate::compile_words::{Compilation, compilation_of};
@@ -143,6 +142,8 @@ fn simulate_in<'a>(
 ) -> Result<Option<Command<'a>>, AllocError>
     ensures form { IfOk result (λ found. option_map asked found
         ≡ option_map simulate_asked (simulate_of name.entry.now (texts_of words.entry.now))) }
+    ensures plain { IfOk result (λ found. option_map asked found
+        ≡ option_map simulate_asked (plain_simulate (texts_of words.entry.now))) }
     ensures bounds { IfOk result (λ found. IfSome found IsWithinBounds) }
 {
     match simulation_in(alloc, name, words)? {
@@ -160,6 +161,8 @@ fn trace_in<'a>(
 ) -> Result<Option<Command<'a>>, AllocError>
     ensures form { IfOk result (λ found. option_map asked found
         ≡ option_map traces (waves_of name.entry.now (texts_of words.entry.now))) }
+    ensures plain { IfOk result (λ found. option_map asked found
+        ≡ option_map traces (plain_waves (texts_of words.entry.now))) }
     ensures bounds { IfOk result (λ found. IfSome found IsWithinBounds) }
 {
     match waves_in(alloc, name, words)? {

@@ -4,6 +4,7 @@
 mod command;
 mod compile_words;
 mod grow_words;
+pub mod laws;
 mod rounds_words;
 mod run_words;
 mod simulation;

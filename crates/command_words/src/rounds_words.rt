@@ -4,7 +4,7 @@ ghost use Rattle.std.specs.Prelude.{◌≡◌, IfOk, option_map};
 ghost use Rattle.clap.specs.Words.{app_of};
 ghost use Rattle.command_words.specs.CommandWords.{rounds_asked};
 ghost use Rattle.command_words.specs.Forms.{texts_of};
-ghost use Rattle.command_words.specs.RoundsWords.{rounds_form, rounds_of, rounds_with};
+ghost use Rattle.command_words.specs.RoundsWords.{plain_rounds, rounds_form, rounds_of, rounds_with};
 
 use crate::command::matches_in;
 use crate::run_words::{bare_form, number_or, option_arg, word_arg};
@@ -37,8 +37,10 @@ pub fn rounds_in<'a>(
     name: &'a str,
     words: &'a [String],
 ) -> Result<Option<Rounds<'a>>, AllocError>
-    ensures { IfOk result (λ found.
+    ensures form { IfOk result (λ found.
         option_map rounds_asked found ≡ rounds_of name.entry.now (texts_of words.entry.now)) }
+    ensures plain { IfOk result (λ found.
+        option_map rounds_asked found ≡ plain_rounds (texts_of words.entry.now)) }
 {
     let form = rounds_form(alloc, name)?;
     match matches_in(form, words) {

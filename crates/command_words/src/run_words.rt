@@ -7,7 +7,7 @@ ghost use Rattle.clap.specs.Words.{app_of, rule_of};
 ghost use Rattle.env_script.specs.Numbers.{digit_of_word, number_of_word};
 ghost use Rattle.command_words.specs.CommandWords.{HasFewSteps, run_asked, simulation_asked, timing_asked};
 ghost use Rattle.command_words.specs.Forms.{texts_of};
-ghost use Rattle.command_words.specs.SimulateWords.{bare_form, number_or, number_up_to, option_rule, order_or, power_of_words, run_with, simulate_form, simulate_of, simulation_with, timing_with, word_rule};
+ghost use Rattle.command_words.specs.SimulateWords.{bare_form, number_or, number_up_to, option_rule, order_or, plain_simulate, power_of_words, run_with, simulate_form, simulate_of, simulation_with, timing_with, word_rule};
 
 use crate::command::matches_in;
 use crate::simulation::{Choosing, Simulation, Timing};
@@ -36,6 +36,8 @@ pub(crate) fn simulation_in<'a>(
 ) -> Result<Option<Choosing<'a>>, AllocError>
     ensures form { IfOk result (λ found.
         option_map simulation_asked found ≡ simulate_of name.entry.now (texts_of words.entry.now)) }
+    ensures plain { IfOk result (λ found.
+        option_map simulation_asked found ≡ plain_simulate (texts_of words.entry.now)) }
     ensures few { IfOk result (λ found. IfSome found HasFewSteps) }
 {
     let form = simulate_form(alloc, name)?;

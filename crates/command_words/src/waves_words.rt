@@ -4,7 +4,7 @@ ghost use Rattle.std.specs.Prelude.{◌≡◌, ◌≤◌, IfOk, IfSome, option_m
 ghost use Rattle.clap.specs.Words.{app_of};
 ghost use Rattle.command_words.specs.CommandWords.{waves_asked};
 ghost use Rattle.command_words.specs.Forms.{texts_of};
-ghost use Rattle.command_words.specs.WavesWords.{waves_form, waves_of, waves_with};
+ghost use Rattle.command_words.specs.WavesWords.{plain_waves, waves_form, waves_of, waves_with};
 
 use crate::command::{is_set, matches_in};
 use crate::run_words::{bare_form, number_or, option_arg, word_arg};
@@ -41,6 +41,8 @@ pub fn waves_in<'a>(
 ) -> Result<Option<Waves<'a>>, AllocError>
     ensures form { IfOk result (λ found.
         option_map waves_asked found ≡ waves_of name.entry.now (texts_of words.entry.now)) }
+    ensures plain { IfOk result (λ found.
+        option_map waves_asked found ≡ plain_waves (texts_of words.entry.now)) }
     ensures few { IfOk result (λ found. IfSome found (λ asked. asked.steps ≤ 1000000)) }
 {
     let form = waves_form(alloc, name)?;

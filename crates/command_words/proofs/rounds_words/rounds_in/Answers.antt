@@ -1,31 +1,35 @@
-use Rattle.std.proofs.Common.{◌≡◌, ◌∙◌, true, refl, List, Option, None, cond, codes}
-use Rattle.clap.specs.Words.{App, found_of, first_of, matches_of, rows_of, takes}
-use Rattle.clap.specs.Walk.{Row, Text}
-use Rattle.clap.proofs.WalkLemmas.{first_value-rows}
+use Rattle.std.proofs.Common.{◌≡◌, ◌∙◌, refl, Option, None, option_map}
+use Rattle.clap.specs.Words.{Text, found_of}
+use Rattle.command_words.specs.CommandWords.{rounds_asked}
 use Rattle.command_words.specs.Forms.{texts_of}
-use Rattle.command_words.specs.RoundsWords.{AskedRounds, rounds_with}
+use Rattle.command_words.specs.RoundsWords.{AskedRounds, rounds_by, rounds_of, rounds_with, run_arguments}
+use Rattle.command_words.proofs.Asked.{refused_by, taken_by}
+use Rattle.command_words.proofs.PlainCommands.{rounds_is}
 use Rattle.command_words.proofs.rounds_words.rounds_in.Goals as goal
 
-abbrev rows_ask : List Row → Option AskedRounds
-rows_ask rows =
-    rounds_with (first_of (codes "FILE") rows) (first_of (codes "SCRIPT") rows) (first_of (codes "rounds") rows) (first_of (codes "buffer") rows)
-
-taken_rounds : (a b : App) (words : List Text) (rows : List Row) → a ≡ b → true ≡ takes a words → rows ≡ matches_of a words
-    → rows_ask rows ≡ cond (takes b words) (rows_ask (matches_of b words)) None
-taken_rounds a b words rows same taken is = rw (← same, ← taken, is) refl
-
-same_texts : (file script rounds buffer f s r b : Option Text) → file ≡ f → script ≡ s → rounds ≡ r → buffer ≡ b →
+same_texts : {file script rounds buffer f s r b : Option Text} → file ≡ f → script ≡ s → rounds ≡ r → buffer ≡ b →
     rounds_with file script rounds buffer ≡ rounds_with f s r b
-same_texts file script rounds buffer f s r b one two three four = rw (one, two, three, four) refl
+same_texts one two three four = rw (one, two, three, four) refl
 
 pub returns-in-Ok-Some : goal.returns-in-Ok-Some
+unfolding rounds_of
 returns-in-Ok-Some c =
-    let words = texts_of c.args.words.now in
-    let found = found_of c.in-Ok-Some.matches in
+    let name = c.args.name.now in
+    let words = c.args.words.now in
     let taken = rw c.in-Ok-Some.field-0-is at c.in-Ok-Some.ensures.taken in
     let is = rw c.in-Ok-Some.field-0-is at c.in-Ok-Some.ensures.matches in
+    let given : option_map rounds_asked c.rounds_with.result ≡ rounds_of name (texts_of words) =
     c.rounds_with.ensures
-    ∙ (same_texts _ _ _ _ _ _ _ _ (c.get_str.ensures ∙ first_value-rows found (codes "FILE"))
-    (c.get_str-in-Ok-Some.ensures ∙ first_value-rows found (codes "SCRIPT")) (c.get_str-in-Ok-Some-2.ensures ∙ first_value-rows found (codes "rounds"))
-    (c.get_str-in-Ok-Some-3.ensures ∙ first_value-rows found (codes "buffer"))
-    ∙ taken_rounds _ _ words (rows_of found) c.in_ok-form.ensures taken is)
+    ∙ (same_texts c.get_str.ensures c.get_str-in-Ok-Some.ensures c.get_str-in-Ok-Some-2.ensures c.get_str-in-Ok-Some-3.ensures
+    ∙ taken_by run_arguments rounds_by _ name (texts_of words) c.in_ok-form.ensures (found_of c.in-Ok-Some.matches) taken is) in
+    record { form = given; plain = given ∙ rounds_is name words }
+
+pub returns-in-Ok-None : goal.returns-in-Ok-None
+unfolding rounds_of
+returns-in-Ok-None c =
+    let name = c.args.name.now in
+    let words = c.args.words.now in
+    let refused = rw c.in-Ok-None.field-0-is at c.in-Ok-None.ensures.taken in
+    let none : ◌≡◌ {A = Option AskedRounds} None (rounds_of name (texts_of words)) =
+    refused_by run_arguments rounds_by _ name (texts_of words) c.in_ok-form.ensures refused in
+    record { form = none; plain = none ∙ rounds_is name words }

@@ -1,22 +1,35 @@
-use Rattle.std.proofs.Common.{◌∙◌, codes}
-use Rattle.clap.specs.Words.{found_of, rows_of}
-use Rattle.clap.proofs.WalkLemmas.{first_value-rows}
+use Rattle.std.proofs.Common.{◌≡◌, ◌∙◌, refl, Option, None, option_map}
+use Rattle.clap.specs.Words.{Text, found_of}
+use Rattle.command_words.specs.CommandWords.{waves_asked}
 use Rattle.command_words.specs.Forms.{texts_of}
-use Rattle.command_words.proofs.Waved.{refused_waves, same_words, taken_waves}
+use Rattle.command_words.specs.WavesWords.{AskedWaves, waves_arguments, waves_by, waves_of, waves_with}
+use Rattle.command_words.proofs.Asked.{refused_by, taken_by}
+use Rattle.command_words.proofs.PlainCommands.{waves_is}
 use Rattle.command_words.proofs.waves_words.waves_in.Goals as goal
 
-pub returns-in-Ok-Some-clause-form : goal.returns-in-Ok-Some-clause-form
-returns-in-Ok-Some-clause-form c =
-    let found = found_of c.in-Ok-Some.matches in
+same_texts : {a b c d e f g h i j : Option Text} → a ≡ f → b ≡ g → c ≡ h → d ≡ i → e ≡ j → waves_with a b c d e ≡ waves_with f g h i j
+same_texts one two three four five = rw (one, two, three, four, five) refl
+
+pub returns-in-Ok-Some : goal.returns-in-Ok-Some
+unfolding waves_of
+returns-in-Ok-Some c =
+    let name = c.args.name.now in
+    let words = c.args.words.now in
     let taken = rw c.in-Ok-Some.field-0-is at c.in-Ok-Some.ensures.taken in
     let is = rw c.in-Ok-Some.field-0-is at c.in-Ok-Some.ensures.matches in
-    taken_waves _ _ (texts_of c.args.words.now) (rows_of found) _ c.in_ok-form.ensures taken is
-    (c.waves_with.ensures.asked
-    ∙ same_words (c.get_str.ensures ∙ first_value-rows found (codes "PRS")) (c.get_str-in-Ok-Some.ensures ∙ first_value-rows found (codes "SCRIPT"))
-    (c.get_str-in-Ok-Some-2.ensures ∙ first_value-rows found (codes "steps"))
-    (c.get_str-in-Ok-Some-3.ensures ∙ first_value-rows found (codes "delays"))
-    (c.get_str-in-Ok-Some-4.ensures ∙ first_value-rows found (codes "causes")))
+    let given : option_map waves_asked c.waves_with.result ≡ waves_of name (texts_of words) =
+    c.waves_with.ensures.asked
+    ∙ (same_texts c.get_str.ensures c.get_str-in-Ok-Some.ensures c.get_str-in-Ok-Some-2.ensures c.get_str-in-Ok-Some-3.ensures
+    c.get_str-in-Ok-Some-4.ensures
+    ∙ taken_by waves_arguments waves_by _ name (texts_of words) c.in_ok-form.ensures (found_of c.in-Ok-Some.matches) taken is) in
+    record { form = given; plain = given ∙ waves_is name words; few = c.waves_with.ensures.few }
 
-pub returns-in-Ok-None-clause-form : goal.returns-in-Ok-None-clause-form
-returns-in-Ok-None-clause-form c =
-    refused_waves _ _ (texts_of c.args.words.now) c.in_ok-form.ensures (rw c.in-Ok-None.field-0-is at c.in-Ok-None.ensures.taken)
+pub returns-in-Ok-None : goal.returns-in-Ok-None
+unfolding waves_of
+returns-in-Ok-None c =
+    let name = c.args.name.now in
+    let words = c.args.words.now in
+    let refused = rw c.in-Ok-None.field-0-is at c.in-Ok-None.ensures.taken in
+    let none : ◌≡◌ {A = Option AskedWaves} None (waves_of name (texts_of words)) =
+    refused_by waves_arguments waves_by _ name (texts_of words) c.in_ok-form.ensures refused in
+    record { form = none; plain = none ∙ waves_is name words; few = tt }
