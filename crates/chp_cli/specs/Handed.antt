@@ -1,4 +1,4 @@
--- What a call does to what it is handed: a shelf, a sink and orders, each seen by what its trait says of it.
+-- What a call does to what it is given: a shelf, sinks and orders, each seen by the ghost members of its trait.
 use Rattle.std.specs.Prelude.{◌≡◌, ℕ, ◌≤◌, ◌++◌, true, List, map}
 use Rattle.std.specs.declared.alloc.Global.{Global}
 use Rattle.std.specs.declared.dyn_box.DynBox.{DynBox}
@@ -12,36 +12,37 @@ use Rattle.chp_cli.specs.declared.players.Players.{Players}
 
 -- ---- devices
 
--- its count of faults rose in the call
+-- the count of its faults rose
 abbrev pub Fails : {Device : Type 0} → (faults : Device → ℕ) → (before after : Device) → Type 0
 Fails faults before after = Rose (faults before) (faults after)
 
--- what a command goes by of a shelf
+-- what a command depends on of a shelf: whether its bytes are observable, and what it holds
 abbrev pub given_of : {S : Type 0} → ShelfMembers S → S → Given
 given_of shelf s = given_by (shelf.tells s) (shelf.holds s)
 
--- it tells its bytes or not as before, holds what it held, and its count of faults hasn't fallen
+-- it is as observable as it was, holds what it held, and the count of its faults hasn't fallen
 pub record KeepsShelf {S : Type 0} (shelf : ShelfMembers S) (before after : S) : Type 0 where
   pub same : shelf.tells after ≡ shelf.tells before
   pub kept : shelf.holds after ≡ shelf.holds before
   pub counted : shelf.faults before ≤ shelf.faults after
 
--- what it took, if it tells that, has grown by this text
+-- where its bytes are observable, this text was appended to what it took
 abbrev pub IsAppended : {K : Type 0} → SinkMembers K → (before after : K) → (text : List ℕ) → Type 0
 IsAppended sink before after text = sink.tells before ≡ true → sink.written after ≡ sink.written before ++ text
 
+-- of a sink
 pub record KeepsSink {K : Type 0} (sink : SinkMembers K) (before after : K) : Type 0 where
   pub same : sink.tells after ≡ sink.tells before
   pub counted : sink.faults before ≤ sink.faults after
 
--- the shelf tells its bytes, and neither it nor the sink fails
+-- the shelf's bytes are observable, and neither it nor the sink fails
 pub record NothingFails {S : Type 0} (shelf : ShelfMembers S) (before after : S) {K : Type 0} (sink : SinkMembers K)
     (first last : K) : Type 0 where
   pub tells : shelf.tells before ≡ true
   pub read : ¬ Fails shelf.faults before after
   pub written : ¬ Fails sink.faults first last
 
--- ---- orders, each in a box with what the trait says of it
+-- ---- orders, each in a box, whose ghost members its table of methods brings
 
 -- what is known of each
 abbrev pub order_states : {B : Type 0} {Order : B → Type 0} →

@@ -3,7 +3,8 @@
 ghost use Rattle.std.specs.Prelude.{◌≡◌, ◌≢◌, ℕ, List, [], None, Some, true, false, IfOk, IfErr, ◌⊎◌};
 ghost use Rattle.chp_edge.specs.Faults.{IsReadFault};
 ghost use Rattle.command_answers.specs.Answers.{Answer, status_of};
-ghost use Rattle.command_words.specs.CommandWords.{Asked, IsWithinBounds, asked, asked_by};
+ghost use Rattle.command_words.specs.CommandWords.{Asked, IsWithinBounds, asked, asked_by, compiles};
+ghost use Rattle.command_words.specs.CompileWords.{AskedCompilation};
 ghost use Rattle.chp_cli.specs.Commands.{IsAnswer, files_of, order_of};
 ghost use Rattle.chp_cli.specs.Ends.{AnswersTo, Ends, IsFile, asked_order};
 ghost use Rattle.chp_cli.specs.Handed.{
@@ -18,7 +19,8 @@ ghost use Rattle.chp_cli.specs.Handed.{
 };
 ghost use Rattle.command_steps.specs.Orders.{KeepsOrders};
 ghost use Rattle.command_answers.specs.Replies.{Stops, end_line, end_status};
-ghost use Rattle.program_commands.specs.RepliesTold.{told_reply};
+ghost use Rattle.program_commands.specs.Compiling.{IsFaithfulFile};
+ghost use Rattle.program_commands.specs.RepliesTold.{reply_bytes, told_reply};
 ghost use Rattle.chp_cli.specs.Serving.{EndsServed, IsServed};
 ghost use Rattle.chp_cli.specs.CompiledRuns.{IsComparedWith, IsSteady, RunsCompiled};
 ghost use Rattle.command_answers.specs.Statuses.{is_whole};
@@ -57,6 +59,8 @@ fn answer<'a, S: Shelf>(
     requires { IsWithinBounds command.now }
     ensures answered { IfOk result (λ reply. IsAnswer (asked command.now) (given_of S.Shelf shelf.old)
         (played_of Picker-box players.old players.new) (told_reply reply)) }
+    ensures carried { IfOk result (λ reply. (c : AskedCompilation) → asked command.now ≡ compiles c →
+        S.tells shelf.old ≡ true → IsFaithfulFile c (given_of S.Shelf shelf.old) (reply_bytes reply)) }
     ensures stopped { IfErr result (Stops (IsAnswer (asked command.now) (given_of S.Shelf shelf.old)
         (played_of Picker-box players.old players.new)) (files_of (asked command.now)) (given_of S.Shelf shelf.old)
         (S.faults shelf.old) (S.faults shelf.new)) }
@@ -96,6 +100,9 @@ fn run<'a, S: Shelf, K: Sink>(
     ensures ended { (appended : List ℕ) × Ends (asked_by words.now) (given_of S.Shelf shelf.old)
         (played_of Picker-box players.old players.new) (S.faults shelf.old) (S.faults shelf.new) (K.faults out.old)
         (K.faults out.new) (end_status result) appended (end_line result) × IsAppended K.Sink out.old out.new appended }
+    ensures carried { (c : AskedCompilation) → asked_by words.now ≡ Some (compiles c) → S.tells shelf.old ≡ true →
+        end_status result ≡ Status.Done → (file : List ℕ) × IsAppended K.Sink out.old out.new file
+        × IsFaithfulFile c (given_of S.Shelf shelf.old) file }
     ensures orders { KeepsOrders (asked_order (asked_by words.now) (order_states Picker-box players.old))
         (played_of Picker-box players.old players.new) }
     ensures others { OthersStay (asked_order (asked_by words.now) (order_states Picker-box players.old))
@@ -164,6 +171,9 @@ pub fn chp_main<S: Shelf, K: Sink, W: Sink>(
         (played_of Picker-box players.old players.new) }
     ensures others { OthersStay (asked_order (asked_by words.now) (order_states Picker-box players.old))
         players.old.orders.items players.new.orders.items }
+    ensures carried { (c : AskedCompilation) → asked_by words.now ≡ Some (compiles c) → S.tells shelf.old ≡ true →
+        result ≡ Status.Done → (file : List ℕ) × IsAppended K.Sink out.old out.new file
+        × IsFaithfulFile c (given_of S.Shelf shelf.old) file }
     ensures calm { (p : TypedProgram) → S.tells shelf.old ≡ true →
         RunsCompiled (asked_by words.now) (given_of S.Shelf shelf.old) p → result ≢ Status.Hazard }
     ensures agreed { (p : TypedProgram) → S.tells shelf.old ≡ true →

@@ -36,6 +36,9 @@ returns-clause-silent g c = λ not cut told.
     let none = silent_of _ _ _ _ _ _ _ e.1 (ap is_whole (sym c.status.ensures) ∙ not) (λ is. cut (c.status.ensures ∙ is)) in
     e.2 told ∙ ap (λ xs. g.K.Sink.written c.args.out.now ++ xs) none
 
+pub returns-clause-carried : goal.returns-clause-carried
+returns-clause-carried g c = λ compilation named told done. c.run-end.ensures.carried compilation named told (sym c.status.ensures ∙ done)
+
 pub returns-clause-calm : goal.returns-clause-calm
 returns-clause-calm g c = λ p told runs is.
     calm_for _ _ p (λ file. c.compiled_files_carry.ensures _ file p)
