@@ -7,7 +7,7 @@ use Rattle.command_answers.specs.declared.status.Status.TheVariants.{Done, Refus
 use Rattle.command_answers.specs.Answers.{Given, Answer, writes, status_with}
 use Rattle.command_words.specs.CommandWords.{Asked, compiles, migrates, checks, expands, simulates, times, traces, unwaves, runs, grows}
 use Rattle.chp_cli.specs.Commands.{IsAnswer}
-use Rattle.chp_cli.specs.CompiledRuns.{IsCalm, IsComparedWith, RunsCompiled}
+use Rattle.chp_cli.specs.CompiledRuns.{IsComparedWith, IsSteady, RunsCompiled}
 use Rattle.chp_cli.specs.Ends.{AnswersTo, Ends, formless, whole, cut_off, refused, unread, no_memory}
 use Rattle.command_steps.specs.Orders.{Played}
 use Rattle.command_steps.specs.References.{IsReferredTo}
@@ -124,15 +124,12 @@ module _ (given : Given) (played : Played) (p : TypedProgram) (carries : (file :
   agreed_for run timing rb ra pb pa (Some (runs r)) h with_it e = absurd h
   agreed_for run timing rb ra pb pa (Some (grows growth)) h with_it e = absurd h
 
-  abbrev pub Steady : Option Asked → Status → List ℕ → Type 0
-  Steady asked status text = (end : Ending) × (status ≡ status_with end) × IsCalm asked given played end text
-
   pub steady_for : ((s : AskedRun) → HoldsCarrying given s.net p → (end : Ending) (text : List ℕ) → Simulates s given played (writes end text)
       → IsCalmRun s given played end text)
       → ((t : AskedTiming) (end : Ending) (text : List ℕ) → SimulatesTimed t given (writes end text) → IsCalmTiming t given end text)
       → ((w : AskedWaves) (end : Ending) (text : List ℕ) → Traces w given (writes end text) → IsCalmTrace w given end text)
       → (rb ra pb pa : ℕ) (asked : Option Asked) → RunsCompiled asked given p → {status : Status} {appended line : List ℕ}
-      → Ends asked given played rb ra pb pa status appended line → is_whole status ≡ true → Steady asked status appended
+      → Ends asked given played rb ra pb pa status appended line → is_whole status ≡ true → IsSteady asked given played status appended
   steady_for run timing wave rb ra pb pa None h e written = absurd h
   steady_for run timing wave rb ra pb pa (Some (simulates s)) h e written =
       let (end, same, is) = whole_of (Some (simulates s)) given played rb ra pb pa (simulates s) refl e written in

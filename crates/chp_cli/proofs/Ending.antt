@@ -23,7 +23,7 @@ whole_status ending.Done = refl
 whole_status ending.Hazard = refl
 whole_status ending.Differs = refl
 
-refusing_status : (r : Refusal) → is_refusing (refusal_status r) ≡ true
+pub refusing_status : (r : Refusal) → is_refusing (refusal_status r) ≡ true
 refusing_status (refusal.Text fault) = refl
 refusing_status (refusal.TooLong name limit) = refl
 refusing_status (refusal.TooManyNodes count) = refl

@@ -18,10 +18,10 @@ use Rattle.net_compose.specs.Translation.{translation, wires_from}
 use Rattle.prs_core.specs.declared.rule.Literal.{Literal}
 use Rattle.prs_core.specs.declared.wires.Wires.{Wires}
 use Rattle.prs_core.specs.Nets.{GuardValue, NetValue, IsNet, IsChannel, IsFilled, guard_literals, literals_of, name_at, first_at, up_of, down_of, rail_names, ack_name}
-use Rattle.prs_file.specs.Spelling.{version_of, head_spelling, value_spelling, node_spelling, kind_spelling, channel_spelling, sign_spelling, literal_spelling, term_spelling, guard_spelling, end_spelling, rule_spelling, rules_spelling, spelling}
+use Rattle.prs_file.specs.Spelling.{NetText, version_of, head_spelling, value_spelling, node_spelling, kind_spelling, channel_spelling, sign_spelling, literal_spelling, term_spelling, guard_spelling, end_spelling, rule_spelling, rules_spelling, spelling}
 use Rattle.reset_net.specs.Resets.{reset_literal, held, forced, reset_guard, has_rules, reset_up, reset_down, reset_of}
 use Rattle.width_check.specs.Processes.{TypedProgram}
-use Rattle.program_commands.specs.Compiling.{IsCompiled, net_for}
+use Rattle.program_commands.specs.Compiling.{IsFaithful, net_for}
 use Rattle.command_steps.specs.Steps.{most_of_net}
 
 -- ---- lists
@@ -352,13 +352,13 @@ reset_text n plain kept few small channels =
     (down_of n k) (each_filled n.down plain.down_filled k)))
     few (omega (arith, length_push n.first true)) channels
 
-pub few_bytes : (reset : Bool) (p : TypedProgram) (file : List ℕ) → IsCompiled reset p file → length file ≤ most_of_net
-few_bytes reset p file is =
+pub few_bytes : (reset : Bool) (p : TypedProgram) (file : List ℕ) → NetText file (net_for reset p) → IsFaithful reset p → length file ≤ most_of_net
+few_bytes reset p file spells is =
     let plain = is.plain in
     let few : literals_of (translation p) ≤ 4194304 = plain.literals in
     let small : length (translation p).first ≤ 65536 = plain.most in
     let channels : length (translation p).channels ≤ 65536 = omega (arith, few_channels p, plain.named) in
-    omega (arith, ap (λ (x : List ℕ). length x) is.spells, by_reset reset is.kept plain few small channels)
+    omega (arith, ap (λ (x : List ℕ). length x) spells, by_reset reset is.kept plain few small channels)
   where
     by_reset : (reset : Bool) → IsNet (net_for reset p) → IsNet (translation p) → literals_of (translation p) ≤ 4194304 →
         length (translation p).first ≤ 65536 → length (translation p).channels ≤ 65536 → length (spelling (net_for reset p)) ≤ 268435456

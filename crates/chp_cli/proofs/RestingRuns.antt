@@ -34,7 +34,7 @@ use Rattle.net_compose.proofs.HalvedCarried.{scaled}
 use Rattle.net_compose.proofs.OnceEach.{run_length}
 use Rattle.net_compose.proofs.Sizes.{first_length}
 use Rattle.command_answers.specs.Answers.{Given, Answer}
-use Rattle.program_commands.specs.Compiling.{IsCompiled, NetCarries, NetProgresses, net_for}
+use Rattle.program_commands.specs.Compiling.{IsFaithful, NetCarries, NetProgresses, net_for}
 use Rattle.command_steps.specs.Orders.{Played}
 use Rattle.chp_cli.specs.Resting.{RestsInTime, TimedRests, delays_for, most_in_run}
 use Rattle.chp_cli.specs.Simulated.{IsFileSimulated, HoldsCarrying, HoldsCompiled, SimulatedRests}
@@ -124,13 +124,13 @@ module _ (powered : Powered) (law : (net : NetValue) (script : List OfferValue) 
   module _ (given : Given) (file : List ℕ) (p : TypedProgram) (holds : HoldsCompiled given file p) (rules : List ℕ) (net : NetValue)
       (held : given.files file ≡ Some rules) (is : IsFileOf rules net) (script : List OfferValue) (suits : IsScript (net_channels net) script) (high : Bool)
       (ns : List ℕ) (run : IsRun net script (begin_at net (power_of net high)) ns) where
-    it : IsCompiled holds.reset p holds.text
+    it : IsFaithful holds.reset p
     it = promised given file p holds
 
     same : net_for holds.reset p ≡ net
     same =
         is.only (net_for holds.reset p) it.kept
-        (subst (λ x. NetText x (net_for holds.reset p)) (same_text holds.held held) it.spells)
+        (subst (λ x. NetText x (net_for holds.reset p)) (same_text holds.held held) holds.spells)
 
     fits : IsScript p.channels script
     fits =

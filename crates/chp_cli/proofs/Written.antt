@@ -53,7 +53,7 @@ module _ (c : AskedCompilation) (given : Given) (told : given.tells ≡ true) wh
   pub written_right : (end : Ending) (text : List ℕ) → Compiles c given (writes end text) → IsFileCompiled c given text
   written_right end text (a_file {text = x} gives short (a_program {program = p} is (accepted are (has_channel q buffered
       (few_enough few (compiled d)))))) =
-      record { text = x; program = p; made = q; held = gives told; reads = is; accepted = are; buffered = buffered; compiled = d }
+      record { text = x; program = p; made = q; held = gives told; reads = is; accepted = are; buffered = buffered; spells = d }
 
 module _ (given : Given) (file : List ℕ) (told : given.tells ≡ true) where
   pub migrate_writes : IsToMigrate given file → (a : Answer) → Migrates given file a → status_of a ≡ Done

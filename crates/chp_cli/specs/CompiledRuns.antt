@@ -1,8 +1,9 @@
 -- Runs of rule files that `compile` wrote: by an order, by delays, or told as a wave.
-use Rattle.std.specs.Prelude.{ℕ, List, Option, Some}
+use Rattle.std.specs.Prelude.{◌≡◌, ℕ, List, Option, Some}
 use Rattle.width_check.specs.Processes.{TypedProgram}
 use Rattle.command_answers.specs.declared.answer.Ending.{Ending}
-use Rattle.command_answers.specs.Answers.{Given}
+use Rattle.command_answers.specs.declared.status.Status.{Status}
+use Rattle.command_answers.specs.Answers.{Given, status_with}
 use Rattle.command_words.specs.CommandWords.{Asked, simulates, times, traces}
 use Rattle.command_steps.specs.Orders.{Played}
 use Rattle.command_steps.specs.References.{IsReferredTo}
@@ -29,3 +30,8 @@ IsCalm (Some (simulates s)) given played end text = IsCalmRun s given played end
 IsCalm (Some (times t)) given played end text = IsCalmTiming t given end text
 IsCalm (Some (traces w)) given played end text = IsCalmTrace w given end text
 IsCalm _ given played end text = ⊥
+
+-- the status says how such a run ended
+abbrev pub IsSteady : Option Asked → Given → Played → Status → (text : List ℕ) → Type 0
+IsSteady asked given played status text =
+    (end : Ending) × (status ≡ status_with end) × IsCalm asked given played end text

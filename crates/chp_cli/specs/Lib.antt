@@ -4,6 +4,7 @@ pub mod Commands
 pub mod TimedFiles
 pub mod TracedFiles
 pub mod Ends
+pub mod Handed
 pub mod Serving
 pub mod CompiledRuns
 pub use Rattle.chp_edge.specs.Faults

@@ -5,7 +5,7 @@ ghost use Rattle.command_answers.specs.declared.answer.Ending.{Ending};
 ghost use Rattle.command_answers.specs.declared.answer.Ending.TheVariants as ending;
 ghost use Rattle.command_answers.specs.declared.status.Status.TheVariants.{Done};
 ghost use Rattle.command_answers.specs.Answers.{Answer, Given, OneAnswer, status_of, writes};
-ghost use Rattle.program_commands.specs.Compiling.{Compiles, IsCompiled, IsFileCompiled, IsToCompile};
+ghost use Rattle.program_commands.specs.Compiling.{Compiles, IsFaithful, IsFileCompiled, IsToCompile};
 ghost use Rattle.command_words.specs.CompileWords.{AskedCompilation};
 ghost use Rattle.program_commands.specs.Migrating.{Migrates, IsToMigrate};
 ghost use Rattle.command_words.specs.CommandWords.{Asked};
@@ -45,8 +45,8 @@ pub fn one_answer()
 }
 
 /// Law: what `compile` writes for a file is the one text of the net of the one program that its text reads as, which is
-/// accepted; and the net carries the program. Where a buffer is asked for, both are said of the program with that
-/// buffer, which keeps what passes on each channel.
+/// accepted. Where a buffer is asked for, that is said of the program with the buffer, which keeps what passes on each
+/// channel. (That the net carries the program is a clause of the call that compiles.)
 pub fn compiled_right()
     ensures { (c : AskedCompilation) (given : Given) → given.tells ≡ true → (end : Ending) (text : List ℕ) →
         Compiles c given (writes end text) → IsFileCompiled c given text }
@@ -129,12 +129,11 @@ pub fn carried_runs_have_one_length()
     safe_moves_bring_no_hazard();
 }
 
-/// Law: the one text of the net of the typed form of an accepted program, whose circuit isn't too large, is as is
-/// promised of what `compile` writes: the net is one that a rule file can hold, it carries the program, and it keeps
-/// pace with it.
+/// Law: the net of the typed form of an accepted program, whose circuit isn't too large, is as is promised of what
+/// `compile` writes: it is one that a rule file can hold, it carries the program, and it keeps pace with it.
 pub fn files_as_promised()
     ensures { (given : Given) (file : List ℕ) (p : TypedProgram) (holds : HoldsCompiled given file p) →
-        IsCompiled holds.reset p holds.text }
+        IsFaithful holds.reset p }
 {
     width_check::laws::form_is_typed();
     whole_nets();

@@ -1,17 +1,28 @@
 //! The top call.
 
-ghost use Rattle.std.specs.Prelude.{◌≡◌, ◌≢◌, ◌≤◌, ◌++◌, ℕ, List, map, None, Some, true, false, IfOk, IfErr, ◌⊎◌};
-ghost use Rattle.chp_edge.specs.Faults.{Rose, IsReadFault};
-ghost use Rattle.command_answers.specs.declared.answer.Ending.{Ending};
-ghost use Rattle.command_answers.specs.Answers.{Answer, given_by, status_of, status_with};
-ghost use Rattle.command_words.specs.CommandWords.{Asked, IsWithinBounds, asked, asked_by};
+ghost use Rattle.std.specs.Prelude.{◌≡◌, ◌≢◌, ℕ, List, [], None, Some, true, false, IfOk, IfErr, ◌⊎◌};
+ghost use Rattle.chp_edge.specs.Faults.{IsReadFault};
+ghost use Rattle.command_answers.specs.Answers.{Answer, status_of};
+ghost use Rattle.command_words.specs.CommandWords.{Asked, IsWithinBounds, asked, asked_by, compiles};
+ghost use Rattle.command_words.specs.CompileWords.{AskedCompilation};
 ghost use Rattle.chp_cli.specs.Commands.{IsAnswer, files_of, order_of};
 ghost use Rattle.chp_cli.specs.Ends.{AnswersTo, Ends, IsFile, asked_order};
-ghost use Rattle.command_steps.specs.Orders.{KeepsOrders, order_state, played_by};
+ghost use Rattle.chp_cli.specs.Handed.{
+  Fails,
+  IsAppended,
+  KeepsShelf,
+  KeepsSink,
+  NothingFails,
+  given_of,
+  order_states,
+  played_of,
+};
+ghost use Rattle.command_steps.specs.Orders.{KeepsOrders};
 ghost use Rattle.command_answers.specs.Replies.{Stops, end_line, end_status};
-ghost use Rattle.program_commands.specs.RepliesTold.{told_reply};
+ghost use Rattle.program_commands.specs.Compiling.{IsFaithfulFile};
+ghost use Rattle.program_commands.specs.RepliesTold.{reply_bytes, told_reply};
 ghost use Rattle.chp_cli.specs.Serving.{EndsServed, IsServed};
-ghost use Rattle.chp_cli.specs.CompiledRuns.{IsCalm, IsComparedWith, RunsCompiled};
+ghost use Rattle.chp_cli.specs.CompiledRuns.{IsComparedWith, IsSteady, RunsCompiled};
 ghost use Rattle.command_answers.specs.Statuses.{is_whole};
 ghost use Rattle.simulation_commands.specs.Simulating.{OthersStay};
 ghost use Rattle.width_check.specs.Processes.{TypedProgram};
@@ -46,27 +57,18 @@ fn answer<'a, S: Shelf>(
     command: &Command<'a>,
 ) -> Result<Reply, Stop<'a>>
     requires { IsWithinBounds command.now }
-    ensures answered { IfOk result (λ reply. IsAnswer (asked command.now)
-        (given_by (S.tells shelf.old) (S.holds shelf.old)) (played_by
-        (map (λ order. order_state (name order) (log order) (seeded order)) players.old.orders.items)
-        (map (λ order. order_state (name order) (log order) (seeded order)) players.new.orders.items))
-        (told_reply reply)) }
-    ensures stopped { IfErr result (Stops (IsAnswer (asked command.now)
-        (given_by (S.tells shelf.old) (S.holds shelf.old)) (played_by
-        (map (λ order. order_state (name order) (log order) (seeded order)) players.old.orders.items)
-        (map (λ order. order_state (name order) (log order) (seeded order)) players.new.orders.items)))
-        (files_of (asked command.now)) (given_by (S.tells shelf.old) (S.holds shelf.old)) (S.faults shelf.old)
-        (S.faults shelf.new)) }
-    ensures orders { let before = map (λ order. order_state (name order) (log order) (seeded order))
-        players.old.orders.items in
-        KeepsOrders (order_of (asked command.now) before) (played_by before
-        (map (λ order. order_state (name order) (log order) (seeded order)) players.new.orders.items)) }
-    ensures others { OthersStay (order_of (asked command.now)
-        (map (λ order. order_state (name order) (log order) (seeded order)) players.old.orders.items))
+    ensures answered { IfOk result (λ reply. IsAnswer (asked command.now) (given_of S.Shelf shelf.old)
+        (played_of Picker-box players.old players.new) (told_reply reply)) }
+    ensures carried { IfOk result (λ reply. (c : AskedCompilation) → asked command.now ≡ compiles c →
+        S.tells shelf.old ≡ true → IsFaithfulFile c (given_of S.Shelf shelf.old) (reply_bytes reply)) }
+    ensures stopped { IfErr result (Stops (IsAnswer (asked command.now) (given_of S.Shelf shelf.old)
+        (played_of Picker-box players.old players.new)) (files_of (asked command.now)) (given_of S.Shelf shelf.old)
+        (S.faults shelf.old) (S.faults shelf.new)) }
+    ensures orders { KeepsOrders (order_of (asked command.now) (order_states Picker-box players.old))
+        (played_of Picker-box players.old players.new) }
+    ensures others { OthersStay (order_of (asked command.now) (order_states Picker-box players.old))
         players.old.orders.items players.new.orders.items }
-    ensures same { S.tells shelf.new ≡ S.tells shelf.old }
-    ensures kept { S.holds shelf.new ≡ S.holds shelf.old }
-    ensures faults { S.faults shelf.old ≤ S.faults shelf.new }
+    ensures shelf { KeepsShelf S.Shelf shelf.old shelf.new }
 {
     match command {
         Command::Compile(asked) => compile(alloc, shelf, asked),
@@ -95,25 +97,18 @@ fn run<'a, S: Shelf, K: Sink>(
     out: &mut K,
     players: &mut Players,
 ) -> End<'a>
-    ensures ended { (appended : List ℕ)
-        × Ends (asked_by words.now) (given_by (S.tells shelf.old) (S.holds shelf.old)) (played_by
-        (map (λ order. order_state (name order) (log order) (seeded order)) players.old.orders.items)
-        (map (λ order. order_state (name order) (log order) (seeded order)) players.new.orders.items))
-        (S.faults shelf.old) (S.faults shelf.new) (K.faults out.old) (K.faults out.new) (end_status result) appended
-        (end_line result)
-        × (K.tells out.old ≡ true → K.written out.new ≡ K.written out.old ++ appended) }
-    ensures orders { let before = map (λ order. order_state (name order) (log order) (seeded order))
-        players.old.orders.items in
-        KeepsOrders (asked_order (asked_by words.now) before) (played_by before
-        (map (λ order. order_state (name order) (log order) (seeded order)) players.new.orders.items)) }
-    ensures others { OthersStay (asked_order (asked_by words.now)
-        (map (λ order. order_state (name order) (log order) (seeded order)) players.old.orders.items))
+    ensures ended { (appended : List ℕ) × Ends (asked_by words.now) (given_of S.Shelf shelf.old)
+        (played_of Picker-box players.old players.new) (S.faults shelf.old) (S.faults shelf.new) (K.faults out.old)
+        (K.faults out.new) (end_status result) appended (end_line result) × IsAppended K.Sink out.old out.new appended }
+    ensures carried { (c : AskedCompilation) → asked_by words.now ≡ Some (compiles c) → S.tells shelf.old ≡ true →
+        end_status result ≡ Status.Done → (file : List ℕ) × IsAppended K.Sink out.old out.new file
+        × IsFaithfulFile c (given_of S.Shelf shelf.old) file }
+    ensures orders { KeepsOrders (asked_order (asked_by words.now) (order_states Picker-box players.old))
+        (played_of Picker-box players.old players.new) }
+    ensures others { OthersStay (asked_order (asked_by words.now) (order_states Picker-box players.old))
         players.old.orders.items players.new.orders.items }
-    ensures shelf_same { S.tells shelf.new ≡ S.tells shelf.old }
-    ensures shelf_kept { S.holds shelf.new ≡ S.holds shelf.old }
-    ensures shelf_faults { S.faults shelf.old ≤ S.faults shelf.new }
-    ensures out_same { K.tells out.new ≡ K.tells out.old }
-    ensures out_faults { K.faults out.old ≤ K.faults out.new }
+    ensures shelf { KeepsShelf S.Shelf shelf.old shelf.new }
+    ensures out { KeepsSink K.Sink out.old out.new }
 {
     let command = match command_in(alloc, words) {
         Ok(Some(command)) => command,
@@ -157,60 +152,40 @@ pub fn chp_main<S: Shelf, K: Sink, W: Sink>(
     say: &mut W,
     players: &mut Players,
 ) -> Status
-    ensures ended { (appended : List ℕ) × (line : List ℕ)
-        × Ends (asked_by words.now) (given_by (S.tells shelf.old) (S.holds shelf.old)) (played_by
-        (map (λ order. order_state (name order) (log order) (seeded order)) players.old.orders.items)
-        (map (λ order. order_state (name order) (log order) (seeded order)) players.new.orders.items))
-        (S.faults shelf.old) (S.faults shelf.new) (K.faults out.old) (K.faults out.new) result appended line
-        × (K.tells out.old ≡ true → K.written out.new ≡ K.written out.old ++ appended)
-        × (W.tells say.old ≡ true → ¬ Rose (W.faults say.old) (W.faults say.new) →
-        W.written say.new ≡ W.written say.old ++ line) }
-    ensures complete { (answer : Answer) → S.tells shelf.old ≡ true →
-        AnswersTo (asked_by words.now) (given_by (S.tells shelf.old) (S.holds shelf.old)) (played_by
-        (map (λ order. order_state (name order) (log order) (seeded order)) players.old.orders.items)
-        (map (λ order. order_state (name order) (log order) (seeded order)) players.new.orders.items)) answer
-        → ¬ Rose (S.faults shelf.old) (S.faults shelf.new) → ¬ Rose (K.faults out.old) (K.faults out.new) →
-        (result ≡ status_of answer) ⊎ (result ≡ Status.NoMemory) }
-    ensures served { (command : Asked) → S.tells shelf.old ≡ true → asked_by words.now ≡ Some command →
-        IsServed command (given_by (S.tells shelf.old) (S.holds shelf.old)) (played_by
-        (map (λ order. order_state (name order) (log order) (seeded order)) players.old.orders.items)
-        (map (λ order. order_state (name order) (log order) (seeded order)) players.new.orders.items))
-        → ¬ Rose (S.faults shelf.old) (S.faults shelf.new) → ¬ Rose (K.faults out.old) (K.faults out.new) →
-        EndsServed command result ⊎ (result ≡ Status.NoMemory) }
+    ensures ended { (appended : List ℕ) × (line : List ℕ) × Ends (asked_by words.now) (given_of S.Shelf shelf.old)
+        (played_of Picker-box players.old players.new) (S.faults shelf.old) (S.faults shelf.new) (K.faults out.old)
+        (K.faults out.new) result appended line × IsAppended K.Sink out.old out.new appended
+        × (¬ Fails W.faults say.old say.new → IsAppended W.Sink say.old say.new line) }
+    ensures complete { (answer : Answer) → NothingFails S.Shelf shelf.old shelf.new K.Sink out.old out.new →
+        AnswersTo (asked_by words.now) (given_of S.Shelf shelf.old) (played_of Picker-box players.old players.new)
+        answer → (result ≡ status_of answer) ⊎ (result ≡ Status.NoMemory) }
+    ensures served { (command : Asked) → NothingFails S.Shelf shelf.old shelf.new K.Sink out.old out.new →
+        asked_by words.now ≡ Some command → IsServed command (given_of S.Shelf shelf.old)
+        (played_of Picker-box players.old players.new) → EndsServed command result ⊎ (result ≡ Status.NoMemory) }
     ensures usage { result ≡ Status.Usage → asked_by words.now ≡ None }
     ensures read { result ≡ Status.Read → (name : List ℕ) × IsFile (asked_by words.now) name
         × IsReadFault (S.faults shelf.old) (S.faults shelf.new) (S.tells shelf.old) (S.holds shelf.old name) }
-    ensures write { result ≡ Status.Write → Rose (K.faults out.old) (K.faults out.new) }
-    ensures silent { is_whole result ≡ false → result ≢ Status.Write → K.tells out.old ≡ true →
-        K.written out.new ≡ K.written out.old }
-    ensures orders { let before = map (λ order. order_state (name order) (log order) (seeded order))
-        players.old.orders.items in
-        KeepsOrders (asked_order (asked_by words.now) before) (played_by before
-        (map (λ order. order_state (name order) (log order) (seeded order)) players.new.orders.items)) }
-    ensures others { OthersStay (asked_order (asked_by words.now)
-        (map (λ order. order_state (name order) (log order) (seeded order)) players.old.orders.items))
+    ensures write { result ≡ Status.Write → Fails K.faults out.old out.new }
+    ensures silent { is_whole result ≡ false → result ≢ Status.Write → IsAppended K.Sink out.old out.new [] }
+    ensures orders { KeepsOrders (asked_order (asked_by words.now) (order_states Picker-box players.old))
+        (played_of Picker-box players.old players.new) }
+    ensures others { OthersStay (asked_order (asked_by words.now) (order_states Picker-box players.old))
         players.old.orders.items players.new.orders.items }
+    ensures carried { (c : AskedCompilation) → asked_by words.now ≡ Some (compiles c) → S.tells shelf.old ≡ true →
+        result ≡ Status.Done → (file : List ℕ) × IsAppended K.Sink out.old out.new file
+        × IsFaithfulFile c (given_of S.Shelf shelf.old) file }
     ensures calm { (p : TypedProgram) → S.tells shelf.old ≡ true →
-        RunsCompiled (asked_by words.now) (given_by (S.tells shelf.old) (S.holds shelf.old)) p →
-        result ≢ Status.Hazard }
+        RunsCompiled (asked_by words.now) (given_of S.Shelf shelf.old) p → result ≢ Status.Hazard }
     ensures agreed { (p : TypedProgram) → S.tells shelf.old ≡ true →
-        RunsCompiled (asked_by words.now) (given_by (S.tells shelf.old) (S.holds shelf.old)) p →
-        IsComparedWith (asked_by words.now) (given_by (S.tells shelf.old) (S.holds shelf.old)) p →
-        result ≢ Status.Differs }
+        RunsCompiled (asked_by words.now) (given_of S.Shelf shelf.old) p →
+        IsComparedWith (asked_by words.now) (given_of S.Shelf shelf.old) p → result ≢ Status.Differs }
     ensures steady { (p : TypedProgram) → S.tells shelf.old ≡ true →
-        RunsCompiled (asked_by words.now) (given_by (S.tells shelf.old) (S.holds shelf.old)) p →
-        is_whole result ≡ true → K.tells out.old ≡ true → (end : Ending) × (text : List ℕ)
-        × (result ≡ status_with end) × (K.written out.new ≡ K.written out.old ++ text)
-        × IsCalm (asked_by words.now) (given_by (S.tells shelf.old) (S.holds shelf.old)) (played_by
-        (map (λ order. order_state (name order) (log order) (seeded order)) players.old.orders.items)
-        (map (λ order. order_state (name order) (log order) (seeded order)) players.new.orders.items)) end text }
-    ensures shelf_same { S.tells shelf.new ≡ S.tells shelf.old }
-    ensures shelf_kept { S.holds shelf.new ≡ S.holds shelf.old }
-    ensures shelf_faults { S.faults shelf.old ≤ S.faults shelf.new }
-    ensures out_same { K.tells out.new ≡ K.tells out.old }
-    ensures out_faults { K.faults out.old ≤ K.faults out.new }
-    ensures say_same { W.tells say.new ≡ W.tells say.old }
-    ensures say_faults { W.faults say.old ≤ W.faults say.new }
+        RunsCompiled (asked_by words.now) (given_of S.Shelf shelf.old) p → is_whole result ≡ true →
+        (report : List ℕ) × IsAppended K.Sink out.old out.new report × IsSteady (asked_by words.now)
+        (given_of S.Shelf shelf.old) (played_of Picker-box players.old players.new) result report }
+    ensures shelf { KeepsShelf S.Shelf shelf.old shelf.new }
+    ensures out { KeepsSink K.Sink out.old out.new }
+    ensures say { KeepsSink W.Sink say.old say.new }
 {
     one_answer();
     serves_all();

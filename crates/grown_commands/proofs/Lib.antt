@@ -1,3 +1,4 @@
 pub mod OneSums
 pub mod Summed
 pub mod SafeRuns
+mod CalmSummary

@@ -43,7 +43,7 @@ OwnChecks text = FromProgram text (λ tree. FromChecks tree (Never tree))
 
 module _ (text : List ℕ) (channels : List Channel) (most : ℕ) (served : IsServed text channels most) where
   -- it is the program that is served
-  served_form : (p : TypedProgram) → IsProgramOf text p → p ≡ typed_form served.program
+  pub served_form : (p : TypedProgram) → IsProgramOf text p → p ≡ typed_form served.program
   served_form p is = is.form ∙ ap typed_form (sym (is.read.only served.program served.reads))
 
   pub served_few : (p : TypedProgram) → IsProgramOf text p → node_count p ≤ most

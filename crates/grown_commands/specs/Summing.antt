@@ -56,16 +56,13 @@ summary_of ran =
 
 -- ---- the answer
 
--- The text of the numbers reads as an accepted program, of at most 20 nodes and 154 for each stage; the order at this
--- place, given the seed 0, led to a run of its net, which found no hazard; and the summary of that is written. Neither
--- the text nor the net is ever refused.
+-- The text of the numbers reads as an accepted program; the order at this place, given the seed 0, led to a run of its
+-- net; and the summary of that is written. Neither the text nor the net is ever refused.
 pub record SumsUp (growth : Growth) (played : Played) (place : ℕ) (answer : Answer) : Type 0 where
   pub program : TypedProgram
   pub read : IsProgramOf (generated_text growth.seed growth.stages) program
-  pub few : node_count program ≤ 20 + 154 * growth.stages
   pub ran : RanValue
   pub run : HasPlayed played place 0 (summed_run growth program) ran
-  pub calm : ending_for ran.end ≡ Done
   pub written : answer ≡ writes Done (summary_of ran)
 
 -- the order that chooses the moves
@@ -74,3 +71,10 @@ summing_order = codes "lowest"
 
 abbrev pub Summarizes : Growth → Played → Answer → Type 0
 Summarizes growth played = FromOrder played summing_order (SumsUp growth played)
+
+-- ---- what follows from that
+
+-- the program has at most 20 nodes and 154 for each stage, and the run found no hazard
+pub record IsCalmSummary (growth : Growth) (program : TypedProgram) (ran : RanValue) : Type 0 where
+  pub few : node_count program ≤ 20 + 154 * growth.stages
+  pub calm : ending_for ran.end ≡ Done

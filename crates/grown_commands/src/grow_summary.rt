@@ -8,7 +8,6 @@ ghost use Rattle.handshake_expand.specs.Layout.{node_count};
 ghost use Rattle.net_compose.specs.Carries.{Carries};
 ghost use Rattle.net_compose.specs.Translation.{translation};
 ghost use Rattle.program_maker.specs.Generated.{generated_text};
-ghost use Rattle.prs_core.specs.Nets.{IsNet};
 ghost use Rattle.width_check.specs.Typed.{program_of as typed_of};
 ghost use Rattle.command_words.specs.GrowWords.{IsGrowable};
 ghost use Rattle.command_steps.specs.HeldPrograms.{IsProgramOf};
@@ -21,7 +20,6 @@ use command_answers::{Ending, Output, Refusal, Stop};
 use command_steps::{accepted_program, place_of};
 use command_words::Growth;
 use env_script::{Count, Offer, Script};
-use event_sim::laws::{power_is_powered, safe_moves_bring_no_hazard};
 use event_sim::{Picker, Ran, Sim};
 use grown_programs::grown_served;
 use history_report::report_text;
@@ -135,7 +133,6 @@ fn run_summed(
 ) -> Result<Ran, AllocError>
     requires place { place < length orders.old.items }
     requires script { IsScript (net_channels net) script }
-    ensures kept { IsNet net }
     ensures led { IfOk result (λ ran. HasPlayed (played_by
         (map (λ order. order_state (name order) (log order) (seeded order)) orders.old.items)
         (map (λ order. order_state (name order) (log order) (seeded order)) orders.new.items))
@@ -172,8 +169,6 @@ fn sum_up_at<'a>(
         (map (λ order. order_state (name order) (log order) (seeded order)) orders.new.items)) }
     ensures others { OthersStay (Some place) orders.old.items orders.new.items }
 {
-    power_is_powered();
-    safe_moves_bring_no_hazard();
     let program = grown_program(alloc, growth)?;
     let net = grown_net(alloc, &program)?;
     let script = match grown_script(alloc, growth) {

@@ -3,3 +3,4 @@
 
 pub mod grow;
 mod grow_summary;
+pub mod laws;

@@ -11,7 +11,7 @@ use Rattle.command_answers.specs.Lines.{bad_net_line}
 use Rattle.program_commands.specs.Migrating.{MigratesNet, taken, migrated}
 
 pub compile_once : (reset : Bool) (p : TypedProgram) (a b : Answer) → CompilesNet reset p a → CompilesNet reset p b → a ≡ b
-compile_once reset p a b (compiled c) (compiled d) = ap (λ file. writes Done file) (c.spells ∙ sym d.spells)
+compile_once reset p a b (compiled c) (compiled d) = ap (λ file. writes Done file) (c ∙ sym d)
 
 pub migrate_once : (net : NetValue) (a b : Answer) → MigratesNet net a → MigratesNet net b → a ≡ b
 migrate_once net a b (taken {node = k} plain is) (taken {node = l} same are) = let e : k ≡ l = cc (is, are) in

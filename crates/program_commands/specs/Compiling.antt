@@ -23,6 +23,28 @@ abbrev pub net_for : (reset : Bool) → TypedProgram → NetValue
 net_for false p = translation p
 net_for true p = reset_of (translation p)
 
+-- what is written is the one text of that net
+pub data CompilesNet (reset : Bool) (p : TypedProgram) : Answer → Type 0 where
+  compiled : {file : List ℕ} → NetText file (net_for reset p) → CompilesNet reset p (writes Done file)
+
+-- the program is that of the file, with a buffer where one is asked for
+abbrev pub Compiles : AskedCompilation → Given → Answer → Type 0
+Compiles c given = FromProgramFile given c.file c.buffer (λ p. FromNodes p (CompilesNet c.reset))
+
+-- ---- what follows from that
+
+-- The file holds a text that reads as a program, and as no other one; the program is accepted; and what is written is
+-- the one text of its net, or of that of the program with a buffer on the channel that is named.
+pub record IsFileCompiled (c : AskedCompilation) (given : Given) (written : List ℕ) : Type 0 where
+  pub text : List ℕ
+  pub program : ProgramTree
+  pub made : ProgramTree
+  pub held : given.files c.file ≡ Some text
+  pub reads : IsTextOf text program
+  pub accepted : IsAccepted program
+  pub buffered : IsBuffered program c.buffer made
+  pub spells : NetText written (net_for c.reset (typed_form made))
+
 -- that net carries the program: from its first values, or with a reset node from every power-up state
 abbrev pub NetCarries : (reset : Bool) → TypedProgram → Type 0
 NetCarries false p = Carries (net_for false p) p
@@ -33,36 +55,19 @@ abbrev pub NetProgresses : (reset : Bool) → TypedProgram → Type 0
 NetProgresses false p = Progresses (net_for false p) p
 NetProgresses true p = ProgressesReset (net_for true p) p
 
--- this is the one text of the net of the program, which is a net that a rule file can hold, as it also is without a
--- reset node; and that net carries the program, and keeps pace with it
-pub record IsCompiled (reset : Bool) (p : TypedProgram) (file : List ℕ) : Type 0 where
+-- the net that is written for a program is one that a rule file can hold, as it also is without a reset node; and it
+-- carries the program, and keeps pace with it
+pub record IsFaithful (reset : Bool) (p : TypedProgram) : Type 0 where
   pub plain : IsNet (translation p)
   pub kept : IsNet (net_for reset p)
-  pub spells : NetText file (net_for reset p)
   pub carries : NetCarries reset p
   pub progresses : NetProgresses reset p
 
-pub data CompilesNet (reset : Bool) (p : TypedProgram) : Answer → Type 0 where
-  compiled : {file : List ℕ} → IsCompiled reset p file → CompilesNet reset p (writes Done file)
-
--- the program is that of the file, with a buffer where one is asked for
-abbrev pub Compiles : AskedCompilation → Given → Answer → Type 0
-Compiles c given = FromProgramFile given c.file c.buffer (λ p. FromNodes p (CompilesNet c.reset))
-
--- ---- what follows from that
-
--- The file holds a text that reads as a program, and as no other one; the program is accepted; and what is written is
--- the one text of its net, or of that of the program with a buffer on the channel that is named, and the net carries
--- that program.
-pub record IsFileCompiled (c : AskedCompilation) (given : Given) (written : List ℕ) : Type 0 where
-  pub text : List ℕ
-  pub program : ProgramTree
-  pub made : ProgramTree
-  pub held : given.files c.file ≡ Some text
-  pub reads : IsTextOf text program
-  pub accepted : IsAccepted program
-  pub buffered : IsBuffered program c.buffer made
-  pub compiled : IsCompiled c.reset (typed_form made) written
+-- what is written is the one text of the net of the file's program, or of that with the buffer; and this net carries
+-- that program, and keeps pace with it
+pub record IsFaithfulFile (c : AskedCompilation) (given : Given) (written : List ℕ) : Type 0 where
+  pub file : IsFileCompiled c given written
+  pub faithful : IsFaithful c.reset (typed_form file.made)
 
 -- the file holds what is to be compiled: a text within the limit that reads as an accepted program, which can have the
 -- buffer that is asked for; and its circuit isn't too large then

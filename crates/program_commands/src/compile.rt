@@ -1,14 +1,15 @@
 //! `compile FILE [--reset] [--buffer X]`: from a program text to its rule file.
 
-ghost use Rattle.std.specs.Prelude.{◌≡◌, ◌<◌, ◌≤◌, ◌∷◌, [], IfOk, IfErr, OnOk};
+ghost use Rattle.std.specs.Prelude.{◌≡◌, ◌<◌, ◌≤◌, ◌∷◌, [], true, IfOk, IfErr, OnOk};
 ghost use Rattle.handshake_expand.specs.Layout.{node_count, nodes_of};
 ghost use Rattle.net_compose.specs.Errors.{IfTooMany};
+ghost use Rattle.prs_file.specs.Spelling.{NetText};
 ghost use Rattle.width_check.specs.Typed.{program_of as typed_of};
 ghost use Rattle.command_answers.specs.Answers.{given_by};
-ghost use Rattle.program_commands.specs.Compiling.{Compiles, CompilesNet, IsCompiled};
+ghost use Rattle.program_commands.specs.Compiling.{Compiles, CompilesNet, IsFaithful, IsFaithfulFile, net_for};
 ghost use Rattle.command_words.specs.CompileWords.{compilation_asked};
 ghost use Rattle.command_answers.specs.Replies.{Halts, Stops};
-ghost use Rattle.program_commands.specs.RepliesTold.{told_reply};
+ghost use Rattle.program_commands.specs.RepliesTold.{reply_bytes, told_reply};
 ghost use Rattle.command_steps.specs.Steps.{FromNodes};
 
 use crate::reply::{Piece, Reply};
@@ -23,7 +24,8 @@ use std::alloc::Global;
 
 /// The streamer of the program's rule file, with a reset node where that is asked for.
 fn streamer_of(alloc: Global, program: &Disjoint, reset: bool) -> Result<Streamer, NetError>
-    ensures compiled { IfOk result (λ s. IsCompiled reset (typed_of program.now) s) }
+    ensures spells { IfOk result (λ s. NetText s (net_for reset (typed_of program.now))) }
+    ensures faithful { OnOk result (IsFaithful reset (typed_of program.now)) }
     ensures fits { OnOk result (nodes_of (typed_of program.now) ≤ 65536) }
     ensures count { IfErr result (IfTooMany (λ count. count ≡ node_count (typed_of program.now))) }
     ensures too_many { IfErr result (IfTooMany (λ _. 65536 < nodes_of (typed_of program.now))) }
@@ -39,6 +41,7 @@ fn streamer_of(alloc: Global, program: &Disjoint, reset: bool) -> Result<Streame
 fn compile_accepted<'a>(alloc: Global, program: &Disjoint, reset: bool) -> Result<Reply, Stop<'a>>
     ensures answered { IfOk result (λ reply. FromNodes (typed_of program.now) (CompilesNet reset)
         (told_reply reply)) }
+    ensures faithful { OnOk result (IsFaithful reset (typed_of program.now)) }
     ensures stopped { IfErr result (Halts (FromNodes (typed_of program.now) (CompilesNet reset))) }
 {
     let streamer = match streamer_of(alloc, program, reset) {
@@ -62,6 +65,8 @@ pub fn compile<'a, S: Shelf>(
 ) -> Result<Reply, Stop<'a>>
     ensures answered { IfOk result (λ reply. Compiles (compilation_asked asked.now)
         (given_by (S.tells shelf.old) (S.holds shelf.old)) (told_reply reply)) }
+    ensures carried { IfOk result (λ reply. S.tells shelf.old ≡ true → IsFaithfulFile (compilation_asked asked.now)
+        (given_by (S.tells shelf.old) (S.holds shelf.old)) (reply_bytes reply)) }
     ensures stopped { IfErr result (Stops (Compiles (compilation_asked asked.now)
         (given_by (S.tells shelf.old) (S.holds shelf.old))) (asked.now.file.now ∷ [])
         (given_by (S.tells shelf.old) (S.holds shelf.old)) (S.faults shelf.old) (S.faults shelf.new)) }

@@ -17,6 +17,6 @@ returns c = λ given file p h.
       net = net_for h.reset p;
       held = h.held;
       kept = is.kept;
-      spelled = is.spells;
+      spelled = h.spells;
       carries = either_way h.reset p is.carries;
     }

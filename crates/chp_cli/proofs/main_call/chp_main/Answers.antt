@@ -1,4 +1,4 @@
-use Rattle.std.proofs.Common.{◌∙◌, ◌++◌, ap, sym, append-nil}
+use Rattle.std.proofs.Common.{◌∙◌, ◌++◌, ap, sym}
 use Rattle.command_words.specs.CommandWords.{asked_by}
 use Rattle.command_answers.specs.Replies.{end_line}
 use Rattle.command_answers.specs.Statuses.{is_whole}
@@ -9,15 +9,17 @@ use Rattle.chp_cli.proofs.main_call.chp_main.Goals as goal
 pub returns-clause-ended : goal.returns-clause-ended
 returns-clause-ended g c =
     let e = c.run-end.ensures.ended in
-    (e.0, end_line c.run-end.result, rw c.status.ensures e.1, e.2, c.tell.ensures.said)
+    (e.0, end_line c.run-end.result, rw c.status.ensures e.1, e.2, λ calm told. c.tell.ensures.said told calm)
 
 pub returns-clause-complete : goal.returns-clause-complete
-returns-clause-complete g c = λ answer told are calm quiet.
-    rw c.status.ensures (complete_of _ _ _ _ _ _ _ (λ command. c.one_answer.ensures command _ _ told) c.run-end.ensures.ended.1 answer are calm quiet)
+returns-clause-complete g c = λ answer well are.
+    rw c.status.ensures
+    (complete_of _ _ _ _ _ _ _ (λ command. c.one_answer.ensures command _ _ well.tells) c.run-end.ensures.ended.1 answer are well.read well.written)
 
 pub returns-clause-served : goal.returns-clause-served
-returns-clause-served g c = λ command told named served calm quiet.
-    rw c.status.ensures (served_of _ _ _ _ _ _ _ command named (c.serves_all.ensures command _ _ told served) c.run-end.ensures.ended.1 calm quiet)
+returns-clause-served g c = λ command well named served.
+    rw c.status.ensures
+    (served_of _ _ _ _ _ _ _ command named (c.serves_all.ensures command _ _ well.tells served) c.run-end.ensures.ended.1 well.read well.written)
 
 pub returns-clause-usage : goal.returns-clause-usage
 returns-clause-usage g c = λ is. usage_of _ _ _ _ _ _ _ c.run-end.ensures.ended.1 (sym c.status.ensures ∙ is)
@@ -32,7 +34,10 @@ pub returns-clause-silent : goal.returns-clause-silent
 returns-clause-silent g c = λ not cut told.
     let e = c.run-end.ensures.ended in
     let none = silent_of _ _ _ _ _ _ _ e.1 (ap is_whole (sym c.status.ensures) ∙ not) (λ is. cut (c.status.ensures ∙ is)) in
-    e.2 told ∙ (ap (λ xs. g.K.Sink.written c.args.out.now ++ xs) none ∙ append-nil _)
+    e.2 told ∙ ap (λ xs. g.K.Sink.written c.args.out.now ++ xs) none
+
+pub returns-clause-carried : goal.returns-clause-carried
+returns-clause-carried g c = λ compilation named told done. c.run-end.ensures.carried compilation named told (sym c.status.ensures ∙ done)
 
 pub returns-clause-calm : goal.returns-clause-calm
 returns-clause-calm g c = λ p told runs is.
@@ -50,7 +55,7 @@ returns-clause-agreed g c = λ p told runs compared is.
     _ _ _ _ (asked_by c.args.words.now) runs compared c.run-end.ensures.ended.1 (sym c.status.ensures ∙ is)
 
 pub returns-clause-steady : goal.returns-clause-steady
-returns-clause-steady g c = λ p told runs whole writes.
+returns-clause-steady g c = λ p told runs whole.
     let e = c.run-end.ensures.ended in
     let (end, same, is) = steady_for _ _ p (λ file. c.compiled_files_carry.ensures _ file p)
     (λ s carries end text are.
@@ -66,4 +71,4 @@ returns-clause-steady g c = λ p told runs whole writes.
     let run = c.traced_right.ensures w _ told end text are in
     record { run = run; rests = λ q holds. c.compiled_runs_rest.ensures.traced w _ q holds _ run })
     _ _ _ _ (asked_by c.args.words.now) runs e.1 (ap is_whole (sym c.status.ensures) ∙ whole) in
-    (end, e.0, c.status.ensures ∙ same, e.2 writes, is)
+    (e.0, e.2, (end, c.status.ensures ∙ same, is))

@@ -1,8 +1,12 @@
-use Rattle.std.proofs.Common.{◌≡◌, [], Some, None, rules, take, sym, append-nil}
-use Rattle.command_words.specs.CommandWords.{asked, asked_by}
+use Rattle.std.proofs.Common.{◌≡◌, ◌≢◌, [], Some, None, rules, take, refl, sym, append-nil}
+use Rattle.command_words.specs.CommandWords.{asked, asked_by, compiles}
+use Rattle.command_answers.specs.declared.answer.Stop.{Stop}
+use Rattle.command_answers.specs.declared.answer.Stop.TheVariants as stopped
+use Rattle.command_answers.specs.declared.status.Status.TheVariants.{Done}
+use Rattle.command_answers.specs.Replies.{refusal_status, stop_status}
 use Rattle.chp_cli.specs.Ends.{formless, whole, cut_off, no_memory}
 use Rattle.program_commands.specs.RepliesTold.{reply_bytes, reply_end, told_reply}
-use Rattle.chp_cli.proofs.Ending.{answers_of, stopped_ends}
+use Rattle.chp_cli.proofs.Ending.{answers_of, no_refusal, refusing_status, stopped_ends}
 use Rattle.chp_cli.proofs.main_call.run.Goals as goal
 
 pub returns-in-Ok-None-clause-ended : goal.returns-in-Ok-None-clause-ended
@@ -40,6 +44,21 @@ returns-clause-ended g c =
           prefix.1 c.in-Err-write.ensures.failed,
       prefix.2,
     )
+
+-- where it isn't all written, it doesn't end well
+stop_not_done : (stop : Stop) → stop_status stop ≢ Done
+stop_not_done (stopped.Refused r) = no_refusal (refusal_status r) Done (refusing_status r) refl
+stop_not_done (stopped.Unread name) = λ e. cc
+stop_not_done stopped.NoMemory = λ e. cc
+
+pub returns-in-Err-answer-clause-carried : goal.returns-in-Err-answer-clause-carried
+returns-in-Err-answer-clause-carried g c = λ compilation named told done. absurd (stop_not_done c.in-Err-answer.stop done)
+
+pub returns-in-Ok-write-clause-carried : goal.returns-in-Ok-write-clause-carried
+returns-in-Ok-write-clause-carried g c = λ compilation named told done.
+    let own : asked_by c.args.words.now ≡ Some (asked c.in-Ok-Some.command) = search rules in
+    let same : asked c.in-Ok-Some.command ≡ compiles compilation = cc (own, named) in
+    (reply_bytes c.in-Ok.reply, c.in-Ok-write.ensures.whole, c.in-Ok.ensures.carried compilation same told)
 
 pub returns-in-Err-answer-clause-others : goal.returns-in-Err-answer-clause-others
 returns-in-Err-answer-clause-others g c =

@@ -1,13 +1,11 @@
-use Rattle.std.proofs.Common.{◌≡◌, arith, refl, ap, subst}
+use Rattle.std.proofs.Common.{◌≡◌, arith, ap}
 use Rattle.net_compose.specs.Translation.{translation}
-use Rattle.prs_core.specs.Nets.{IsNet}
 use Rattle.width_check.specs.Typed.{program_of as typed_of}
 use Rattle.command_answers.specs.declared.answer.Ending.TheVariants.{Done}
 use Rattle.command_answers.specs.Answers.{writes}
-use Rattle.grown_commands.specs.Summing.{grown_script}
 use Rattle.simulation_commands.proofs.Keeping.{still_at}
 use Rattle.command_steps.proofs.Stopping.{passed_on}
-use Rattle.grown_commands.proofs.Summed.{carried_calmly, script_of_net}
+use Rattle.grown_commands.proofs.Summed.{script_of_net}
 use Rattle.grown_commands.proofs.grow_summary.sum_up_at.Goals as goal
 
 pub returns-in_err-program-clause-stopped : goal.returns-in_err-program-clause-stopped
@@ -36,19 +34,12 @@ run_summed-requires-clause-script g c =
 
 pub returns-in-Ok-summary_text-clause-answered : goal.returns-in-Ok-summary_text-clause-answered
 returns-in-Ok-summary_text-clause-answered g c =
-    let growth = c.args.growth.now in
     let p = typed_of c.in_ok-program.program in
     let net_is : c.in_ok-net.net ≡ translation p = c.in_ok-net.ensures.net in
-    let carries = c.in_ok-net.ensures.carries in
-    let led = rw (net_is, c.in-Ok.ensures) at c.in-Ok-run_summed.ensures.led in
     record {
       program = p;
       read = c.in_ok-program.ensures.read;
-      few = c.in_ok-program.ensures.few;
       ran = c.in-Ok-run_summed.ran;
-      run = led;
-      calm = carried_calmly c.power_is_powered.ensures c.safe_moves_bring_no_hazard.ensures (translation p) p (grown_script growth.seed growth.stages) _ _ _ _
-          c.in-Ok-run_summed.ran (subst IsNet net_is c.run_summed.ensures.kept) refl carries
-          (script_of_net growth.seed growth.stages p (translation p) carries c.in_ok-program.ensures.wired) led;
+      run = rw (net_is, c.in-Ok.ensures) at c.in-Ok-run_summed.ensures.led;
       written = ap (λ text. writes Done text) c.in-Ok-summary_text.ensures;
     }

@@ -8,6 +8,7 @@ use Rattle.command_steps.specs.Steps.{FromNodes}
 use Rattle.command_steps.proofs.BufferStopping.{buffered_on, buffered_stopped}
 use Rattle.command_steps.proofs.Stopping.{err_in, passed_on, stops_where}
 use Rattle.command_words.proofs.Results.{ok_in}
+use Rattle.program_commands.proofs.Compiled.{reply_carried}
 use Rattle.program_commands.proofs.compile.compile.Goals as goal
 
 pub returns-clause-answered : goal.returns-clause-answered
@@ -19,6 +20,13 @@ returns-clause-answered g c =
     (λ output is. buffered_on given asked.file asked.buffer (λ (p : TypedProgram). FromNodes p (CompilesNet asked.reset)) (typed_of c.in_ok-program.program)
     c.in_ok-program.ensures.read _ is)
     c.compile_accepted.ensures.answered
+
+pub returns-clause-carried : goal.returns-clause-carried
+returns-clause-carried g c =
+    let S = g.S.Shelf in
+    let given = given_by (S.tells c.args.shelf.now) (S.holds c.args.shelf.now) in
+    reply_carried (compilation_asked c.args.asked.now) given (typed_of c.in_ok-program.program) c.in_ok-program.ensures.read c.compile_accepted.result
+    c.compile_accepted.ensures.answered c.compile_accepted.ensures.faithful
 
 pub returns-clause-stopped : goal.returns-clause-stopped
 returns-clause-stopped g c =

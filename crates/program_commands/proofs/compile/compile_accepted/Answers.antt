@@ -17,4 +17,4 @@ returns-in-Err-TooManyNodes-clause-stopped c =
     (subst (λ count. FromNodes program (CompilesNet c.args.reset) (refuses TooLarge (nodes_line count))) (sym is) (too_many (counted_many program many)))
 
 pub returns-in-Ok-new-clause-answered : goal.returns-in-Ok-new-clause-answered
-returns-in-Ok-new-clause-answered c = few_enough (counted_few (typed_of c.args.program.now) c.in-Ok.ensures.fits) (compiled c.in-Ok.ensures.compiled)
+returns-in-Ok-new-clause-answered c = few_enough (counted_few (typed_of c.args.program.now) c.in-Ok.ensures.fits) (compiled c.in-Ok.ensures.spells)

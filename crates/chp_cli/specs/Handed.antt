@@ -1,0 +1,56 @@
+-- What a call does to what it is given: a shelf, sinks and orders, each seen by the ghost members of its trait.
+use Rattle.std.specs.Prelude.{◌≡◌, ℕ, ◌≤◌, ◌++◌, true, List, map}
+use Rattle.std.specs.declared.alloc.Global.{Global}
+use Rattle.std.specs.declared.dyn_box.DynBox.{DynBox}
+use Rattle.chp_edge.specs.Faults.{Rose}
+use Rattle.chp_edge.specs.declared.shelf.Shelf.{Ghosts as ShelfMembers}
+use Rattle.chp_edge.specs.declared.sink.Sink.{Ghosts as SinkMembers}
+use Rattle.event_sim.specs.declared.picker.Picker.{Ghosts as PickerMembers}
+use Rattle.command_answers.specs.Answers.{Given, given_by}
+use Rattle.command_steps.specs.Orders.{OrderState, Played, order_state, played_by}
+use Rattle.chp_cli.specs.declared.players.Players.{Players}
+
+-- ---- devices
+
+-- the count of its faults rose
+abbrev pub Fails : {Device : Type 0} → (faults : Device → ℕ) → (before after : Device) → Type 0
+Fails faults before after = Rose (faults before) (faults after)
+
+-- what a command depends on of a shelf: whether its bytes are observable, and what it holds
+abbrev pub given_of : {S : Type 0} → ShelfMembers S → S → Given
+given_of shelf s = given_by (shelf.tells s) (shelf.holds s)
+
+-- it is as observable as it was, holds what it held, and the count of its faults hasn't fallen
+pub record KeepsShelf {S : Type 0} (shelf : ShelfMembers S) (before after : S) : Type 0 where
+  pub same : shelf.tells after ≡ shelf.tells before
+  pub kept : shelf.holds after ≡ shelf.holds before
+  pub counted : shelf.faults before ≤ shelf.faults after
+
+-- where its bytes are observable, this text was appended to what it took
+abbrev pub IsAppended : {K : Type 0} → SinkMembers K → (before after : K) → (text : List ℕ) → Type 0
+IsAppended sink before after text = sink.tells before ≡ true → sink.written after ≡ sink.written before ++ text
+
+-- of a sink
+pub record KeepsSink {K : Type 0} (sink : SinkMembers K) (before after : K) : Type 0 where
+  pub same : sink.tells after ≡ sink.tells before
+  pub counted : sink.faults before ≤ sink.faults after
+
+-- the shelf's bytes are observable, and neither it nor the sink fails
+pub record NothingFails {S : Type 0} (shelf : ShelfMembers S) (before after : S) {K : Type 0} (sink : SinkMembers K)
+    (first last : K) : Type 0 where
+  pub tells : shelf.tells before ≡ true
+  pub read : ¬ Fails shelf.faults before after
+  pub written : ¬ Fails sink.faults first last
+
+-- ---- orders, each in a box, whose ghost members its table of methods brings
+
+-- what is known of each
+abbrev pub order_states : {B : Type 0} {Order : B → Type 0} →
+    ((box : DynBox B Global Order) → PickerMembers (Order box.vtable)) → Players B Order → List OrderState
+order_states order players = map
+    (λ box. order_state ((order box).name box.value) ((order box).log box.value) ((order box).seeded box.value))
+    players.orders.items
+
+abbrev pub played_of : {B : Type 0} {Order : B → Type 0} →
+    ((box : DynBox B Global Order) → PickerMembers (Order box.vtable)) → (before after : Players B Order) → Played
+played_of order before after = played_by (order_states order before) (order_states order after)
