@@ -3,10 +3,11 @@ use Rattle.std.specs.Prelude.{ℕ, List, Option, Some}
 use Rattle.width_check.specs.Processes.{TypedProgram}
 use Rattle.command_answers.specs.declared.answer.Ending.{Ending}
 use Rattle.command_answers.specs.Answers.{Given}
-use Rattle.command_words.specs.CommandWords.{Asked, simulates, times, traces}
-use Rattle.command_steps.specs.Orders.{Played}
+use Rattle.command_words.specs.CommandWords.{Asked, simulates, times, benches, traces}
+use Rattle.bench_commands.specs.HandedIn.{HandedIn}
 use Rattle.command_steps.specs.References.{IsReferredTo}
 use Rattle.chp_cli.specs.Simulated.{HoldsCompiled, IsCalmRun}
+use Rattle.chp_cli.specs.BenchedFiles.{IsCalmBench}
 use Rattle.chp_cli.specs.TimedFiles.{IsCalmTiming}
 use Rattle.chp_cli.specs.TracedFiles.{IsCalmTrace}
 
@@ -14,6 +15,7 @@ use Rattle.chp_cli.specs.TracedFiles.{IsCalmTrace}
 abbrev pub RunsCompiled : Option Asked → Given → TypedProgram → Type 0
 RunsCompiled (Some (simulates s)) given p = HoldsCompiled given s.net p
 RunsCompiled (Some (times t)) given p = HoldsCompiled given t.net p
+RunsCompiled (Some (benches b)) given p = HoldsCompiled given b.net p
 RunsCompiled (Some (traces w)) given p = HoldsCompiled given w.net p
 RunsCompiled _ given p = ⊥
 
@@ -24,8 +26,9 @@ IsComparedWith (Some (times t)) given p = IsReferredTo given t.against p
 IsComparedWith _ given p = ⊥
 
 -- the text tells a run without a hazard, which comes to rest where a program does for which `compile` writes the file
-abbrev pub IsCalm : Option Asked → Given → Played → Ending → (text : List ℕ) → Type 0
-IsCalm (Some (simulates s)) given played end text = IsCalmRun s given played end text
-IsCalm (Some (times t)) given played end text = IsCalmTiming t given end text
-IsCalm (Some (traces w)) given played end text = IsCalmTrace w given end text
-IsCalm _ given played end text = ⊥
+abbrev pub IsCalm : Option Asked → Given → HandedIn → Ending → (text : List ℕ) → Type 0
+IsCalm (Some (simulates s)) given handed end text = IsCalmRun s given handed.orders end text
+IsCalm (Some (times t)) given handed end text = IsCalmTiming t given end text
+IsCalm (Some (benches b)) given handed end text = IsCalmBench b given handed end text
+IsCalm (Some (traces w)) given handed end text = IsCalmTrace w given end text
+IsCalm _ given handed end text = ⊥

@@ -1,31 +1,35 @@
 //! The top call.
 
-ghost use Rattle.std.specs.Prelude.{◌≡◌, ◌≢◌, ◌≤◌, ◌++◌, ℕ, List, map, None, Some, true, false, IfOk, IfErr, ◌⊎◌};
+ghost use Rattle.std.specs.Prelude.{◌≡◌, ◌≢◌, ◌≤◌, ◌++◌, ℕ, List, None, Some, true, false, IfOk, IfErr, ◌⊎◌};
 ghost use Rattle.chp_edge.specs.Faults.{Rose, IsReadFault};
 ghost use Rattle.command_answers.specs.declared.answer.Ending.{Ending};
 ghost use Rattle.command_answers.specs.Answers.{Answer, given_by, status_of, status_with};
 ghost use Rattle.command_words.specs.CommandWords.{Asked, IsWithinBounds, asked, asked_by};
-ghost use Rattle.chp_cli.specs.Commands.{IsAnswer, files_of, order_of};
-ghost use Rattle.chp_cli.specs.Ends.{AnswersTo, Ends, IsFile, asked_order};
-ghost use Rattle.command_steps.specs.Orders.{KeepsOrders, order_state, played_by};
+ghost use Rattle.chp_cli.specs.Commands.{IsAnswer, files_of};
+ghost use Rattle.chp_cli.specs.Ends.{AnswersTo, Ends, IsFile, StaysBut};
+ghost use Rattle.command_steps.specs.Orders.{order_state};
+ghost use Rattle.peer_bench.specs.Asking.{peer_value};
+ghost use Rattle.bench_commands.specs.HandedIn.{handed_over};
 ghost use Rattle.command_answers.specs.Replies.{Stops, end_line, end_status};
 ghost use Rattle.program_commands.specs.RepliesTold.{told_reply};
 ghost use Rattle.chp_cli.specs.Serving.{EndsServed, IsServed};
 ghost use Rattle.chp_cli.specs.CompiledRuns.{IsCalm, IsComparedWith, RunsCompiled};
 ghost use Rattle.command_answers.specs.Statuses.{is_whole};
-ghost use Rattle.simulation_commands.specs.Simulating.{OthersStay};
 ghost use Rattle.width_check.specs.Processes.{TypedProgram};
 
 use crate::laws::{
-    carried_runs_agree, carried_runs_are_safe, carried_runs_have_one_length, compiled_files_carry,
+    benched_right, benched_runs_are_safe, benched_runs_follow, carried_runs_agree, carried_runs_are_safe, carried_runs_have_one_length, compiled_files_carry,
     compiled_runs_rest, one_answer, serves_all, simulated_right, timed_right, timed_runs_agree,
     timed_runs_are_safe, traced_right, traced_runs_are_safe,
 };
 use crate::players::Players;
+use bench_commands::bench::bench;
 use chp_edge::{Failed, Shelf, Sink};
 use command_answers::{End, Status, Stop, tell};
 use command_words::{Command, command_in};
+use event_sim::Picker;
 use grown_commands::grow::grow;
+use peer_bench::Peer;
 use program_commands::Reply;
 use program_commands::check::check;
 use program_commands::compile::compile;
@@ -47,23 +51,31 @@ fn answer<'a, S: Shelf>(
 ) -> Result<Reply, Stop<'a>>
     requires { IsWithinBounds command.now }
     ensures answered { IfOk result (λ reply. IsAnswer (asked command.now)
-        (given_by (S.tells shelf.old) (S.holds shelf.old)) (played_by
-        (map (λ order. order_state (name order) (log order) (seeded order)) players.old.orders.items)
-        (map (λ order. order_state (name order) (log order) (seeded order)) players.new.orders.items))
+        (given_by (S.tells shelf.old) (S.holds shelf.old)) (handed_over
+        (λ order. order_state ((⟦<dyn Picker as Picker>⟧ order.vtable).name order.value)
+        ((⟦<dyn Picker as Picker>⟧ order.vtable).log order.value) (seeded order))
+        (λ peer. peer_value ((⟦<dyn Peer as Peer>⟧ peer.vtable).name peer.value)
+        ((⟦<dyn Peer as Peer>⟧ peer.vtable).log peer.value) ((⟦<dyn Peer as Peer>⟧ peer.vtable).spare peer.value)
+        (due peer) (willing peer))
+        players.old.orders.items players.new.orders.items players.old.peers.items players.new.peers.items)
         (told_reply reply)) }
     ensures stopped { IfErr result (Stops (IsAnswer (asked command.now)
-        (given_by (S.tells shelf.old) (S.holds shelf.old)) (played_by
-        (map (λ order. order_state (name order) (log order) (seeded order)) players.old.orders.items)
-        (map (λ order. order_state (name order) (log order) (seeded order)) players.new.orders.items)))
+        (given_by (S.tells shelf.old) (S.holds shelf.old)) (handed_over
+        (λ order. order_state ((⟦<dyn Picker as Picker>⟧ order.vtable).name order.value)
+        ((⟦<dyn Picker as Picker>⟧ order.vtable).log order.value) (seeded order))
+        (λ peer. peer_value ((⟦<dyn Peer as Peer>⟧ peer.vtable).name peer.value)
+        ((⟦<dyn Peer as Peer>⟧ peer.vtable).log peer.value) ((⟦<dyn Peer as Peer>⟧ peer.vtable).spare peer.value)
+        (due peer) (willing peer))
+        players.old.orders.items players.new.orders.items players.old.peers.items players.new.peers.items))
         (files_of (asked command.now)) (given_by (S.tells shelf.old) (S.holds shelf.old)) (S.faults shelf.old)
         (S.faults shelf.new)) }
-    ensures orders { let before = map (λ order. order_state (name order) (log order) (seeded order))
-        players.old.orders.items in
-        KeepsOrders (order_of (asked command.now) before) (played_by before
-        (map (λ order. order_state (name order) (log order) (seeded order)) players.new.orders.items)) }
-    ensures others { OthersStay (order_of (asked command.now)
-        (map (λ order. order_state (name order) (log order) (seeded order)) players.old.orders.items))
-        players.old.orders.items players.new.orders.items }
+    ensures stay { StaysBut (Some (asked command.now))
+        (λ order. order_state ((⟦<dyn Picker as Picker>⟧ order.vtable).name order.value)
+        ((⟦<dyn Picker as Picker>⟧ order.vtable).log order.value) (seeded order))
+        (λ peer. peer_value ((⟦<dyn Peer as Peer>⟧ peer.vtable).name peer.value)
+        ((⟦<dyn Peer as Peer>⟧ peer.vtable).log peer.value) ((⟦<dyn Peer as Peer>⟧ peer.vtable).spare peer.value)
+        (due peer) (willing peer))
+        players.old.orders.items players.new.orders.items players.old.peers.items players.new.peers.items }
     ensures same { S.tells shelf.new ≡ S.tells shelf.old }
     ensures kept { S.holds shelf.new ≡ S.holds shelf.old }
     ensures faults { S.faults shelf.old ≤ S.faults shelf.new }
@@ -80,6 +92,13 @@ fn answer<'a, S: Shelf>(
             run,
         )?)),
         Command::Time(timing) => Ok(Reply::Held(time(alloc, shelf, timing)?)),
+        Command::Bench(asked) => Ok(Reply::Held(bench(
+            alloc,
+            shelf,
+            &mut players.orders,
+            &mut players.peers,
+            asked,
+        )?)),
         Command::Waves(asked) => Ok(Reply::Held(waves(alloc, shelf, asked)?)),
         Command::Unwave { file } => Ok(Reply::Held(unwave(alloc, shelf, file)?)),
         Command::Run(asked) => Ok(Reply::Held(rounds(alloc, shelf, asked)?)),
@@ -96,19 +115,23 @@ fn run<'a, S: Shelf, K: Sink>(
     players: &mut Players,
 ) -> End<'a>
     ensures ended { (appended : List ℕ)
-        × Ends (asked_by words.now) (given_by (S.tells shelf.old) (S.holds shelf.old)) (played_by
-        (map (λ order. order_state (name order) (log order) (seeded order)) players.old.orders.items)
-        (map (λ order. order_state (name order) (log order) (seeded order)) players.new.orders.items))
+        × Ends (asked_by words.now) (given_by (S.tells shelf.old) (S.holds shelf.old)) (handed_over
+        (λ order. order_state ((⟦<dyn Picker as Picker>⟧ order.vtable).name order.value)
+        ((⟦<dyn Picker as Picker>⟧ order.vtable).log order.value) (seeded order))
+        (λ peer. peer_value ((⟦<dyn Peer as Peer>⟧ peer.vtable).name peer.value)
+        ((⟦<dyn Peer as Peer>⟧ peer.vtable).log peer.value) ((⟦<dyn Peer as Peer>⟧ peer.vtable).spare peer.value)
+        (due peer) (willing peer))
+        players.old.orders.items players.new.orders.items players.old.peers.items players.new.peers.items)
         (S.faults shelf.old) (S.faults shelf.new) (K.faults out.old) (K.faults out.new) (end_status result) appended
         (end_line result)
         × (K.tells out.old ≡ true → K.written out.new ≡ K.written out.old ++ appended) }
-    ensures orders { let before = map (λ order. order_state (name order) (log order) (seeded order))
-        players.old.orders.items in
-        KeepsOrders (asked_order (asked_by words.now) before) (played_by before
-        (map (λ order. order_state (name order) (log order) (seeded order)) players.new.orders.items)) }
-    ensures others { OthersStay (asked_order (asked_by words.now)
-        (map (λ order. order_state (name order) (log order) (seeded order)) players.old.orders.items))
-        players.old.orders.items players.new.orders.items }
+    ensures stay { StaysBut (asked_by words.now)
+        (λ order. order_state ((⟦<dyn Picker as Picker>⟧ order.vtable).name order.value)
+        ((⟦<dyn Picker as Picker>⟧ order.vtable).log order.value) (seeded order))
+        (λ peer. peer_value ((⟦<dyn Peer as Peer>⟧ peer.vtable).name peer.value)
+        ((⟦<dyn Peer as Peer>⟧ peer.vtable).log peer.value) ((⟦<dyn Peer as Peer>⟧ peer.vtable).spare peer.value)
+        (due peer) (willing peer))
+        players.old.orders.items players.new.orders.items players.old.peers.items players.new.peers.items }
     ensures shelf_same { S.tells shelf.new ≡ S.tells shelf.old }
     ensures shelf_kept { S.holds shelf.new ≡ S.holds shelf.old }
     ensures shelf_faults { S.faults shelf.old ≤ S.faults shelf.new }
@@ -158,23 +181,35 @@ pub fn chp_main<S: Shelf, K: Sink, W: Sink>(
     players: &mut Players,
 ) -> Status
     ensures ended { (appended : List ℕ) × (line : List ℕ)
-        × Ends (asked_by words.now) (given_by (S.tells shelf.old) (S.holds shelf.old)) (played_by
-        (map (λ order. order_state (name order) (log order) (seeded order)) players.old.orders.items)
-        (map (λ order. order_state (name order) (log order) (seeded order)) players.new.orders.items))
+        × Ends (asked_by words.now) (given_by (S.tells shelf.old) (S.holds shelf.old)) (handed_over
+        (λ order. order_state ((⟦<dyn Picker as Picker>⟧ order.vtable).name order.value)
+        ((⟦<dyn Picker as Picker>⟧ order.vtable).log order.value) (seeded order))
+        (λ peer. peer_value ((⟦<dyn Peer as Peer>⟧ peer.vtable).name peer.value)
+        ((⟦<dyn Peer as Peer>⟧ peer.vtable).log peer.value) ((⟦<dyn Peer as Peer>⟧ peer.vtable).spare peer.value)
+        (due peer) (willing peer))
+        players.old.orders.items players.new.orders.items players.old.peers.items players.new.peers.items)
         (S.faults shelf.old) (S.faults shelf.new) (K.faults out.old) (K.faults out.new) result appended line
         × (K.tells out.old ≡ true → K.written out.new ≡ K.written out.old ++ appended)
         × (W.tells say.old ≡ true → ¬ Rose (W.faults say.old) (W.faults say.new) →
         W.written say.new ≡ W.written say.old ++ line) }
     ensures complete { (answer : Answer) → S.tells shelf.old ≡ true →
-        AnswersTo (asked_by words.now) (given_by (S.tells shelf.old) (S.holds shelf.old)) (played_by
-        (map (λ order. order_state (name order) (log order) (seeded order)) players.old.orders.items)
-        (map (λ order. order_state (name order) (log order) (seeded order)) players.new.orders.items)) answer
+        AnswersTo (asked_by words.now) (given_by (S.tells shelf.old) (S.holds shelf.old)) (handed_over
+        (λ order. order_state ((⟦<dyn Picker as Picker>⟧ order.vtable).name order.value)
+        ((⟦<dyn Picker as Picker>⟧ order.vtable).log order.value) (seeded order))
+        (λ peer. peer_value ((⟦<dyn Peer as Peer>⟧ peer.vtable).name peer.value)
+        ((⟦<dyn Peer as Peer>⟧ peer.vtable).log peer.value) ((⟦<dyn Peer as Peer>⟧ peer.vtable).spare peer.value)
+        (due peer) (willing peer))
+        players.old.orders.items players.new.orders.items players.old.peers.items players.new.peers.items) answer
         → ¬ Rose (S.faults shelf.old) (S.faults shelf.new) → ¬ Rose (K.faults out.old) (K.faults out.new) →
         (result ≡ status_of answer) ⊎ (result ≡ Status.NoMemory) }
     ensures served { (command : Asked) → S.tells shelf.old ≡ true → asked_by words.now ≡ Some command →
-        IsServed command (given_by (S.tells shelf.old) (S.holds shelf.old)) (played_by
-        (map (λ order. order_state (name order) (log order) (seeded order)) players.old.orders.items)
-        (map (λ order. order_state (name order) (log order) (seeded order)) players.new.orders.items))
+        IsServed command (given_by (S.tells shelf.old) (S.holds shelf.old)) (handed_over
+        (λ order. order_state ((⟦<dyn Picker as Picker>⟧ order.vtable).name order.value)
+        ((⟦<dyn Picker as Picker>⟧ order.vtable).log order.value) (seeded order))
+        (λ peer. peer_value ((⟦<dyn Peer as Peer>⟧ peer.vtable).name peer.value)
+        ((⟦<dyn Peer as Peer>⟧ peer.vtable).log peer.value) ((⟦<dyn Peer as Peer>⟧ peer.vtable).spare peer.value)
+        (due peer) (willing peer))
+        players.old.orders.items players.new.orders.items players.old.peers.items players.new.peers.items)
         → ¬ Rose (S.faults shelf.old) (S.faults shelf.new) → ¬ Rose (K.faults out.old) (K.faults out.new) →
         EndsServed command result ⊎ (result ≡ Status.NoMemory) }
     ensures usage { result ≡ Status.Usage → asked_by words.now ≡ None }
@@ -183,13 +218,13 @@ pub fn chp_main<S: Shelf, K: Sink, W: Sink>(
     ensures write { result ≡ Status.Write → Rose (K.faults out.old) (K.faults out.new) }
     ensures silent { is_whole result ≡ false → result ≢ Status.Write → K.tells out.old ≡ true →
         K.written out.new ≡ K.written out.old }
-    ensures orders { let before = map (λ order. order_state (name order) (log order) (seeded order))
-        players.old.orders.items in
-        KeepsOrders (asked_order (asked_by words.now) before) (played_by before
-        (map (λ order. order_state (name order) (log order) (seeded order)) players.new.orders.items)) }
-    ensures others { OthersStay (asked_order (asked_by words.now)
-        (map (λ order. order_state (name order) (log order) (seeded order)) players.old.orders.items))
-        players.old.orders.items players.new.orders.items }
+    ensures stay { StaysBut (asked_by words.now)
+        (λ order. order_state ((⟦<dyn Picker as Picker>⟧ order.vtable).name order.value)
+        ((⟦<dyn Picker as Picker>⟧ order.vtable).log order.value) (seeded order))
+        (λ peer. peer_value ((⟦<dyn Peer as Peer>⟧ peer.vtable).name peer.value)
+        ((⟦<dyn Peer as Peer>⟧ peer.vtable).log peer.value) ((⟦<dyn Peer as Peer>⟧ peer.vtable).spare peer.value)
+        (due peer) (willing peer))
+        players.old.orders.items players.new.orders.items players.old.peers.items players.new.peers.items }
     ensures calm { (p : TypedProgram) → S.tells shelf.old ≡ true →
         RunsCompiled (asked_by words.now) (given_by (S.tells shelf.old) (S.holds shelf.old)) p →
         result ≢ Status.Hazard }
@@ -201,9 +236,13 @@ pub fn chp_main<S: Shelf, K: Sink, W: Sink>(
         RunsCompiled (asked_by words.now) (given_by (S.tells shelf.old) (S.holds shelf.old)) p →
         is_whole result ≡ true → K.tells out.old ≡ true → (end : Ending) × (text : List ℕ)
         × (result ≡ status_with end) × (K.written out.new ≡ K.written out.old ++ text)
-        × IsCalm (asked_by words.now) (given_by (S.tells shelf.old) (S.holds shelf.old)) (played_by
-        (map (λ order. order_state (name order) (log order) (seeded order)) players.old.orders.items)
-        (map (λ order. order_state (name order) (log order) (seeded order)) players.new.orders.items)) end text }
+        × IsCalm (asked_by words.now) (given_by (S.tells shelf.old) (S.holds shelf.old)) (handed_over
+        (λ order. order_state ((⟦<dyn Picker as Picker>⟧ order.vtable).name order.value)
+        ((⟦<dyn Picker as Picker>⟧ order.vtable).log order.value) (seeded order))
+        (λ peer. peer_value ((⟦<dyn Peer as Peer>⟧ peer.vtable).name peer.value)
+        ((⟦<dyn Peer as Peer>⟧ peer.vtable).log peer.value) ((⟦<dyn Peer as Peer>⟧ peer.vtable).spare peer.value)
+        (due peer) (willing peer))
+        players.old.orders.items players.new.orders.items players.old.peers.items players.new.peers.items) end text }
     ensures shelf_same { S.tells shelf.new ≡ S.tells shelf.old }
     ensures shelf_kept { S.holds shelf.new ≡ S.holds shelf.old }
     ensures shelf_faults { S.faults shelf.old ≤ S.faults shelf.new }
@@ -225,6 +264,9 @@ pub fn chp_main<S: Shelf, K: Sink, W: Sink>(
     traced_right();
     traced_runs_are_safe();
     compiled_runs_rest();
+    benched_right();
+    benched_runs_are_safe();
+    benched_runs_follow();
     let end = run(alloc, words, shelf, out, players);
     tell(say, &end);
     end.status()

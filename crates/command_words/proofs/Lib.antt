@@ -4,5 +4,6 @@ pub mod PlainGrow
 pub mod Taken
 pub mod GivenTexts
 pub mod Commanded
+pub mod BenchTaken
 pub mod Waved
 pub mod Results

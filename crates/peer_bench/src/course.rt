@@ -109,6 +109,7 @@ fn ask_if(stage: &mut Stage, peer: &mut Box<dyn Peer>, asks: bool, at: u32)
     requires offered { AreOffered stage.old.script (now_of stage.old) }
     requires room { free_on stage.old.net stage.old.script (now_of stage.old) + 1 ≤ spare peer.old }
     ensures stage { stage.new ≡ record stage.old { script = stage.new.script } }
+    ensures fits { IsScript (net_channels stage.new.net) stage.new.script }
     ensures asked { (more : List Note) × IsAskedByIf asks
         (λ p. peer_value (name p) (log p) (spare p) (due p) (willing p))
         stage.old.net (now_of stage.old) at stage.old.script stage.new.script more peer.old peer.new }
@@ -119,6 +120,8 @@ fn ask_if(stage: &mut Stage, peer: &mut Box<dyn Peer>, asks: bool, at: u32)
     if asks {
         ask_all(stage, peer, at);
     }
+    // what the stage's type keeps is told of its script
+    let _kept = stage.net();
 }
 
 /// Makes the enabled move of the node, notifies the device of what it took by that, and asks it where the move allows
@@ -132,6 +135,7 @@ fn make(stage: &mut Stage, peer: &mut Box<dyn Peer>, node: u32, at: u32) -> Opti
     requires spare { free_on stage.old.net stage.old.script (now_of stage.old) + 3 ≤ spare peer.old }
     ensures net { stage.new.net ≡ stage.old.net }
     ensures moved { now_of stage.new ≡ moved stage.old.net (now_of stage.old) node }
+    ensures fits { IsScript (net_channels stage.new.net) stage.new.script }
     ensures passed { stage.new.passed ≡ stage.old.passed
         ++ option_to_list (completion stage.old.net (high stage.old.values) node) }
     ensures room { stage.old.room ≤ stage.new.room + 1 }

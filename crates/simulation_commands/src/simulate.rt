@@ -58,7 +58,7 @@ pub struct Room {
 }
 
 /// Gives the order its seed, and then its room.
-fn prepare(picker: &mut Box<dyn Picker>, seed: u64, room: Room) -> Result<(), AllocError>
+pub fn prepare(picker: &mut Box<dyn Picker>, seed: u64, room: Room) -> Result<(), AllocError>
     ensures seeded { seeded picker.new ≡ Some (seed, length (log picker.old)) }
     ensures name { name picker.new ≡ name picker.old }
     ensures log { log picker.new ≡ log picker.old }

@@ -1,0 +1,4 @@
+pub mod OneBenches
+pub mod PeerNames
+pub mod Staying
+pub mod BenchStopping
