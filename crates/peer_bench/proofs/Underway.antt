@@ -328,7 +328,7 @@ step_here {P} known s later steps picks notes was mid is last brought p n at net
     fits = fits;
     suits = more_fit s.net (moved s.net (now_of s) n) notes extra later.script d.suits fits
         (subst (λ (r : RunState). StandsFor s.net r (notes ++ extra) later.script) made.now standing) (λ c m number. completed_before c m
-        (sym (like_number (offer_at (script_by s.net notes) c) (offer_at s.script c) (completed (moved s.net (now_of s) n).histories c) (behind.each c))
+        (like_number (offer_at (script_by s.net notes) c) (offer_at s.script c) (completed (moved s.net (now_of s) n).histories c) (behind.each c)
         ∙ number));
     quiet = λ low. subst (λ (xs : List Note). NothingComes s.net xs (now_of later) (known is)) all
         (subst (λ (r : RunState). NothingComes s.net ((notes ++ news) ++ noted.more) r (known is)) (sym made.now)

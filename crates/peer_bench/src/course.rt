@@ -109,7 +109,6 @@ fn ask_if(stage: &mut Stage, peer: &mut Box<dyn Peer>, asks: bool, at: u32)
     requires offered { AreOffered stage.old.script (now_of stage.old) }
     requires room { free_on stage.old.net stage.old.script (now_of stage.old) + 1 ≤ spare peer.old }
     ensures stage { stage.new ≡ record stage.old { script = stage.new.script } }
-    ensures fits { IsScript (net_channels stage.new.net) stage.new.script }
     ensures asked { (more : List Note) × IsAskedByIf asks
         (λ p. peer_value (name p) (log p) (spare p) (due p) (willing p))
         stage.old.net (now_of stage.old) at stage.old.script stage.new.script more peer.old peer.new }
@@ -120,8 +119,6 @@ fn ask_if(stage: &mut Stage, peer: &mut Box<dyn Peer>, asks: bool, at: u32)
     if asks {
         ask_all(stage, peer, at);
     }
-    // what the stage's type keeps is told of its script
-    let _kept = stage.net();
 }
 
 /// Makes the enabled move of the node, notifies the device of what it took by that, and asks it where the move allows
@@ -154,6 +151,8 @@ fn make(stage: &mut Stage, peer: &mut Box<dyn Peer>, node: u32, at: u32) -> Opti
     tell(stage, peer, passed, at);
     let asks = may_ask(stage.in_reset(), was_in_reset, is_ack);
     ask_if(stage, peer, asks, at);
+    // the invariant of the stage's type, about its script
+    let _kept = stage.net();
     hazard
 }
 
@@ -191,6 +190,7 @@ pub(crate) fn drive(setup: Setup, picker: &mut Box<dyn Picker>, peer: &mut Box<d
     let Setup { mut stage, steps } = setup;
     let is_in_reset = stage.in_reset();
     ask_if(&mut stage, peer, !is_in_reset, 0);
+    let _kept = stage.net();
     let mut hazard = stage.first_hazard();
     for made in 0..steps {
         match early_end(hazard, stage.moves()) {
