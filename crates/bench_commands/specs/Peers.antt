@@ -13,6 +13,10 @@ pub record Peered : Type 0 where
 abbrev pub peered_by : (before after : List PeerValue) → Peered
 peered_by before after = record { before = before; after = after }
 
+-- of these devices, of each of which this is known
+abbrev pub peered_over : {P : Type 0} → (peer : P → PeerValue) → (before after : List P) → Peered
+peered_over peer before after = peered_by (map peer before) (map peer after)
+
 -- the place of the first one of this name
 abbrev pub peer_named : List PeerValue → (name : List ℕ) → Option ℕ
 peer_named peers name = position (λ (p : PeerValue). bytes_eq p.name name) peers

@@ -10,7 +10,7 @@ ghost use Rattle.peer_bench.specs.Asking.{PeerValue, peer_value};
 ghost use Rattle.peer_bench.specs.Benches.{external_channels};
 ghost use Rattle.bench_commands.specs.HandedIn.{StayHandedIn, handed_over};
 ghost use Rattle.bench_commands.specs.OnBench.{AgainstPeer, Benches, BenchesAt, BenchesNet, setup_for};
-ghost use Rattle.bench_commands.specs.Peers.{KeepsPeers, peer_named, peered_by};
+ghost use Rattle.bench_commands.specs.Peers.{KeepsPeers, peer_named, peered_over};
 ghost use Rattle.bench_commands.specs.PreparedRuns.{RunsAgainst};
 ghost use Rattle.simulation_commands.specs.Simulating.{OthersStay};
 
@@ -64,28 +64,20 @@ fn report_on(
         (⟦<dyn Peer as Peer>⟧ p.vtable).spare p.value) }
     ensures answered { IfOk result (λ output. RunsAgainst (setup_for net steps)
         ((⟦<dyn Picker as Picker>⟧ picker.old.vtable).log picker.old.value)
-        ((⟦<dyn Picker as Picker>⟧ picker.new.vtable).log picker.new.value) (peered_by
-        (map (λ peer. peer_value ((⟦<dyn Peer as Peer>⟧ peer.vtable).name peer.value)
+        ((⟦<dyn Picker as Picker>⟧ picker.new.vtable).log picker.new.value) (peered_over
+        (λ peer. peer_value ((⟦<dyn Peer as Peer>⟧ peer.vtable).name peer.value)
         ((⟦<dyn Peer as Peer>⟧ peer.vtable).log peer.value) ((⟦<dyn Peer as Peer>⟧ peer.vtable).spare peer.value)
         (due peer) (willing peer))
-        peers.old.items)
-        (map (λ peer. peer_value ((⟦<dyn Peer as Peer>⟧ peer.vtable).name peer.value)
-        ((⟦<dyn Peer as Peer>⟧ peer.vtable).log peer.value) ((⟦<dyn Peer as Peer>⟧ peer.vtable).spare peer.value)
-        (due peer) (willing peer))
-        peers.new.items))
+        peers.old.items peers.new.items)
         which (told_answer output)) }
     ensures name { (⟦<dyn Picker as Picker>⟧ picker.new.vtable).name picker.new.value ≡
         (⟦<dyn Picker as Picker>⟧ picker.old.vtable).name picker.old.value }
     ensures seeded { seeded picker.new ≡ seeded picker.old }
-    ensures peers { KeepsPeers (Some which) (peered_by
-        (map (λ peer. peer_value ((⟦<dyn Peer as Peer>⟧ peer.vtable).name peer.value)
+    ensures peers { KeepsPeers (Some which) (peered_over
+        (λ peer. peer_value ((⟦<dyn Peer as Peer>⟧ peer.vtable).name peer.value)
         ((⟦<dyn Peer as Peer>⟧ peer.vtable).log peer.value) ((⟦<dyn Peer as Peer>⟧ peer.vtable).spare peer.value)
         (due peer) (willing peer))
-        peers.old.items)
-        (map (λ peer. peer_value ((⟦<dyn Peer as Peer>⟧ peer.vtable).name peer.value)
-        ((⟦<dyn Peer as Peer>⟧ peer.vtable).log peer.value) ((⟦<dyn Peer as Peer>⟧ peer.vtable).spare peer.value)
-        (due peer) (willing peer))
-        peers.new.items)) }
+        peers.old.items peers.new.items) }
     ensures peers_others { OthersStay (Some which) peers.old.items peers.new.items }
 {
     let taken = mem::replace(peers, Vec::new(alloc));
@@ -117,27 +109,19 @@ fn bench_with(
         (order_state ((⟦<dyn Picker as Picker>⟧ picker.old.vtable).name picker.old.value)
         ((⟦<dyn Picker as Picker>⟧ picker.old.vtable).log picker.old.value) (seeded picker.old))
         (order_state ((⟦<dyn Picker as Picker>⟧ picker.new.vtable).name picker.new.value)
-        ((⟦<dyn Picker as Picker>⟧ picker.new.vtable).log picker.new.value) (seeded picker.new)) (peered_by
-        (map (λ peer. peer_value ((⟦<dyn Peer as Peer>⟧ peer.vtable).name peer.value)
+        ((⟦<dyn Picker as Picker>⟧ picker.new.vtable).log picker.new.value) (seeded picker.new)) (peered_over
+        (λ peer. peer_value ((⟦<dyn Peer as Peer>⟧ peer.vtable).name peer.value)
         ((⟦<dyn Peer as Peer>⟧ peer.vtable).log peer.value) ((⟦<dyn Peer as Peer>⟧ peer.vtable).spare peer.value)
         (due peer) (willing peer))
-        peers.old.items)
-        (map (λ peer. peer_value ((⟦<dyn Peer as Peer>⟧ peer.vtable).name peer.value)
-        ((⟦<dyn Peer as Peer>⟧ peer.vtable).log peer.value) ((⟦<dyn Peer as Peer>⟧ peer.vtable).spare peer.value)
-        (due peer) (willing peer))
-        peers.new.items))
+        peers.old.items peers.new.items)
         which (told_answer output)) }
     ensures name { (⟦<dyn Picker as Picker>⟧ picker.new.vtable).name picker.new.value ≡
         (⟦<dyn Picker as Picker>⟧ picker.old.vtable).name picker.old.value }
-    ensures peers { KeepsPeers (Some which) (peered_by
-        (map (λ peer. peer_value ((⟦<dyn Peer as Peer>⟧ peer.vtable).name peer.value)
+    ensures peers { KeepsPeers (Some which) (peered_over
+        (λ peer. peer_value ((⟦<dyn Peer as Peer>⟧ peer.vtable).name peer.value)
         ((⟦<dyn Peer as Peer>⟧ peer.vtable).log peer.value) ((⟦<dyn Peer as Peer>⟧ peer.vtable).spare peer.value)
         (due peer) (willing peer))
-        peers.old.items)
-        (map (λ peer. peer_value ((⟦<dyn Peer as Peer>⟧ peer.vtable).name peer.value)
-        ((⟦<dyn Peer as Peer>⟧ peer.vtable).log peer.value) ((⟦<dyn Peer as Peer>⟧ peer.vtable).spare peer.value)
-        (due peer) (willing peer))
-        peers.new.items)) }
+        peers.old.items peers.new.items) }
     ensures peers_others { OthersStay (Some which) peers.old.items peers.new.items }
 {
     let room = Room {
