@@ -53,7 +53,7 @@ module _ (p : TypedProgram) (script : List OfferValue) (hold : RoundsHold p scri
       subst (λ j. IsBehind (rounds p script n) (rounds p script j)) e
       (λ k. one_more k n (n + more) (suc (n + more)) (rounds_behind n more k) ((hold (n + more)).2 k))
 
-since_few : (reset : Option ℕ) (ns : List ℕ) → moves_since_reset reset ns ≤ length ns
+pub since_few : (reset : Option ℕ) (ns : List ℕ) → moves_since_reset reset ns ≤ length ns
 since_few reset [] = omega arith
 since_few reset (n ∷ ns) = go (is_reset reset n) refl (since_few reset ns)
   where
@@ -65,7 +65,7 @@ since_few reset (n ∷ ns) = go (is_reset reset n) refl (since_few reset ns)
 
 module _ (hold : (p : TypedProgram) (script : List OfferValue) → MeetsSharing p.body → RoundsHold p script)
     (powered : (net : NetValue) (high : Bool) → IsNet net → IsSome net.reset → IsPowered net (power_of net high)) where
-  follows : (n : NetValue) (p : TypedProgram) (script : List OfferValue) (high : Bool) → IsNet n → MeetsSharing p.body → IsScript (net_channels n) script →
+  pub follows : (n : NetValue) (p : TypedProgram) (script : List OfferValue) (high : Bool) → IsNet n → MeetsSharing p.body → IsScript (net_channels n) script →
       ((n.reset ≡ None) × Carries n p) ⊎ CarriesReset n p → (ns : List ℕ) → IsRun n script (begin_at n (power_of n high)) ns →
       IsFollowing (after n (begin_at n (power_of n high)) ns) (rounds p script (length ns))
   follows n p script high net sharing suits (inl c) ns run =

@@ -3,13 +3,16 @@ use Rattle.std.proofs.Common.{◌≡◌, ◌≢◌, ℕ, true, List, Option, Som
 use Rattle.command_answers.specs.declared.answer.Ending.{Ending}
 use Rattle.command_answers.specs.declared.answer.Ending.TheVariants as ending
 use Rattle.command_answers.specs.declared.status.Status.{Status}
-use Rattle.command_answers.specs.declared.status.Status.TheVariants.{Done, RefusedText, Usage, Read, Write, Hazard, NoMemory, TooLarge, BadFile, NoOrder, NoChannel, Differs, NotBuilt}
+use Rattle.command_answers.specs.declared.status.Status.TheVariants.{Done, RefusedText, Usage, Read, Write, Hazard, NoMemory, TooLarge, BadFile, NoOrder, NoChannel, NoPeer, Differs, NotBuilt}
 use Rattle.command_answers.specs.Answers.{Given, Answer, writes, status_with}
-use Rattle.command_words.specs.CommandWords.{Asked, compiles, migrates, checks, expands, simulates, times, traces, unwaves, runs, grows}
+use Rattle.command_words.specs.CommandWords.{Asked, compiles, migrates, checks, expands, simulates, times, benches, traces, unwaves, runs, grows}
 use Rattle.chp_cli.specs.Commands.{IsAnswer}
 use Rattle.chp_cli.specs.CompiledRuns.{IsComparedWith, IsSteady, RunsCompiled}
 use Rattle.chp_cli.specs.Ends.{AnswersTo, Ends, formless, whole, cut_off, refused, unread, no_memory}
-use Rattle.command_steps.specs.Orders.{Played}
+use Rattle.bench_commands.specs.HandedIn.{HandedIn}
+use Rattle.bench_commands.specs.OnBench.{Benches}
+use Rattle.chp_cli.specs.BenchedFiles.{IsCalmBench}
+use Rattle.command_words.specs.BenchWords.{AskedBench}
 use Rattle.command_steps.specs.References.{IsReferredTo}
 use Rattle.chp_cli.specs.Simulated.{HoldsCarrying, HoldsCompiled, IsCalmRun}
 use Rattle.command_words.specs.SimulateWords.{AskedRun, AskedTiming}
@@ -42,6 +45,7 @@ not_whole TooLarge r w = cc w
 not_whole BadFile r w = cc w
 not_whole NoOrder r w = cc w
 not_whole NoChannel r w = cc w
+not_whole NoPeer r w = cc w
 not_whole NotBuilt r w = cc w
 not_whole Usage r w = cc w
 not_whole Read r w = cc w
@@ -49,12 +53,12 @@ not_whole Write r w = cc w
 not_whole NoMemory r w = cc w
 
 -- of the one command that is asked for
-module _ (asked : Option Asked) (given : Given) (played : Played) (rb ra pb pa : ℕ) (command : Asked) (is : asked ≡ Some command) where
-  answer_of : (answer : Answer) → AnswersTo asked given played answer → IsAnswer command given played answer
-  answer_of answer are = subst (λ o. AnswersTo o given played answer) is are
+module _ (asked : Option Asked) (given : Given) (handed : HandedIn) (rb ra pb pa : ℕ) (command : Asked) (is : asked ≡ Some command) where
+  answer_of : (answer : Answer) → AnswersTo asked given handed answer → IsAnswer command given handed answer
+  answer_of answer are = subst (λ o. AnswersTo o given handed answer) is are
 
-  module _ (safe : (end : Ending) (text : List ℕ) → IsAnswer command given played (writes end text) → end ≢ ending.Hazard) where
-    calm_of : {status : Status} {appended line : List ℕ} → Ends asked given played rb ra pb pa status appended line → status ≢ Hazard
+  module _ (safe : (end : Ending) (text : List ℕ) → IsAnswer command given handed (writes end text) → end ≢ ending.Hazard) where
+    calm_of : {status : Status} {appended line : List ℕ} → Ends asked given handed rb ra pb pa status appended line → status ≢ Hazard
     calm_of (formless none) e = cc e
     calm_of (whole end text are) e = safe end text (answer_of (writes end text) are) (ending_hazard end e)
     calm_of (cut_off end text k are less rose) e = cc e
@@ -62,8 +66,8 @@ module _ (asked : Option Asked) (given : Given) (played : Played) (rb ra pb pa :
     calm_of (unread name own fault missed) e = cc e
     calm_of no_memory e = cc e
 
-  module _ (agrees : (end : Ending) (text : List ℕ) → IsAnswer command given played (writes end text) → end ≡ ending.Done) where
-    agreed_of : {status : Status} {appended line : List ℕ} → Ends asked given played rb ra pb pa status appended line → status ≢ Differs
+  module _ (agrees : (end : Ending) (text : List ℕ) → IsAnswer command given handed (writes end text) → end ≡ ending.Done) where
+    agreed_of : {status : Status} {appended line : List ℕ} → Ends asked given handed rb ra pb pa status appended line → status ≢ Differs
     agreed_of (formless none) e = cc e
     agreed_of (whole end text are) e = let done = agrees end text (answer_of (writes end text) are) in cc (done, ending_differs end e)
     agreed_of (cut_off end text k are less rose) e = cc e
@@ -72,8 +76,8 @@ module _ (asked : Option Asked) (given : Given) (played : Played) (rb ra pb pa :
     agreed_of no_memory e = cc e
 
   -- where the whole output was written, it is that of its answer
-  whole_of : {status : Status} {appended line : List ℕ} → Ends asked given played rb ra pb pa status appended line → is_whole status ≡ true →
-      (end : Ending) × (status ≡ status_with end) × IsAnswer command given played (writes end appended)
+  whole_of : {status : Status} {appended line : List ℕ} → Ends asked given handed rb ra pb pa status appended line → is_whole status ≡ true →
+      (end : Ending) × (status ≡ status_with end) × IsAnswer command given handed (writes end appended)
   whole_of (formless none) e = absurd (cc e)
   whole_of (whole end text are) e = (end, refl, answer_of (writes end text) are)
   whole_of (cut_off end text k are less rose) e = absurd (cc e)
@@ -82,39 +86,43 @@ module _ (asked : Option Asked) (given : Given) (played : Played) (rb ra pb pa :
   whole_of no_memory e = absurd (cc e)
 
 -- of each command that makes a run
-module _ (given : Given) (played : Played) (p : TypedProgram) (carries : (file : List ℕ) → HoldsCompiled given file p → HoldsCarrying given file p) where
-  pub calm_for : ((s : AskedRun) → HoldsCarrying given s.net p → (end : Ending) (text : List ℕ) → Simulates s given played (writes end text)
+module _ (given : Given) (handed : HandedIn) (p : TypedProgram) (carries : (file : List ℕ) → HoldsCompiled given file p → HoldsCarrying given file p) where
+  pub calm_for : ((s : AskedRun) → HoldsCarrying given s.net p → (end : Ending) (text : List ℕ) → Simulates s given handed.orders (writes end text)
       → end ≢ ending.Hazard)
       → ((t : AskedTiming) → HoldsCarrying given t.net p → (end : Ending) (text : List ℕ) → SimulatesTimed t given (writes end text) → end ≢ ending.Hazard)
+      → ((b : AskedBench) → HoldsCarrying given b.net p → (end : Ending) (text : List ℕ) → Benches b given handed (writes end text) → end ≢ ending.Hazard)
       → ((w : AskedWaves) → HoldsCarrying given w.net p → (end : Ending) (text : List ℕ) → Traces w given (writes end text) → end ≢ ending.Hazard)
       → (rb ra pb pa : ℕ) (asked : Option Asked) → RunsCompiled asked given p → {status : Status} {appended line : List ℕ}
-      → Ends asked given played rb ra pb pa status appended line → status ≢ Hazard
-  calm_for run timing wave rb ra pb pa None h e = absurd h
-  calm_for run timing wave rb ra pb pa (Some (simulates s)) h e =
-      calm_of (Some (simulates s)) given played rb ra pb pa (simulates s) refl (run s (carries s.net h)) e
-  calm_for run timing wave rb ra pb pa (Some (times t)) h e =
-      calm_of (Some (times t)) given played rb ra pb pa (times t) refl (timing t (carries t.net h)) e
-  calm_for run timing wave rb ra pb pa (Some (traces w)) h e =
-      calm_of (Some (traces w)) given played rb ra pb pa (traces w) refl (wave w (carries w.net h)) e
-  calm_for run timing wave rb ra pb pa (Some (compiles c)) h e = absurd h
-  calm_for run timing wave rb ra pb pa (Some (migrates net)) h e = absurd h
-  calm_for run timing wave rb ra pb pa (Some (checks file)) h e = absurd h
-  calm_for run timing wave rb ra pb pa (Some (expands file)) h e = absurd h
-  calm_for run timing wave rb ra pb pa (Some (unwaves file)) h e = absurd h
-  calm_for run timing wave rb ra pb pa (Some (runs r)) h e = absurd h
-  calm_for run timing wave rb ra pb pa (Some (grows growth)) h e = absurd h
+      → Ends asked given handed rb ra pb pa status appended line → status ≢ Hazard
+  calm_for run timing bench wave rb ra pb pa None h e = absurd h
+  calm_for run timing bench wave rb ra pb pa (Some (simulates s)) h e =
+      calm_of (Some (simulates s)) given handed rb ra pb pa (simulates s) refl (run s (carries s.net h)) e
+  calm_for run timing bench wave rb ra pb pa (Some (times t)) h e =
+      calm_of (Some (times t)) given handed rb ra pb pa (times t) refl (timing t (carries t.net h)) e
+  calm_for run timing bench wave rb ra pb pa (Some (benches b)) h e =
+      calm_of (Some (benches b)) given handed rb ra pb pa (benches b) refl (bench b (carries b.net h)) e
+  calm_for run timing bench wave rb ra pb pa (Some (traces w)) h e =
+      calm_of (Some (traces w)) given handed rb ra pb pa (traces w) refl (wave w (carries w.net h)) e
+  calm_for run timing bench wave rb ra pb pa (Some (compiles c)) h e = absurd h
+  calm_for run timing bench wave rb ra pb pa (Some (migrates net)) h e = absurd h
+  calm_for run timing bench wave rb ra pb pa (Some (checks file)) h e = absurd h
+  calm_for run timing bench wave rb ra pb pa (Some (expands file)) h e = absurd h
+  calm_for run timing bench wave rb ra pb pa (Some (unwaves file)) h e = absurd h
+  calm_for run timing bench wave rb ra pb pa (Some (runs r)) h e = absurd h
+  calm_for run timing bench wave rb ra pb pa (Some (grows growth)) h e = absurd h
 
   pub agreed_for : ((s : AskedRun) → HoldsCarrying given s.net p → IsReferredTo given s.against p → (end : Ending) (text : List ℕ)
-      → Simulates s given played (writes end text) → end ≡ ending.Done)
+      → Simulates s given handed.orders (writes end text) → end ≡ ending.Done)
       → ((t : AskedTiming) → HoldsCarrying given t.net p → IsReferredTo given t.against p → (end : Ending) (text : List ℕ)
       → SimulatesTimed t given (writes end text) → end ≡ ending.Done)
       → (rb ra pb pa : ℕ) (asked : Option Asked) → RunsCompiled asked given p → IsComparedWith asked given p → {status : Status} {appended line : List ℕ}
-      → Ends asked given played rb ra pb pa status appended line → status ≢ Differs
+      → Ends asked given handed rb ra pb pa status appended line → status ≢ Differs
   agreed_for run timing rb ra pb pa None h with_it e = absurd h
   agreed_for run timing rb ra pb pa (Some (simulates s)) h with_it e =
-      agreed_of (Some (simulates s)) given played rb ra pb pa (simulates s) refl (run s (carries s.net h) with_it) e
+      agreed_of (Some (simulates s)) given handed rb ra pb pa (simulates s) refl (run s (carries s.net h) with_it) e
   agreed_for run timing rb ra pb pa (Some (times t)) h with_it e =
-      agreed_of (Some (times t)) given played rb ra pb pa (times t) refl (timing t (carries t.net h) with_it) e
+      agreed_of (Some (times t)) given handed rb ra pb pa (times t) refl (timing t (carries t.net h) with_it) e
+  agreed_for run timing rb ra pb pa (Some (benches b)) h with_it e = absurd with_it
   agreed_for run timing rb ra pb pa (Some (traces w)) h with_it e = absurd with_it
   agreed_for run timing rb ra pb pa (Some (compiles c)) h with_it e = absurd h
   agreed_for run timing rb ra pb pa (Some (migrates net)) h with_it e = absurd h
@@ -124,26 +132,30 @@ module _ (given : Given) (played : Played) (p : TypedProgram) (carries : (file :
   agreed_for run timing rb ra pb pa (Some (runs r)) h with_it e = absurd h
   agreed_for run timing rb ra pb pa (Some (grows growth)) h with_it e = absurd h
 
-  pub steady_for : ((s : AskedRun) → HoldsCarrying given s.net p → (end : Ending) (text : List ℕ) → Simulates s given played (writes end text)
-      → IsCalmRun s given played end text)
+  pub steady_for : ((s : AskedRun) → HoldsCarrying given s.net p → (end : Ending) (text : List ℕ) → Simulates s given handed.orders (writes end text)
+      → IsCalmRun s given handed.orders end text)
       → ((t : AskedTiming) (end : Ending) (text : List ℕ) → SimulatesTimed t given (writes end text) → IsCalmTiming t given end text)
+      → ((b : AskedBench) (end : Ending) (text : List ℕ) → Benches b given handed (writes end text) → IsCalmBench b given handed end text)
       → ((w : AskedWaves) (end : Ending) (text : List ℕ) → Traces w given (writes end text) → IsCalmTrace w given end text)
       → (rb ra pb pa : ℕ) (asked : Option Asked) → RunsCompiled asked given p → {status : Status} {appended line : List ℕ}
-      → Ends asked given played rb ra pb pa status appended line → is_whole status ≡ true → IsSteady asked given played status appended
-  steady_for run timing wave rb ra pb pa None h e written = absurd h
-  steady_for run timing wave rb ra pb pa (Some (simulates s)) h e written =
-      let (end, same, is) = whole_of (Some (simulates s)) given played rb ra pb pa (simulates s) refl e written in
+      → Ends asked given handed rb ra pb pa status appended line → is_whole status ≡ true → IsSteady asked given handed status appended
+  steady_for run timing bench wave rb ra pb pa None h e written = absurd h
+  steady_for run timing bench wave rb ra pb pa (Some (simulates s)) h e written =
+      let (end, same, is) = whole_of (Some (simulates s)) given handed rb ra pb pa (simulates s) refl e written in
       (end, same, run s (carries s.net h) end _ is)
-  steady_for run timing wave rb ra pb pa (Some (times t)) h e written =
-      let (end, same, is) = whole_of (Some (times t)) given played rb ra pb pa (times t) refl e written in
+  steady_for run timing bench wave rb ra pb pa (Some (times t)) h e written =
+      let (end, same, is) = whole_of (Some (times t)) given handed rb ra pb pa (times t) refl e written in
       (end, same, timing t end _ is)
-  steady_for run timing wave rb ra pb pa (Some (traces w)) h e written =
-      let (end, same, is) = whole_of (Some (traces w)) given played rb ra pb pa (traces w) refl e written in
+  steady_for run timing bench wave rb ra pb pa (Some (benches b)) h e written =
+      let (end, same, is) = whole_of (Some (benches b)) given handed rb ra pb pa (benches b) refl e written in
+      (end, same, bench b end _ is)
+  steady_for run timing bench wave rb ra pb pa (Some (traces w)) h e written =
+      let (end, same, is) = whole_of (Some (traces w)) given handed rb ra pb pa (traces w) refl e written in
       (end, same, wave w end _ is)
-  steady_for run timing wave rb ra pb pa (Some (compiles c)) h e written = absurd h
-  steady_for run timing wave rb ra pb pa (Some (migrates net)) h e written = absurd h
-  steady_for run timing wave rb ra pb pa (Some (checks file)) h e written = absurd h
-  steady_for run timing wave rb ra pb pa (Some (expands file)) h e written = absurd h
-  steady_for run timing wave rb ra pb pa (Some (unwaves file)) h e written = absurd h
-  steady_for run timing wave rb ra pb pa (Some (runs r)) h e written = absurd h
-  steady_for run timing wave rb ra pb pa (Some (grows growth)) h e written = absurd h
+  steady_for run timing bench wave rb ra pb pa (Some (compiles c)) h e written = absurd h
+  steady_for run timing bench wave rb ra pb pa (Some (migrates net)) h e written = absurd h
+  steady_for run timing bench wave rb ra pb pa (Some (checks file)) h e written = absurd h
+  steady_for run timing bench wave rb ra pb pa (Some (expands file)) h e written = absurd h
+  steady_for run timing bench wave rb ra pb pa (Some (unwaves file)) h e written = absurd h
+  steady_for run timing bench wave rb ra pb pa (Some (runs r)) h e written = absurd h
+  steady_for run timing bench wave rb ra pb pa (Some (grows growth)) h e written = absurd h

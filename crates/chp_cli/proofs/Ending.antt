@@ -13,7 +13,7 @@ use Rattle.command_answers.specs.Answers.{Given, Answer, writes, refuses, misses
 use Rattle.command_words.specs.CommandWords.{Asked}
 use Rattle.chp_cli.specs.Commands.{IsAnswer, files_of}
 use Rattle.chp_cli.specs.Ends.{AnswersTo, IsFile, Ends, formless, whole, cut_off, refused, unread, no_memory}
-use Rattle.command_steps.specs.Orders.{Played}
+use Rattle.bench_commands.specs.HandedIn.{HandedIn}
 use Rattle.command_answers.specs.Replies.{Stops, refusing, refusal_status, refusal_line, stop_status, stop_line}
 use Rattle.chp_cli.specs.Serving.{EndsServed}
 use Rattle.command_answers.specs.Statuses.{is_whole, is_refusing}
@@ -35,6 +35,7 @@ refusing_status (refusal.BadWave fault line) = refl
 refusing_status refusal.NoReset = refl
 refusing_status (refusal.NoOrder name) = refl
 refusing_status (refusal.NoChannel name) = refl
+refusing_status (refusal.NoPeer name) = refl
 refusing_status refusal.NotBuilt = refl
 
 -- the statuses of whole outputs and of refusals are none of the call's own
@@ -46,13 +47,13 @@ own_status ending.Differs = (λ e. cc, λ e. cc, λ e. cc)
 pub no_refusal : (s other : Status) → is_refusing s ≡ true → is_refusing other ≡ false → s ≢ other
 no_refusal s other is not same = cc (ap is_refusing same, is, not)
 
-pub answers_of : (asked : Option Asked) (given : Given) (played : Played) (command : Asked) (answer : Answer) → asked ≡ Some command →
-    IsAnswer command given played answer → AnswersTo asked given played answer
-answers_of asked given played command answer named is = subst (λ o. AnswersTo o given played answer) (sym named) is
+pub answers_of : (asked : Option Asked) (given : Given) (handed : HandedIn) (command : Asked) (answer : Answer) → asked ≡ Some command →
+    IsAnswer command given handed answer → AnswersTo asked given handed answer
+answers_of asked given handed command answer named is = subst (λ o. AnswersTo o given handed answer) (sym named) is
 
-module _ (asked : Option Asked) (given : Given) (played : Played) (rb ra pb pa : ℕ) where
+module _ (asked : Option Asked) (given : Given) (handed : HandedIn) (rb ra pb pa : ℕ) where
   -- with every other status nothing was written
-  pub silent_of : {s : Status} {appended line : List ℕ} → Ends asked given played rb ra pb pa s appended line → is_whole s ≡ false → s ≢ Write → appended ≡ []
+  pub silent_of : {s : Status} {appended line : List ℕ} → Ends asked given handed rb ra pb pa s appended line → is_whole s ≡ false → s ≢ Write → appended ≡ []
   silent_of (formless none) w n = refl
   silent_of (whole end text is) w n = absurd (cc (whole_status end, w))
   silent_of (cut_off end text k is less rose) w n = absurd (n refl)
@@ -60,7 +61,7 @@ module _ (asked : Option Asked) (given : Given) (played : Played) (rb ra pb pa :
   silent_of (unread name own fault missed) w n = refl
   silent_of no_memory w n = refl
 
-  pub usage_of : {s : Status} {appended line : List ℕ} → Ends asked given played rb ra pb pa s appended line → s ≡ Usage → asked ≡ None
+  pub usage_of : {s : Status} {appended line : List ℕ} → Ends asked given handed rb ra pb pa s appended line → s ≡ Usage → asked ≡ None
   usage_of (formless none) e = none
   usage_of (whole end text is) e = absurd ((own_status end).0 e)
   usage_of (cut_off end text k is less rose) e = absurd (cc e)
@@ -68,7 +69,7 @@ module _ (asked : Option Asked) (given : Given) (played : Played) (rb ra pb pa :
   usage_of (unread name own fault missed) e = absurd (cc e)
   usage_of no_memory e = absurd (cc e)
 
-  pub read_of : {s : Status} {appended line : List ℕ} → Ends asked given played rb ra pb pa s appended line → s ≡ Read →
+  pub read_of : {s : Status} {appended line : List ℕ} → Ends asked given handed rb ra pb pa s appended line → s ≡ Read →
       (name : List ℕ) × IsFile asked name × IsReadFault rb ra given.tells (given.files name)
   read_of (formless none) e = absurd (cc e)
   read_of (whole end text is) e = absurd ((own_status end).1 e)
@@ -77,7 +78,7 @@ module _ (asked : Option Asked) (given : Given) (played : Played) (rb ra pb pa :
   read_of (unread name own fault missed) e = (name, own, fault)
   read_of no_memory e = absurd (cc e)
 
-  pub write_of : {s : Status} {appended line : List ℕ} → Ends asked given played rb ra pb pa s appended line → s ≡ Write → Rose pb pa
+  pub write_of : {s : Status} {appended line : List ℕ} → Ends asked given handed rb ra pb pa s appended line → s ≡ Write → Rose pb pa
   write_of (formless none) e = absurd (cc e)
   write_of (whole end text is) e = absurd ((own_status end).2 e)
   write_of (cut_off end text k is less rose) e = rose
@@ -85,16 +86,16 @@ module _ (asked : Option Asked) (given : Given) (played : Played) (rb ra pb pa :
   write_of (unread name own fault missed) e = absurd (cc e)
   write_of no_memory e = absurd (cc e)
 
-  one : ((command : Asked) → OneAnswer (IsAnswer command given played)) → (o : Option Asked) (a b : Answer) → AnswersTo o given played a →
-      AnswersTo o given played b → a ≡ b
+  one : ((command : Asked) → OneAnswer (IsAnswer command given handed)) → (o : Option Asked) (a b : Answer) → AnswersTo o given handed a →
+      AnswersTo o given handed b → a ≡ b
   one law None a b is are = absurd is
   one law (Some command) a b is are = law command a b is are
 
   -- where nothing fails, the status is that of the answer
-  pub complete_of : ((command : Asked) → OneAnswer (IsAnswer command given played)) → {s : Status} {appended line : List ℕ} →
-      Ends asked given played rb ra pb pa s appended line
-      → (answer : Answer) → AnswersTo asked given played answer → ¬ Rose rb ra → ¬ Rose pb pa → (s ≡ status_of answer) ⊎ (s ≡ NoMemory)
-  complete_of law (formless none) answer are calm quiet = absurd (subst (λ o. AnswersTo o given played answer) none are)
+  pub complete_of : ((command : Asked) → OneAnswer (IsAnswer command given handed)) → {s : Status} {appended line : List ℕ} →
+      Ends asked given handed rb ra pb pa s appended line
+      → (answer : Answer) → AnswersTo asked given handed answer → ¬ Rose rb ra → ¬ Rose pb pa → (s ≡ status_of answer) ⊎ (s ≡ NoMemory)
+  complete_of law (formless none) answer are calm quiet = absurd (subst (λ o. AnswersTo o given handed answer) none are)
   complete_of law (whole end text is) answer are calm quiet = inl (ap status_of (one law asked _ answer is are))
   complete_of law (cut_off end text k is less rose) answer are calm quiet = absurd (quiet rose)
   complete_of law (refused status line r is) answer are calm quiet = inl (ap status_of (one law asked _ answer is are))
@@ -103,26 +104,26 @@ module _ (asked : Option Asked) (given : Given) (played : Played) (rb ra pb pa :
   complete_of law no_memory answer are calm quiet = inr refl
 
   -- where the files and orders hold what the command is served with and nothing fails, it ends as one that is served
-  pub served_of : (command : Asked) → asked ≡ Some command → ((a : Answer) → IsAnswer command given played a → EndsServed command (status_of a))
-      → {s : Status} {appended line : List ℕ} → Ends asked given played rb ra pb pa s appended line → ¬ Rose rb ra → ¬ Rose pb pa
+  pub served_of : (command : Asked) → asked ≡ Some command → ((a : Answer) → IsAnswer command given handed a → EndsServed command (status_of a))
+      → {s : Status} {appended line : List ℕ} → Ends asked given handed rb ra pb pa s appended line → ¬ Rose rb ra → ¬ Rose pb pa
       → EndsServed command s ⊎ (s ≡ NoMemory)
   served_of command named all (formless none) calm quiet = absurd (cc (none, named))
-  served_of command named all (whole end text is) calm quiet = inl (all _ (subst (λ o. AnswersTo o given played (writes end text)) named is))
+  served_of command named all (whole end text is) calm quiet = inl (all _ (subst (λ o. AnswersTo o given handed (writes end text)) named is))
   served_of command named all (cut_off end text k is less rose) calm quiet = absurd (quiet rose)
-  served_of command named all (refused status line r is) calm quiet = inl (all _ (subst (λ o. AnswersTo o given played (refuses status line)) named is))
+  served_of command named all (refused status line r is) calm quiet = inl (all _ (subst (λ o. AnswersTo o given handed (refuses status line)) named is))
   served_of command named all (unread name own fault (inl rose)) calm quiet = absurd (calm rose)
-  served_of command named all (unread name own fault (inr is)) calm quiet = inl (all _ (subst (λ o. AnswersTo o given played (misses name)) named is))
+  served_of command named all (unread name own fault (inr is)) calm quiet = inl (all _ (subst (λ o. AnswersTo o given handed (misses name)) named is))
   served_of command named all no_memory calm quiet = inr refl
 
   -- a command that stops ends the call
-  pub stopped_ends : (command : Asked) → asked ≡ Some command → (stop : Stop) → Stops (IsAnswer command given played) (files_of command) given rb ra stop
-      → Ends asked given played rb ra pb pa (stop_status stop) [] (stop_line stop)
+  pub stopped_ends : (command : Asked) → asked ≡ Some command → (stop : Stop) → Stops (IsAnswer command given handed) (files_of command) given rb ra stop
+      → Ends asked given handed rb ra pb pa (stop_status stop) [] (stop_line stop)
   stopped_ends command is (stopped.Refused r) s =
-      refused (refusal_status r) (refusal_line r) (refusing_status r) (answers_of asked given played command (refusing r) is s)
+      refused (refusal_status r) (refusal_line r) (refusing_status r) (answers_of asked given handed command (refusing r) is s)
   stopped_ends command is (stopped.Unread name) s =
       unread name.now (subst (λ o. IsFile o name.now) (sym is) s.own) s.fault (missed s.missed)
     where
-      missed : Rose rb ra ⊎ IsAnswer command given played (misses name.now) → Rose rb ra ⊎ AnswersTo asked given played (misses name.now)
+      missed : Rose rb ra ⊎ IsAnswer command given handed (misses name.now) → Rose rb ra ⊎ AnswersTo asked given handed (misses name.now)
       missed (inl rose) = inl rose
-      missed (inr answer) = inr (answers_of asked given played command (misses name.now) is answer)
+      missed (inr answer) = inr (answers_of asked given handed command (misses name.now) is answer)
   stopped_ends command is stopped.NoMemory s = no_memory

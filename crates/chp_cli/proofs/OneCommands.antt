@@ -11,13 +11,16 @@ use Rattle.width_check.specs.Processes.{TypedProgram}
 use Rattle.command_words.specs.declared.grow_words.Growth.{Growth}
 use Rattle.command_answers.specs.Answers.{Given, Answer, OneAnswer}
 use Rattle.program_commands.specs.Checking.{AcceptedReport, ChecksProgram}
-use Rattle.command_words.specs.CommandWords.{Asked, compiles, migrates, checks, expands, simulates, times, traces, unwaves, runs, grows}
+use Rattle.command_words.specs.CommandWords.{Asked, compiles, migrates, checks, expands, simulates, times, benches, traces, unwaves, runs, grows}
 use Rattle.chp_cli.specs.Commands.{IsAnswer}
 use Rattle.program_commands.specs.Compiling.{CompilesNet}
 use Rattle.program_commands.specs.Expanding.{ExpandsProgram, TreeReport}
 use Rattle.grown_commands.specs.Growing.{Grows}
 use Rattle.program_commands.specs.Migrating.{MigratesNet}
+use Rattle.bench_commands.specs.HandedIn.{HandedIn}
+use Rattle.bench_commands.specs.OnBench.{Benches}
 use Rattle.command_steps.specs.Orders.{Played}
+use Rattle.command_words.specs.BenchWords.{AskedBench}
 use Rattle.round_commands.specs.RoundsReporting.{Runs}
 use Rattle.command_words.specs.RoundsWords.{AskedRounds}
 use Rattle.command_words.specs.SimulateWords.{AskedRun, AskedTiming}
@@ -35,25 +38,27 @@ module _ (cause : (text : List ℕ) (k j : FaultCode) (s t : Span) → IsRefused
     (once : (text : List ℕ) (f g : NetFault) (l m : ℕ) → IsRefused text f l → IsRefused text g m → (f ≡ g) × (l ≡ m))
     (simulate_once : (run : AskedRun) (given : Given) (played : Played) → given.tells ≡ true → OneAnswer (Simulates run given played))
     (times_once : (t : AskedTiming) (given : Given) → given.tells ≡ true → OneAnswer (SimulatesTimed t given))
+    (benches_once : (b : AskedBench) (given : Given) (handed : HandedIn) → given.tells ≡ true → OneAnswer (Benches b given handed))
     (traces_once : (w : AskedWaves) (given : Given) → given.tells ≡ true → OneAnswer (Traces w given))
     (unwaves_once : (given : Given) (file : List ℕ) → given.tells ≡ true → OneAnswer (Unwaves given file))
     (rounds_once : (r : AskedRounds) (given : Given) → given.tells ≡ true → OneAnswer (Runs r given))
     (growth_once : (growth : Growth) (played : Played) → OneAnswer (Grows growth played))
     (checked : (program : ProgramTree) (Next : Answer → Type 0) → OneAnswer Next → OneAnswer (FromChecks program Next)) where
-  pub command_once : (command : Asked) (given : Given) (played : Played) → given.tells ≡ true → OneAnswer (IsAnswer command given played)
-  command_once (compiles c) given played told = program_file_once cause place checked given c.file c.buffer
+  pub command_once : (command : Asked) (given : Given) (handed : HandedIn) → given.tells ≡ true → OneAnswer (IsAnswer command given handed)
+  command_once (compiles c) given handed told = program_file_once cause place checked given c.file c.buffer
       (λ (p : TypedProgram). FromNodes p (CompilesNet c.reset)) told
       (λ p. nodes_once p (CompilesNet c.reset) (compile_once c.reset p))
-  command_once (migrates file) given played told = file_once given file _ _ told (λ text. net_once text MigratesNet migrate_once (once text))
-  command_once (checks file) given played told = file_once given file _ _ told
+  command_once (migrates file) given handed told = file_once given file _ _ told (λ text. net_once text MigratesNet migrate_once (once text))
+  command_once (checks file) given handed told = file_once given file _ _ told
       (λ text. program_once text ChecksProgram (λ program. checked program (AcceptedReport program) (λ a b is are. is ∙ sym are)) (cause text) (place text))
-  command_once (expands file) given played told = file_once given file _ _ told
+  command_once (expands file) given handed told = file_once given file _ _ told
       (λ text. program_once text ExpandsProgram
       (λ program. checked program (FromNodes (typed_form program) TreeReport) (nodes_once (typed_form program) TreeReport (λ a b is are. is ∙ sym are)))
       (cause text) (place text))
-  command_once (simulates run) given played told = simulate_once run given played told
-  command_once (times t) given played told = times_once t given told
-  command_once (traces w) given played told = traces_once w given told
-  command_once (unwaves file) given played told = unwaves_once given file told
-  command_once (runs r) given played told = rounds_once r given told
-  command_once (grows growth) given played told = growth_once growth played
+  command_once (simulates run) given handed told = simulate_once run given handed.orders told
+  command_once (times t) given handed told = times_once t given told
+  command_once (benches b) given handed told = benches_once b given handed told
+  command_once (traces w) given handed told = traces_once w given told
+  command_once (unwaves file) given handed told = unwaves_once given file told
+  command_once (runs r) given handed told = rounds_once r given told
+  command_once (grows growth) given handed told = growth_once growth handed.orders

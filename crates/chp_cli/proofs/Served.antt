@@ -20,15 +20,18 @@ use Rattle.command_answers.specs.declared.status.Status.TheVariants as statuses
 use Rattle.command_answers.specs.Answers.{Given, Answer, writes, status_of}
 use Rattle.command_steps.specs.BufferSteps.{FromBuffer}
 use Rattle.program_commands.specs.Checking.{Checks, AcceptedReport}
-use Rattle.command_words.specs.CommandWords.{Asked, compiles, migrates, checks, expands, simulates, times, traces, unwaves, runs, grows}
+use Rattle.command_words.specs.CommandWords.{Asked, compiles, migrates, checks, expands, simulates, times, benches, traces, unwaves, runs, grows}
 use Rattle.chp_cli.specs.Commands.{IsAnswer}
 use Rattle.program_commands.specs.Expanding.{Expands, TreeReport}
 use Rattle.grown_commands.specs.Growing.{GrowsTo}
+use Rattle.bench_commands.specs.HandedIn.{HandedIn}
+use Rattle.bench_commands.specs.OnBench.{Benches, BenchesAt, BenchesBy, BenchesNet, setup_for}
 use Rattle.command_steps.specs.Orders.{Played}
+use Rattle.command_words.specs.BenchWords.{AskedBench}
 use Rattle.round_commands.specs.RoundsReporting.{most_of_values, ReportsRounds, RunsProgram, Runs, too_full, at_rest, spent}
 use Rattle.command_words.specs.RoundsWords.{AskedRounds}
 use Rattle.command_steps.specs.RunSteps.{FromScript, most_of_script}
-use Rattle.chp_cli.specs.Serving.{EndsServed, HasDelays, IsServed, IsToCheck, IsToExpand, IsToGrow, IsToRun, IsToTime, IsToTrace, IsToUnwave}
+use Rattle.chp_cli.specs.Serving.{EndsServed, HasDelays, IsServed, IsToBench, IsToCheck, IsToExpand, IsToGrow, IsToRun, IsToTime, IsToTrace, IsToUnwave}
 use Rattle.command_answers.specs.Statuses.{is_whole}
 use Rattle.command_steps.specs.Steps.{FromNodes, FromNet, IsFaulty, most_of_net}
 use Rattle.grown_commands.specs.Summing.{SumsUp, summing_order}
@@ -39,7 +42,7 @@ use Rattle.command_words.specs.WavesWords.{AskedWaves}
 use Rattle.simulation_commands.specs.Tracing.{Traces, TracesFile, TracesNet, trace_for}
 use Rattle.simulation_commands.specs.Unwaving.{FromWave, PrintsChanges, Unwaves, no_wave, a_wave, most_of_wave}
 use Rattle.chp_cli.proofs.RunsWritten.{simulate_writes, whole_end, whole_report}
-use Rattle.chp_cli.proofs.StepsPassed.{file_passed, nodes_passed, buffer_passed, net_passed, order_passed, power_passed, script_passed, delays_passed, text_passed, reference_passed}
+use Rattle.chp_cli.proofs.StepsPassed.{file_passed, nodes_passed, buffer_passed, net_passed, order_passed, peer_passed, power_passed, script_passed, delays_passed, text_passed, reference_passed}
 use Rattle.chp_cli.proofs.Written.{compile_writes, migrate_writes}
 
 -- the command ends well, or the whole output is written
@@ -76,7 +79,7 @@ wave_passed : (text : List ℕ) (wave : WaveValue) → IsWaveText text wave → 
 wave_passed text wave is a (no_wave none) = absurd (none.never wave is)
 wave_passed text wave is a (a_wave are e) = ap status_of e
 
-module _ (no_fault : (program : ProgramTree) (f : Fault) → IsAccepted program → ¬ IsFaulty program f) (given : Given) (played : Played)
+module _ (no_fault : (program : ProgramTree) (f : Fault) → IsAccepted program → ¬ IsFaulty program f) (given : Given) (handed : HandedIn)
     (told : given.tells ≡ true) where
   check_written : (file : List ℕ) → IsToCheck given file → (a : Answer) → Checks given file a → IsDone a
   check_written file t =
@@ -113,6 +116,17 @@ module _ (no_fault : (program : ProgramTree) (f : Fault) → IsAccepted program 
       reported : (p : Option TypedProgram) (a : Answer) → TimesNet (timing_for t h.net h.script h.delays) p a → IsWritten a
       reported p a is = whole_report h.script (Some is.time) is.ran p a is.written
 
+  bench_written : (b : AskedBench) → IsToBench b given handed → (a : Answer) → Benches b given handed a → IsWritten a
+  bench_written b h =
+      order_passed IsWritten handed.orders b.order h.place h.named (BenchesBy b given handed)
+      (peer_passed IsWritten handed.peers b.peer h.which h.peer (BenchesAt b given handed h.place)
+      (file_passed IsWritten given told b.net h.rules.text most_of_net h.rules.held (λ text. FromNet text benched)
+      (net_passed IsWritten h.rules.text h.net h.rules.kept h.rules.spelled benched
+      (λ a is. whole_report _ None is.against.ran None a is.against.written))))
+    where
+      benched : NetValue → Answer → Type 0
+      benched net = BenchesNet handed h.place h.which b.seed (setup_for net b.steps)
+
   trace_written : (w : AskedWaves) → IsToTrace w given → (a : Answer) → Traces w given a → IsWritten a
   trace_written w h =
       let n = h.net in
@@ -134,14 +148,15 @@ module _ (no_fault : (program : ProgramTree) (f : Fault) → IsAccepted program 
   unwave_written file t =
       file_passed IsDone given told file t.text most_of_wave t.held (λ text. FromWave text PrintsChanges) (wave_passed t.text t.wave t.is)
 
-  pub served_written : (command : Asked) → IsServed command given played → (a : Answer) → IsAnswer command given played a → EndsServed command (status_of a)
+  pub served_written : (command : Asked) → IsServed command given handed → (a : Answer) → IsAnswer command given handed a → EndsServed command (status_of a)
   served_written (compiles c) t a is = compile_writes c no_fault given told t a is
   served_written (migrates net) t a is = migrate_writes given net told t a is
   served_written (checks file) t a is = check_written file t a is
   served_written (expands file) t a is = expand_written file t a is
-  served_written (simulates run) t a is = simulate_writes no_fault run given played told t a is
+  served_written (simulates run) t a is = simulate_writes no_fault run given handed.orders told t a is
   served_written (times timing) t a is = time_written timing t a is
+  served_written (benches b) t a is = bench_written b t a is
   served_written (traces w) t a is = trace_written w t a is
   served_written (unwaves file) t a is = unwave_written file t a is
   served_written (runs r) t a is = run_written r t a is
-  served_written (grows growth) t a is = grown_written growth.sum growth played t a is
+  served_written (grows growth) t a is = grown_written growth.sum growth handed.orders t a is

@@ -2,6 +2,7 @@
 --
 -- P: what is to hold of each answer; Next: with what the command goes on.
 use Rattle.std.proofs.Common.{◌≡◌, ℕ, ◌≤◌, true, false, Bool, List, Option, Some, None, sym, subst, arith}
+use Rattle.bench_commands.specs.Peers.{Peered, FromPeer, no_peer, a_peer, peer_named}
 use Rattle.chp_base.specs.declared.channel.Channel.{Channel}
 use Rattle.chp_base.specs.declared.fault.Fault.{Fault}
 use Rattle.chp_syntax.specs.Reading.{Reads}
@@ -61,6 +62,14 @@ module _ (P : Answer → Type 0) where
   order_passed played name place named Next next a (an_order {place = k} is are) = next a (subst (λ j. Next j a) (same is) are)
     where
       same : place_named played.before name ≡ Some k → k ≡ place
+      same e = cc (e, named)
+
+  pub peer_passed : (peers : Peered) (name : List ℕ) (place : ℕ) → peer_named peers.before name ≡ Some place → (Next : ℕ → Answer → Type 0)
+      → ((a : Answer) → Next place a → P a) → (a : Answer) → FromPeer peers name Next a → P a
+  peer_passed peers name place named Next next a (no_peer none) = absurd (cc (none, named))
+  peer_passed peers name place named Next next a (a_peer {place = k} is are) = next a (subst (λ j. Next j a) (same is) are)
+    where
+      same : peer_named peers.before name ≡ Some k → k ≡ place
       same e = cc (e, named)
 
   pub power_passed : (net : NetValue) (power : Option Bool) → lacks_reset power net.reset ≡ false → (Next : Answer → Type 0) → ((a : Answer) → Next a → P a)

@@ -4,10 +4,11 @@ use Rattle.width_check.specs.Processes.{TypedProgram}
 use Rattle.command_answers.specs.declared.answer.Ending.{Ending}
 use Rattle.command_answers.specs.declared.status.Status.{Status}
 use Rattle.command_answers.specs.Answers.{Given, status_with}
-use Rattle.command_words.specs.CommandWords.{Asked, simulates, times, traces}
-use Rattle.command_steps.specs.Orders.{Played}
+use Rattle.command_words.specs.CommandWords.{Asked, simulates, times, benches, traces}
+use Rattle.bench_commands.specs.HandedIn.{HandedIn}
 use Rattle.command_steps.specs.References.{IsReferredTo}
 use Rattle.chp_cli.specs.Simulated.{HoldsCompiled, IsCalmRun}
+use Rattle.chp_cli.specs.BenchedFiles.{IsCalmBench}
 use Rattle.chp_cli.specs.TimedFiles.{IsCalmTiming}
 use Rattle.chp_cli.specs.TracedFiles.{IsCalmTrace}
 
@@ -15,6 +16,7 @@ use Rattle.chp_cli.specs.TracedFiles.{IsCalmTrace}
 abbrev pub RunsCompiled : Option Asked → Given → TypedProgram → Type 0
 RunsCompiled (Some (simulates s)) given p = HoldsCompiled given s.net p
 RunsCompiled (Some (times t)) given p = HoldsCompiled given t.net p
+RunsCompiled (Some (benches b)) given p = HoldsCompiled given b.net p
 RunsCompiled (Some (traces w)) given p = HoldsCompiled given w.net p
 RunsCompiled _ given p = ⊥
 
@@ -25,13 +27,14 @@ IsComparedWith (Some (times t)) given p = IsReferredTo given t.against p
 IsComparedWith _ given p = ⊥
 
 -- the text tells a run without a hazard, which comes to rest where a program does for which `compile` writes the file
-abbrev pub IsCalm : Option Asked → Given → Played → Ending → (text : List ℕ) → Type 0
-IsCalm (Some (simulates s)) given played end text = IsCalmRun s given played end text
-IsCalm (Some (times t)) given played end text = IsCalmTiming t given end text
-IsCalm (Some (traces w)) given played end text = IsCalmTrace w given end text
-IsCalm _ given played end text = ⊥
+abbrev pub IsCalm : Option Asked → Given → HandedIn → Ending → (text : List ℕ) → Type 0
+IsCalm (Some (simulates s)) given handed end text = IsCalmRun s given handed.orders end text
+IsCalm (Some (times t)) given handed end text = IsCalmTiming t given end text
+IsCalm (Some (benches b)) given handed end text = IsCalmBench b given handed end text
+IsCalm (Some (traces w)) given handed end text = IsCalmTrace w given end text
+IsCalm _ given handed end text = ⊥
 
 -- the status says how such a run ended
-abbrev pub IsSteady : Option Asked → Given → Played → Status → (text : List ℕ) → Type 0
-IsSteady asked given played status text =
-    (end : Ending) × (status ≡ status_with end) × IsCalm asked given played end text
+abbrev pub IsSteady : Option Asked → Given → HandedIn → Status → (text : List ℕ) → Type 0
+IsSteady asked given handed status text =
+    (end : Ending) × (status ≡ status_with end) × IsCalm asked given handed end text

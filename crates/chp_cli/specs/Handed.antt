@@ -1,13 +1,18 @@
--- What a call does to what it is given: a shelf, sinks and orders, each seen by the ghost members of its trait.
-use Rattle.std.specs.Prelude.{◌≡◌, ℕ, ◌≤◌, ◌++◌, true, List, map}
+-- What a call does to what it is given: a shelf, sinks, orders and peers, each seen by the ghost members of its trait.
+use Rattle.std.specs.Prelude.{◌≡◌, ℕ, ◌≤◌, ◌++◌, true, List, Option, map}
 use Rattle.std.specs.declared.alloc.Global.{Global}
 use Rattle.std.specs.declared.dyn_box.DynBox.{DynBox}
 use Rattle.chp_edge.specs.Faults.{Rose}
 use Rattle.chp_edge.specs.declared.shelf.Shelf.{Ghosts as ShelfMembers}
 use Rattle.chp_edge.specs.declared.sink.Sink.{Ghosts as SinkMembers}
 use Rattle.event_sim.specs.declared.picker.Picker.{Ghosts as PickerMembers}
+use Rattle.peer_bench.specs.Asking.{PeerValue, peer_value}
+use Rattle.peer_bench.specs.declared.peer.Peer.{Ghosts as PeerMembers}
 use Rattle.command_answers.specs.Answers.{Given, given_by}
-use Rattle.command_steps.specs.Orders.{OrderState, Played, order_state, played_by}
+use Rattle.command_words.specs.CommandWords.{Asked}
+use Rattle.command_steps.specs.Orders.{OrderState, order_state}
+use Rattle.bench_commands.specs.HandedIn.{HandedIn, StayHandedIn, handed_over}
+use Rattle.chp_cli.specs.Ends.{asked_order, asked_peer}
 use Rattle.chp_cli.specs.declared.players.Players.{Players}
 
 -- ---- devices
@@ -42,15 +47,35 @@ pub record NothingFails {S : Type 0} (shelf : ShelfMembers S) (before after : S)
   pub read : ¬ Fails shelf.faults before after
   pub written : ¬ Fails sink.faults first last
 
--- ---- orders, each in a box, whose ghost members its table of methods brings
+-- ---- orders and peers, each in a box, whose ghost members its table of methods brings
 
--- what is known of each
-abbrev pub order_states : {B : Type 0} {Order : B → Type 0} →
-    ((box : DynBox B Global Order) → PickerMembers (Order box.vtable)) → Players B Order → List OrderState
-order_states order players = map
-    (λ box. order_state ((order box).name box.value) ((order box).log box.value) ((order box).seeded box.value))
-    players.orders.items
+-- what is known of an order
+abbrev pub order_seen : {B : Type 0} {Order : B → Type 0} →
+    ((box : DynBox B Global Order) → PickerMembers (Order box.vtable)) → DynBox B Global Order → OrderState
+order_seen order box = order_state ((order box).name box.value) ((order box).log box.value)
+    ((order box).seeded box.value)
 
-abbrev pub played_of : {B : Type 0} {Order : B → Type 0} →
-    ((box : DynBox B Global Order) → PickerMembers (Order box.vtable)) → (before after : Players B Order) → Played
-played_of order before after = played_by (order_states order before) (order_states order after)
+-- and of a peer
+abbrev pub peer_seen : {D : Type 0} {Device : D → Type 0} →
+    ((box : DynBox D Global Device) → PeerMembers (Device box.vtable)) → DynBox D Global Device → PeerValue
+peer_seen peer box = peer_value ((peer box).name box.value) ((peer box).log box.value) ((peer box).spare box.value)
+    ((peer box).due box.value) ((peer box).willing box.value)
+
+-- what is known of all of them before the call and after it
+abbrev pub handed_of : {B : Type 0} {Order : B → Type 0} {D : Type 0} {Device : D → Type 0} →
+    ((box : DynBox B Global Order) → PickerMembers (Order box.vtable)) →
+    ((box : DynBox D Global Device) → PeerMembers (Device box.vtable)) →
+    (before after : Players B Order D Device) → HandedIn
+handed_of order peer before after = handed_over (order_seen order) (peer_seen peer)
+    before.orders.items after.orders.items before.peers.items after.peers.items
+
+-- All have their names and their places still, and each but the order and the peer that the command asks for, if it
+-- asks for such, is the very object that it was.
+abbrev pub StaysBut : {B : Type 0} {Order : B → Type 0} {D : Type 0} {Device : D → Type 0} →
+    ((box : DynBox B Global Order) → PickerMembers (Order box.vtable)) →
+    ((box : DynBox D Global Device) → PeerMembers (Device box.vtable)) →
+    Option Asked → (before after : Players B Order D Device) → Type 0
+StaysBut order peer asked before after = StayHandedIn (order_seen order) (peer_seen peer)
+    (asked_order asked (map (order_seen order) before.orders.items))
+    (asked_peer asked (map (peer_seen peer) before.peers.items))
+    before.orders.items after.orders.items before.peers.items after.peers.items

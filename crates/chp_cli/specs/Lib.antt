@@ -3,6 +3,7 @@ pub mod Simulated
 pub mod Commands
 pub mod TimedFiles
 pub mod TracedFiles
+pub mod BenchedFiles
 pub mod Ends
 pub mod Handed
 pub mod Serving

@@ -19,9 +19,12 @@ use Rattle.width_check.specs.Accepted.{IsAccepted}
 use Rattle.width_check.specs.Form.{typed_form}
 use Rattle.command_answers.specs.declared.status.Status.{Status}
 use Rattle.command_answers.specs.declared.status.Status.TheVariants.{Done}
+use Rattle.bench_commands.specs.HandedIn.{HandedIn}
+use Rattle.bench_commands.specs.Peers.{peer_named}
 use Rattle.command_answers.specs.Answers.{Given}
+use Rattle.command_words.specs.BenchWords.{AskedBench}
 use Rattle.command_steps.specs.BufferSteps.{IsBuffered}
-use Rattle.command_words.specs.CommandWords.{Asked, compiles, migrates, checks, expands, simulates, times, traces, unwaves, runs, grows}
+use Rattle.command_words.specs.CommandWords.{Asked, compiles, migrates, checks, expands, simulates, times, benches, traces, unwaves, runs, grows}
 use Rattle.program_commands.specs.Compiling.{IsToCompile}
 use Rattle.program_commands.specs.Migrating.{IsToMigrate}
 use Rattle.command_steps.specs.Orders.{Played, place_named}
@@ -113,6 +116,15 @@ pub record IsToTime (t : AskedTiming) (given : Given) : Type 0 where
   pub slow : IsDelayFile given t.delays net.names delays
   pub referable : IsToReferTo given t.against
 
+-- a rule file, and an order and a device of the wanted names
+pub record IsToBench (b : AskedBench) (given : Given) (handed : HandedIn) : Type 0 where
+  pub net : NetValue
+  pub place : ℕ
+  pub which : ℕ
+  pub rules : IsRuleFile given b.net net
+  pub named : place_named handed.orders.before b.order ≡ Some place
+  pub peer : peer_named handed.peers.before b.peer ≡ Some which
+
 -- a rule file, a script of its channels, and delays of its nodes, if such a file is named
 pub record IsToTrace (w : AskedWaves) (given : Given) : Type 0 where
   pub net : NetValue
@@ -142,18 +154,20 @@ IsToGrow true played = IsToSum played
 abbrev pub EndsServed : Asked → Status → Type 0
 EndsServed (simulates run) status = is_whole status ≡ true
 EndsServed (times timing) status = is_whole status ≡ true
+EndsServed (benches b) status = is_whole status ≡ true
 EndsServed (traces w) status = is_whole status ≡ true
 EndsServed _ status = status ≡ Done
 
 -- what each command is served with
-abbrev pub IsServed : Asked → Given → Played → Type 0
-IsServed (compiles c) given played = IsToCompile c given
-IsServed (migrates net) given played = IsToMigrate given net
-IsServed (checks file) given played = IsToCheck given file
-IsServed (expands file) given played = IsToExpand given file
-IsServed (simulates run) given played = IsToSimulate run given played
-IsServed (times timing) given played = IsToTime timing given
-IsServed (traces w) given played = IsToTrace w given
-IsServed (unwaves file) given played = IsToUnwave given file
-IsServed (runs r) given played = IsToRun r given
-IsServed (grows growth) given played = IsToGrow growth.sum played
+abbrev pub IsServed : Asked → Given → HandedIn → Type 0
+IsServed (compiles c) given handed = IsToCompile c given
+IsServed (migrates net) given handed = IsToMigrate given net
+IsServed (checks file) given handed = IsToCheck given file
+IsServed (expands file) given handed = IsToExpand given file
+IsServed (simulates run) given handed = IsToSimulate run given handed.orders
+IsServed (times timing) given handed = IsToTime timing given
+IsServed (benches b) given handed = IsToBench b given handed
+IsServed (traces w) given handed = IsToTrace w given
+IsServed (unwaves file) given handed = IsToUnwave given file
+IsServed (runs r) given handed = IsToRun r given
+IsServed (grows growth) given handed = IsToGrow growth.sum handed.orders

@@ -11,6 +11,10 @@ ghost use Rattle.program_commands.specs.Migrating.{Migrates, IsToMigrate};
 ghost use Rattle.command_words.specs.CommandWords.{Asked};
 ghost use Rattle.chp_cli.specs.Commands.{IsAnswer};
 ghost use Rattle.command_steps.specs.Orders.{Played};
+ghost use Rattle.bench_commands.specs.HandedIn.{HandedIn};
+ghost use Rattle.bench_commands.specs.OnBench.{Benches};
+ghost use Rattle.chp_cli.specs.BenchedFiles.{BenchedFollows, IsFileBenched};
+ghost use Rattle.command_words.specs.BenchWords.{AskedBench};
 ghost use Rattle.chp_cli.specs.Serving.{EndsServed, IsServed};
 ghost use Rattle.command_steps.specs.References.{IsReferredTo};
 ghost use Rattle.chp_cli.specs.Simulated.{EndsAllAtRest, HoldsCarrying, HoldsCompiled, IsCompiledToSimulate, IsFileSimulated, IsToSimulate, SimulatedRests};
@@ -28,11 +32,12 @@ use delay_script::laws::timed_runs_end_in_time;
 use event_sim::laws::{passed_are_histories, power_is_powered, safe_moves_bring_no_hazard};
 use net_compose::laws::{carries, carries_reset, runs_end, runs_end_reset, whole_nets};
 use net_pace::{keeps_timed_pace, keeps_timed_pace_reset};
+use peer_bench::laws::{bench_rests_are_rests, bench_runs_are_calm};
 
 /// Law: to the same files, where the shelf tells them, and by the same orders a command has at most one answer.
 pub fn one_answer()
-    ensures { (command : Asked) (given : Given) (played : Played) → given.tells ≡ true →
-        OneAnswer (IsAnswer command given played) }
+    ensures { (command : Asked) (given : Given) (handed : HandedIn) → given.tells ≡ true →
+        OneAnswer (IsAnswer command given handed) }
 {
     chp_syntax::laws::one_fault();
     prs_file::laws::one_refusal();
@@ -88,8 +93,8 @@ pub fn simulates_all()
 /// Law: where the files and orders hold what a command is served with, its only answers are to write: by a command that
 /// makes a run how that ended, by any other that all went well.
 pub fn serves_all()
-    ensures { (command : Asked) (given : Given) (played : Played) → given.tells ≡ true →
-        IsServed command given played → (answer : Answer) → IsAnswer command given played answer →
+    ensures { (command : Asked) (given : Given) (handed : HandedIn) → given.tells ≡ true →
+        IsServed command given handed → (answer : Answer) → IsAnswer command given handed answer →
         EndsServed command (status_of answer) }
 {
     width_check::laws::one_fault();
@@ -206,6 +211,37 @@ pub fn traced_runs_are_safe()
 {
     power_is_powered();
     safe_moves_bring_no_hazard();
+}
+
+/// Law: what `bench` writes is the report of one run on a bench of the net that its file holds, to which the order and the
+/// device of the wanted names led: what the order's log has grown by in the call are places in the lists of enabled
+/// moves, one for each move, and what the device's log has grown by are its notes of the run; and the run has ended as is
+/// reported, and no shorter part of it has.
+pub fn benched_right()
+    ensures { (b : AskedBench) (given : Given) (handed : HandedIn) → given.tells ≡ true → (end : Ending)
+        (text : List ℕ) → Benches b given handed (writes end text) → IsFileBenched b given handed (writes end text) }
+{}
+
+/// Law: the run on a bench of a rule file whose net carries a program finds no hazard, by whatever order and against
+/// whatever device.
+pub fn benched_runs_are_safe()
+    ensures { (b : AskedBench) (given : Given) (handed : HandedIn) (p : TypedProgram) → HoldsCarrying given b.net p →
+        (end : Ending) (text : List ℕ) → IsFileBenched b given handed (writes end text) → end ≢ ending.Hazard }
+{
+    power_is_powered();
+    bench_runs_are_calm();
+}
+
+/// Law: the run on a bench of a rule file that `compile` wrote for a program passes on each channel a prefix of what the
+/// program passes under the script of all that the device offered and took, and where it reports rest all of it.
+pub fn benched_runs_follow()
+    ensures { (b : AskedBench) (given : Given) (handed : HandedIn) (p : TypedProgram) → HoldsCompiled given b.net p →
+        (answer : Answer) (f : IsFileBenched b given handed answer) → BenchedFollows b given handed p f }
+{
+    chp_meaning::laws::rounds_hold();
+    power_is_powered();
+    bench_rests_are_rests();
+    compiled_files_carry();
 }
 
 /// Law: where a program goes no further after m steps under the script, a run of the rule file that `compile` wrote for

@@ -5,38 +5,40 @@ ghost use Rattle.chp_edge.specs.Faults.{IsReadFault};
 ghost use Rattle.command_answers.specs.Answers.{Answer, status_of};
 ghost use Rattle.command_words.specs.CommandWords.{Asked, IsWithinBounds, asked, asked_by, compiles};
 ghost use Rattle.command_words.specs.CompileWords.{AskedCompilation};
-ghost use Rattle.chp_cli.specs.Commands.{IsAnswer, files_of, order_of};
-ghost use Rattle.chp_cli.specs.Ends.{AnswersTo, Ends, IsFile, asked_order};
+ghost use Rattle.chp_cli.specs.Commands.{IsAnswer, files_of};
+ghost use Rattle.chp_cli.specs.Ends.{AnswersTo, Ends, IsFile};
 ghost use Rattle.chp_cli.specs.Handed.{
   Fails,
   IsAppended,
   KeepsShelf,
   KeepsSink,
   NothingFails,
+  StaysBut,
   given_of,
-  order_states,
-  played_of,
+  handed_of,
 };
-ghost use Rattle.command_steps.specs.Orders.{KeepsOrders};
-ghost use Rattle.command_answers.specs.Replies.{Stops, end_line, end_status};
+ghost use Rattle.command_answers.specs.Replies.{Stops, end_line, end_status, stop_status};
 ghost use Rattle.program_commands.specs.Compiling.{IsFaithfulFile};
 ghost use Rattle.program_commands.specs.RepliesTold.{reply_bytes, told_reply};
 ghost use Rattle.chp_cli.specs.Serving.{EndsServed, IsServed};
 ghost use Rattle.chp_cli.specs.CompiledRuns.{IsComparedWith, IsSteady, RunsCompiled};
 ghost use Rattle.command_answers.specs.Statuses.{is_whole};
-ghost use Rattle.simulation_commands.specs.Simulating.{OthersStay};
+ghost use Rattle.simulation_commands.specs.Simulating.{StaysUnasked};
 ghost use Rattle.width_check.specs.Processes.{TypedProgram};
 
 use crate::laws::{
-    carried_runs_agree, carried_runs_are_safe, carried_runs_have_one_length, compiled_files_carry,
+    benched_right, benched_runs_are_safe, benched_runs_follow, carried_runs_agree, carried_runs_are_safe, carried_runs_have_one_length, compiled_files_carry,
     compiled_runs_rest, one_answer, serves_all, simulated_right, timed_right, timed_runs_agree,
     timed_runs_are_safe, traced_right, traced_runs_are_safe,
 };
 use crate::players::Players;
+use bench_commands::bench::bench;
 use chp_edge::{Failed, Shelf, Sink};
 use command_answers::{End, Status, Stop, tell};
 use command_words::{Command, command_in};
+use event_sim::Picker;
 use grown_commands::grow::grow;
+use peer_bench::Peer;
 use program_commands::Reply;
 use program_commands::check::check;
 use program_commands::compile::compile;
@@ -58,16 +60,14 @@ fn answer<'a, S: Shelf>(
 ) -> Result<Reply, Stop<'a>>
     requires { IsWithinBounds command.now }
     ensures answered { IfOk result (λ reply. IsAnswer (asked command.now) (given_of S.Shelf shelf.old)
-        (played_of Picker-box players.old players.new) (told_reply reply)) }
+        (handed_of Picker-box Peer-box players.old players.new) (told_reply reply)) }
     ensures carried { IfOk result (λ reply. (c : AskedCompilation) → asked command.now ≡ compiles c →
         S.tells shelf.old ≡ true → IsFaithfulFile c (given_of S.Shelf shelf.old) (reply_bytes reply)) }
     ensures stopped { IfErr result (Stops (IsAnswer (asked command.now) (given_of S.Shelf shelf.old)
-        (played_of Picker-box players.old players.new)) (files_of (asked command.now)) (given_of S.Shelf shelf.old)
+        (handed_of Picker-box Peer-box players.old players.new)) (files_of (asked command.now)) (given_of S.Shelf shelf.old)
         (S.faults shelf.old) (S.faults shelf.new)) }
-    ensures orders { KeepsOrders (order_of (asked command.now) (order_states Picker-box players.old))
-        (played_of Picker-box players.old players.new) }
-    ensures others { OthersStay (order_of (asked command.now) (order_states Picker-box players.old))
-        players.old.orders.items players.new.orders.items }
+    ensures stay { StaysBut Picker-box Peer-box (Some (asked command.now)) players.old players.new }
+    ensures unasked { IfErr result (λ stop. StaysUnasked (stop_status stop) players.old players.new) }
     ensures shelf { KeepsShelf S.Shelf shelf.old shelf.new }
 {
     match command {
@@ -82,6 +82,13 @@ fn answer<'a, S: Shelf>(
             run,
         )?)),
         Command::Time(timing) => Ok(Reply::Held(time(alloc, shelf, timing)?)),
+        Command::Bench(asked) => Ok(Reply::Held(bench(
+            alloc,
+            shelf,
+            &mut players.orders,
+            &mut players.peers,
+            asked,
+        )?)),
         Command::Waves(asked) => Ok(Reply::Held(waves(alloc, shelf, asked)?)),
         Command::Unwave { file } => Ok(Reply::Held(unwave(alloc, shelf, file)?)),
         Command::Run(asked) => Ok(Reply::Held(rounds(alloc, shelf, asked)?)),
@@ -98,15 +105,13 @@ fn run<'a, S: Shelf, K: Sink>(
     players: &mut Players,
 ) -> End<'a>
     ensures ended { (appended : List ℕ) × Ends (asked_by words.now) (given_of S.Shelf shelf.old)
-        (played_of Picker-box players.old players.new) (S.faults shelf.old) (S.faults shelf.new) (K.faults out.old)
+        (handed_of Picker-box Peer-box players.old players.new) (S.faults shelf.old) (S.faults shelf.new) (K.faults out.old)
         (K.faults out.new) (end_status result) appended (end_line result) × IsAppended K.Sink out.old out.new appended }
     ensures carried { (c : AskedCompilation) → asked_by words.now ≡ Some (compiles c) → S.tells shelf.old ≡ true →
         end_status result ≡ Status.Done → (file : List ℕ) × IsAppended K.Sink out.old out.new file
         × IsFaithfulFile c (given_of S.Shelf shelf.old) file }
-    ensures orders { KeepsOrders (asked_order (asked_by words.now) (order_states Picker-box players.old))
-        (played_of Picker-box players.old players.new) }
-    ensures others { OthersStay (asked_order (asked_by words.now) (order_states Picker-box players.old))
-        players.old.orders.items players.new.orders.items }
+    ensures stay { StaysBut Picker-box Peer-box (asked_by words.now) players.old players.new }
+    ensures unasked { StaysUnasked (end_status result) players.old players.new }
     ensures shelf { KeepsShelf S.Shelf shelf.old shelf.new }
     ensures out { KeepsSink K.Sink out.old out.new }
 {
@@ -153,24 +158,22 @@ pub fn chp_main<S: Shelf, K: Sink, W: Sink>(
     players: &mut Players,
 ) -> Status
     ensures ended { (appended : List ℕ) × (line : List ℕ) × Ends (asked_by words.now) (given_of S.Shelf shelf.old)
-        (played_of Picker-box players.old players.new) (S.faults shelf.old) (S.faults shelf.new) (K.faults out.old)
+        (handed_of Picker-box Peer-box players.old players.new) (S.faults shelf.old) (S.faults shelf.new) (K.faults out.old)
         (K.faults out.new) result appended line × IsAppended K.Sink out.old out.new appended
         × (¬ Fails W.faults say.old say.new → IsAppended W.Sink say.old say.new line) }
     ensures complete { (answer : Answer) → NothingFails S.Shelf shelf.old shelf.new K.Sink out.old out.new →
-        AnswersTo (asked_by words.now) (given_of S.Shelf shelf.old) (played_of Picker-box players.old players.new)
+        AnswersTo (asked_by words.now) (given_of S.Shelf shelf.old) (handed_of Picker-box Peer-box players.old players.new)
         answer → (result ≡ status_of answer) ⊎ (result ≡ Status.NoMemory) }
     ensures served { (command : Asked) → NothingFails S.Shelf shelf.old shelf.new K.Sink out.old out.new →
         asked_by words.now ≡ Some command → IsServed command (given_of S.Shelf shelf.old)
-        (played_of Picker-box players.old players.new) → EndsServed command result ⊎ (result ≡ Status.NoMemory) }
+        (handed_of Picker-box Peer-box players.old players.new) → EndsServed command result ⊎ (result ≡ Status.NoMemory) }
     ensures usage { result ≡ Status.Usage → asked_by words.now ≡ None }
     ensures read { result ≡ Status.Read → (name : List ℕ) × IsFile (asked_by words.now) name
         × IsReadFault (S.faults shelf.old) (S.faults shelf.new) (S.tells shelf.old) (S.holds shelf.old name) }
     ensures write { result ≡ Status.Write → Fails K.faults out.old out.new }
     ensures silent { is_whole result ≡ false → result ≢ Status.Write → IsAppended K.Sink out.old out.new [] }
-    ensures orders { KeepsOrders (asked_order (asked_by words.now) (order_states Picker-box players.old))
-        (played_of Picker-box players.old players.new) }
-    ensures others { OthersStay (asked_order (asked_by words.now) (order_states Picker-box players.old))
-        players.old.orders.items players.new.orders.items }
+    ensures stay { StaysBut Picker-box Peer-box (asked_by words.now) players.old players.new }
+    ensures unasked { StaysUnasked result players.old players.new }
     ensures carried { (c : AskedCompilation) → asked_by words.now ≡ Some (compiles c) → S.tells shelf.old ≡ true →
         result ≡ Status.Done → (file : List ℕ) × IsAppended K.Sink out.old out.new file
         × IsFaithfulFile c (given_of S.Shelf shelf.old) file }
@@ -182,7 +185,7 @@ pub fn chp_main<S: Shelf, K: Sink, W: Sink>(
     ensures steady { (p : TypedProgram) → S.tells shelf.old ≡ true →
         RunsCompiled (asked_by words.now) (given_of S.Shelf shelf.old) p → is_whole result ≡ true →
         (report : List ℕ) × IsAppended K.Sink out.old out.new report × IsSteady (asked_by words.now)
-        (given_of S.Shelf shelf.old) (played_of Picker-box players.old players.new) result report }
+        (given_of S.Shelf shelf.old) (handed_of Picker-box Peer-box players.old players.new) result report }
     ensures shelf { KeepsShelf S.Shelf shelf.old shelf.new }
     ensures out { KeepsSink K.Sink out.old out.new }
     ensures say { KeepsSink W.Sink say.old say.new }
@@ -200,6 +203,9 @@ pub fn chp_main<S: Shelf, K: Sink, W: Sink>(
     traced_right();
     traced_runs_are_safe();
     compiled_runs_rest();
+    benched_right();
+    benched_runs_are_safe();
+    benched_runs_follow();
     let end = run(alloc, words, shelf, out, players);
     tell(say, &end);
     end.status()

@@ -1,6 +1,7 @@
 //! The lines of a case.
 
 use crate::bench::Bench;
+use crate::drops::count_drops;
 use crate::edge::{read, read_disk, read_surely, write, write_narrowly};
 use crate::reading::{show, show_tokens};
 use crate::rounds::rounds_within;
@@ -93,6 +94,7 @@ fn act<R: Files + AllocGlobal>(
         "run-orders" => run_orders(alloc, bench, rest, page)?,
         "run-shelf-faults" => run_shelf_faults(alloc, bench, rest, page)?,
         "run-sink-faults" => run_sink_faults(alloc, bench, rest, page)?,
+        "drops" => count_drops(alloc, bench, rest, page)?,
         "keep" => keep(alloc, bench, first, more, page)?,
         "show" => show(alloc, bench.last(), page)?,
         "tokens" => show_tokens(alloc, bench.last(), page)?,

@@ -4,7 +4,9 @@
 
 mod bench;
 mod cases;
+mod drops;
 mod edge;
+mod peers;
 mod pickers;
 mod printer;
 mod reading;
@@ -16,9 +18,9 @@ use bench::Bench;
 use cases::obey;
 use std::{fs, io};
 
-const TOPICS: [&str; 15] = [
+const TOPICS: [&str; 16] = [
     "texts", "compile", "stream", "check", "expand", "grow", "migrate", "simulate", "rounds",
-    "buffers", "edge", "against", "delays", "waves", "unwave",
+    "buffers", "edge", "against", "delays", "waves", "unwave", "bench",
 ];
 
 fn main(rt: HostRuntime) -> io::Result<()> {

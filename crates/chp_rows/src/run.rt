@@ -3,11 +3,13 @@
 ghost use Rattle.std.specs.Prelude.{◌<◌, length, IfOk};
 
 use crate::bench::Bench;
+use crate::peers::{Mood, Moody};
 use crate::pickers::{ByText, Starve, Swing};
 use case_text::{bytes_of, put_bytes, put_lines, words_of};
 use chp_cli::{Players, Status, chp_main};
 use chp_edge::{MemSink, Shelf, SureShelf};
 use event_sim::{Lowest, Newest, Oldest, Picker, Random};
+use peer_bench::{Echo, Peer, Ramp};
 use std::alloc::{AllocError, Global};
 use std::fmt::Write;
 
@@ -51,7 +53,13 @@ fn command<S: Shelf>(
     orders.push(Box::new(alloc, Starve::new(alloc))?)?;
     let text = text_to_go_by(alloc, bench)?;
     orders.push(Box::new(alloc, ByText::new(alloc, text))?)?;
-    let mut players = Players { orders };
+    let mut peers: Vec<Box<dyn Peer>> = Vec::new(alloc);
+    peers.push(Box::new(alloc, Ramp::new(alloc))?)?;
+    peers.push(Box::new(alloc, Echo::new(alloc))?)?;
+    for mood in [Mood::Mute, Mood::Deaf, Mood::Greedy, Mood::Fickle] {
+        peers.push(Box::new(alloc, Moody::new(alloc, mood))?)?;
+    }
+    let mut players = Players { orders, peers };
     let status = chp_main(alloc, &words, shelf, &mut out, &mut say, &mut players);
     let mut picks = Vec::new(alloc);
     for order in &players.orders {

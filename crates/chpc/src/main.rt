@@ -4,6 +4,7 @@
 use chp_cli::{Players, Status, chp_main};
 use chp_edge::{ErrSink, FileShelf, OutSink, Sink, write_all};
 use event_sim::{Lowest, Newest, Oldest, Picker, Random};
+use peer_bench::{Echo, Peer, Ramp};
 use std::alloc::AllocError;
 use std::env;
 use std::io::{BufWriter, ErrorKind, Write};
@@ -21,7 +22,7 @@ fn words<R: Env + AllocGlobal>(rt: &R) -> Result<Vec<String>, AllocError> {
     words.collect(rt.alloc())
 }
 
-/// Runs the words over real files and these sinks, with the four orders.
+/// Runs the words over real files and these sinks, with the four orders and the two devices.
 fn run_words<R: AllocGlobal + Files, K: Sink, W: Sink>(
     rt: &R,
     words: &[String],
@@ -34,7 +35,10 @@ fn run_words<R: AllocGlobal + Files, K: Sink, W: Sink>(
     orders.push(Box::new(alloc, Oldest::new(alloc))?)?;
     orders.push(Box::new(alloc, Newest::new(alloc))?)?;
     orders.push(Box::new(alloc, Random::new(alloc))?)?;
-    let mut players = Players { orders };
+    let mut peers: Vec<Box<dyn Peer>> = Vec::new(alloc);
+    peers.push(Box::new(alloc, Ramp::new(alloc))?)?;
+    peers.push(Box::new(alloc, Echo::new(alloc))?)?;
+    let mut players = Players { orders, peers };
     let mut shelf = FileShelf::new(rt);
     Ok(chp_main(alloc, words, &mut shelf, out, say, &mut players))
 }

@@ -27,6 +27,7 @@ refusing_status (refusal.BadWave fault line) = refl
 refusing_status refusal.NoReset = refl
 refusing_status (refusal.NoOrder name) = refl
 refusing_status (refusal.NoChannel name) = refl
+refusing_status (refusal.NoPeer name) = refl
 refusing_status refusal.NotBuilt = refl
 
 -- the statuses of whole outputs and of refusals are none of the call's own

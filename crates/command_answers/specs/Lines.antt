@@ -50,6 +50,10 @@ no_order_line name = concat (codes "chp: 9 order " ∷ name ∷ codes "\n" ∷ [
 abbrev pub no_channel_line : (name : List ℕ) → List ℕ
 no_channel_line name = concat (codes "chp: 16 channel " ∷ name ∷ codes "\n" ∷ [])
 
+-- there is no device of this name
+abbrev pub no_peer_line : (name : List ℕ) → List ℕ
+no_peer_line name = concat (codes "chp: 17 peer " ∷ name ∷ codes "\n" ∷ [])
+
 -- ---- of a refused program
 
 abbrev pub fault_name : FaultCode → List ℕ

@@ -1,7 +1,7 @@
 -- The number of each status, and what it means.
 use Rattle.std.specs.Prelude.{ℕ, Bool, true, false}
 use Rattle.command_answers.specs.declared.status.Status.{Status}
-use Rattle.command_answers.specs.declared.status.Status.TheVariants.{Done, RefusedText, Usage, Read, Write, Hazard, NoMemory, TooLarge, BadFile, NoOrder, NoChannel, Differs, NotBuilt}
+use Rattle.command_answers.specs.declared.status.Status.TheVariants.{Done, RefusedText, Usage, Read, Write, Hazard, NoMemory, TooLarge, BadFile, NoOrder, NoChannel, NoPeer, Differs, NotBuilt}
 
 abbrev pub status_number : Status → ℕ
 status_number Done = 0
@@ -16,6 +16,7 @@ status_number BadFile = 8
 status_number NoOrder = 9
 status_number Differs = 10
 status_number NoChannel = 16
+status_number NoPeer = 17
 status_number NotBuilt = 19
 
 -- the statuses with which the whole output was written
@@ -32,5 +33,6 @@ is_refusing TooLarge = true
 is_refusing BadFile = true
 is_refusing NoOrder = true
 is_refusing NoChannel = true
+is_refusing NoPeer = true
 is_refusing NotBuilt = true
 is_refusing _ = false

@@ -66,6 +66,8 @@ pub enum Refusal<'a> {
     NoOrder(&'a str),
     /// The program has no channel inside of it of this name.
     NoChannel(&'a str),
+    /// There is no device of this name.
+    NoPeer(&'a str),
     /// The program has procedures or calls, which aren't served yet.
     NotBuilt,
 }
@@ -86,6 +88,7 @@ impl Refusal<'_> {
             | Refusal::NoReset => Status::BadFile,
             Refusal::NoOrder(_) => Status::NoOrder,
             Refusal::NoChannel(_) => Status::NoChannel,
+            Refusal::NoPeer(_) => Status::NoPeer,
             Refusal::NotBuilt => Status::NotBuilt,
         }
     }

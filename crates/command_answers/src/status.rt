@@ -32,6 +32,8 @@ pub enum Status {
     Differs,
     /// The program has no channel inside of it of the name that is to be buffered.
     NoChannel,
+    /// No handed-in device has the wanted name.
+    NoPeer,
     /// The program has procedures or calls, which aren't served yet.
     NotBuilt,
 }
@@ -54,6 +56,7 @@ impl Status {
             Status::NoOrder => 9,
             Status::Differs => 10,
             Status::NoChannel => 16,
+            Status::NoPeer => 17,
             Status::NotBuilt => 19,
         }
     }

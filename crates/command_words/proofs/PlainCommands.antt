@@ -5,7 +5,8 @@ use Rattle.std.specs.String.{string_bytes}
 use Rattle.std.specs.declared.alloc.Global.{Global}
 use Rattle.std.specs.declared.string.String.{String}
 use Rattle.clap.specs.Walk.{Text}
-use Rattle.command_words.specs.CommandWords.{checks, command_of, command_with, compiles, expands, file_arguments, file_by, file_of, grows, migrates, plain_command, plain_file, plain_with, runs, simulate_asked, traces, unwaves, verb_of}
+use Rattle.command_words.specs.CommandWords.{benches, checks, command_of, command_with, compiles, expands, file_arguments, file_by, file_of, grows, migrates, plain_command, plain_file, plain_with, runs, simulate_asked, traces, unwaves, verb_of}
+use Rattle.command_words.specs.BenchWords.{bench_arguments, bench_by, bench_of, plain_bench}
 use Rattle.command_words.specs.CompileWords.{compile_arguments, compile_by, compile_of, plain_compile}
 use Rattle.command_words.specs.Forms.{texts_of}
 use Rattle.command_words.specs.GrowWords.{grow_arguments, grow_by, growth_of, plain_growth}
@@ -36,6 +37,10 @@ pub simulate_is : (name : Text) (words : List (String Global)) → simulate_of n
 unfolding simulate_of plain_simulate
 simulate_is name words = asks_plainly simulate_arguments simulate_by refl name words
 
+pub bench_is : (name : Text) (words : List (String Global)) → bench_of name (texts_of words) ≡ plain_bench (texts_of words)
+unfolding bench_of plain_bench
+bench_is name words = asks_plainly bench_arguments bench_by refl name words
+
 pub waves_is : (name : Text) (words : List (String Global)) → waves_of name (texts_of words) ≡ plain_waves (texts_of words)
 unfolding waves_of plain_waves
 waves_is name words = asks_plainly waves_arguments waves_by refl name words
@@ -52,6 +57,7 @@ command_is (first ∷ rest) = go (verb_of (string_bytes first))
     go (Some verb.Check) = ap (option_map checks) (file_is (string_bytes first) rest)
     go (Some verb.Expand) = ap (option_map expands) (file_is (string_bytes first) rest)
     go (Some verb.Simulate) = ap (option_map simulate_asked) (simulate_is (string_bytes first) rest)
+    go (Some verb.Bench) = ap (option_map benches) (bench_is (string_bytes first) rest)
     go (Some verb.Waves) = ap (option_map traces) (waves_is (string_bytes first) rest)
     go (Some verb.Unwave) = ap (option_map unwaves) (file_is (string_bytes first) rest)
     go (Some verb.Run) = ap (option_map runs) (rounds_is (string_bytes first) rest)

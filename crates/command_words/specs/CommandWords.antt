@@ -4,6 +4,7 @@ use Rattle.std.specs.Borrow.{Bor}
 use Rattle.std.specs.Str.{bytes_eq}
 use Rattle.std.specs.declared.alloc.Global.{Global}
 use Rattle.std.specs.declared.string.String.{String}
+use Rattle.command_words.specs.BenchWords.{AskedBench, bench_asked, bench_of, plain_bench}
 use Rattle.command_words.specs.CompileWords.{AskedCompilation, compilation_asked, compile_of, plain_compile}
 use Rattle.command_words.specs.GrowWords.{IsGrowable, growth_of, plain_growth}
 use Rattle.command_words.specs.RoundsWords.{AskedRounds, plain_rounds, rounds_of}
@@ -15,7 +16,7 @@ use Rattle.clap.specs.Words.{App, Rule, Text, first_of, matches_of, new_app, new
 use Rattle.clap.specs.Simple.{on_top}
 use Rattle.clap.specs.declared.builder.ArgAction.TheVariants.{Set}
 use Rattle.command_words.specs.declared.command.Command.{Command}
-use Rattle.command_words.specs.declared.command.Command.TheVariants.{Compile, Migrate, Check, Expand, Simulate, Time, Waves, Unwave, Run, Grow}
+use Rattle.command_words.specs.declared.command.Command.TheVariants.{Compile, Migrate, Check, Expand, Simulate, Time, Bench, Waves, Unwave, Run, Grow}
 use Rattle.command_words.specs.declared.rounds_words.Rounds.{Rounds}
 use Rattle.command_words.specs.declared.waves_words.Waves.{Waves as WavesWanted}
 use Rattle.command_words.specs.declared.simulation.Simulation.{Simulation}
@@ -52,6 +53,7 @@ verb_of word = if bytes_eq word (codes "compile") then Some verb.Compile
     else if bytes_eq word (codes "check") then Some verb.Check
     else if bytes_eq word (codes "expand") then Some verb.Expand
     else if bytes_eq word (codes "simulate") then Some verb.Simulate
+    else if bytes_eq word (codes "bench") then Some verb.Bench
     else if bytes_eq word (codes "waves") then Some verb.Waves
     else if bytes_eq word (codes "unwave") then Some verb.Unwave
     else if bytes_eq word (codes "run") then Some verb.Run
@@ -66,6 +68,7 @@ pub data Asked : Type 0 where
   expands : Text → Asked
   simulates : AskedRun → Asked
   times : AskedTiming → Asked
+  benches : AskedBench → Asked
   traces : AskedWaves → Asked
   unwaves : Text → Asked
   runs : AskedRounds → Asked
@@ -122,6 +125,7 @@ asked (Check file) = checks file.now
 asked (Expand file) = expands file.now
 asked (Simulate run) = simulates (run_asked run)
 asked (Time timing) = times (timing_asked timing)
+asked (Bench b) = benches (bench_asked b)
 asked (Waves w) = traces (waves_asked w)
 asked (Unwave file) = unwaves file.now
 asked (Run r) = runs (rounds_asked r)
@@ -131,6 +135,7 @@ asked (Grow growth) = grows growth
 abbrev pub IsWithinBounds : Command → Type 0
 IsWithinBounds (Simulate run) = run.steps ≤ most_of_steps
 IsWithinBounds (Time timing) = timing.steps ≤ most_of_steps
+IsWithinBounds (Bench b) = b.steps ≤ most_of_steps
 IsWithinBounds (Waves w) = w.steps ≤ most_of_steps
 IsWithinBounds (Grow growth) = IsGrowable growth
 IsWithinBounds _ = Unit {0}
@@ -151,6 +156,7 @@ command_with verb.Migrate word rest = option_map migrates (file_of word rest)
 command_with verb.Check word rest = option_map checks (file_of word rest)
 command_with verb.Expand word rest = option_map expands (file_of word rest)
 command_with verb.Simulate word rest = option_map simulate_asked (simulate_of word rest)
+command_with verb.Bench word rest = option_map benches (bench_of word rest)
 command_with verb.Waves word rest = option_map traces (waves_of word rest)
 command_with verb.Unwave word rest = option_map unwaves (file_of word rest)
 command_with verb.Run word rest = option_map runs (rounds_of word rest)
@@ -180,6 +186,7 @@ plain_with verb.Migrate rest = option_map migrates (plain_file rest)
 plain_with verb.Check rest = option_map checks (plain_file rest)
 plain_with verb.Expand rest = option_map expands (plain_file rest)
 plain_with verb.Simulate rest = option_map simulate_asked (plain_simulate rest)
+plain_with verb.Bench rest = option_map benches (plain_bench rest)
 plain_with verb.Waves rest = option_map traces (plain_waves rest)
 plain_with verb.Unwave rest = option_map unwaves (plain_file rest)
 plain_with verb.Run rest = option_map runs (plain_rounds rest)

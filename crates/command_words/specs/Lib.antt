@@ -1,4 +1,5 @@
 pub mod SimulateWords
+pub mod BenchWords
 pub mod WavesWords
 pub mod RoundsWords
 pub mod CompileWords

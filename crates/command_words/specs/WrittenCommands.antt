@@ -1,7 +1,8 @@
 -- What the words of a command ask for where they are written in the order of its arguments.
 use Rattle.std.specs.Prelude.{◌≡◌, ◌∷◌, List, Option, codes, option_map}
 use Rattle.clap.specs.Walk.{Text}
-use Rattle.command_words.specs.CommandWords.{Asked, checks, compiles, expands, file_arguments, file_by, grows, migrates, plain_command, runs, simulate_asked, traces, unwaves}
+use Rattle.command_words.specs.CommandWords.{Asked, benches, checks, compiles, expands, file_arguments, file_by, grows, migrates, plain_command, runs, simulate_asked, traces, unwaves}
+use Rattle.command_words.specs.BenchWords.{bench_arguments, bench_by}
 use Rattle.command_words.specs.CompileWords.{compile_arguments, compile_by}
 use Rattle.command_words.specs.GrowWords.{grow_arguments, grow_by}
 use Rattle.command_words.specs.PlainForms.{Argument}
@@ -22,6 +23,7 @@ pub record AreAskedAsWritten : Type 0 where
   pub expand : AsksAsWritten (codes "expand") file_arguments (λ texts. option_map expands (file_by texts))
   pub simulate : AsksAsWritten (codes "simulate") simulate_arguments
       (λ texts. option_map simulate_asked (simulate_by texts))
+  pub bench : AsksAsWritten (codes "bench") bench_arguments (λ texts. option_map benches (bench_by texts))
   pub waves : AsksAsWritten (codes "waves") waves_arguments (λ texts. option_map traces (waves_by texts))
   pub unwave : AsksAsWritten (codes "unwave") file_arguments (λ texts. option_map unwaves (file_by texts))
   pub run : AsksAsWritten (codes "run") run_arguments (λ texts. option_map runs (rounds_by texts))

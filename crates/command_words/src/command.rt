@@ -2,13 +2,15 @@
 
 ghost use Rattle.std.specs.Prelude.{◌≡◌, IfOk, IfSome, Some, is_some, option_map, true};
 ghost use Rattle.clap.specs.Words.{app_of, found_of, matches_of, rows_of, takes};
-ghost use Rattle.command_words.specs.CommandWords.{IsWithinBounds, asked, command_of, file_form, file_of, grows, plain_command, plain_file, simulate_asked, traces, verb_of};
+ghost use Rattle.command_words.specs.CommandWords.{IsWithinBounds, asked, benches, command_of, file_form, file_of, grows, plain_command, plain_file, simulate_asked, traces, verb_of};
 ghost use Rattle.command_words.specs.SimulateWords.{plain_simulate, simulate_of};
+ghost use Rattle.command_words.specs.BenchWords.{bench_of, plain_bench};
 ghost use Rattle.command_words.specs.Forms.{is_form, texts_of};
 ghost use Rattle.command_words.specs.GrowWords.{growth_of, plain_growth};
 ghost use Rattle.command_words.specs.WavesWords.{plain_waves, waves_of};
 ghost use Rattle.command_words.specs.Words.{is_set};
 
+use crate::bench_words::{Benching, benching_in};
 use crate::compile_words::{Compilation, compilation_of};
 use crate::grow_words::{Growth, growth_of};
 use crate::rounds_words::{Rounds, rounds_in};
@@ -35,6 +37,8 @@ pub enum Command<'a> {
     Simulate(Simulation<'a>),
     /// `simulate PRS SCRIPT --delays FILE`: make one timed run of a net under a script, and write its report.
     Time(Timing<'a>),
+    /// `bench PRS --peer NAME`: make one run of a net against a device, and write its report.
+    Bench(Benching<'a>),
     /// `waves PRS SCRIPT`: make one timed run of a net under a script, and write its moves as a wave, or the causes of
     /// the last one.
     Waves(Waves<'a>),
@@ -54,6 +58,7 @@ enum Verb {
     Check,
     Expand,
     Simulate,
+    Bench,
     Waves,
     Unwave,
     Run,
@@ -65,7 +70,8 @@ enum Verb {
 ///
 /// The first word names the command. The words after it are read by `clap`, by the form of that command: one file and,
 /// for `compile`, the flag `--reset` and the option `--buffer` with a value, each at most once, before the file or
-/// after it; for `simulate` and `run` two files and such options, and for `waves` the flag `--causes` besides.
+/// after it; for `simulate` and `run` two files and such options, for `waves` the flag `--causes` besides; and for
+/// `bench` one file and such options, of which `--peer` has to be there.
 /// A file is one word, which may be empty or `-`.
 /// Any other word that begins with a hyphen and has more is taken for a flag and refused, a call for help too, but
 /// after `--` any word is allowed; `--` may also end the words.
@@ -91,6 +97,7 @@ pub fn command_in<'a>(alloc: Global, words: &'a [String]) -> Result<Option<Comma
         Verb::Check => Ok(file_in(alloc, word, rest)?.map(|file| Command::Check { file })),
         Verb::Expand => Ok(file_in(alloc, word, rest)?.map(|file| Command::Expand { file })),
         Verb::Simulate => simulate_in(alloc, word, rest),
+        Verb::Bench => bench_in(alloc, word, rest),
         Verb::Waves => trace_in(alloc, word, rest),
         Verb::Unwave => Ok(file_in(alloc, word, rest)?.map(|file| Command::Unwave { file })),
         Verb::Run => Ok(rounds_in(alloc, word, rest)?.map(Command::Run)),
@@ -108,6 +115,7 @@ fn verb_in(word: &str) -> Option<Verb>
         "check" => Some(Verb::Check),
         "expand" => Some(Verb::Expand),
         "simulate" => Some(Verb::Simulate),
+        "bench" => Some(Verb::Bench),
         "waves" => Some(Verb::Waves),
         "unwave" => Some(Verb::Unwave),
         "run" => Some(Verb::Run),
@@ -149,6 +157,24 @@ fn simulate_in<'a>(
     match simulation_in(alloc, name, words)? {
         Some(Choosing::ByOrder(run)) => Ok(Some(Command::Simulate(run))),
         Some(Choosing::ByDelays(timing)) => Ok(Some(Command::Time(timing))),
+        None => Ok(None),
+    }
+}
+
+/// What the words after `bench` ask for, where they are its form.
+fn bench_in<'a>(
+    alloc: Global,
+    name: &'a str,
+    words: &'a [String],
+) -> Result<Option<Command<'a>>, AllocError>
+    ensures form { IfOk result (λ found. option_map asked found
+        ≡ option_map benches (bench_of name.entry.now (texts_of words.entry.now))) }
+    ensures plain { IfOk result (λ found. option_map asked found
+        ≡ option_map benches (plain_bench (texts_of words.entry.now))) }
+    ensures bounds { IfOk result (λ found. IfSome found IsWithinBounds) }
+{
+    match benching_in(alloc, name, words)? {
+        Some(asked) => Ok(Some(Command::Bench(asked))),
         None => Ok(None),
     }
 }

@@ -1,6 +1,7 @@
 //! The words of a command, and what they ask for.
 #![tactic(auto)]
 
+mod bench_words;
 mod command;
 mod compile_words;
 mod grow_words;
@@ -10,6 +11,7 @@ mod run_words;
 mod simulation;
 mod waves_words;
 
+pub use bench_words::Benching;
 pub use command::{Command, command_in};
 pub use compile_words::Compilation;
 pub use grow_words::Growth;

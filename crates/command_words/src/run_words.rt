@@ -21,10 +21,10 @@ const MOST_OF_DIGITS: usize = 20;
 const BASE: u64 = 10;
 
 /// The most moves that may be asked for.
-const MOST_OF_STEPS: u64 = 1_000_000;
+pub(crate) const MOST_OF_STEPS: u64 = 1_000_000;
 
 /// The most moves, where no number is given.
-const STEPS: u64 = 100_000;
+pub(crate) const STEPS: u64 = 100_000;
 
 /// What the words after `simulate` ask for, where they are its form: the names of a rule file and of a script, and the
 /// options `--order`, `--seed`, `--steps`, `--power`, `--against` and `--delays`, each at most once. With `--delays`
@@ -137,7 +137,7 @@ impl<'a> Texts<'a> {
 }
 
 /// The name of the order, or of the default order where none is given.
-fn order_or_lowest<'a>(text: Option<&'a str>) -> &'a str
+pub(crate) fn order_or_lowest<'a>(text: Option<&'a str>) -> &'a str
     ensures { result.now ≡ order_or (option_map (λ t. t.now) text.entry) }
 {
     match text {

@@ -50,7 +50,7 @@ pub fn grow<'a>(
     ensures others { OthersStay (grow_order growth.now.sum
         (map (λ order. order_state (name order) (log order) (seeded order)) orders.old.items))
         orders.old.items orders.new.items }
-    ensures unasked { IfErr result (λ stop. StaysUnasked (stop_status stop) orders.old.items orders.new.items) }
+    ensures unasked { IfErr result (λ stop. StaysUnasked (stop_status stop) orders.old orders.new) }
 {
     if growth.sum {
         sum_up(alloc, orders, growth)

@@ -209,7 +209,7 @@ pub fn sum_up<'a>(
     ensures others { OthersStay (place_named
         (map (λ order. order_state (name order) (log order) (seeded order)) orders.old.items) summing_order)
         orders.old.items orders.new.items }
-    ensures unasked { IfErr result (λ stop. StaysUnasked (stop_status stop) orders.old.items orders.new.items) }
+    ensures unasked { IfErr result (λ stop. StaysUnasked (stop_status stop) orders.old orders.new) }
 {
     match place_of(orders, ORDER) {
         Some(place) => sum_up_at(alloc, orders, place, growth),

@@ -11,8 +11,8 @@ use Rattle.prs_core.specs.declared.wires.Wires.{Wires}
 use Rattle.prs_core.specs.Nets.{NetValue, IsNet}
 use Rattle.prs_core.specs.Moves.{high}
 use Rattle.env_script.specs.declared.hazard.Hazard.{Hazard}
-use Rattle.env_script.specs.Scripts.{OfferValue, offer_at}
-use Rattle.env_script.specs.Environment.{in_reset}
+use Rattle.env_script.specs.Scripts.{OfferValue, offer_at, IsScript}
+use Rattle.env_script.specs.Environment.{in_reset, net_channels}
 use Rattle.env_script.specs.Runs.{RunState, completed}
 use Rattle.env_script.specs.Hazards.{first_hazard}
 use Rattle.event_sim.specs.Following.{power_value, power_of}
@@ -26,6 +26,7 @@ use Rattle.peer_bench.specs.Asking.{PeerValue}
 use Rattle.peer_bench.specs.Along.{is_external, low_reset, IsAskedIf, NothingComes, at_first}
 use Rattle.peer_bench.specs.Steps.{IsAskedByIf, AreOffered, free_from, free_on}
 use Rattle.peer_bench.specs.Benches.{SetupValue, IsUnasked, bench_start, external_channels}
+use Rattle.peer_bench.proofs.Fitting.{none_fit, more_fit}
 use Rattle.peer_bench.proofs.Growth.{until_at}
 use Rattle.peer_bench.proofs.Liking.{StandsFor, like_itself, script_at}
 use Rattle.peer_bench.proofs.Moments.{AskedOnIf, asked_on_if}
@@ -97,8 +98,8 @@ pub begun : {P : Type 0} (known : P → PeerValue) (s now : StageValue) (steps :
     IsAskedByIf asks known s.net (now_of s) 0 s.script now.script more was is → AreOffered now.script (now_of now) →
     (known is).spare + free_on s.net s.script (now_of s) ≡ (known was).spare + free_on now.net now.script (now_of now) →
     2 * steps + 1 + external_channels s.net ≤ (known was).spare → last ≡ first_hazard now.net (now_of now) →
-    IsDriven known s.net steps [] more was is now last
-begun {P} known s now steps asks on more was is last net unasked on_is asks_is same asked offered room spare hazard = record {
+    IsScript (net_channels now.net) now.script → IsDriven known s.net steps [] more was is now last
+begun {P} known s now steps asks on more was is last net unasked on_is asks_is same asked offered room spare hazard kept = record {
   net_is = same_net;
   now = there;
   whole = ap (λ (t : StageValue). length t.values) same ∙ ap (λ (vs : List Bool). length vs) unasked.values ∙ power_length s.net;
@@ -114,6 +115,10 @@ begun {P} known s now steps asks on more was is last net unasked on_is asks_is s
   noted = at_first more is (subst (λ (r : RunState). IsAskedIf (low_reset s.net r) known s.net r 0 [] more was is) there first.asked);
   until = until_at 0 [] more tt first.of.when;
   stands = first.stands;
+  fits = fits;
+  suits = more_fit s.net (now_of now) [] more now.script (none_fit s.net) fits first.stands
+      (subst (λ (r : RunState). AreOffered (script_by s.net []) r) (sym still)
+      (subst (λ (script : List OfferValue). AreOffered script (now_of s)) unasked.script (offered_first s steps unasked)));
   quiet = λ low. by_asks (low_reset s.net (now_of now)) (not_from_false _ low) first.asked;
   offered = offered;
   rails = λ none. rails_first s.net now.script (now_of now) net (ap (λ (t : StageValue). t.values) same ∙ unasked.values);
@@ -125,6 +130,9 @@ begun {P} known s now steps asks on more was is last net unasked on_is asks_is s
 
     still : now_of now ≡ now_of s
     still = ap now_of same
+
+    fits : IsScript (net_channels s.net) now.script
+    fits = subst (λ (w : NetValue). IsScript (net_channels w) now.script) same_net kept
 
     there : now_of now ≡ bench_start s.net
     there = still ∙ start_is s steps unasked
@@ -151,8 +159,8 @@ pub begins : {P : Type 0} (known : P → PeerValue) (v : SetupValue) (s now : St
     IsAskedByIf (not on) known s.net (now_of s) 0 s.script now.script more was is → AreOffered now.script (now_of now) →
     (known is).spare + free_on s.net s.script (now_of s) ≡ (known was).spare + free_on now.net now.script (now_of now) →
     2 * v.steps + 1 + external_channels v.net ≤ (known was).spare → last ≡ first_hazard now.net (now_of now) →
-    HasDriven known v.net v.steps log log 0 was is now last
-begins known v s now steps on more was is last log net view unasked on_is same asked offered room spare hazard =
+    IsScript (net_channels now.net) now.script → HasDriven known v.net v.steps log log 0 was is now last
+begins known v s now steps on more was is last log net view unasked on_is same asked offered room spare hazard kept =
     subst (λ (x : SetupValue). 2 * x.steps + 1 + external_channels x.net ≤ (known was).spare → HasDriven known x.net x.steps log log 0 was is now last) view
     (λ enough. has_begun known s.net steps log more was is now last
-    (begun known s now steps (not on) on more was is last net unasked on_is refl same asked offered room enough hazard)) spare
+    (begun known s now steps (not on) on more was is last net unasked on_is refl same asked offered room enough hazard kept)) spare

@@ -181,6 +181,7 @@ over {P} known s before now count total was is stage last spent end net h all co
       (subst (λ (ps : List ℕ). IsBenchRun known s ps h.notes was is ran) (sym picked) (record {
         picked = h.driven.picked;
         run = h.driven.run;
+        suits = h.driven.suits;
         noted = h.driven.noted;
         ends = record {
           ended = sym (end_now known s.net s.steps h.picks h.notes was is stage last spent h.driven (ap (λ (k : ℕ). k == s.steps) h.counted ∙ counted)) ∙ ended;

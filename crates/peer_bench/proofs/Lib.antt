@@ -14,6 +14,7 @@ pub mod Outside
 pub mod Rails
 pub mod Moments
 pub mod Rising
+pub mod Fitting
 pub mod Underway
 pub mod Beginning
 pub mod Ending

@@ -275,7 +275,7 @@ some_high v value (t ∷ f ∷ rest) some is = by_bits (v t) (v f) refl refl is
     by_bits false true one two e = (f, or_right (f == t) _ (or_left (f == f) _ (eq-eqb f f refl)), two)
     by_bits false false one two e = absurd (cc e)
 
-suits_at : (ws : List Wires) (script : List OfferValue) (c : ℕ) (w : Wires) → IsScript (map (λ (x : Wires). x.channel) ws) script →
+pub suits_at : (ws : List Wires) (script : List OfferValue) (c : ℕ) (w : Wires) → IsScript (map (λ (x : Wires). x.channel) ws) script →
     slice_get ws c ≡ Some w → Suits w.channel.kind w.channel.width (offer_at script c)
 suits_at [] script c w is here = absurd (cc here)
 suits_at (x ∷ ws) [] c w is here = absurd is

@@ -50,6 +50,7 @@ pub run_seen : {P : Type 0} (known : P → PeerValue) (s : SetupValue) (picks : 
 run_seen known s picks notes was is ran by = record {
   picked = by.picked;
   run = by.run;
+  suits = by.suits;
   noted = along_seen known s.net _ was by.noted;
   ends = by.ends;
   quiet = by.quiet;

@@ -10,8 +10,8 @@ use Rattle.prs_core.specs.declared.wires.Wires.{Wires}
 use Rattle.prs_core.specs.Nets.{NetValue, IsNet}
 use Rattle.prs_core.specs.Moves.{high, fired}
 use Rattle.env_script.specs.declared.hazard.Hazard.{Hazard}
-use Rattle.env_script.specs.Scripts.{OfferValue, offer_at}
-use Rattle.env_script.specs.Environment.{in_reset}
+use Rattle.env_script.specs.Scripts.{OfferValue, offer_at, IsScript}
+use Rattle.env_script.specs.Environment.{in_reset, net_channels}
 use Rattle.env_script.specs.Runs.{RunState, IsRun, after, moved, move_enabled, completed}
 use Rattle.env_script.specs.Hazards.{hazard_of}
 use Rattle.event_sim.specs.Following.{enabled_moves, move_at}
@@ -32,12 +32,13 @@ use Rattle.peer_bench.specs.Along.{is_external, is_out, kind_passes, chan_is, le
 use Rattle.peer_bench.specs.Steps.{IsMoveNoted, AreOffered, AreRailsHeld, free_on}
 use Rattle.peer_bench.specs.Benches.{bench_start, bench_moves}
 use Rattle.peer_bench.proofs.Counting.{stands_moved, listed_like, hazard_like}
+use Rattle.peer_bench.proofs.Fitting.{more_fit}
 use Rattle.peer_bench.proofs.Growth.{AreAt, AreUntil, follow_more, follow_length, picks_more, hazard_more, follow_agree, picks_agree, end_agree, at_both, until_later, until_at, scripts_agree, script_now}
 use Rattle.peer_bench.proofs.Liking.{StandsFor, like_number}
 use Rattle.peer_bench.proofs.Moments.{HasLogged, AskedOnIf, told_at, noted_logged, logged_both, told_stands, asked_on_if, noted_next}
 use Rattle.peer_bench.proofs.Outside.{home_of}
 use Rattle.peer_bench.proofs.Quiet.{asked_quiet}
-use Rattle.peer_bench.proofs.Rails.{completes_on, count_stays, at_place, ack_wire, rails_moved, rails_grow}
+use Rattle.peer_bench.proofs.Rails.{completes_on, count_stays, at_place, ack_wire, rails_moved, rails_grow, offered_moved}
 use Rattle.peer_bench.proofs.Rising.{enabled_grows, run_grows, run_more, numbers_grow}
 
 -- so many picks and these notes have led to the stage
@@ -57,6 +58,8 @@ pub record IsDriven {P : Type 0} (known : P → PeerValue) (net : NetValue) (ste
   pub noted : IsNotedAlong known net (bench_start net) was (bench_moves net notes picks) notes is
   pub until : AreUntil (length picks) notes
   pub stands : StandsFor net (now_of stage) notes stage.script
+  pub fits : IsScript (net_channels net) stage.script
+  pub suits : IsScript (net_channels net) (script_by net notes)
   pub quiet : in_reset net.reset (high stage.values) ≡ false → NothingComes net notes (now_of stage) (known is)
   pub offered : AreOffered stage.script (now_of stage)
   pub rails : last ≡ None → AreRailsHeld net stage.script (now_of stage)
@@ -275,6 +278,7 @@ rails_next s later n notes extra brought net whole enabled held brings stands st
 pub record IsMade (s later : StageValue) (n : ℕ) (brought : Option Hazard) : Type 0 where
   pub net : later.net ≡ s.net
   pub now : now_of later ≡ moved s.net (now_of s) n
+  pub fits : IsScript (net_channels later.net) later.script
   pub passed : later.passed ≡ s.passed ++ option_to_list (completion s.net (high s.values) n)
   pub room : s.room ≤ later.room + 1
   pub hazard : brought ≡ hazard_of s.net s.script (now_of s) n
@@ -321,6 +325,11 @@ step_here {P} known s later steps picks notes was mid is last brought p n at net
     until = subst (λ (k : ℕ). AreUntil k (notes ++ extra)) (sym (length_push picks p))
         (until_at (length picks + 1) notes extra (until_later (length picks) (length picks + 1) notes (omega arith) d.until) of_moment);
     stands = standing;
+    fits = fits;
+    suits = more_fit s.net (moved s.net (now_of s) n) notes extra later.script d.suits fits
+        (subst (λ (r : RunState). StandsFor s.net r (notes ++ extra) later.script) made.now standing) (λ c m number. completed_before c m
+        (like_number (offer_at (script_by s.net notes) c) (offer_at s.script c) (completed (moved s.net (now_of s) n).histories c) (behind.each c)
+        ∙ number));
     quiet = λ low. subst (λ (xs : List Note). NothingComes s.net xs (now_of later) (known is)) all
         (subst (λ (r : RunState). NothingComes s.net ((notes ++ news) ++ noted.more) r (known is)) (sym made.now)
         (quiet_next known s n at notes noted.more mid noted.mid is net d.quiet noted.told_is asked_behind
@@ -348,6 +357,9 @@ step_here {P} known s later steps picks notes was mid is last brought p n at net
 
     all : (notes ++ news) ++ noted.more ≡ notes ++ extra
     all = append_assoc notes news noted.more
+
+    fits : IsScript (net_channels s.net) later.script
+    fits = subst (λ (w : NetValue). IsScript (net_channels w) later.script) made.net made.fits
 
     behind : StandsFor s.net (moved s.net (now_of s) n) notes s.script
     behind = stands_moved s n notes s.script net d.stands
@@ -389,6 +401,10 @@ step_here {P} known s later steps picks notes was mid is last brought p n at net
     enabled_here =
         subst (λ k. move_enabled s.net s.script (now_of s) k ≡ true) (sym (picked_there (moves_now s) p n within here))
         (enabled_at s.net s.script (now_of s) p within)
+
+    -- before the device is asked no more has completed than it had offered
+    completed_before : AreOffered s.script (moved s.net (now_of s) n)
+    completed_before = offered_moved s n s.script net d.fits enabled_here (d.rails (goes_calm last (moves_now s) goes)) d.offered
 
     next : IsNext s.net steps picks notes extra p n
     next = next_is known s.net steps picks notes extra was mid s last p n d of_moment few goes inside there_is

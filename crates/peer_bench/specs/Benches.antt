@@ -3,7 +3,8 @@ use Rattle.std.specs.Prelude.{◌≡◌, ◌⊎◌, ℕ, ◌≤◌, false, List,
 use Rattle.prs_core.specs.declared.wires.Wires.{Wires}
 use Rattle.prs_core.specs.Nets.{NetValue}
 use Rattle.prs_core.specs.Moves.{high}
-use Rattle.env_script.specs.Environment.{in_reset}
+use Rattle.env_script.specs.Environment.{in_reset, net_channels}
+use Rattle.env_script.specs.Scripts.{IsScript}
 use Rattle.env_script.specs.Runs.{RunState, IsRun, begin_at, after}
 use Rattle.event_sim.specs.declared.ran.End.TheVariants.{AtRest, Spent}
 use Rattle.event_sim.specs.Following.{power_of}
@@ -52,6 +53,8 @@ pub record IsBenchRun {P : Type 0} (known : P → PeerValue) (s : SetupValue) (p
   pub picked : ArePicksUnder s.net (script_after s.net notes) (bench_start s.net) picks
   -- and enabled under the script of all notes
   pub run : IsRun s.net (script_by s.net notes) (bench_start s.net) (bench_moves s.net notes picks)
+  -- which is one of the net's channels: each value that was offered fits its channel
+  pub suits : IsScript (net_channels s.net) (script_by s.net notes)
   -- the device was notified of what it took, and then asked, and noted this and nothing else
   pub noted : IsNotedAlong known s.net (bench_start s.net) was (bench_moves s.net notes picks) notes is
   pub ends : EndsUnder s.net (script_after s.net notes) s.steps (bench_start s.net) (bench_moves s.net notes picks)

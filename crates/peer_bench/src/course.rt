@@ -132,6 +132,7 @@ fn make(stage: &mut Stage, peer: &mut Box<dyn Peer>, node: u32, at: u32) -> Opti
     requires spare { free_on stage.old.net stage.old.script (now_of stage.old) + 3 ≤ spare peer.old }
     ensures net { stage.new.net ≡ stage.old.net }
     ensures moved { now_of stage.new ≡ moved stage.old.net (now_of stage.old) node }
+    ensures fits { IsScript (net_channels stage.new.net) stage.new.script }
     ensures passed { stage.new.passed ≡ stage.old.passed
         ++ option_to_list (completion stage.old.net (high stage.old.values) node) }
     ensures room { stage.old.room ≤ stage.new.room + 1 }
@@ -150,6 +151,8 @@ fn make(stage: &mut Stage, peer: &mut Box<dyn Peer>, node: u32, at: u32) -> Opti
     tell(stage, peer, passed, at);
     let asks = may_ask(stage.in_reset(), was_in_reset, is_ack);
     ask_if(stage, peer, asks, at);
+    // the invariant of the stage's type, about its script
+    let _kept = stage.net();
     hazard
 }
 
@@ -187,6 +190,7 @@ pub(crate) fn drive(setup: Setup, picker: &mut Box<dyn Picker>, peer: &mut Box<d
     let Setup { mut stage, steps } = setup;
     let is_in_reset = stage.in_reset();
     ask_if(&mut stage, peer, !is_in_reset, 0);
+    let _kept = stage.net();
     let mut hazard = stage.first_hazard();
     for made in 0..steps {
         match early_end(hazard, stage.moves()) {

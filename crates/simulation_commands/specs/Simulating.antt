@@ -60,8 +60,8 @@ may_have_asked Write = true
 may_have_asked NoMemory = true
 may_have_asked _ = false
 
--- where the call refuses or can't read a file, no order is asked: all are the very objects that they were
-abbrev pub StaysUnasked : {Order : Type 0} → Status → (before after : List Order) → Type 0
+-- where the call refuses or can't read a file, nothing that was handed in is asked: all is as it was
+abbrev pub StaysUnasked : {Handed : Type 0} → Status → (before after : Handed) → Type 0
 StaysUnasked status before after = may_have_asked status ≡ false → after ≡ before
 
 -- the order at this index led to this run of the simulation

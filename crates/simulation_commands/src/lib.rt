@@ -7,4 +7,5 @@ mod timing;
 pub mod unwave;
 pub mod waves;
 
+pub use run_reports::uncompared;
 pub use timing::time;

@@ -100,8 +100,8 @@ fn compared(
     })
 }
 
-/// The report of a run that isn't compared.
-fn uncompared(alloc: Global, ran: &Ran, time: Option<u64>) -> Result<Output, AllocError>
+/// The report of a run that isn't compared, with its time if it has one.
+pub fn uncompared(alloc: Global, ran: &Ran, time: Option<u64>) -> Result<Output, AllocError>
     ensures { IfOk result (λ output. (script : List OfferValue) →
         IsReported script time ran.now None (told_answer output)) }
 {

@@ -58,7 +58,7 @@ pub struct Room {
 }
 
 /// Gives the order its seed, and then its room.
-fn prepare(picker: &mut Box<dyn Picker>, seed: u64, room: Room) -> Result<(), AllocError>
+pub fn prepare(picker: &mut Box<dyn Picker>, seed: u64, room: Room) -> Result<(), AllocError>
     ensures seeded { seeded picker.new ≡ Some (seed, length (log picker.old)) }
     ensures name { name picker.new ≡ name picker.old }
     ensures log { log picker.new ≡ log picker.old }
@@ -166,7 +166,7 @@ fn simulate_at<'a, S: Shelf>(
         (map (λ order. order_state (name order) (log order) (seeded order)) orders.old.items)
         (map (λ order. order_state (name order) (log order) (seeded order)) orders.new.items)) }
     ensures others { OthersStay (Some place) orders.old.items orders.new.items }
-    ensures unasked { IfErr result (λ stop. StaysUnasked (stop_status stop) orders.old.items orders.new.items) }
+    ensures unasked { IfErr result (λ stop. StaysUnasked (stop_status stop) orders.old orders.new) }
     ensures same { S.tells shelf.new ≡ S.tells shelf.old }
     ensures kept { S.holds shelf.new ≡ S.holds shelf.old }
     ensures faults { S.faults shelf.old ≤ S.faults shelf.new }
@@ -214,7 +214,7 @@ pub fn simulate<'a, S: Shelf>(
     ensures others { OthersStay (place_named
         (map (λ order. order_state (name order) (log order) (seeded order)) orders.old.items) run.now.order.now)
         orders.old.items orders.new.items }
-    ensures unasked { IfErr result (λ stop. StaysUnasked (stop_status stop) orders.old.items orders.new.items) }
+    ensures unasked { IfErr result (λ stop. StaysUnasked (stop_status stop) orders.old orders.new) }
     ensures same { S.tells shelf.new ≡ S.tells shelf.old }
     ensures kept { S.holds shelf.new ≡ S.holds shelf.old }
     ensures faults { S.faults shelf.old ≤ S.faults shelf.new }

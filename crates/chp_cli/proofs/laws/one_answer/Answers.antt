@@ -1,4 +1,5 @@
 use Rattle.command_steps.proofs.OneAnswers.{checks_once}
+use Rattle.bench_commands.proofs.OneBenches.{benches_once}
 use Rattle.chp_cli.proofs.OneCommands.{command_once}
 use Rattle.round_commands.proofs.OneRounds.{rounds_once}
 use Rattle.simulation_commands.proofs.OneRuns.{simulate_once}
@@ -17,6 +18,7 @@ returns c =
     command_once text.cause text.place c.one_refusal.ensures.once
     (simulate_once text.cause text.place checked c.one_refusal.ensures.once c.one_comparison.ensures)
     (times_once c.one_timed_run.ensures.ran c.one_timed_run.ensures.time c.one_comparison.ensures text.cause text.place checked c.one_refusal.ensures.once)
+    (benches_once c.one_refusal.ensures.once)
     (traces_once c.one_timed_run.ensures.moves c.one_timed_run.ensures.ran c.one_causes_text.ensures c.one_refusal.ensures.once)
     (unwaves_once c.one_wave_refusal.ensures.once)
     (rounds_once text.cause text.place checked) growth_once checked

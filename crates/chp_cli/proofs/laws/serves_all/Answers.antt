@@ -7,4 +7,4 @@ returns c =
     let names = c.one_fault.ensures in
     let sharing = c.one_shared_fault.ensures in
     let right = no_fault names.cause names.place names.none sharing.cause sharing.first sharing.second sharing.none in
-    λ command given played told served. served_written right given played told command served
+    λ command given handed told served. served_written right given handed told command served

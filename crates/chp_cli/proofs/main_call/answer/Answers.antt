@@ -6,6 +6,7 @@ use Rattle.grown_commands.specs.Growing.{Grows}
 use Rattle.command_steps.specs.Orders.{Played}
 use Rattle.command_answers.specs.Replies.{Halts, Stops}
 use Rattle.command_steps.proofs.Stopping.{passed_on, stops_where}
+use Rattle.bench_commands.proofs.Staying.{all_stay, orders_stay}
 use Rattle.chp_cli.proofs.main_call.answer.Goals as goal
 
 -- `grow` has no file
@@ -53,11 +54,13 @@ returns-in_err-simulate-in-Simulate-clause-stopped g c =
     (passed_on c.from_residual-in_err-simulate-in-Simulate.result _ _ c.from_residual-in_err-simulate-in-Simulate.ensures.1
     c.in_err-simulate-in-Simulate.ensures.stopped)
 
-pub returns-in_ok-simulate-in-Simulate-clause-orders : goal.returns-in_ok-simulate-in-Simulate-clause-orders
-returns-in_ok-simulate-in-Simulate-clause-orders g c = rw c.in-Simulate.is c.simulate.ensures.orders
+pub returns-in_ok-simulate-in-Simulate-clause-stay : goal.returns-in_ok-simulate-in-Simulate-clause-stay
+returns-in_ok-simulate-in-Simulate-clause-stay g c =
+    rw c.in-Simulate.is (orders_stay _ _ _ _ _ _ _ c.simulate.ensures.orders c.simulate.ensures.others)
 
-pub returns-in_err-simulate-in-Simulate-clause-orders : goal.returns-in_err-simulate-in-Simulate-clause-orders
-returns-in_err-simulate-in-Simulate-clause-orders g c = rw c.in-Simulate.is c.simulate.ensures.orders
+pub returns-in_err-simulate-in-Simulate-clause-stay : goal.returns-in_err-simulate-in-Simulate-clause-stay
+returns-in_err-simulate-in-Simulate-clause-stay g c =
+    rw c.in-Simulate.is (orders_stay _ _ _ _ _ _ _ c.simulate.ensures.orders c.simulate.ensures.others)
 
 pub simulate-requires : goal.simulate-requires
 simulate-requires g c = rw c.in-Simulate.is at c.requires
@@ -119,8 +122,73 @@ returns-in_err-grow-in-Grow-clause-stopped g c =
     (passed_on c.from_residual-in_err-grow-in-Grow.result _ _ c.from_residual-in_err-grow-in-Grow.ensures.1
     (grow_stops c.in-Grow.growth _ given faults faults c.in_err-grow-in-Grow.field-0.0 c.in_err-grow-in-Grow.ensures.stopped))
 
-pub returns-in_ok-grow-in-Grow-clause-orders : goal.returns-in_ok-grow-in-Grow-clause-orders
-returns-in_ok-grow-in-Grow-clause-orders g c = rw c.in-Grow.is c.grow.ensures.orders
+pub returns-in_ok-grow-in-Grow-clause-stay : goal.returns-in_ok-grow-in-Grow-clause-stay
+returns-in_ok-grow-in-Grow-clause-stay g c =
+    rw c.in-Grow.is (orders_stay _ _ _ _ _ _ _ c.grow.ensures.orders c.grow.ensures.others)
 
-pub returns-in_err-grow-in-Grow-clause-orders : goal.returns-in_err-grow-in-Grow-clause-orders
-returns-in_err-grow-in-Grow-clause-orders g c = rw c.in-Grow.is c.grow.ensures.orders
+pub returns-in_err-grow-in-Grow-clause-stay : goal.returns-in_err-grow-in-Grow-clause-stay
+returns-in_err-grow-in-Grow-clause-stay g c =
+    rw c.in-Grow.is (orders_stay _ _ _ _ _ _ _ c.grow.ensures.orders c.grow.ensures.others)
+
+pub bench-requires : goal.bench-requires
+bench-requires g c = rw c.in-Bench.is at c.requires
+
+pub returns-in_ok-bench-in-Bench-clause-answered : goal.returns-in_ok-bench-in-Bench-clause-answered
+returns-in_ok-bench-in-Bench-clause-answered g c = rw c.in-Bench.is c.in_ok-bench-in-Bench.ensures.answered
+
+pub returns-in_err-bench-in-Bench-clause-stopped : goal.returns-in_err-bench-in-Bench-clause-stopped
+returns-in_err-bench-in-Bench-clause-stopped g c =
+    rw c.in-Bench.is
+    (passed_on c.from_residual-in_err-bench-in-Bench.result _ _ c.from_residual-in_err-bench-in-Bench.ensures.1
+    c.in_err-bench-in-Bench.ensures.stopped)
+
+pub returns-in_ok-bench-in-Bench-clause-stay : goal.returns-in_ok-bench-in-Bench-clause-stay
+returns-in_ok-bench-in-Bench-clause-stay g c = rw c.in-Bench.is c.bench.ensures.stay
+
+pub returns-in_err-bench-in-Bench-clause-stay : goal.returns-in_err-bench-in-Bench-clause-stay
+returns-in_err-bench-in-Bench-clause-stay g c = rw c.in-Bench.is c.bench.ensures.stay
+
+pub returns-in-Compile-clause-stay : goal.returns-in-Compile-clause-stay
+returns-in-Compile-clause-stay g c = all_stay _ _ _ _ _ _
+
+pub returns-in_ok-migrate-in-Migrate-clause-stay : goal.returns-in_ok-migrate-in-Migrate-clause-stay
+returns-in_ok-migrate-in-Migrate-clause-stay g c = all_stay _ _ _ _ _ _
+
+pub returns-in_err-migrate-in-Migrate-clause-stay : goal.returns-in_err-migrate-in-Migrate-clause-stay
+returns-in_err-migrate-in-Migrate-clause-stay g c = all_stay _ _ _ _ _ _
+
+pub returns-in_ok-check-in-Check-clause-stay : goal.returns-in_ok-check-in-Check-clause-stay
+returns-in_ok-check-in-Check-clause-stay g c = all_stay _ _ _ _ _ _
+
+pub returns-in_err-check-in-Check-clause-stay : goal.returns-in_err-check-in-Check-clause-stay
+returns-in_err-check-in-Check-clause-stay g c = all_stay _ _ _ _ _ _
+
+pub returns-in_ok-expand-in-Expand-clause-stay : goal.returns-in_ok-expand-in-Expand-clause-stay
+returns-in_ok-expand-in-Expand-clause-stay g c = all_stay _ _ _ _ _ _
+
+pub returns-in_err-expand-in-Expand-clause-stay : goal.returns-in_err-expand-in-Expand-clause-stay
+returns-in_err-expand-in-Expand-clause-stay g c = all_stay _ _ _ _ _ _
+
+pub returns-in_ok-time-in-Time-clause-stay : goal.returns-in_ok-time-in-Time-clause-stay
+returns-in_ok-time-in-Time-clause-stay g c = all_stay _ _ _ _ _ _
+
+pub returns-in_err-time-in-Time-clause-stay : goal.returns-in_err-time-in-Time-clause-stay
+returns-in_err-time-in-Time-clause-stay g c = all_stay _ _ _ _ _ _
+
+pub returns-in_ok-waves-in-Waves-clause-stay : goal.returns-in_ok-waves-in-Waves-clause-stay
+returns-in_ok-waves-in-Waves-clause-stay g c = all_stay _ _ _ _ _ _
+
+pub returns-in_err-waves-in-Waves-clause-stay : goal.returns-in_err-waves-in-Waves-clause-stay
+returns-in_err-waves-in-Waves-clause-stay g c = all_stay _ _ _ _ _ _
+
+pub returns-in_ok-unwave-in-Unwave-clause-stay : goal.returns-in_ok-unwave-in-Unwave-clause-stay
+returns-in_ok-unwave-in-Unwave-clause-stay g c = all_stay _ _ _ _ _ _
+
+pub returns-in_err-unwave-in-Unwave-clause-stay : goal.returns-in_err-unwave-in-Unwave-clause-stay
+returns-in_err-unwave-in-Unwave-clause-stay g c = all_stay _ _ _ _ _ _
+
+pub returns-in_ok-rounds-in-Run-clause-stay : goal.returns-in_ok-rounds-in-Run-clause-stay
+returns-in_ok-rounds-in-Run-clause-stay g c = all_stay _ _ _ _ _ _
+
+pub returns-in_err-rounds-in-Run-clause-stay : goal.returns-in_err-rounds-in-Run-clause-stay
+returns-in_err-rounds-in-Run-clause-stay g c = all_stay _ _ _ _ _ _

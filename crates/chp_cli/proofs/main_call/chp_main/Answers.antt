@@ -44,6 +44,7 @@ returns-clause-calm g c = λ p told runs is.
     calm_for _ _ p (λ file. c.compiled_files_carry.ensures _ file p)
     (λ s carries end text are. c.carried_runs_are_safe.ensures s _ _ p carries end text (c.simulated_right.ensures s _ _ told end text are))
     (λ t carries end text are. c.timed_runs_are_safe.ensures t _ p carries end text (c.timed_right.ensures t _ told end text are))
+    (λ b carries end text are. c.benched_runs_are_safe.ensures b _ _ p carries end text (c.benched_right.ensures b _ _ told end text are))
     (λ w carries end text are. c.traced_runs_are_safe.ensures w _ p carries end text (c.traced_right.ensures w _ told end text are))
     _ _ _ _ (asked_by c.args.words.now) runs c.run-end.ensures.ended.1 (sym c.status.ensures ∙ is)
 
@@ -67,6 +68,9 @@ returns-clause-steady g c = λ p told runs whole.
     (λ t end text are.
     let run = c.timed_right.ensures t _ told end text are in
     record { run = run; rests = λ q holds. c.compiled_runs_rest.ensures.timed t _ q holds _ run })
+    (λ b end text are.
+    let run = c.benched_right.ensures b _ _ told end text are in
+    record { run = run; follows = λ q holds. c.benched_runs_follow.ensures b _ _ q holds _ run })
     (λ w end text are.
     let run = c.traced_right.ensures w _ told end text are in
     record { run = run; rests = λ q holds. c.compiled_runs_rest.ensures.traced w _ q holds _ run })

@@ -7,6 +7,7 @@ use Rattle.command_answers.specs.Replies.{refusal_status, stop_status}
 use Rattle.chp_cli.specs.Ends.{formless, whole, cut_off, no_memory}
 use Rattle.program_commands.specs.RepliesTold.{reply_bytes, reply_end, told_reply}
 use Rattle.chp_cli.proofs.Ending.{answers_of, no_refusal, refusing_status, stopped_ends}
+use Rattle.bench_commands.proofs.Staying.{all_stay}
 use Rattle.chp_cli.proofs.main_call.run.Goals as goal
 
 pub returns-in-Ok-None-clause-ended : goal.returns-in-Ok-None-clause-ended
@@ -60,17 +61,23 @@ returns-in-Ok-write-clause-carried g c = λ compilation named told done.
     let same : asked c.in-Ok-Some.command ≡ compiles compilation = cc (own, named) in
     (reply_bytes c.in-Ok.reply, c.in-Ok-write.ensures.whole, c.in-Ok.ensures.carried compilation same told)
 
-pub returns-in-Err-answer-clause-others : goal.returns-in-Err-answer-clause-others
-returns-in-Err-answer-clause-others g c =
+pub returns-in-Err-answer-clause-stay : goal.returns-in-Err-answer-clause-stay
+returns-in-Err-answer-clause-stay g c =
     let named : asked_by c.args.words.now ≡ Some (asked c.in-Ok-Some.command) = search rules in
-    rw named c.answer.ensures.others
+    rw named c.answer.ensures.stay
 
-pub returns-in-Ok-write-clause-others : goal.returns-in-Ok-write-clause-others
-returns-in-Ok-write-clause-others g c =
+pub returns-in-Ok-write-clause-stay : goal.returns-in-Ok-write-clause-stay
+returns-in-Ok-write-clause-stay g c =
     let named : asked_by c.args.words.now ≡ Some (asked c.in-Ok-Some.command) = search rules in
-    rw named c.answer.ensures.others
+    rw named c.answer.ensures.stay
 
-pub returns-clause-others : goal.returns-clause-others
-returns-clause-others g c =
+pub returns-clause-stay : goal.returns-clause-stay
+returns-clause-stay g c =
     let named : asked_by c.args.words.now ≡ Some (asked c.in-Ok-Some.command) = search rules in
-    rw named c.answer.ensures.others
+    rw named c.answer.ensures.stay
+
+pub returns-in-Ok-None-clause-stay : goal.returns-in-Ok-None-clause-stay
+returns-in-Ok-None-clause-stay g c = all_stay _ _ _ _ _ _
+
+pub returns-in-Err-clause-stay : goal.returns-in-Err-clause-stay
+returns-in-Err-clause-stay g c = all_stay _ _ _ _ _ _

@@ -30,7 +30,7 @@ loop-made-init g c =
       net = subst (λ (v : SetupValue). IsNet v.net) c.setup.view_is here;
       driven = begins _ c.args.setup stage c.ask_if.new.stage c.setup.inside.steps c.in_reset-is_in_reset.result c.ask_if.ensures.asked.0 c.args.peer.now
           c.ask_if.new.peer c.first_hazard-hazard.result _ here c.setup.view_is c.setup.invariant c.in_reset-is_in_reset.ensures c.ask_if.ensures.stage
-          c.ask_if.ensures.asked.1 c.ask_if.ensures.offered c.ask_if.ensures.room c.requires.room c.first_hazard-hazard.ensures.hazard;
+          c.ask_if.ensures.asked.1 c.ask_if.ensures.offered c.ask_if.ensures.room c.requires.room c.first_hazard-hazard.ensures.hazard c.net-kept.ensures.script;
       spare = omega arith;
       name = refl;
       nodes = refl;
@@ -116,7 +116,7 @@ loop-made-preserved g c =
       driven = goes_on _ c.args.setup.net c.loop-made.stage c.make-hazard.new.stage c.args.setup.steps _ _ _ c.loop-made.made _ _ _ c.loop-made.hazard
           c.make-hazard.result p (get_or xs p 0) (c.loop-made.made + 1) i.net i.driven c.choose-place.ensures.log
           (omega (arith, i.steps, c.loop-made-test.true)) none within at
-          (record { net = e.net; now = e.moved; passed = e.passed; room = e.room; hazard = e.hazard }) refl e.noted e.offered e.spare;
+          (record { net = e.net; now = e.moved; fits = e.fits; passed = e.passed; room = e.room; hazard = e.hazard }) refl e.noted e.offered e.spare;
       spare = omega (arith, c.choose-place.ensures.spare, i.spare);
       name = c.choose-place.ensures.name ∙ i.name;
       nodes = c.choose-place.ensures.nodes ∙ i.nodes;

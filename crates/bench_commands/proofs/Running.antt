@@ -1,0 +1,166 @@
+-- A run on a bench, as what is known of the orders and devices that led to it.
+use Rattle.std.proofs.Common.{◌≡◌, ◌∙◌, ℕ, zero, suc, ◌<◌, Bool, List, [], ◌∷◌, ◌++◌, length, map, set, get_or, slice_get, Option, Some, None, refl, sym, ap, subst, arith}
+use Rattle.std.specs.Prelude.{IfSome}
+use Rattle.std.specs.Option.{option_map}
+use Rattle.std.proofs.lemmas.Option.{slice_get-get_or, slice_get-map}
+use Rattle.event_sim.specs.Simulating.{RanValue, growth}
+use Rattle.peer_bench.specs.Asking.{PeerValue, peer_value}
+use Rattle.peer_bench.specs.declared.note.Note.{Note}
+use Rattle.peer_bench.specs.Benches.{SetupValue, IsBenchRun, noted_since}
+use Rattle.peer_bench.specs.Growing.{script_by}
+use Rattle.command_answers.specs.Answers.{Answer}
+use Rattle.command_steps.specs.Orders.{OrderState, IsPlayedAt, order_state, played_by}
+use Rattle.simulation_commands.specs.RunReporting.{IsReported}
+use Rattle.simulation_commands.specs.Simulating.{OthersStay}
+use Rattle.simulation_commands.proofs.Keeping.{get_same, only_played, others_at, played_at}
+use Rattle.bench_commands.specs.HandedIn.{StayHandedIn, handed_over}
+use Rattle.bench_commands.specs.OnBench.{AgainstPeer, BenchesNet, notes_grown}
+use Rattle.bench_commands.specs.Peers.{KeepsPeers, Peered, peered_by}
+use Rattle.bench_commands.specs.PreparedRuns.{RunsAgainst}
+use Rattle.bench_commands.proofs.Named.{along_named}
+use Rattle.bench_commands.proofs.Staying.{kept_peers}
+
+-- ---- an item of a list
+
+pub item_there : {X : Type 0} (xs : List X) (k : ℕ) → k < length xs → (x : X) × (slice_get xs k ≡ Some x)
+item_there [] k within = absurd (omega arith)
+item_there (x ∷ xs) zero within = (x, refl)
+item_there (x ∷ xs) (suc k) within = item_there xs k (omega arith)
+
+some_of : {X : Type 0} {o : Option X} {x : X} (Q : X → Type 0) → o ≡ Some x → IfSome o Q → Q x
+some_of Q is holds = subst (λ p. IfSome p Q) is holds
+
+module _ {X Y : Type 0} (f : X → Y) (xs : List X) (place : ℕ) where
+  pub known_there : (x : X) → slice_get xs place ≡ Some x → slice_get (map f xs) place ≡ Some (f x)
+  known_there x there = slice_get-map f xs place ∙ ap (option_map f) there
+
+  pub known_was : (item : X) → place < length xs → item ≡ get_or xs place item → slice_get (map f xs) place ≡ Some (f item)
+  known_was item within there = known_there item (slice_get-get_or xs place item within ∙ ap (λ y. Some y) (sym there))
+
+  pub known_is : (x : X) → place < length xs → slice_get (map f (set xs place x)) place ≡ Some (f x)
+  known_is x within = slice_get-map f (set xs place x) place ∙ ap (option_map f) (get_same xs place x within)
+
+-- ---- behind the run
+
+module _ {P : Type 0} (f : P → PeerValue) (xs ys : List P) (which : ℕ) (within : which < length xs) (count : length ys ≡ length xs)
+    (s : SetupValue) (was is : List ℕ) (ran : RanValue)
+    (noted : IfSome (slice_get xs which) (λ p. IfSome (slice_get ys which) (λ q. (f q).log ≡ (f p).log ++ notes_grown (f p) (f q))))
+    (run : IfSome (slice_get xs which) (λ p. IfSome (slice_get ys which)
+    (λ q. IsBenchRun (λ (v : PeerValue). v) s (growth was is) (notes_grown (f p) (f q)) (f p) (f q) ran))) where
+  old_there : (p : P) × (slice_get xs which ≡ Some p)
+  old_there = item_there xs which within
+
+  new_there : (q : P) × (slice_get ys which ≡ Some q)
+  new_there = item_there ys which (omega (arith, within, count))
+
+  the_run : IsBenchRun (λ (v : PeerValue). v) s (growth was is) (notes_grown (f old_there.0) (f new_there.0)) (f old_there.0) (f new_there.0) ran
+  the_run = some_of _ new_there.1 (some_of _ old_there.1 run)
+
+  -- the device keeps its name
+  pub run_keeps : OthersStay (Some which) xs ys → KeepsPeers (Some which) (peered_by (map f xs) (map f ys))
+  run_keeps stay = kept_peers f xs ys which stay (named new_there.0 old_there.0 new_there.1 old_there.1 (along_named s.net _ (f old_there.0) the_run.noted))
+    where
+      named : (q p : P) → slice_get ys which ≡ Some q → slice_get xs which ≡ Some p → (f q).name ≡ (f p).name →
+          option_map (λ x. (f x).name) (slice_get ys which) ≡ option_map (λ x. (f x).name) (slice_get xs which)
+      named q p there here same =
+          ap (option_map (λ x. (f x).name)) there ∙ (ap (λ n. Some n) same ∙ sym (ap (option_map (λ x. (f x).name)) here))
+
+  pub run_reported : (answer : Answer) → is ≡ was ++ growth was is →
+      IsReported (script_by s.net (notes_grown (f old_there.0) (f new_there.0))) None ran None answer →
+      RunsAgainst s was is (peered_by (map f xs) (map f ys)) which answer
+  run_reported answer grown written = record {
+    peer_was = f old_there.0;
+    peer_is = f new_there.0;
+    before = known_there f xs which old_there.0 old_there.1;
+    after = known_there f ys which new_there.0 new_there.1;
+    ran = ran;
+    grown = grown;
+    noted = some_of _ new_there.1 (some_of _ old_there.1 noted);
+    run = the_run;
+    written = written;
+  }
+
+-- ---- before it: the order got its seed, and both got room
+
+peer_ready : (was is : PeerValue) → is.name ≡ was.name → is.log ≡ was.log → is.due ≡ was.due → is.willing ≡ was.willing →
+    is ≡ record was { spare = is.spare }
+peer_ready was is name log due willing = rw (← name, ← log, ← due, ← willing) refl
+
+one_known : {o : Option PeerValue} {a b : PeerValue} → o ≡ Some a → o ≡ Some b → a ≡ b
+one_known e g = cc (e, g)
+
+module _ {P : Type 0} (f : P → PeerValue) (xs ys : List P) (which : ℕ) (item ready : P) (within : which < length xs) (there : item ≡ get_or xs which item)
+    (name : (f ready).name ≡ (f item).name) (log : (f ready).log ≡ (f item).log) (due : (f ready).due ≡ (f item).due)
+    (willing : (f ready).willing ≡ (f item).willing) where
+  pub prepared_against : (s : SetupValue) (seed : ℕ) (order_name other was mid now : List ℕ) (old new : Option (ℕ × ℕ)) (answer : Answer) →
+      new ≡ Some (seed, length was) → mid ≡ was → RunsAgainst s mid now (peered_by (map f (set xs which ready)) (map f ys)) which answer →
+      AgainstPeer s seed (order_state order_name was old) (order_state other now new) (peered_by (map f xs) (map f ys)) which answer
+  prepared_against s seed order_name other was mid now old new answer seeded same r =
+      let is_ready : r.peer_was ≡ f ready = one_known r.before (known_is f xs which ready within) in
+      let changed : f ready ≡ record (f item) { spare = (f ready).spare } = peer_ready (f item) (f ready) name log due willing in
+      let all : r.peer_was ≡ record (f item) { spare = (f ready).spare } = is_ready ∙ changed in
+      let logs : r.peer_was.log ≡ (f item).log = ap (λ (p : PeerValue). p.log) all in
+      let moved = subst (λ (log : List ℕ). Ran s log now r.peer_was r.peer_is r.ran (f item).log) same
+      (subst (λ (l : List Note). Ran s mid now r.peer_was r.peer_is r.ran l) logs (r.grown, r.noted, r.run)) in
+      record {
+        peer_was = f item;
+        peer_is = r.peer_is;
+        before = known_was f xs which item within there;
+        after = r.after;
+        ran = r.ran;
+        run = record {
+          seeded = seeded;
+          grown = moved.0;
+          noted = moved.1;
+          room = (f ready).spare;
+          run = subst (λ (p : PeerValue). IsBenchRun (λ (v : PeerValue). v) s (growth was now) (notes_grown (f item) r.peer_is) p r.peer_is r.ran) all moved.2;
+        };
+        written = subst (λ (l : List Note). IsReported (script_by s.net (noted_since l r.peer_is.log)) None r.ran None answer) logs r.written;
+      }
+    where
+      Ran : SetupValue → (was now : List ℕ) → PeerValue → PeerValue → RanValue → List Note → Type 0
+      Ran s was now p q ran log = (now ≡ was ++ growth was now) × (q.log ≡ log ++ noted_since log q.log)
+          × IsBenchRun (λ (v : PeerValue). v) s (growth was now) (noted_since log q.log) p q ran
+
+  -- a device that got room, and no run
+  pub ready_keeps : KeepsPeers (Some which) (peered_by (map f xs) (map f (set xs which ready)))
+  ready_keeps = kept_peers f xs (set xs which ready) which (others_at xs which ready)
+      (ap (option_map (λ x. (f x).name)) (get_same xs which ready within)
+      ∙ (ap (λ n. Some n) name
+      ∙ sym (ap (option_map (λ x. (f x).name)) (slice_get-get_or xs which item within ∙ ap (λ y. Some y) (sym there)))))
+
+-- ---- one change after another
+
+keeps_both : (which : Option ℕ) (a b c : List PeerValue) → KeepsPeers which (peered_by a b) → KeepsPeers which (peered_by b c) → KeepsPeers which (peered_by a c)
+keeps_both which a b c one two = record { names = two.names ∙ one.names; others = λ k other. two.others k other ∙ one.others k other }
+
+pub stay_both : {X : Type 0} (which : Option ℕ) (a b c : List X) → OthersStay which a b → OthersStay which b c → OthersStay which a c
+stay_both which a b c one two = λ k other. two k other ∙ one k other
+
+pub keeps_then : {P : Type 0} (f : P → PeerValue) (which : Option ℕ) (xs ys zs : List P) → KeepsPeers which (peered_by (map f xs) (map f ys)) →
+    KeepsPeers which (peered_by (map f ys) (map f zs)) → KeepsPeers which (peered_by (map f xs) (map f zs))
+keeps_then f which xs ys zs one two = keeps_both which (map f xs) (map f ys) (map f zs) one two
+
+-- ---- the order is one of those that are handed in
+
+module _ {O P : Type 0} (order : O → OrderState) (peer : P → PeerValue) (os : List O) (ps rs : List P) (place which : ℕ) (item now : O)
+    (within : place < length os) (there : item ≡ get_or os place item) where
+  pub net_benched : (seed : ℕ) (s : SetupValue) (answer : Answer) →
+      AgainstPeer s seed (order item) (order now) (peered_by (map peer ps) (map peer rs)) which answer →
+      BenchesNet (handed_over order peer os (set os place now) ps rs) place which seed s answer
+  net_benched seed s answer against = record {
+    was = order item;
+    is = order now;
+    before = known_was order os place item within there;
+    after = known_is order os place now within;
+    against = against;
+  }
+
+  pub net_stays : (order now).name ≡ (order item).name → KeepsPeers (Some which) (peered_by (map peer ps) (map peer rs)) → OthersStay (Some which) ps rs →
+      StayHandedIn order peer (Some place) (Some which) os (set os place now) ps rs
+  net_stays name keeps stay = record {
+    orders = only_played place (played_by (map order os) (map order (set os place now))) (played_at order os place item now within there name);
+    others = others_at os place now;
+    peers = keeps;
+    peers_others = stay;
+  }

@@ -1,0 +1,4 @@
+pub mod Peers
+pub mod HandedIn
+pub mod OnBench
+pub mod PreparedRuns

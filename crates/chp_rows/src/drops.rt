@@ -1,0 +1,60 @@
+//! How often the devices of a bench are dropped.
+
+use crate::bench::Bench;
+use crate::peers::Dropped;
+use case_text::words_of;
+use chp_cli::{Players, chp_main};
+use event_sim::{Lowest, Picker};
+use peer_bench::{Bench as PeerBench, Peer};
+use prs_file::read_net;
+use std::alloc::{AllocError, Global};
+use std::cell::Cell;
+use std::fmt::Write;
+use std::rc::Rc;
+
+/// A list of one device that counts its drops here.
+fn one_device(alloc: Global, drops: &Rc<Cell<u32>>) -> Result<Vec<Box<dyn Peer>>, AllocError> {
+    let mut peers: Vec<Box<dyn Peer>> = Vec::new(alloc);
+    peers.push(Box::new(alloc, Dropped::new(alloc, drops.clone()))?)?;
+    Ok(peers)
+}
+
+/// Drops a bench of the last file's net without a run. Whether that file is a rule file.
+fn give_up(alloc: Global, bench: &Bench, drops: &Rc<Cell<u32>>) -> Result<bool, AllocError> {
+    let Ok(net) = read_net(alloc, bench.last()) else {
+        return Ok(false);
+    };
+    let peers = one_device(alloc, drops)?;
+    if peers.is_empty() {
+        return Ok(false);
+    }
+    match PeerBench::new(alloc, net, peers, 0, 0) {
+        Ok(_given_up) => Ok(true),
+        Err((error, _given_back)) => Err(error),
+    }
+}
+
+/// How often a device is dropped with a bench that is given up, and how often by a call that runs it and gives it back.
+pub fn count_drops(
+    alloc: Global,
+    bench: &Bench,
+    line: &str,
+    page: &mut String,
+) -> Result<(), AllocError> {
+    let drops = Rc::new(alloc, Cell::new(0))?;
+    if !give_up(alloc, bench, &drops)? {
+        return writeln!(page, "? no rule file");
+    }
+    writeln!(page, "given up: {}", drops.get())?;
+    let words = words_of(alloc, line)?;
+    let mut shelf = bench.shelf(alloc, usize::MAX)?;
+    let mut out = bench.out.sink(alloc)?;
+    let mut say = bench.say.sink(alloc)?;
+    let mut orders: Vec<Box<dyn Picker>> = Vec::new(alloc);
+    orders.push(Box::new(alloc, Lowest::new(alloc))?)?;
+    drops.set(0);
+    let peers = one_device(alloc, &drops)?;
+    let mut players = Players { orders, peers };
+    let status = chp_main(alloc, &words, &mut shelf, &mut out, &mut say, &mut players);
+    writeln!(page, "status {}, given back: {}", status.number(), drops.get())
+}
