@@ -2,7 +2,7 @@
 
 ghost use Rattle.std.specs.Prelude.{◌≡◌, ◌+◌, ◌*◌, ◌<◌, ◌≤◌, ◌∷◌, [], length, map, slice_get, IfOk, IfErr, IfSome, OnOk, Some};
 ghost use Rattle.command_answers.specs.Answers.{given_by};
-ghost use Rattle.command_answers.specs.Replies.{Stops, told_answer};
+ghost use Rattle.command_answers.specs.Replies.{Stops, stop_status, told_answer};
 ghost use Rattle.command_steps.specs.Orders.{order_state, place_named};
 ghost use Rattle.command_words.specs.BenchWords.{bench_asked};
 ghost use Rattle.event_sim.specs.Simulating.{growth};
@@ -12,7 +12,7 @@ ghost use Rattle.bench_commands.specs.HandedIn.{StayHandedIn, handed_over};
 ghost use Rattle.bench_commands.specs.OnBench.{AgainstPeer, Benches, BenchesAt, BenchesNet, setup_for};
 ghost use Rattle.bench_commands.specs.Peers.{KeepsPeers, peer_named, peered_over};
 ghost use Rattle.bench_commands.specs.PreparedRuns.{RunsAgainst};
-ghost use Rattle.simulation_commands.specs.Simulating.{OthersStay};
+ghost use Rattle.simulation_commands.specs.Simulating.{OthersStay, StaysUnasked};
 
 use crate::peer_places::place_of_peer;
 use chp_edge::Shelf;
@@ -207,6 +207,8 @@ fn bench_at<'a, S: Shelf>(
         (due peer) (willing peer))
         (Some place) (Some which)
         orders.old.items orders.new.items peers.old.items peers.new.items }
+    ensures unasked { IfErr result (λ stop. StaysUnasked (stop_status stop) orders.old orders.new
+        × StaysUnasked (stop_status stop) peers.old peers.new) }
     ensures same { S.tells shelf.new ≡ S.tells shelf.old }
     ensures kept { S.holds shelf.new ≡ S.holds shelf.old }
     ensures faults { S.faults shelf.old ≤ S.faults shelf.new }
@@ -259,6 +261,8 @@ pub fn bench<'a, S: Shelf>(
         (due peer) (willing peer))
         peers.old.items) asked.now.peer.now)
         orders.old.items orders.new.items peers.old.items peers.new.items }
+    ensures unasked { IfErr result (λ stop. StaysUnasked (stop_status stop) orders.old orders.new
+        × StaysUnasked (stop_status stop) peers.old peers.new) }
     ensures same { S.tells shelf.new ≡ S.tells shelf.old }
     ensures kept { S.holds shelf.new ≡ S.holds shelf.old }
     ensures faults { S.faults shelf.old ≤ S.faults shelf.new }
