@@ -115,28 +115,35 @@ module _ (given : Given) (handed : HandedIn) (p : TypedProgram) (carries : (file
       → Simulates s given handed.orders (writes end text) → end ≡ ending.Done)
       → ((t : AskedTiming) → HoldsCarrying given t.net p → IsReferredTo given t.against p → (end : Ending) (text : List ℕ)
       → SimulatesTimed t given (writes end text) → end ≡ ending.Done)
+      → ((b : AskedBench) → HoldsCarrying given b.net p → (end : Ending) (text : List ℕ) → Benches b given handed (writes end text) → end ≡ ending.Done)
+      → ((w : AskedWaves) → HoldsCarrying given w.net p → (end : Ending) (text : List ℕ) → Traces w given (writes end text) → end ≡ ending.Done)
       → (rb ra pb pa : ℕ) (asked : Option Asked) → RunsCompiled asked given p → IsComparedWith asked given p → {status : Status} {appended line : List ℕ}
       → Ends asked given handed rb ra pb pa status appended line → status ≢ Differs
-  agreed_for run timing rb ra pb pa None h with_it e = absurd h
-  agreed_for run timing rb ra pb pa (Some (simulates s)) h with_it e =
+  agreed_for run timing bench wave rb ra pb pa None h with_it e = absurd h
+  agreed_for run timing bench wave rb ra pb pa (Some (simulates s)) h with_it e =
       agreed_of (Some (simulates s)) given handed rb ra pb pa (simulates s) refl (run s (carries s.net h) with_it) e
-  agreed_for run timing rb ra pb pa (Some (times t)) h with_it e =
+  agreed_for run timing bench wave rb ra pb pa (Some (times t)) h with_it e =
       agreed_of (Some (times t)) given handed rb ra pb pa (times t) refl (timing t (carries t.net h) with_it) e
-  agreed_for run timing rb ra pb pa (Some (benches b)) h with_it e = absurd with_it
-  agreed_for run timing rb ra pb pa (Some (traces w)) h with_it e = absurd with_it
-  agreed_for run timing rb ra pb pa (Some (compiles c)) h with_it e = absurd h
-  agreed_for run timing rb ra pb pa (Some (migrates net)) h with_it e = absurd h
-  agreed_for run timing rb ra pb pa (Some (checks file)) h with_it e = absurd h
-  agreed_for run timing rb ra pb pa (Some (expands file)) h with_it e = absurd h
-  agreed_for run timing rb ra pb pa (Some (unwaves file)) h with_it e = absurd h
-  agreed_for run timing rb ra pb pa (Some (runs r)) h with_it e = absurd h
-  agreed_for run timing rb ra pb pa (Some (grows growth)) h with_it e = absurd h
+  agreed_for run timing bench wave rb ra pb pa (Some (benches b)) h with_it e =
+      agreed_of (Some (benches b)) given handed rb ra pb pa (benches b) refl (bench b (carries b.net h)) e
+  agreed_for run timing bench wave rb ra pb pa (Some (traces w)) h with_it e =
+      agreed_of (Some (traces w)) given handed rb ra pb pa (traces w) refl (wave w (carries w.net h)) e
+  agreed_for run timing bench wave rb ra pb pa (Some (compiles c)) h with_it e = absurd h
+  agreed_for run timing bench wave rb ra pb pa (Some (migrates net)) h with_it e = absurd h
+  agreed_for run timing bench wave rb ra pb pa (Some (checks file)) h with_it e = absurd h
+  agreed_for run timing bench wave rb ra pb pa (Some (expands file)) h with_it e = absurd h
+  agreed_for run timing bench wave rb ra pb pa (Some (unwaves file)) h with_it e = absurd h
+  agreed_for run timing bench wave rb ra pb pa (Some (runs r)) h with_it e = absurd h
+  agreed_for run timing bench wave rb ra pb pa (Some (grows growth)) h with_it e = absurd h
 
   pub steady_for : ((s : AskedRun) → HoldsCarrying given s.net p → (end : Ending) (text : List ℕ) → Simulates s given handed.orders (writes end text)
       → IsCalmRun s given handed.orders end text)
-      → ((t : AskedTiming) (end : Ending) (text : List ℕ) → SimulatesTimed t given (writes end text) → IsCalmTiming t given end text)
-      → ((b : AskedBench) (end : Ending) (text : List ℕ) → Benches b given handed (writes end text) → IsCalmBench b given handed end text)
-      → ((w : AskedWaves) (end : Ending) (text : List ℕ) → Traces w given (writes end text) → IsCalmTrace w given end text)
+      → ((t : AskedTiming) → HoldsCarrying given t.net p → (end : Ending) (text : List ℕ) → SimulatesTimed t given (writes end text)
+      → IsCalmTiming t given end text)
+      → ((b : AskedBench) → HoldsCarrying given b.net p → (end : Ending) (text : List ℕ) → Benches b given handed (writes end text)
+      → IsCalmBench b given handed end text)
+      → ((w : AskedWaves) → HoldsCarrying given w.net p → (end : Ending) (text : List ℕ) → Traces w given (writes end text)
+      → IsCalmTrace w given end text)
       → (rb ra pb pa : ℕ) (asked : Option Asked) → RunsCompiled asked given p → {status : Status} {appended line : List ℕ}
       → Ends asked given handed rb ra pb pa status appended line → is_whole status ≡ true → IsSteady asked given handed status appended
   steady_for run timing bench wave rb ra pb pa None h e written = absurd h
@@ -145,13 +152,13 @@ module _ (given : Given) (handed : HandedIn) (p : TypedProgram) (carries : (file
       (end, same, run s (carries s.net h) end _ is)
   steady_for run timing bench wave rb ra pb pa (Some (times t)) h e written =
       let (end, same, is) = whole_of (Some (times t)) given handed rb ra pb pa (times t) refl e written in
-      (end, same, timing t end _ is)
+      (end, same, timing t (carries t.net h) end _ is)
   steady_for run timing bench wave rb ra pb pa (Some (benches b)) h e written =
       let (end, same, is) = whole_of (Some (benches b)) given handed rb ra pb pa (benches b) refl e written in
-      (end, same, bench b end _ is)
+      (end, same, bench b (carries b.net h) end _ is)
   steady_for run timing bench wave rb ra pb pa (Some (traces w)) h e written =
       let (end, same, is) = whole_of (Some (traces w)) given handed rb ra pb pa (traces w) refl e written in
-      (end, same, wave w end _ is)
+      (end, same, wave w (carries w.net h) end _ is)
   steady_for run timing bench wave rb ra pb pa (Some (compiles c)) h e written = absurd h
   steady_for run timing bench wave rb ra pb pa (Some (migrates net)) h e written = absurd h
   steady_for run timing bench wave rb ra pb pa (Some (checks file)) h e written = absurd h

@@ -1,5 +1,5 @@
 -- What follows from what `bench` answers.
-use Rattle.std.specs.Prelude.{◌≡◌, ℕ, ◌≤◌, List, length, Some}
+use Rattle.std.specs.Prelude.{◌≡◌, ◌≢◌, ℕ, ◌≤◌, List, length, Some}
 use Rattle.chp_meaning.specs.Rounds.{rounds}
 use Rattle.env_script.specs.Runs.{RunState, after}
 use Rattle.env_script.specs.Scripts.{OfferValue}
@@ -16,6 +16,7 @@ use Rattle.bench_commands.specs.HandedIn.{HandedIn}
 use Rattle.bench_commands.specs.OnBench.{BenchesNet, notes_grown, setup_for}
 use Rattle.bench_commands.specs.Peers.{peer_named}
 use Rattle.command_answers.specs.declared.answer.Ending.{Ending}
+use Rattle.command_answers.specs.declared.answer.Ending.TheVariants.{Hazard}
 use Rattle.command_answers.specs.Answers.{Given, Answer, writes}
 use Rattle.command_steps.specs.Orders.{place_named}
 use Rattle.command_steps.specs.Steps.{IsFileOf}
@@ -53,9 +54,10 @@ BenchedFollows b given handed p f =
     FollowsRounds p f.net (script_by f.net notes)
     (bench_moves f.net notes (growth f.benched.was.log f.benched.is.log)) against.ran.end
 
--- the report is that of a run on a bench, which passes what the rounds of a program pass for which `compile` writes this
--- rule file
+-- The report is that of a run on a bench without a hazard, which passes what the rounds of a program pass for which
+-- `compile` writes this rule file.
 pub record IsCalmBench (b : AskedBench) (given : Given) (handed : HandedIn) (end : Ending) (report : List ℕ) : Type 0
   where
     pub run : IsFileBenched b given handed (writes end report)
+    pub calm : end ≢ Hazard
     pub follows : (p : TypedProgram) → HoldsCompiled given b.net p → BenchedFollows b given handed p run

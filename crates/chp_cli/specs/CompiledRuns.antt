@@ -1,4 +1,4 @@
--- Runs of rule files that `compile` wrote: by an order, by delays, or told as a wave.
+-- Runs of rule files that `compile` wrote: by an order, by delays, on a bench, or written as a wave.
 use Rattle.std.specs.Prelude.{◌≡◌, ℕ, List, Option, Some}
 use Rattle.width_check.specs.Processes.{TypedProgram}
 use Rattle.command_answers.specs.declared.answer.Ending.{Ending}
@@ -20,13 +20,16 @@ RunsCompiled (Some (benches b)) given p = HoldsCompiled given b.net p
 RunsCompiled (Some (traces w)) given p = HoldsCompiled given w.net p
 RunsCompiled _ given p = ⊥
 
--- if it compares the run, it does so with this program
+-- it compares the run with this program, or with none
 abbrev pub IsComparedWith : Option Asked → Given → TypedProgram → Type 0
 IsComparedWith (Some (simulates s)) given p = IsReferredTo given s.against p
 IsComparedWith (Some (times t)) given p = IsReferredTo given t.against p
+IsComparedWith (Some (benches b)) given p = Unit {0}
+IsComparedWith (Some (traces w)) given p = Unit {0}
 IsComparedWith _ given p = ⊥
 
--- the text tells a run without a hazard, which comes to rest where a program does for which `compile` writes the file
+-- The text reports the run of the command's files, which has no hazard, and does what its program does, where `compile`
+-- writes the rule file for one.
 abbrev pub IsCalm : Option Asked → Given → HandedIn → Ending → (text : List ℕ) → Type 0
 IsCalm (Some (simulates s)) given handed end text = IsCalmRun s given handed.orders end text
 IsCalm (Some (times t)) given handed end text = IsCalmTiming t given end text

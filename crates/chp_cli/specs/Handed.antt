@@ -35,7 +35,7 @@ pub record KeepsShelf {S : Type 0} (shelf : ShelfMembers S) (before after : S) :
 abbrev pub IsAppended : {K : Type 0} → SinkMembers K → (before after : K) → (text : List ℕ) → Type 0
 IsAppended sink before after text = sink.tells before ≡ true → sink.written after ≡ sink.written before ++ text
 
--- of a sink
+-- it is as observable as it was, and the count of its faults hasn't fallen
 pub record KeepsSink {K : Type 0} (sink : SinkMembers K) (before after : K) : Type 0 where
   pub same : sink.tells after ≡ sink.tells before
   pub counted : sink.faults before ≤ sink.faults after

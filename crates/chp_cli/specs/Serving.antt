@@ -1,4 +1,5 @@
--- What a command's files and orders have to hold for it to be served: no other answer of it is to refuse then.
+-- What a command's files have to hold, and which orders and devices have to be there, for it to be served: then it
+-- doesn't refuse.
 use Rattle.std.specs.Prelude.{◌≡◌, ℕ, ◌≤◌, Bool, true, false, List, [], length, Option, Some, None}
 use Rattle.chp_base.specs.declared.channel.Channel.{Channel}
 use Rattle.chp_meaning.specs.Ends.{held_in}
@@ -150,7 +151,8 @@ abbrev pub IsToGrow : (sum : Bool) → Played → Type 0
 IsToGrow false played = Unit {0}
 IsToGrow true played = IsToSum played
 
--- the statuses with which a command ends that is served: one that makes a run tells how that ended, any other ends well
+-- the statuses with which a command ends that is served: `simulate`, `bench` and `waves` report how the run ended, any
+-- other command ends well
 abbrev pub EndsServed : Asked → Status → Type 0
 EndsServed (simulates run) status = is_whole status ≡ true
 EndsServed (times timing) status = is_whole status ≡ true

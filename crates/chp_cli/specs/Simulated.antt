@@ -1,5 +1,5 @@
 -- What follows from what `simulate` answers.
-use Rattle.std.specs.Prelude.{◌≡◌, ◌⊎◌, ℕ, ◌≤◌, Bool, false, List, length, slice_get, Option, Some, None}
+use Rattle.std.specs.Prelude.{◌≡◌, ◌≢◌, ◌⊎◌, ℕ, ◌≤◌, Bool, false, List, length, slice_get, Option, Some, None}
 use Rattle.env_script.specs.Environment.{net_channels}
 use Rattle.env_script.specs.OneLength.{EndsAll}
 use Rattle.env_script.specs.Scripts.{OfferValue}
@@ -16,6 +16,7 @@ use Rattle.width_check.specs.Accepted.{IsAccepted}
 use Rattle.width_check.specs.Form.{typed_form}
 use Rattle.width_check.specs.Processes.{TypedProgram}
 use Rattle.command_answers.specs.declared.answer.Ending.{Ending}
+use Rattle.command_answers.specs.declared.answer.Ending.TheVariants.{Hazard}
 use Rattle.command_answers.specs.Answers.{Given, Answer, writes}
 use Rattle.program_commands.specs.Compiling.{net_for}
 use Rattle.command_steps.specs.Orders.{OrderState, Played, place_named}
@@ -127,5 +128,6 @@ SimulatedRests s given played p holds f =
 -- comes to rest for which `compile` writes this rule file, so does the run, if its limit is high enough.
 pub record IsCalmRun (s : AskedRun) (given : Given) (played : Played) (end : Ending) (report : List ℕ) : Type 0 where
   pub run : IsFileSimulated s given played (writes end report)
+  pub calm : end ≢ Hazard
   pub one_length : EndsAllAtRest s given played (writes end report) run
   pub rests : (p : TypedProgram) (holds : HoldsCompiled given s.net p) → SimulatedRests s given played p holds run

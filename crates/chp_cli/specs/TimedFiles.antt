@@ -1,11 +1,12 @@
 -- What follows from what `simulate` answers with delays.
-use Rattle.std.specs.Prelude.{◌≡◌, ℕ, false, List, Option, Some}
+use Rattle.std.specs.Prelude.{◌≡◌, ◌≢◌, ℕ, false, List, Option, Some}
 use Rattle.delay_script.specs.DelayTables.{DelayTable}
 use Rattle.env_script.specs.Environment.{net_channels}
 use Rattle.env_script.specs.Scripts.{OfferValue}
 use Rattle.prs_core.specs.Nets.{NetValue}
 use Rattle.width_check.specs.Processes.{TypedProgram}
 use Rattle.command_answers.specs.declared.answer.Ending.{Ending}
+use Rattle.command_answers.specs.declared.answer.Ending.TheVariants.{Hazard}
 use Rattle.command_answers.specs.Answers.{Given, Answer, writes}
 use Rattle.command_steps.specs.References.{HoldsReference}
 use Rattle.chp_cli.specs.Resting.{TimedRests}
@@ -36,14 +37,16 @@ pub record IsFileTimed (t : AskedTiming) (given : Given) (answer : Answer) : Typ
   pub referred : HoldsReference given t.against program
   pub timed : TimesNet (timing_for t net script delays) program answer
 
--- where the program comes to rest for which `compile` writes the rule file, the timed run does
+-- where the program comes to rest for which `compile` writes the rule file, the timed run does in time, if its limit is
+-- high enough; and it keeps up with the rounds of that program
 abbrev pub TimedRunRests : (t : AskedTiming) (given : Given) (p : TypedProgram) → HoldsCompiled given t.net p →
     {answer : Answer} → IsFileTimed t given answer → Type 0
 TimedRunRests t given p holds f =
     TimedRests holds.reset p (timing_for t f.net f.script f.delays) f.timed.moves f.timed.ran.end f.timed.time
 
--- the report is that of a timed run, which comes to rest in time where a program does for which `compile` writes this
--- rule file
+-- The report is that of a timed run without a hazard. Where a program comes to rest for which `compile` writes this rule
+-- file, so does the run in time, if its limit is high enough; and it keeps up with the rounds of that program.
 pub record IsCalmTiming (t : AskedTiming) (given : Given) (end : Ending) (report : List ℕ) : Type 0 where
   pub run : IsFileTimed t given (writes end report)
+  pub calm : end ≢ Hazard
   pub rests : (p : TypedProgram) (holds : HoldsCompiled given t.net p) → TimedRunRests t given p holds run

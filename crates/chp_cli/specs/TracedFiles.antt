@@ -1,11 +1,12 @@
 -- What follows from what `waves` answers.
-use Rattle.std.specs.Prelude.{◌≡◌, ℕ, List, Some}
+use Rattle.std.specs.Prelude.{◌≡◌, ◌≢◌, ℕ, List, Some}
 use Rattle.delay_script.specs.DelayTables.{DelayTable}
 use Rattle.env_script.specs.Environment.{net_channels}
 use Rattle.env_script.specs.Scripts.{OfferValue}
 use Rattle.prs_core.specs.Nets.{NetValue}
 use Rattle.width_check.specs.Processes.{TypedProgram}
 use Rattle.command_answers.specs.declared.answer.Ending.{Ending}
+use Rattle.command_answers.specs.declared.answer.Ending.TheVariants.{Hazard}
 use Rattle.command_answers.specs.Answers.{Given, Answer, writes}
 use Rattle.chp_cli.specs.Resting.{TimedRests}
 use Rattle.command_steps.specs.RunSteps.{IsScriptOf}
@@ -30,15 +31,17 @@ pub record IsFileTraced (w : AskedWaves) (given : Given) (answer : Answer) : Typ
   pub said_are : HoldsDelayFile given w.delays net.names delays
   pub traced : TracesNet (trace_for w net script delays) w.causes answer
 
--- where the program comes to rest for which `compile` writes the rule file, the timed run does, if its limit is high
--- enough
+-- where the program comes to rest for which `compile` writes the rule file, the timed run does in time, if its limit is
+-- high enough; and it keeps up with the rounds of that program
 abbrev pub TracedRests : (w : AskedWaves) (given : Given) (p : TypedProgram) → HoldsCompiled given w.net p →
     {answer : Answer} → IsFileTraced w given answer → Type 0
 TracedRests w given p holds f =
     TimedRests holds.reset p (trace_for w f.net f.script f.delays) f.traced.moves f.traced.ran.end f.traced.time
 
--- the text tells a timed run, which comes to rest in time where a program does for which `compile` writes this rule
--- file, if its limit is high enough
+-- The text is the wave of a timed run without a hazard, or the causes of its last move. Where a program comes to rest for
+-- which `compile` writes this rule file, so does the run in time, if its limit is high enough; and it keeps up with the
+-- rounds of that program.
 pub record IsCalmTrace (w : AskedWaves) (given : Given) (end : Ending) (text : List ℕ) : Type 0 where
   pub run : IsFileTraced w given (writes end text)
+  pub calm : end ≢ Hazard
   pub rests : (p : TypedProgram) (holds : HoldsCompiled given w.net p) → TracedRests w given p holds run

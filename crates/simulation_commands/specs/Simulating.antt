@@ -51,7 +51,7 @@ ran_value s before now end = record {
 abbrev pub OthersStay : {Order : Type 0} → (asked : Option ℕ) → (before after : List Order) → Type 0
 OthersStay asked before after = (place : ℕ) → asked ≢ Some place → slice_get after place ≡ slice_get before place
 
--- the statuses of calls in which an order may have been asked: the output was written, or cut off, or memory ran out
+-- the statuses of calls in which an order may have been used: the output was written, or cut off, or memory ran out
 abbrev pub may_have_asked : Status → Bool
 may_have_asked Done = true
 may_have_asked Hazard = true
@@ -60,7 +60,7 @@ may_have_asked Write = true
 may_have_asked NoMemory = true
 may_have_asked _ = false
 
--- where the call refuses or can't read a file, nothing that was handed in is asked: all is as it was
+-- where the words are no command, a file can't be read, or the call refuses, nothing that was handed in is used
 abbrev pub StaysUnasked : {Handed : Type 0} → Status → (before after : Handed) → Type 0
 StaysUnasked status before after = may_have_asked status ≡ false → after ≡ before
 

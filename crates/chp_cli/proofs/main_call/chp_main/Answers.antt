@@ -4,6 +4,7 @@ use Rattle.command_answers.specs.Replies.{end_line}
 use Rattle.command_answers.specs.Statuses.{is_whole}
 use Rattle.chp_cli.proofs.Ending.{complete_of, read_of, served_of, silent_of, usage_of, write_of}
 use Rattle.chp_cli.proofs.Calm.{agreed_for, calm_for, steady_for}
+use Rattle.chp_cli.proofs.Uncompared.{benched_well, traced_well}
 use Rattle.chp_cli.proofs.main_call.chp_main.Goals as goal
 
 pub returns-clause-ended : goal.returns-clause-ended
@@ -53,6 +54,12 @@ returns-clause-agreed g c = λ p told runs compared is.
     agreed_for _ _ p (λ file. c.compiled_files_carry.ensures _ file p)
     (λ s carries refers end text are. c.carried_runs_agree.ensures s _ _ p told carries refers end text (c.simulated_right.ensures s _ _ told end text are))
     (λ t carries refers end text are. c.timed_runs_agree.ensures t _ p told carries refers end text (c.timed_right.ensures t _ told end text are))
+    (λ b carries end text are.
+    let run = c.benched_right.ensures b _ _ told end text are in
+    benched_well run (c.benched_runs_are_safe.ensures b _ _ p carries end text run))
+    (λ w carries end text are.
+    let run = c.traced_right.ensures w _ told end text are in
+    traced_well run (c.traced_runs_are_safe.ensures w _ p carries end text run))
     _ _ _ _ (asked_by c.args.words.now) runs compared c.run-end.ensures.ended.1 (sym c.status.ensures ∙ is)
 
 pub returns-clause-steady : goal.returns-clause-steady
@@ -62,17 +69,18 @@ returns-clause-steady g c = λ p told runs whole.
     (λ s carries end text are.
     let run = c.simulated_right.ensures s _ _ told end text are in record {
       run = run;
+      calm = c.carried_runs_are_safe.ensures s _ _ p carries end text run;
       one_length = c.carried_runs_have_one_length.ensures s _ _ p carries _ run;
       rests = λ q holds. c.compiled_runs_rest.ensures.simulated s _ _ q holds _ run;
     })
-    (λ t end text are.
+    (λ t carries end text are.
     let run = c.timed_right.ensures t _ told end text are in
-    record { run = run; rests = λ q holds. c.compiled_runs_rest.ensures.timed t _ q holds _ run })
-    (λ b end text are.
+    record { run = run; calm = c.timed_runs_are_safe.ensures t _ p carries end text run; rests = λ q holds. c.compiled_runs_rest.ensures.timed t _ q holds _ run })
+    (λ b carries end text are.
     let run = c.benched_right.ensures b _ _ told end text are in
-    record { run = run; follows = λ q holds. c.benched_runs_follow.ensures b _ _ q holds _ run })
-    (λ w end text are.
+    record { run = run; calm = c.benched_runs_are_safe.ensures b _ _ p carries end text run; follows = λ q holds. c.benched_runs_follow.ensures b _ _ q holds _ run })
+    (λ w carries end text are.
     let run = c.traced_right.ensures w _ told end text are in
-    record { run = run; rests = λ q holds. c.compiled_runs_rest.ensures.traced w _ q holds _ run })
+    record { run = run; calm = c.traced_runs_are_safe.ensures w _ p carries end text run; rests = λ q holds. c.compiled_runs_rest.ensures.traced w _ q holds _ run })
     _ _ _ _ (asked_by c.args.words.now) runs e.1 (ap is_whole (sym c.status.ensures) ∙ whole) in
     (e.0, e.2, (end, c.status.ensures ∙ same, is))
