@@ -11,12 +11,12 @@ from typing import NamedTuple
 
 # Besides 0; 2 and 3 come only where the words are changed, and 4 and 6 not at all.
 STATUSES = {"check": {1, 7, 19}, "compile": {1, 7, 16, 19}, "expand": {1, 7, 19}, "run": {1, 7, 8, 16, 19}, "simulate": {5, 7, 8, 9},
-            "waves": {5, 7, 8}, "unwave": {7, 8}, "migrate": {7, 8}, "grow": set()}
+            "bench": {5, 7, 8, 9, 17}, "waves": {5, 7, 8}, "unwave": {7, 8}, "migrate": {7, 8}, "grow": set()}
 AGAINST, OF_WORDS, WITH_OUTPUT = {1, 10, 19}, {2, 3}, {0, 5, 10}
 LINES = {0: rb"", 1: rb"chp: (\d+) (\w+) at (\d+)\.\.(\d+)(?: and (\d+)\.\.(\d+))?\n", 2: rb"chp: 2 usage\n", 3: rb"chp: 3 read .*\n",
          5: rb"chp: 5 hazard\n", 7: rb"chp: 7 (bytes .* over \d+|nodes \d+|values over 1048576)\n",
          8: rb"chp: 8 (\d+) (\w+) at line (\d+)\n", 9: rb"chp: 9 order .*\n", 10: rb"chp: 10 differs\n", 16: rb"chp: 16 channel .*\n",
-         19: rb"chp: 19 not built\n"}
+         17: rb"chp: 17 peer .*\n", 19: rb"chp: 19 not built\n"}
 NAME, NUMBER = rb"[A-Za-z]\w*", rb"\d\w*"
 # The causes for which a program is refused, and what may stand at their places.
 CAUSES = {10: ("BadToken", rb"\w+|\W"), 11: ("Syntax", rb".+"), 12: ("TooDeep", rb"[(\[{]"), 13: ("Probe", rb"#"),

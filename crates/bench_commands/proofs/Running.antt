@@ -3,6 +3,7 @@ use Rattle.std.proofs.Common.{◌≡◌, ◌∙◌, ℕ, zero, suc, ◌<◌, Boo
 use Rattle.std.specs.Prelude.{IfSome}
 use Rattle.std.specs.Option.{option_map}
 use Rattle.std.proofs.lemmas.Option.{slice_get-get_or, slice_get-map}
+use Rattle.env_script.specs.Scripts.{OfferValue}
 use Rattle.event_sim.specs.Simulating.{RanValue, growth}
 use Rattle.peer_bench.specs.Asking.{PeerValue, peer_value}
 use Rattle.peer_bench.specs.declared.note.Note.{Note}
@@ -47,13 +48,13 @@ module _ {P : Type 0} (f : P → PeerValue) (xs ys : List P) (which : ℕ) (with
     (noted : IfSome (slice_get xs which) (λ p. IfSome (slice_get ys which) (λ q. (f q).log ≡ (f p).log ++ notes_grown (f p) (f q))))
     (run : IfSome (slice_get xs which) (λ p. IfSome (slice_get ys which)
     (λ q. IsBenchRun (λ (v : PeerValue). v) s (growth was is) (notes_grown (f p) (f q)) (f p) (f q) ran))) where
-  old_there : (p : P) × (slice_get xs which ≡ Some p)
+  abbrev pub old_there : (p : P) × (slice_get xs which ≡ Some p)
   old_there = item_there xs which within
 
-  new_there : (q : P) × (slice_get ys which ≡ Some q)
+  abbrev pub new_there : (q : P) × (slice_get ys which ≡ Some q)
   new_there = item_there ys which (omega (arith, within, count))
 
-  the_run : IsBenchRun (λ (v : PeerValue). v) s (growth was is) (notes_grown (f old_there.0) (f new_there.0)) (f old_there.0) (f new_there.0) ran
+  pub the_run : IsBenchRun (λ (v : PeerValue). v) s (growth was is) (notes_grown (f old_there.0) (f new_there.0)) (f old_there.0) (f new_there.0) ran
   the_run = some_of _ new_there.1 (some_of _ old_there.1 run)
 
   -- the device keeps its name
@@ -66,7 +67,7 @@ module _ {P : Type 0} (f : P → PeerValue) (xs ys : List P) (which : ℕ) (with
           ap (option_map (λ x. (f x).name)) there ∙ (ap (λ n. Some n) same ∙ sym (ap (option_map (λ x. (f x).name)) here))
 
   pub run_reported : (answer : Answer) → is ≡ was ++ growth was is →
-      IsReported (script_by s.net (notes_grown (f old_there.0) (f new_there.0))) None ran None answer →
+      ((script : List OfferValue) → IsReported script None ran None answer) →
       RunsAgainst s was is (peered_by (map f xs) (map f ys)) which answer
   run_reported answer grown written = record {
     peer_was = f old_there.0;
@@ -77,7 +78,7 @@ module _ {P : Type 0} (f : P → PeerValue) (xs ys : List P) (which : ℕ) (with
     grown = grown;
     noted = some_of _ new_there.1 (some_of _ old_there.1 noted);
     run = the_run;
-    written = written;
+    written = written (script_by s.net (notes_grown (f old_there.0) (f new_there.0)));
   }
 
 -- ---- before it: the order got its seed, and both got room
@@ -164,3 +165,23 @@ module _ {O P : Type 0} (order : O → OrderState) (peer : P → PeerValue) (os 
     peers = keeps;
     peers_others = stay;
   }
+
+-- ---- the same, where lists, places and nets are called otherwise
+
+pub others_apart : {X : Type 0} (xs ys : List X) (which : ℕ) → ((k : ℕ) → (k ≡ which → ⊥) → slice_get ys k ≡ slice_get xs k) → OthersStay (Some which) xs ys
+others_apart xs ys which stay = λ k other. stay k (λ same. other (ap (λ n. Some n) (sym same)))
+
+module _ {P : Type 0} (f : P → PeerValue) {xs ys old new : List P} {which place : ℕ} (same_old : old ≡ xs) (same_new : new ≡ ys) (same_place : place ≡ which) where
+  pub reported_as : {s t : SetupValue} {was is : List ℕ} {answer : Answer} → t ≡ s → RunsAgainst s was is (peered_by (map f xs) (map f ys)) which answer →
+      RunsAgainst t was is (peered_by (map f old) (map f new)) place answer
+  reported_as same_setup r = rw (same_old, same_new, same_place, same_setup) r
+
+  pub keeps_as : KeepsPeers (Some which) (peered_by (map f xs) (map f ys)) → KeepsPeers (Some place) (peered_by (map f old) (map f new))
+  keeps_as k = rw (same_old, same_new, same_place) k
+
+pub stays_as : {X : Type 0} (xs ys old new : List X) (which place : ℕ) → old ≡ xs → new ≡ ys → place ≡ which → OthersStay (Some which) xs ys →
+    OthersStay (Some place) old new
+stays_as xs ys old new which place same_old same_new same_place k = rw (same_old, same_new, same_place) k
+
+pub holds_in : {X : Type 0} (xs : List X) (k : ℕ) (x : X) (Q : X → Type 0) → k < length xs → Q x → IfSome (slice_get (set xs k x) k) Q
+holds_in xs k x Q within holds = subst (λ o. IfSome o Q) (sym (get_same xs k x within)) holds

@@ -138,8 +138,8 @@ fn run<'a, S: Shelf, K: Sink>(
 /// What is answered, written and said is the command's answer to its files, of which there is at most one where the
 /// shelf tells them. Three things may come between: the shelf fails at a file of the command (`Read`), the output fails
 /// before its end (`Write`), or memory runs out (`NoMemory`), which may be at any point and is merged with no other
-/// answer. Where the files hold what the command is served with, and the order that it asks for is there, the answer is
-/// to write.
+/// answer. Where the files hold what the command is served with, and the order and the device that it asks for are
+/// there, the answer is to write.
 ///
 /// A run of a rule file that `compile` wrote, by an order, by delays or told as a wave, finds no hazard under whatever
 /// script, and where it reports rest no order makes more moves. Where its program comes to rest under the script, so
@@ -147,8 +147,11 @@ fn run<'a, S: Shelf, K: Sink>(
 /// at that time each; and where it goes on for 2 · (2 nodes + 1) of these times for each of n rounds of the program, with
 /// a reset node for two more, it has passed what these rounds pass.
 ///
-/// Of the handed-in orders only the one that the command asks for is used, if it asks for one: the others are the very
-/// objects that they were, and all have their names and their places still.
+/// A run of such a file on a bench finds no hazard against whatever device. What has passed is a prefix of what its
+/// program passes under the script of all that the device offered and took, and all of it where it reports rest.
+///
+/// Of the handed-in orders and devices only the one order and the one device that the command asks for are used, if it
+/// asks for such: the others are the very objects that they were, and all have their names and their places still.
 pub fn chp_main<S: Shelf, K: Sink, W: Sink>(
     alloc: Global,
     words: &[String],

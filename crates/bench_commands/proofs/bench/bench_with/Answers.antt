@@ -1,0 +1,39 @@
+use Rattle.std.proofs.Common.{◌∙◌, arith}
+use Rattle.command_answers.specs.Replies.{told_answer}
+use Rattle.command_words.proofs.Results.{ok_in}
+use Rattle.simulation_commands.proofs.Keeping.{others_at}
+use Rattle.bench_commands.proofs.Running.{holds_in, keeps_then, prepared_against, ready_keeps, stay_both}
+use Rattle.bench_commands.proofs.bench.bench_with.Goals as goal
+
+pub returns-in_err-make_ready-clause-peers : goal.returns-in_err-make_ready-clause-peers
+returns-in_err-make_ready-clause-peers g c =
+    let e = c.make_ready.ensures in
+    ready_keeps _ c.args.peers.now.items c.args.peers.now.items c.args.which c.index_mut.result.now c.make_ready.new.peer c.requires.which c.index_mut.ensures.value e.name e.log e.due e.willing
+
+pub returns-in_err-make_ready-clause-peers_others : goal.returns-in_err-make_ready-clause-peers_others
+returns-in_err-make_ready-clause-peers_others g c = others_at _ _ _
+
+pub report_on-requires-clause-room : goal.report_on-requires-clause-room
+report_on-requires-clause-room g c =
+    holds_in c.args.peers.now.items c.args.which c.make_ready.new.peer _ c.requires.which
+    (omega (arith, c.in_ok-make_ready.ensures.room, c.notes_for-notes.ensures))
+
+pub returns-clause-answered : goal.returns-clause-answered
+returns-clause-answered g c =
+    let e = c.make_ready.ensures in
+    ok_in c.report_on.result _ _
+    (λ output r. prepared_against _ c.args.peers.now.items c.report_on.new.peers.items c.args.which c.index_mut.result.now c.make_ready.new.peer
+    c.requires.which c.index_mut.ensures.value e.name e.log e.due e.willing _ c.args.asked.now.seed _ _ _ _ _ _ _ (told_answer output)
+    (c.report_on.ensures.seeded ∙ c.prepare.ensures.seeded) c.prepare.ensures.log r) c.report_on.ensures.answered
+
+pub returns-clause-peers : goal.returns-clause-peers
+returns-clause-peers g c =
+    let e = c.make_ready.ensures in
+    keeps_then _ _ c.args.peers.now.items _ c.report_on.new.peers.items
+    (ready_keeps _ c.args.peers.now.items c.report_on.new.peers.items c.args.which c.index_mut.result.now c.make_ready.new.peer c.requires.which
+    c.index_mut.ensures.value e.name e.log e.due e.willing) c.report_on.ensures.peers
+
+pub returns-clause-peers_others : goal.returns-clause-peers_others
+returns-clause-peers_others g c =
+    stay_both _ c.args.peers.now.items _ c.report_on.new.peers.items (others_at c.args.peers.now.items c.args.which c.make_ready.new.peer)
+    c.report_on.ensures.peers_others
