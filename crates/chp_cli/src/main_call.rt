@@ -141,6 +141,7 @@ fn run<'a, S: Shelf, K: Sink>(
 /// answer. Where the files hold what the command is served with, and the order and the device that it asks for are
 /// there, the answer is to write.
 ///
+/// The rule file that `compile` writes is the one text of a net that carries the file's program and keeps pace with it.
 /// A run of a rule file that `compile` wrote, by an order, by delays or told as a wave, finds no hazard under whatever
 /// script, and where it reports rest no order makes more moves. Where its program comes to rest under the script, so
 /// does the run, if the limit is high enough. With delays of at most some time it does so no later than the most moves

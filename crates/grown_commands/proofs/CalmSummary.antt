@@ -1,5 +1,5 @@
 -- The program that is summed up isn't large, and its run finds no hazard.
-use Rattle.std.proofs.Common.{◌≡◌, ◌∙◌, ◌↔◌, ℕ, ◌+◌, ◌*◌, ◌≤◌, Bool, List, None, refl, sym, ap, subst, arith}
+use Rattle.std.proofs.Common.{◌≡◌, ◌↔◌, ℕ, ◌+◌, ◌*◌, ◌≤◌, Bool, List, None, refl, sym, subst, arith}
 use Rattle.std.specs.Prelude.{IsSome}
 use Rattle.chp_syntax.specs.Shape.{IsShaped}
 use Rattle.chp_syntax.specs.Trees.{ProgramTree}
@@ -16,7 +16,7 @@ use Rattle.net_compose.specs.Translation.{translation}
 use Rattle.program_maker.specs.Generated.{generated_text}
 use Rattle.prs_core.specs.Nets.{IsNet, NetValue}
 use Rattle.width_check.specs.Faults.{naming_faults, HasNone}
-use Rattle.width_check.specs.Form.{channels_of, vars_of, process_form, typed_form}
+use Rattle.width_check.specs.Form.{channels_of, vars_of, process_form}
 use Rattle.width_check.specs.Processes.{TypedProgram}
 use Rattle.width_check.specs.Typing.{IsTyped}
 use Rattle.command_answers.specs.Answers.{Answer}

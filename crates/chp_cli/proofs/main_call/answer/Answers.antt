@@ -1,6 +1,12 @@
-use Rattle.std.proofs.Common.{ℕ, []}
+use Rattle.std.proofs.Common.{◌≡◌, ℕ, [], refl, subst}
 use Rattle.command_answers.specs.declared.answer.Stop.{Stop}
 use Rattle.command_words.specs.declared.grow_words.Growth.{Growth}
+use Rattle.command_words.specs.CommandWords.{asked, compiles}
+use Rattle.command_words.specs.CompileWords.{AskedCompilation, compilation_asked}
+use Rattle.command_words.proofs.Results.{ok_in}
+use Rattle.program_commands.specs.Compiling.{IsFaithfulFile}
+use Rattle.program_commands.specs.RepliesTold.{reply_bytes}
+use Rattle.chp_cli.specs.Handed.{given_of}
 use Rattle.command_answers.specs.Answers.{Given, given_by}
 use Rattle.grown_commands.specs.Growing.{Grows}
 use Rattle.command_steps.specs.Orders.{Played}
@@ -16,6 +22,16 @@ grow_stops growth played given before after = stops_where (Grows growth played) 
 
 pub returns-in-Compile-clause-answered : goal.returns-in-Compile-clause-answered
 returns-in-Compile-clause-answered g c = rw c.in-Compile.is c.compile.ensures.answered
+
+pub returns-in-Compile-clause-carried : goal.returns-in-Compile-clause-carried
+returns-in-Compile-clause-carried g c =
+    let given = given_of g.S.Shelf c.args.shelf.now in
+    let own : asked c.args.command.now ≡ compiles (compilation_asked c.in-Compile.asked) = rw c.in-Compile.is refl in
+    ok_in c.compile.result _ _
+    (λ reply is compilation named told.
+    let same : compilation_asked c.in-Compile.asked ≡ compilation = cc (own, named) in
+    subst (λ (x : AskedCompilation). IsFaithfulFile x given (reply_bytes reply)) same (is told))
+    c.compile.ensures.carried
 
 pub returns-in-Compile-clause-stopped : goal.returns-in-Compile-clause-stopped
 returns-in-Compile-clause-stopped g c = rw c.in-Compile.is c.compile.ensures.stopped
