@@ -12,7 +12,7 @@ use Rattle.clap.specs.Takes.{flags_pass, settle_passes, turn_passes}
 use Rattle.command_words.specs.PlainForms.{Argument, ArgumentKind, ArgumentsMet, a_word, a_flag, an_option, argument_called, was_met}
 use Rattle.command_words.specs.SimulateWords.{bare_form}
 use Rattle.command_words.specs.Words.{is_flag}
-use Rattle.command_words.specs.WrittenForms.{same_kind}
+use Rattle.command_words.specs.WrittenForms.{same_argument_kind}
 use Rattle.command_words.proofs.FormRules.{by_id, by_long, filled_rule, found_passes, no_short, of, rules_from}
 use Rattle.command_words.proofs.FormEnds.{is_a_flag}
 use Rattle.command_words.proofs.FormRows.{Fits, made, made_has, used_once, uses}
@@ -77,9 +77,9 @@ shape_with name c = record (built (bare_form name)).top { rules = c }
 
 -- the first argument of this name is of this kind
 abbrev pub is_own : List Argument → Argument → Bool
-is_own arguments a = option_map_or (λ (b : Argument). same_kind b.kind a.kind) (find (λ (b : Argument). bytes_eq b.name a.name) arguments) false
+is_own arguments a = option_map_or (λ (b : Argument). same_argument_kind b.kind a.kind) (find (λ (b : Argument). bytes_eq b.name a.name) arguments) false
 
-pub same_kinds : (k l : ArgumentKind) → same_kind k l ≡ true → k ≡ l
+pub same_kinds : (k l : ArgumentKind) → same_argument_kind k l ≡ true → k ≡ l
 same_kinds a_word a_word e = refl
 same_kinds a_flag a_flag e = refl
 same_kinds (an_option true) (an_option true) e = refl
@@ -99,7 +99,7 @@ own_found : (arguments : List Argument) (a : Argument) → is_own arguments a �
 own_found arguments a own = go (find (λ (b : Argument). bytes_eq b.name a.name) arguments) refl own
   where
     go : (o : Option Argument) → find (λ (b : Argument). bytes_eq b.name a.name) arguments ≡ o →
-        option_map_or (λ (b : Argument). same_kind b.kind a.kind) o false ≡ true → find (λ (b : Argument). bytes_eq b.name a.name) arguments ≡ Some a
+        option_map_or (λ (b : Argument). same_argument_kind b.kind a.kind) o false ≡ true → find (λ (b : Argument). bytes_eq b.name a.name) arguments ≡ Some a
     go None is own = absurd (cc own)
     go (Some b) is own =
         let name : b.name ≡ a.name = (bytes_eq-Decides b.name a.name).0 (found_passes (λ (b : Argument). bytes_eq b.name a.name) arguments b is) in

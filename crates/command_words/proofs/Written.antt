@@ -10,7 +10,7 @@ use Rattle.clap.specs.Lexer.{has_byte, long_of}
 use Rattle.clap.specs.Walk.{Text, is_empty}
 use Rattle.command_words.specs.PlainForms.{Argument, ArgumentKind, ArgumentsMet, a_word, a_flag, an_option, anywhere, argument_called, is_a_word, plain_words, read_words, told_text, told_texts, text_met, was_met, word_names}
 use Rattle.command_words.specs.Words.{is_set}
-use Rattle.command_words.specs.WrittenForms.{AreTexts, IsText, are_apart, calling, is_apart, is_callable, same_kind, words_for, written}
+use Rattle.command_words.specs.WrittenForms.{AreTexts, IsText, are_named_apart, dashed_name, is_named_apart, is_callable, same_argument_kind, words_for, written_words}
 use Rattle.command_words.proofs.FormRules.{both_true, found_passes, of}
 use Rattle.command_words.proofs.FormWalk.{plain_word, same_kinds}
 
@@ -55,16 +55,16 @@ any_append p (y ∷ ys) x e f = go (p y) e (any_append p ys x)
     go true e more = absurd (cc e)
     go false e more = more e f
 
-still_fresh : (name : Text) (k : ArgumentKind) (text : Text) (rest : List Argument) (met : ArgumentsMet) → is_apart name rest ≡ true → IsFresh rest met →
+still_fresh : (name : Text) (k : ArgumentKind) (text : Text) (rest : List Argument) (met : ArgumentsMet) → is_named_apart name rest ≡ true → IsFresh rest met →
     IsFresh rest (met ++ (of name k, text) ∷ [])
 still_fresh name k text [] met apart fresh = tt
 still_fresh name k text (b ∷ rest) met apart fresh =
-    let parts = both_true (not (bytes_eq name b.name)) (is_apart name rest) apart in (
+    let parts = both_true (not (bytes_eq name b.name)) (is_named_apart name rest) apart in (
       any_append (λ (m : Argument × Text). bytes_eq m.0.name b.name) met (of name k, text) fresh.0 (not_true (bytes_eq name b.name) parts.0),
       still_fresh name k text rest met parts.1 fresh.1,
     )
 
-fresh_by : (name : Text) (k : ArgumentKind) (text : Option Text) (rest : List Argument) (met : ArgumentsMet) → is_apart name rest ≡ true → IsFresh rest met →
+fresh_by : (name : Text) (k : ArgumentKind) (text : Option Text) (rest : List Argument) (met : ArgumentsMet) → is_named_apart name rest ≡ true → IsFresh rest met →
     IsFresh rest (met ++ met_by k name text)
 fresh_by name a_word (Some t) rest met own fresh = still_fresh name a_word t rest met own fresh
 fresh_by name a_word None rest met own fresh = subst (IsFresh rest) (sym (append-nil met)) fresh
@@ -97,21 +97,21 @@ all_before (x ∷ xs) none = go (x == 61) refl none (all_before xs)
 
 -- what is known of a name that is called
 record IsCalled (arguments : List Argument) (name : Text) (k : ArgumentKind) : Type 0 where
-  some : bytes_eq (calling name) (codes "--") ≡ false
-  long : long_of (calling name) ≡ Some (name, None)
+  some : bytes_eq (dashed_name name) (codes "--") ≡ false
+  long : long_of (dashed_name name) ≡ Some (name, None)
   argument : argument_called arguments name ≡ Some (of name k)
 
 called : (arguments : List Argument) (name : Text) (k : ArgumentKind) → is_a_word k ≡ false → is_callable arguments (of name k) ≡ true →
     IsCalled arguments name k
 called arguments [] k named test = absurd (cc (rw named at test))
 called arguments (x ∷ xs) k named test =
-    let own = option_map_or (λ (b : Argument). same_kind b.kind k) (argument_called arguments (x ∷ xs)) false in
+    let own = option_map_or (λ (b : Argument). same_argument_kind b.kind k) (argument_called arguments (x ∷ xs)) false in
     let all : (not (is_empty (x ∷ xs)) && (not (has_byte 61 (x ∷ xs)) && own)) ≡ true = rw named at test in
     let tests = both_true (not (has_byte 61 (x ∷ xs))) own (both_true (not (is_empty (x ∷ xs))) (not (has_byte 61 (x ∷ xs)) && own) all).1 in
     let none = not_true (has_byte 61 (x ∷ xs)) tests.0 in
     record { some = refl; long = rw none (ap (λ (n : Text). Some (n, None)) (all_before (x ∷ xs) none)); argument = go (argument_called arguments (x ∷ xs)) refl tests.1 }
   where
-    go : (o : Option Argument) → argument_called arguments (x ∷ xs) ≡ o → option_map_or (λ (b : Argument). same_kind b.kind k) o false ≡ true
+    go : (o : Option Argument) → argument_called arguments (x ∷ xs) ≡ o → option_map_or (λ (b : Argument). same_argument_kind b.kind k) o false ≡ true
         → argument_called arguments (x ∷ xs) ≡ Some (of (x ∷ xs) k)
     go None is own = absurd (cc own)
     go (Some b) is own =
@@ -137,7 +137,7 @@ module _ (arguments : List Argument) where
   one_read name (an_option needed) (Some text) rest words met test is fresh = by_option needed test is
     where
       by_option : (needed : Bool) → is_callable arguments (of name (an_option needed)) ≡ true → IsText (an_option needed) (Some text)
-          → reads rest met (calling name ∷ text ∷ words) ≡ reads rest (met ++ (of name (an_option needed), text) ∷ []) words
+          → reads rest met (dashed_name name ∷ text ∷ words) ≡ reads rest (met ++ (of name (an_option needed), text) ∷ []) words
       by_option true test is =
           let call = called arguments name (an_option true) refl test in
           rw (call.some, call.long, call.argument, is, fresh) refl
@@ -147,15 +147,15 @@ module _ (arguments : List Argument) where
   one_read name (an_option true) None rest words met test is fresh = absurd is
   one_read name (an_option false) None rest words met test is fresh = rw (append-nil met) refl
 
-  read_on : (rest : List Argument) (texts : List (Option Text)) (met : ArgumentsMet) → list_all (is_callable arguments) rest ≡ true → are_apart rest ≡ true
-      → AreTexts rest texts → IsFresh rest met → reads rest met (written rest texts) ≡ Some (met ++ all_met rest texts)
+  read_on : (rest : List Argument) (texts : List (Option Text)) (met : ArgumentsMet) → list_all (is_callable arguments) rest ≡ true → are_named_apart rest ≡ true
+      → AreTexts rest texts → IsFresh rest met → reads rest met (written_words rest texts) ≡ Some (met ++ all_met rest texts)
   read_on [] [] met tests apart are fresh = ap (λ (m : ArgumentsMet). Some m) (sym (append-nil met))
   read_on [] (text ∷ more) met tests apart are fresh = absurd are
   read_on (a ∷ rest) [] met tests apart are fresh = absurd are
   read_on (a ∷ rest) (text ∷ more) met tests apart are fresh =
       let test = both_true (is_callable arguments a) (list_all (is_callable arguments) rest) tests in
-      let own = both_true (is_apart a.name rest) (are_apart rest) apart in
-      one_read a.name a.kind text rest (written rest more) met test.0 are.0 fresh.0
+      let own = both_true (is_named_apart a.name rest) (are_named_apart rest) apart in
+      one_read a.name a.kind text rest (written_words rest more) met test.0 are.0 fresh.0
       ∙ (read_on rest more (met ++ met_by a.kind a.name text) test.1 own.1 are.1 (fresh_by a.name a.kind text rest met own.0 fresh.1)
       ∙ ap (λ (m : ArgumentsMet). Some m) (append_assoc met (met_by a.kind a.name text) (all_met rest more)))
 
@@ -187,11 +187,11 @@ one_apart name own a_flag text e = go (is_set text)
 one_apart name own (an_option needed) (Some t) e = rw (differ name own e) refl
 one_apart name own (an_option needed) None e = refl
 
-rest_apart : (name : Text) (rest : List Argument) (texts : List (Option Text)) → is_apart name rest ≡ true → found_in name (all_met rest texts) ≡ None
+rest_apart : (name : Text) (rest : List Argument) (texts : List (Option Text)) → is_named_apart name rest ≡ true → found_in name (all_met rest texts) ≡ None
 rest_apart name [] texts e = refl
 rest_apart name (a ∷ rest) [] e = refl
 rest_apart name (a ∷ rest) (text ∷ more) e =
-    let parts = both_true (not (bytes_eq name a.name)) (is_apart name rest) e in
+    let parts = both_true (not (bytes_eq name a.name)) (is_named_apart name rest) e in
     append_none name (met_by a.kind a.name text) (all_met rest more) (one_apart name a.name a.kind text (not_true (bytes_eq name a.name) parts.0))
     ∙ rest_apart name rest more parts.1
 
@@ -207,13 +207,13 @@ one_told name (an_option false) (Some t) others is none = rw ((bytes_eq-Decides 
 one_told name (an_option true) None others is none = absurd is
 one_told name (an_option false) None others is none = rw none refl
 
-told_on : (rest : List Argument) (texts : List (Option Text)) (before : ArgumentsMet) → are_apart rest ≡ true → AreTexts rest texts → IsFresh rest before
+told_on : (rest : List Argument) (texts : List (Option Text)) (before : ArgumentsMet) → are_named_apart rest ≡ true → AreTexts rest texts → IsFresh rest before
     → told_texts rest (before ++ all_met rest texts) ≡ Some texts
 told_on [] [] before apart are fresh = refl
 told_on [] (text ∷ more) before apart are fresh = absurd are
 told_on (a ∷ rest) [] before apart are fresh = absurd are
 told_on (a ∷ rest) (text ∷ more) before apart are fresh =
-    let own = both_true (is_apart a.name rest) (are_apart rest) apart in
+    let own = both_true (is_named_apart a.name rest) (are_named_apart rest) apart in
     let here : told_text a.kind (text_met a.name (before ++ (met_by a.kind a.name text ++ all_met rest more))) ≡ Some text =
     ap (λ (o : Option (Argument × Text)). told_text a.kind (option_map (λ (m : Argument × Text). m.1) o))
     (append_none a.name before (met_by a.kind a.name text ++ all_met rest more) (not_found a.name before fresh.0))
@@ -228,8 +228,8 @@ told_on (a ∷ rest) (text ∷ more) before apart are fresh =
     joined first others text more one two = rw (one, two) refl
 
 -- the words that are written for these texts give each argument its text
-pub written_read : (arguments : List Argument) (texts : List (Option Text)) → list_all (is_callable arguments) arguments ≡ true → are_apart arguments ≡ true
-    → AreTexts arguments texts → plain_words arguments (written arguments texts) ≡ Some texts
+pub written_read : (arguments : List Argument) (texts : List (Option Text)) → list_all (is_callable arguments) arguments ≡ true → are_named_apart arguments ≡ true
+    → AreTexts arguments texts → plain_words arguments (written_words arguments texts) ≡ Some texts
 unfolding plain_words
 written_read arguments texts callable apart are =
     ap (option_and_then (told_texts arguments)) (read_on arguments arguments texts [] callable apart are (all_fresh arguments))

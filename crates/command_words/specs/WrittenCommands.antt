@@ -9,12 +9,12 @@ use Rattle.command_words.specs.PlainForms.{Argument}
 use Rattle.command_words.specs.RoundsWords.{rounds_by, run_arguments}
 use Rattle.command_words.specs.SimulateWords.{simulate_arguments, simulate_by}
 use Rattle.command_words.specs.WavesWords.{waves_arguments, waves_by}
-use Rattle.command_words.specs.WrittenForms.{AreTexts, written}
+use Rattle.command_words.specs.WrittenForms.{AreTexts, written_words}
 
 -- the words of this command ask for just what the texts of its arguments do
 abbrev pub AsksAsWritten : Text → List Argument → (List (Option Text) → Option Asked) → Type 0
 AsksAsWritten name arguments asks = (texts : List (Option Text)) → AreTexts arguments texts
-    → plain_command (name ∷ written arguments texts) ≡ asks texts
+    → plain_command (name ∷ written_words arguments texts) ≡ asks texts
 
 pub record AreAskedAsWritten : Type 0 where
   pub compile : AsksAsWritten (codes "compile") compile_arguments (λ texts. option_map compiles (compile_by texts))

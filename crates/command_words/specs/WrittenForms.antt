@@ -11,28 +11,28 @@ use Rattle.command_words.specs.Words.{is_flag, is_set}
 -- ---- forms of which each argument can be called
 
 -- the word that calls a flag or an option
-abbrev pub calling : Text → Text
-calling name = 45 ∷ 45 ∷ name
+abbrev pub dashed_name : Text → Text
+dashed_name name = 45 ∷ 45 ∷ name
 
-abbrev pub same_kind : ArgumentKind → ArgumentKind → Bool
-same_kind a_word a_word = true
-same_kind a_flag a_flag = true
-same_kind (an_option true) (an_option true) = true
-same_kind (an_option false) (an_option false) = true
-same_kind _ _ = false
+abbrev pub same_argument_kind : ArgumentKind → ArgumentKind → Bool
+same_argument_kind a_word a_word = true
+same_argument_kind a_flag a_flag = true
+same_argument_kind (an_option true) (an_option true) = true
+same_argument_kind (an_option false) (an_option false) = true
+same_argument_kind _ _ = false
 
 -- its name is one that can be written, and no flag or option before it has this name
 abbrev pub is_callable : List Argument → Argument → Bool
 is_callable arguments a = is_a_word a.kind || (not (is_empty a.name) && (not (has_byte 61 a.name)
-    && option_map_or (λ b. same_kind b.kind a.kind) (argument_called arguments a.name) false))
+    && option_map_or (λ b. same_argument_kind b.kind a.kind) (argument_called arguments a.name) false))
 
 -- none of these has this name
-abbrev pub is_apart : Text → List Argument → Bool
-is_apart name arguments = list_all (λ b. not (bytes_eq name b.name)) arguments
+abbrev pub is_named_apart : Text → List Argument → Bool
+is_named_apart name arguments = list_all (λ b. not (bytes_eq name b.name)) arguments
 
-abbrev pub are_apart : List Argument → Bool
-are_apart [] = true
-are_apart (a ∷ rest) = is_apart a.name rest && are_apart rest
+abbrev pub are_named_apart : List Argument → Bool
+are_named_apart [] = true
+are_named_apart (a ∷ rest) = is_named_apart a.name rest && are_named_apart rest
 
 -- ---- the words
 
@@ -49,12 +49,12 @@ AreTexts (a ∷ rest) (text ∷ more) = IsText a.kind text × AreTexts rest more
 AreTexts _ _ = ⊥
 
 abbrev pub words_for : ArgumentKind → Text → Option Text → List Text
-words_for a_flag name text = if is_set text then calling name ∷ [] else []
+words_for a_flag name text = if is_set text then dashed_name name ∷ [] else []
 words_for a_word name (Some text) = text ∷ []
-words_for (an_option needed) name (Some text) = calling name ∷ text ∷ []
+words_for (an_option needed) name (Some text) = dashed_name name ∷ text ∷ []
 words_for _ name None = []
 
 -- one argument after the other, each as it is called
-abbrev pub written : List Argument → List (Option Text) → List Text
-written (a ∷ rest) (text ∷ more) = words_for a.kind a.name text ++ written rest more
-written _ _ = []
+abbrev pub written_words : List Argument → List (Option Text) → List Text
+written_words (a ∷ rest) (text ∷ more) = words_for a.kind a.name text ++ written_words rest more
+written_words _ _ = []

@@ -2,7 +2,7 @@
 
 ghost use Rattle.std.specs.Prelude.{◌≡◌, IfOk, IfSome, Some, is_some, option_map, true};
 ghost use Rattle.clap.specs.Words.{app_of, found_of, matches_of, rows_of, takes};
-ghost use Rattle.command_words.specs.CommandWords.{IsWithinBounds, asked, benches, command_of, file_form, file_of, grows, plain_command, plain_file, simulate_asked, traces, verb_of};
+ghost use Rattle.command_words.specs.CommandWords.{IsWithinBounds, asked, benches, command_of, command_with, file_form, file_of, grows, plain_command, plain_file, plain_with, simulate_asked, traces, verb_of};
 ghost use Rattle.command_words.specs.SimulateWords.{plain_simulate, simulate_of};
 ghost use Rattle.command_words.specs.BenchWords.{bench_of, plain_bench};
 ghost use Rattle.command_words.specs.Forms.{is_form, texts_of};
@@ -51,7 +51,7 @@ pub enum Command<'a> {
 }
 
 /// The first word of a command.
-#[derive(Clone, Copy, Debug, PartialEq, Eq)]
+#[derive(Clone, Copy)]
 enum Verb {
     Compile,
     Migrate,
@@ -87,10 +87,25 @@ pub fn command_in<'a>(alloc: Global, words: &'a [String]) -> Result<Option<Comma
     let [first, rest @ ..] = words else {
         return Ok(None);
     };
-    let Some(verb) = verb_in(first.as_str()) else {
-        return Ok(None);
-    };
-    let word = first.as_str();
+    match verb_in(first.as_str()) {
+        Some(verb) => command_with(alloc, verb, first.as_str(), rest),
+        None => Ok(None),
+    }
+}
+
+/// What the words after the one that names this command ask for.
+fn command_with<'a>(
+    alloc: Global,
+    verb: Verb,
+    word: &'a str,
+    rest: &'a [String],
+) -> Result<Option<Command<'a>>, AllocError>
+    ensures form { IfOk result (λ found.
+        option_map asked found ≡ command_with verb word.entry.now (texts_of rest.entry.now)) }
+    ensures plain { IfOk result (λ found.
+        option_map asked found ≡ plain_with verb (texts_of rest.entry.now)) }
+    ensures bounds { IfOk result (λ found. IfSome found IsWithinBounds) }
+{
     match verb {
         Verb::Compile => Ok(compilation_of(alloc, word, rest)?.map(Command::Compile)),
         Verb::Migrate => Ok(file_in(alloc, word, rest)?.map(|net| Command::Migrate { net })),

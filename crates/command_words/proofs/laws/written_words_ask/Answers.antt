@@ -10,13 +10,13 @@ use Rattle.command_words.specs.PlainForms.{Argument, plain_words}
 use Rattle.command_words.specs.RoundsWords.{plain_rounds, rounds_by, run_arguments}
 use Rattle.command_words.specs.SimulateWords.{plain_simulate, simulate_arguments, simulate_by}
 use Rattle.command_words.specs.WavesWords.{plain_waves, waves_arguments, waves_by}
-use Rattle.command_words.specs.WrittenForms.{AreTexts, are_apart, is_callable, written}
+use Rattle.command_words.specs.WrittenForms.{AreTexts, are_named_apart, is_callable, written_words}
 use Rattle.command_words.proofs.Written.{written_read}
 use Rattle.command_words.proofs.laws.written_words_ask.Goals as goal
 
 asked_as : {R : Type 0} (arguments : List Argument) (by : List (Option Text) → Option R) (asks : R → Asked)
-    → list_all (is_callable arguments) arguments ≡ true → are_apart arguments ≡ true → (texts : List (Option Text)) → AreTexts arguments texts
-    → option_map asks (option_and_then by (plain_words arguments (written arguments texts))) ≡ option_map asks (by texts)
+    → list_all (is_callable arguments) arguments ≡ true → are_named_apart arguments ≡ true → (texts : List (Option Text)) → AreTexts arguments texts
+    → option_map asks (option_and_then by (plain_words arguments (written_words arguments texts))) ≡ option_map asks (by texts)
 asked_as arguments by asks callable apart texts are =
     ap (λ o. option_map asks (option_and_then by o)) (written_read arguments texts callable apart are)
 
