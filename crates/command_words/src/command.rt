@@ -20,7 +20,7 @@ use clap::{Arg, ArgAction, ArgMatches};
 use std::alloc::{AllocError, Global};
 
 /// What the words ask for. The commands are this project's own.
-#[derive(Clone, Copy, Debug, PartialEq, Eq)]
+#[derive(Clone, Copy, Debug)]
 pub enum Command<'a> {
     /// `compile FILE [--reset] [--buffer X]`: write the rule file of the program text in this file, with a reset node
     /// and with a buffer on a channel where these are asked for.
