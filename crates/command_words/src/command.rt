@@ -22,7 +22,7 @@ use clap::{Arg, ArgAction, ArgMatches};
 use std::alloc::{AllocError, Global};
 
 /// What the words ask for. The commands are this project's own.
-#[derive(Clone, Copy, Debug, PartialEq, Eq)]
+#[derive(Clone, Copy, Debug)]
 pub enum Command<'a> {
     /// `compile FILE [--reset] [--buffer X]`: write the rule file of the program text in this file, with a reset node
     /// and with a buffer on a channel where these are asked for.
@@ -107,15 +107,33 @@ fn command_with<'a>(
     ensures bounds { IfOk result (λ found. IfSome found IsWithinBounds) }
 {
     match verb {
-        Verb::Compile => Ok(compilation_of(alloc, word, rest)?.map(Command::Compile)),
-        Verb::Migrate => Ok(file_in(alloc, word, rest)?.map(|net| Command::Migrate { net })),
-        Verb::Check => Ok(file_in(alloc, word, rest)?.map(|file| Command::Check { file })),
-        Verb::Expand => Ok(file_in(alloc, word, rest)?.map(|file| Command::Expand { file })),
+        Verb::Compile => match compilation_of(alloc, word, rest)? {
+            Some(compilation) => Ok(Some(Command::Compile(compilation))),
+            None => Ok(None),
+        },
+        Verb::Migrate => match file_in(alloc, word, rest)? {
+            Some(net) => Ok(Some(Command::Migrate { net })),
+            None => Ok(None),
+        },
+        Verb::Check => match file_in(alloc, word, rest)? {
+            Some(file) => Ok(Some(Command::Check { file })),
+            None => Ok(None),
+        },
+        Verb::Expand => match file_in(alloc, word, rest)? {
+            Some(file) => Ok(Some(Command::Expand { file })),
+            None => Ok(None),
+        },
         Verb::Simulate => simulate_in(alloc, word, rest),
         Verb::Bench => bench_in(alloc, word, rest),
         Verb::Waves => trace_in(alloc, word, rest),
-        Verb::Unwave => Ok(file_in(alloc, word, rest)?.map(|file| Command::Unwave { file })),
-        Verb::Run => Ok(rounds_in(alloc, word, rest)?.map(Command::Run)),
+        Verb::Unwave => match file_in(alloc, word, rest)? {
+            Some(file) => Ok(Some(Command::Unwave { file })),
+            None => Ok(None),
+        },
+        Verb::Run => match rounds_in(alloc, word, rest)? {
+            Some(rounds) => Ok(Some(Command::Run(rounds))),
+            None => Ok(None),
+        },
         Verb::Grow => grow_in(alloc, word, rest),
     }
 }

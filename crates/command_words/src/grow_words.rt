@@ -15,7 +15,7 @@ use std::alloc::{AllocError, Global};
 const MOST_OF_STAGES: u64 = 400;
 
 /// What `grow` is asked for.
-#[derive(Clone, Copy, Debug, PartialEq, Eq)]
+#[derive(Clone, Copy, Debug)]
 pub struct Growth {
     pub seed: u64,
     /// The number of stages, from 1 to 400.

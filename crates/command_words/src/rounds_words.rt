@@ -18,7 +18,7 @@ const ROUNDS: u64 = 1000;
 const MOST_OF_ROUNDS: u64 = 1_000_000;
 
 /// What a run of rounds is asked for.
-#[derive(Clone, Copy, Debug, PartialEq, Eq)]
+#[derive(Clone, Copy, Debug)]
 pub struct Rounds<'a> {
     /// The name of the file with the program text.
     pub file: &'a str,

@@ -1,7 +1,7 @@
 //! What a simulation is asked for.
 
 /// What a simulation is asked for.
-#[derive(Clone, Copy, Debug, PartialEq, Eq)]
+#[derive(Clone, Copy, Debug)]
 pub struct Simulation<'a> {
     /// The name of the rule file.
     pub net: &'a str,
@@ -20,7 +20,7 @@ pub struct Simulation<'a> {
 }
 
 /// What a timed simulation is asked for, in which delays say when each move comes.
-#[derive(Clone, Copy, Debug, PartialEq, Eq)]
+#[derive(Clone, Copy, Debug)]
 pub struct Timing<'a> {
     /// The name of the rule file.
     pub net: &'a str,
@@ -37,7 +37,7 @@ pub struct Timing<'a> {
 }
 
 /// By what the moves of a simulation are chosen.
-#[derive(Clone, Copy, Debug, PartialEq, Eq)]
+#[derive(Clone, Copy)]
 pub enum Choosing<'a> {
     ByOrder(Simulation<'a>),
     ByDelays(Timing<'a>),

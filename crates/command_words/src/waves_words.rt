@@ -18,7 +18,7 @@ const MOST_OF_STEPS: u64 = 1_000_000;
 const STEPS: u64 = 100_000;
 
 /// What `waves` is asked for: a timed run whose moves are reported.
-#[derive(Clone, Copy, Debug, PartialEq, Eq)]
+#[derive(Clone, Copy, Debug)]
 pub struct Waves<'a> {
     /// The name of the rule file.
     pub net: &'a str,
