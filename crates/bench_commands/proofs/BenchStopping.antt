@@ -1,5 +1,5 @@
 -- The steps of `bench` within it.
-use Rattle.std.proofs.Common.{◌≡◌, ℕ, ◌≤◌, List, [], ◌∷◌, Option, Some, None, arith}
+use Rattle.std.proofs.Common.{◌≡◌, ℕ, [], ◌∷◌, Some, arith}
 use Rattle.prs_core.specs.Nets.{NetValue}
 use Rattle.command_answers.specs.declared.answer.Stop.{Stop}
 use Rattle.command_answers.specs.Answers.{Given, Answer}

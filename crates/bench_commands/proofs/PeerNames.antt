@@ -1,5 +1,5 @@
 -- A device is found by its name.
-use Rattle.std.proofs.Common.{◌≡◌, ℕ, List, map, Option}
+use Rattle.std.proofs.Common.{◌≡◌, ℕ, List, map}
 use Rattle.std.specs.Prelude.{bytes_eq}
 use Rattle.std.specs.List.{position}
 use Rattle.command_steps.proofs.OrderNames.{position_mapped}

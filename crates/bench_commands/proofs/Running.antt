@@ -1,22 +1,22 @@
 -- A run on a bench, as what is known of the orders and devices that led to it.
-use Rattle.std.proofs.Common.{◌≡◌, ◌∙◌, ℕ, zero, suc, ◌<◌, Bool, List, [], ◌∷◌, ◌++◌, length, map, set, get_or, slice_get, Option, Some, None, refl, sym, ap, subst, arith}
+use Rattle.std.proofs.Common.{◌≡◌, ◌∙◌, ℕ, zero, suc, ◌<◌, List, [], ◌∷◌, ◌++◌, length, map, set, get_or, slice_get, Option, Some, None, refl, sym, ap, subst, arith}
 use Rattle.std.specs.Prelude.{IfSome}
 use Rattle.std.specs.Option.{option_map}
 use Rattle.std.proofs.lemmas.Option.{slice_get-get_or, slice_get-map}
 use Rattle.env_script.specs.Scripts.{OfferValue}
 use Rattle.event_sim.specs.Simulating.{RanValue, growth}
-use Rattle.peer_bench.specs.Asking.{PeerValue, peer_value}
+use Rattle.peer_bench.specs.Asking.{PeerValue}
 use Rattle.peer_bench.specs.declared.note.Note.{Note}
 use Rattle.peer_bench.specs.Benches.{SetupValue, IsBenchRun, noted_since}
 use Rattle.peer_bench.specs.Growing.{script_by}
 use Rattle.command_answers.specs.Answers.{Answer}
-use Rattle.command_steps.specs.Orders.{OrderState, IsPlayedAt, order_state, played_by}
+use Rattle.command_steps.specs.Orders.{OrderState, order_state, played_by}
 use Rattle.simulation_commands.specs.RunReporting.{IsReported}
 use Rattle.simulation_commands.specs.Simulating.{OthersStay}
 use Rattle.simulation_commands.proofs.Keeping.{get_same, only_played, others_at, played_at}
 use Rattle.bench_commands.specs.HandedIn.{StayHandedIn, handed_over}
 use Rattle.bench_commands.specs.OnBench.{AgainstPeer, BenchesNet, notes_grown}
-use Rattle.bench_commands.specs.Peers.{KeepsPeers, Peered, peered_by}
+use Rattle.bench_commands.specs.Peers.{KeepsPeers, peered_by}
 use Rattle.bench_commands.specs.PreparedRuns.{RunsAgainst}
 use Rattle.bench_commands.proofs.Named.{along_named}
 use Rattle.bench_commands.proofs.Staying.{kept_peers}

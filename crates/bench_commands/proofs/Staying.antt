@@ -1,12 +1,12 @@
 -- Which of the handed-in orders and devices change in a call.
-use Rattle.std.proofs.Common.{◌≡◌, ◌≢◌, ◌∙◌, ℕ, zero, suc, ◌<◌, ◌≤◌, List, [], ◌∷◌, length, map, set, get_or, slice_get, Option, Some, None, inl, inr, ◌⊎◌, refl, sym, ap, subst, arith}
+use Rattle.std.proofs.Common.{◌≡◌, ◌∙◌, ℕ, suc, List, [], ◌∷◌, map, slice_get, Option, Some, None, inl, inr, ◌⊎◌, refl, sym, ap, subst}
 use Rattle.std.proofs.lemmas.Bool.{cases_eq}
 use Rattle.std.specs.Option.{option_map}
-use Rattle.std.proofs.lemmas.Option.{slice_get-get_or, slice_get-map}
+use Rattle.std.proofs.lemmas.Option.{slice_get-map}
 use Rattle.peer_bench.specs.Asking.{PeerValue}
-use Rattle.command_steps.specs.Orders.{OrderState, IsPlayedAt, KeepsOrders, played_by}
+use Rattle.command_steps.specs.Orders.{OrderState, KeepsOrders, played_by}
 use Rattle.simulation_commands.specs.Simulating.{OthersStay}
-use Rattle.simulation_commands.proofs.Keeping.{get_same, others_at, others_named, only_played, unplayed}
+use Rattle.simulation_commands.proofs.Keeping.{unplayed}
 use Rattle.bench_commands.specs.HandedIn.{StayHandedIn}
 use Rattle.bench_commands.specs.Peers.{KeepsPeers, peered_by}
 

@@ -1,5 +1,5 @@
 -- What `bench` answers.
-use Rattle.std.specs.Prelude.{◌≡◌, ℕ, List, ◌++◌, length, slice_get, Option, Some, None}
+use Rattle.std.specs.Prelude.{◌≡◌, ℕ, List, ◌++◌, length, slice_get, Some, None}
 use Rattle.prs_core.specs.Nets.{NetValue}
 use Rattle.event_sim.specs.Simulating.{RanValue, growth}
 use Rattle.peer_bench.specs.declared.note.Note.{Note}

@@ -1,5 +1,5 @@
 -- What the run on a bench of a net that carries a program comes to.
-use Rattle.std.proofs.Common.{◌≡◌, ◌≢◌, ◌≤◌, ◌⊎◌, ℕ, Bool, true, false, List, length, Option, Some, None, inl, inr, refl, sym, ap, subst, arith}
+use Rattle.std.proofs.Common.{◌≡◌, ◌≢◌, ◌≤◌, ◌⊎◌, ℕ, Bool, true, false, List, length, Option, None, inl, inr, refl, sym, ap, subst, arith}
 use Rattle.std.specs.Prelude.{IsSome}
 use Rattle.chp_meaning.specs.Laws.{RoundsHold}
 use Rattle.chp_meaning.specs.Rounds.{rounds}
@@ -20,7 +20,7 @@ use Rattle.prs_core.specs.Nets.{NetValue, IsNet}
 use Rattle.width_check.specs.Processes.{TypedProgram}
 use Rattle.width_check.specs.Sharing.{MeetsSharing}
 use Rattle.bench_commands.specs.HandedIn.{HandedIn}
-use Rattle.bench_commands.specs.OnBench.{Benches}
+use Rattle.bench_commands.specs.OnBench.{Benches, setup_for}
 use Rattle.bench_commands.specs.Peers.{a_peer}
 use Rattle.command_answers.specs.declared.answer.Ending.{Ending}
 use Rattle.command_answers.specs.declared.answer.Ending.TheVariants.{Done, Hazard}
@@ -30,7 +30,7 @@ use Rattle.command_steps.specs.Steps.{a_file, a_net}
 use Rattle.command_words.specs.BenchWords.{AskedBench}
 use Rattle.grown_commands.proofs.SafeRuns.{all_safe}
 use Rattle.simulation_commands.specs.RunReporting.{ending_for}
-use Rattle.chp_cli.specs.BenchedFiles.{BenchedFollows, FollowsRounds, IsFileBenched}
+use Rattle.chp_cli.specs.BenchedFiles.{BenchedFollows, IsFileBenched}
 use Rattle.chp_cli.specs.Simulated.{HoldsCarrying, HoldsCompiled}
 use Rattle.chp_cli.proofs.AgreeingRuns.{follows, since_few}
 use Rattle.chp_cli.proofs.CalmRuns.{file_carries, reported_calm}
@@ -63,7 +63,7 @@ module _ (powered : (net : NetValue) (high : Bool) → IsNet net → IsSome net.
       let against = f.benched.against in
       let run = against.run.run in
       reported_calm _ None against.ran None end text against.written
-      (done_calm against.ran.end (calm _ _ _ _ _ against.ran f.file.kept run
+      (done_calm against.ran.end (calm (setup_for f.net b.steps) _ _ _ _ against.ran f.file.kept run
       (all_safe powered f.net p _ false f.file.kept run.suits (file_carries holds f.held f.file))))
 
   module _ (hold : (p : TypedProgram) (script : List OfferValue) → MeetsSharing p.body → RoundsHold p script) where
@@ -98,5 +98,5 @@ module _ (powered : (net : NetValue) (high : Bool) → IsNet net → IsSome net.
         let sharing : MeetsSharing p.body = subst (λ (t : TypedProgram). MeetsSharing t.body) (sym holds.form) holds.accepted.sharing in
         record {
           prefix = follows hold powered f.net p _ false f.file.kept sharing run.suits carries _ run.run;
-          rest = λ still. settled f.net p _ f.file.kept run.suits carries _ run.run (rests _ _ _ _ _ against.ran f.file.kept run still);
+          rest = λ still. settled f.net p _ f.file.kept run.suits carries _ run.run (rests (setup_for f.net b.steps) _ _ _ _ against.ran f.file.kept run still);
         }

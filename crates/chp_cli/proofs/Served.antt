@@ -120,12 +120,11 @@ module _ (no_fault : (program : ProgramTree) (f : Fault) → IsAccepted program 
   bench_written b h =
       order_passed IsWritten handed.orders b.order h.place h.named (BenchesBy b given handed)
       (peer_passed IsWritten handed.peers b.peer h.which h.peer (BenchesAt b given handed h.place)
-      (file_passed IsWritten given told b.net h.rules.text most_of_net h.rules.held (λ text. FromNet text benched)
-      (net_passed IsWritten h.rules.text h.net h.rules.kept h.rules.spelled benched
+      (file_passed IsWritten given told b.net h.rules.text most_of_net h.rules.held
+      (λ text. FromNet text (λ net. BenchesNet handed h.place h.which b.seed (setup_for net b.steps)))
+      (net_passed IsWritten h.rules.text h.net h.rules.kept h.rules.spelled
+      (λ net. BenchesNet handed h.place h.which b.seed (setup_for net b.steps))
       (λ a is. whole_report _ None is.against.ran None a is.against.written))))
-    where
-      benched : NetValue → Answer → Type 0
-      benched net = BenchesNet handed h.place h.which b.seed (setup_for net b.steps)
 
   trace_written : (w : AskedWaves) → IsToTrace w given → (a : Answer) → Traces w given a → IsWritten a
   trace_written w h =

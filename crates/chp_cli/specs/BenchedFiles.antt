@@ -1,13 +1,12 @@
 -- What follows from what `bench` answers.
 use Rattle.std.specs.Prelude.{◌≡◌, ◌≢◌, ℕ, ◌≤◌, List, length, Some}
 use Rattle.chp_meaning.specs.Rounds.{rounds}
-use Rattle.env_script.specs.Runs.{RunState, after}
+use Rattle.env_script.specs.Runs.{after}
 use Rattle.env_script.specs.Scripts.{OfferValue}
 use Rattle.event_sim.specs.declared.ran.End.{End}
 use Rattle.event_sim.specs.declared.ran.End.TheVariants.{AtRest}
 use Rattle.event_sim.specs.Simulating.{growth}
 use Rattle.net_compose.specs.Carries.{IsFollowing, IsSettled}
-use Rattle.peer_bench.specs.declared.note.Note.{Note}
 use Rattle.peer_bench.specs.Benches.{bench_start, bench_moves}
 use Rattle.peer_bench.specs.Growing.{script_by}
 use Rattle.prs_core.specs.Nets.{NetValue}

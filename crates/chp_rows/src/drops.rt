@@ -15,7 +15,7 @@ use std::rc::Rc;
 /// A list of one device that counts its drops here.
 fn one_device(alloc: Global, drops: &Rc<Cell<u32>>) -> Result<Vec<Box<dyn Peer>>, AllocError> {
     let mut peers: Vec<Box<dyn Peer>> = Vec::new(alloc);
-    peers.push(Box::new(alloc, Dropped::new(alloc, drops.clone()))?)?;
+    peers.push(Box::new(alloc, Dropped::new(alloc, drops.clone()?))?)?;
     Ok(peers)
 }
 

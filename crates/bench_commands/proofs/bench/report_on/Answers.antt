@@ -1,4 +1,4 @@
-use Rattle.std.proofs.Common.{◌≡◌, ◌∙◌, ◌<◌, List, None, length, sym, ap, subst, arith}
+use Rattle.std.proofs.Common.{◌∙◌, ◌<◌, None, length, sym, ap, subst, arith}
 use Rattle.event_sim.specs.Simulating.{RanValue}
 use Rattle.command_answers.specs.Replies.{told_answer}
 use Rattle.command_words.proofs.Results.{ok_in}
