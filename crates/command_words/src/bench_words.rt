@@ -13,7 +13,7 @@ use clap::{Arg, ArgAction, Command};
 use std::alloc::{AllocError, Global};
 
 /// What a run on a bench is asked for.
-#[derive(Clone, Copy, Debug, PartialEq, Eq)]
+#[derive(Clone, Copy, Debug)]
 pub struct Benching<'a> {
     /// The name of the rule file.
     pub net: &'a str,
