@@ -39,16 +39,16 @@ pub bench_written : (b : AskedBench) (given : Given) (handed : HandedIn) → giv
     Benches b given handed (writes end text) → IsFileBenched b given handed (writes end text)
 bench_written b given handed told end text
     (an_order {place = k} named (a_peer {place = l} there (a_file {text = x} gives short (a_net {net = n} is benched)))) = record {
-  rules = x;
-  net = n;
-  place = k;
-  which = l;
-  held = gives told;
-  file = is;
-  named = named;
-  peer = there;
-  benched = benched;
-}
+      rules = x;
+      net = n;
+      place = k;
+      which = l;
+      held = gives told;
+      file = is;
+      named = named;
+      peer = there;
+      benched = benched;
+    }
 
 done_calm : (e : End) → (e ≡ AtRest) ⊎ (e ≡ Spent) → ending_for e ≡ Done
 done_calm e (inl rest) = ap ending_for rest
@@ -73,17 +73,22 @@ module _ (powered : (net : NetValue) (high : Bool) → IsNet net → IsSome net.
         IsAtRest n script (after n (bench_start n) ns) → (m : ℕ) × (m ≤ length ns) × IsSettled (after n (bench_start n) ns) (rounds p script m)
     settled n p script net suits (inl c) ns run rest =
         let low : power_of n false ≡ n.first = first_values n c.0 in
-        let fits : IsScript p.channels script = subst (λ cs. IsScript cs script) c.1.channels suits in
-        (length ns, omega arith, subst (λ v. IsSettled (after n (begin_at n v) ns) (rounds p script (length ns))) (sym low)
-        ((c.1.runs script fits ns (subst (λ v. IsRun n script (begin_at n v) ns) low run)).rest
-        (subst (λ v. IsAtRest n script (after n (begin_at n v) ns)) low rest)))
+        let fits : IsScript p.channels script = subst (λ cs. IsScript cs script) c.1.channels suits in (
+          length ns,
+          omega arith,
+          subst (λ v. IsSettled (after n (begin_at n v) ns) (rounds p script (length ns))) (sym low)
+              ((c.1.runs script fits ns (subst (λ v. IsRun n script (begin_at n v) ns) low run)).rest
+              (subst (λ v. IsAtRest n script (after n (begin_at n v) ns)) low rest)),
+        )
       where
         first_values : (n : NetValue) → n.reset ≡ None → power_of n false ≡ n.first
         first_values n none = rw none refl
     settled n p script net suits (inr c) ns run rest =
-        let fits : IsScript p.channels script = subst (λ cs. IsScript cs script) c.channels suits in
-        (moves_since_reset n.reset ns, since_few n.reset ns,
-        (c.runs script fits (power_of n false) (powered n false net (subst (λ (o : Option ℕ). IsSome o) (sym c.reset.1) refl)) ns run).0.rest rest)
+        let fits : IsScript p.channels script = subst (λ cs. IsScript cs script) c.channels suits in (
+          moves_since_reset n.reset ns,
+          since_few n.reset ns,
+          (c.runs script fits (power_of n false) (powered n false net (subst (λ (o : Option ℕ). IsSome o) (sym c.reset.1) refl)) ns run).0.rest rest,
+        )
 
     pub benched_follow : ((s : SetupValue) (picks : List ℕ) (notes : List Note) (was is : PeerValue) (ran : RanValue) → IsNet s.net →
         IsBenchRun (λ p. p) s picks notes was is ran → ran.end ≡ AtRest →

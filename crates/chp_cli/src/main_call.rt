@@ -27,9 +27,10 @@ ghost use Rattle.simulation_commands.specs.Simulating.{StaysUnasked};
 ghost use Rattle.width_check.specs.Processes.{TypedProgram};
 
 use crate::laws::{
-    benched_right, benched_runs_are_safe, benched_runs_follow, carried_runs_agree, carried_runs_are_safe, carried_runs_have_one_length, compiled_files_carry,
-    compiled_runs_rest, one_answer, serves_all, simulated_right, timed_right, timed_runs_agree,
-    timed_runs_are_safe, traced_right, traced_runs_are_safe,
+    benched_right, benched_runs_are_safe, benched_runs_follow, carried_runs_agree,
+    carried_runs_are_safe, carried_runs_have_one_length, compiled_files_carry, compiled_runs_rest,
+    one_answer, serves_all, simulated_right, timed_right, timed_runs_agree, timed_runs_are_safe,
+    traced_right, traced_runs_are_safe,
 };
 use crate::players::Players;
 use bench_commands::bench::bench;

@@ -56,5 +56,10 @@ pub fn count_drops(
     let peers = one_device(alloc, &drops)?;
     let mut players = Players { orders, peers };
     let status = chp_main(alloc, &words, &mut shelf, &mut out, &mut say, &mut players);
-    writeln!(page, "status {}, given back: {}", status.number(), drops.get())
+    writeln!(
+        page,
+        "status {}, given back: {}",
+        status.number(),
+        drops.get()
+    )
 }
