@@ -29,7 +29,7 @@ pub benched_well : {b : AskedBench} {given : Given} {handed : HandedIn} {end : E
     → end ≢ ending.Hazard → end ≡ ending.Done
 benched_well f calm = ends_well f.benched.against.ran.end _ (end_alone f.benched.against.written) calm
 
-same_end : {end as : Ending} {text other : List ℕ} → writes end text ≡ writes as other → end ≡ as
+same_end : {end other_end : Ending} {text other : List ℕ} → writes end text ≡ writes other_end other → end ≡ other_end
 same_end e = cc e
 
 pub traced_well : {w : AskedWaves} {given : Given} {end : Ending} {text : List ℕ} → IsFileTraced w given (writes end text) → end ≢ ending.Hazard
