@@ -65,7 +65,7 @@ peer_seen peer box = peer_value ((peer box).name box.value) ((peer box).log box.
 abbrev pub handed_of : {B : Type 0} {Order : B → Type 0} {D : Type 0} {Device : D → Type 0} →
     ((box : DynBox B Global Order) → PickerMembers (Order box.vtable)) →
     ((box : DynBox D Global Device) → PeerMembers (Device box.vtable)) →
-    (before after : Players B Order D Device) → HandedIn
+    (before after : Players B D Order Device) → HandedIn
 handed_of order peer before after = handed_over (order_seen order) (peer_seen peer)
     before.orders.items after.orders.items before.peers.items after.peers.items
 
@@ -74,7 +74,7 @@ handed_of order peer before after = handed_over (order_seen order) (peer_seen pe
 abbrev pub StaysBut : {B : Type 0} {Order : B → Type 0} {D : Type 0} {Device : D → Type 0} →
     ((box : DynBox B Global Order) → PickerMembers (Order box.vtable)) →
     ((box : DynBox D Global Device) → PeerMembers (Device box.vtable)) →
-    Option Asked → (before after : Players B Order D Device) → Type 0
+    Option Asked → (before after : Players B D Order Device) → Type 0
 StaysBut order peer asked before after = StayHandedIn (order_seen order) (peer_seen peer)
     (asked_order asked (map (order_seen order) before.orders.items))
     (asked_peer asked (map (peer_seen peer) before.peers.items))
