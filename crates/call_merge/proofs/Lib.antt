@@ -1,0 +1,17 @@
+pub mod Copying
+pub mod Collecting
+pub mod Counting
+pub mod Mapping
+pub mod CallsAlone
+pub mod CallRefusals
+pub mod OnlySends
+pub mod FirstCalls
+pub mod FormSteps
+pub mod SplitSteps
+pub mod Flats
+pub mod OwnNames
+pub mod OwnVars
+pub mod Whole
+pub mod NamedBodies
+pub mod CallEndings
+pub mod NamesAdded
