@@ -51,7 +51,7 @@ module _ (C : CallProgram) where
   abbrev pub inlined_program : TypedProgram
   inlined_program = record { channels = C.channels; vars = C.vars; body = inlined C.procs C.body }
 
-  -- the procedures are numbered after the variables, and after them the root and the body
+  -- the procedures are numbered after the variables, and followed by the root and the body
   abbrev pub procs_from : ℕ
   procs_from = root_request inlined_program
 
@@ -133,8 +133,8 @@ module _ (C : CallProgram) where
   abbrev pub call_net : (names : List (List ℕ)) → NetValue
   call_net names = net_of names call_firsts call_composed (wires_from inlined_program 0 C.channels) None
 
--- what is asked of a program with procedures: all that it calls are its own, each is called, no two parallel branches
--- call the same one, and in no body an assignment reads its own target
+-- what is required of a program with procedures: all that it calls are its own, each is called, no two parallel
+-- branches call the same one, and in no body an assignment reads its own target
 pub record IsCallProgram (C : CallProgram) : Type 0 where
   pub atoms : OfAtoms C.body
   pub declared : (q : ℕ) → Calls C.body q → q < length C.procs
@@ -152,7 +152,7 @@ abbrev pub SharedBodiesCounted : Type 0
 SharedBodiesCounted = (C : CallProgram) → IsCallProgram C → IsTranslated (inlined_program C)
     → IsOfSize (call_net C (call_names C)) (call_count C)
 
--- A net of at most 65,536 nodes, whose guards speak of its own nodes alone, is a net that a rule file can hold.
+-- A net of at most 65,536 nodes, whose guards are over its own nodes only, is a net that a rule file can hold.
 abbrev pub SharedBodiesHold : Type 0
 SharedBodiesHold = (C : CallProgram) → IsCallProgram C → IsTranslated (inlined_program C) → call_count C ≤ 65536
     → IsRules (call_composed C) → IsNet (call_net C (call_names C))

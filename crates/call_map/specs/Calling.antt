@@ -14,7 +14,7 @@ use Rattle.cell_parallel.specs.Trees.{tree_rules}
 use Rattle.cell_select.specs.Selections.{Choosing, Repeating, select_rules, again_rules}
 use Rattle.net_compose.specs.Translation.{q_rules, guard_pairs, guards_rules, rules_of}
 
--- a statement that may call procedures; an atom is made of no other statement
+-- a statement that may call procedures; an atom contains no other statement
 mutual
   pub data Called : Type 0 where
     calling : (proc : ℕ) → Called
@@ -32,7 +32,7 @@ mutual
     no_called : CalledChoices
     or_called : Formula → Called → CalledChoices → CalledChoices
 
--- statements that are made of no others
+-- statements that contain no others
 abbrev pub IsAtom : Process → Type 0
 IsAtom skipping = Unit {0}
 IsAtom (assigning x at e) = Unit {0}
@@ -43,7 +43,7 @@ IsAtom (side_by_side _) = ⊥
 IsAtom (choosing _ _) = ⊥
 IsAtom (repeating _) = ⊥
 
--- what is called an atom is one
+-- what counts as an atom is one
 abbrev mutual
   pub OfAtoms : Called → Type 0
   OfAtoms (calling q) = Unit {0}
@@ -80,7 +80,7 @@ module _ (ps : List Process) where
     inlined_choices no_called = no_choices
     inlined_choices (or_called g s more) = and_choice g (inlined s) (inlined_choices more)
 
-  -- a call has one node; p tells the widths of channels and variables
+  -- a call has one node; p gives the widths of channels and variables
   module _ (p : TypedProgram) where
     abbrev mutual
       pub called_size : Called → ℕ
@@ -157,7 +157,7 @@ module _ (ps : List Process) where
       turn = called_choosing choices (from + 1) (from + 4) again_own from;
     }
 
-    -- the rules of a statement's nodes in order, where d tells the answers of the bodies
+    -- the rules of a statement's nodes in order, where d gives the answers of the bodies
     module _ (d : ℕ → ℕ) where
       abbrev mutual
         pub called_rules : Called → (request from : ℕ) → List NodeRules
@@ -201,7 +201,7 @@ module _ (ps : List Process) where
         called_bodies_rules (or_called g s more) start from =
             called_rules s start from ++ called_bodies_rules more (start + 1) (from + called_size s)
 
-    -- what its atoms contribute at their places; a call contributes nothing here, since the body does
+    -- what its atoms contribute at their sites; a call contributes nothing here, since the body does
     module _ {A : Type 0} (site : Sites A) where
       abbrev mutual
         pub called_sites : Called → (from : ℕ) → List A

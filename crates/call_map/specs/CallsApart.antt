@@ -1,5 +1,5 @@
--- Which procedures a statement calls, and what is asked of its calls: no procedure is called in two branches that run
--- at the same time.
+-- Which procedures a statement calls, and what is required of its calls: no procedure is called in two branches that
+-- run at the same time.
 use Rattle.std.specs.Prelude.{◌≡◌, ◌⊎◌, ℕ}
 use Rattle.call_map.specs.Calling.{Called, calling, atom, turned, abreast, chosen, looped, Calleds, no_calleds, and_called, CalledChoices, no_called, or_called}
 

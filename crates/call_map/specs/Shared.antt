@@ -62,7 +62,7 @@ abbrev pub copy_end : Sharing → (call : ℕ) → There
 copy_end S c = copied c (S.last (S.of c))
 
 -- Values of all nodes but requests, v in the net with shared bodies and u in that with copies: the copy of one call of
--- each procedure, cur, has the values of the body, but that its answer is that of the call; every other copy is low.
+-- each procedure, cur, has the values of the body, except that its answer is the call's; every other copy is low.
 pub record IsInStep (S : Sharing) (cur : ℕ → ℕ) (v u : ℕ → Bool) : Type 0 where
   pub current : (p : ℕ) → p < S.procs → (cur p < S.calls) × (S.of (cur p) ≡ p)
   pub plain : (k : ℕ) → S.is_plain k ≡ true → v (S.here (plain k)) ≡ u (S.there (plainly k))
@@ -77,14 +77,14 @@ pub record IsBodyAlike (S : Sharing) (c : ℕ) (v u : ℕ → Bool) : Type 0 whe
   pub request : v (S.here (enters (S.of c))) ≡ u (S.there (asked c))
   pub inside : (x : ℕ) → x < S.size (S.of c) → v (S.here (body (S.of c) x)) ≡ u (S.there (copied c x))
 
--- a node's guard that lets it rise holds, and that which lets it fall
+-- a node's guard by which it rises holds, and that by which it falls
 abbrev pub pulled_up : NetValue → (ℕ → Bool) → ℕ → Bool
 pulled_up net v n = guard_holds v (up_of net n)
 
 abbrev pub pulled_down : NetValue → (ℕ → Bool) → ℕ → Bool
 pulled_down net v n = guard_holds v (down_of net n)
 
--- the two guards of a node of the one net say what those of a node of the other say
+-- the two guards of a node of the one net agree with those of a node of the other
 abbrev pub SameGuards : (A B : NetValue) → (v u : ℕ → Bool) → (n m : ℕ) → Type 0
 SameGuards A B v u n m = (pulled_up A v n ≡ pulled_up B u m) × (pulled_down A v n ≡ pulled_down B u m)
 
@@ -131,7 +131,7 @@ pub record SharesBodies (A B : NetValue) (S : Sharing) : Type 0 where
   pub enters_off : (v : ℕ → Bool) (p : ℕ) → p < S.procs
       → ((c : ℕ) → c < S.calls → S.of c ≡ p → v (S.here (asks c)) ≡ false)
       → (pulled_up A v (S.here (enters p)) ≡ false) × (pulled_down A v (S.here (enters p)) ≡ true)
-  -- a call answers where it is asked and the body answers, until the body answers no more
+  -- a call answers where it is requested and the body answers, until the body answers no more
   pub answers_rules : (v : ℕ → Bool) (c : ℕ) → c < S.calls
       → (pulled_up A v (S.here (answers c)) ≡ (v (S.here (asks c)) && v (S.here (body_end S c))))
       × (pulled_down A v (S.here (answers c)) ≡ not (v (S.here (body_end S c))))
@@ -160,7 +160,7 @@ pub record CopiesKeep (B : NetValue) (S : Sharing) (script : List OfferValue) (s
       → high st.values (S.there (copied c x)) ≡ false
   pub alone : (c j : ℕ) → c < S.calls → j < S.calls → S.of c ≡ S.of j → IsBusy S st c → IsBusy S st j → c ≡ j
 
--- no node is pulled both ways, and each enabled move is safe
+-- no node has interference (both guards holding), and each enabled move is safe
 pub record IsSafeAt (net : NetValue) (script : List OfferValue) (st : RunState) : Type 0 where
   pub apart : IsApart net st
   pub each : (n : ℕ) → move_enabled net script st n ≡ true → IsSafeMove net script st n

@@ -10,13 +10,13 @@ use net_compose::laws::{carries, carries_reset, parts_in_turns};
 /// Law: let one net be another one with one body for all calls of a procedure in place of a copy for each call, and let
 /// that other net be free of hazards, and each copy keep its handshake there. Then each run of the one is a run of the
 /// other, of no more moves, that passes the same; it is free of hazards, and where the one is at rest the other is. It
-/// holds of any numbering of the nodes and of no program in particular: who reads it can leave `CallNet.antt` aside.
+/// holds for any numbering of the nodes and mentions no particular program; to read it, `CallNet.antt` isn't needed.
 pub fn shared_runs()
     ensures { SharedRuns }
 {}
 
 /// Law: where the net with copies carries a program, so does the net with shared bodies. `CallNet.antt` isn't needed to
-/// read this either; and this law and the one above are steps of the proof of those below, which don't speak of them.
+/// read this either. This law and the one above are steps of the proof of those below, which don't mention them.
 pub fn shared_carries()
     ensures { SharedCarries }
 {
@@ -43,8 +43,8 @@ pub fn shared_bodies_counted()
     ensures { SharedBodiesCounted }
 {}
 
-/// Law: that net, of at most 65,536 nodes and with guards that speak of its own nodes alone, is a net that a rule file
-/// can hold: its wires and variables are named as those of a program are, and its other nodes by their numbers.
+/// Law: that net, of at most 65,536 nodes and with guards over its own nodes only, is a net that a rule file can hold:
+/// its wires and variables are named as those of a program are, and its other nodes by their numbers.
 /// `Shared.antt` and `Carrying.antt` aren't needed to read this, nor is what a run is.
 pub fn shared_bodies_hold()
     ensures { SharedBodiesHold }

@@ -42,7 +42,7 @@ pub record SelectNodes : Type 0 where
   pub any : ℕ
   pub branches : List Branch
 
--- all that stand in it
+-- all nodes in it
 abbrev pub select_nodes : SelectNodes → List ℕ
 select_nodes c = c.request ∷ c.answer ∷ c.eval ∷ c.any ∷ (controls_of c.branches ++ rails_of (guards_of c.branches))
 
@@ -96,7 +96,7 @@ branches_idle v bs = all_low v (starts_of bs) && all_low v (answers_of bs)
 abbrev pub guards_false : (ℕ → Bool) → List Branch → Bool
 guards_false v bs = list_all (λ (b : Branch). v b.guard.f) bs
 
--- A branch with those before it and those behind it, since a guard is judged beside all others. Below: each branch of a
+-- A branch with those before it and those after it, since a guard is judged beside all others. Below: each branch of a
 -- list so.
 pub record BranchPlace : Type 0 where
   pub before : List Branch
@@ -144,7 +144,7 @@ noting request eval bs m moved node =
 abbrev pub once : Wire → Wire
 once w = wire w.node (λ m. w.rises m && not (m.noted w.node)) w.falls
 
--- A rail rises where the guards are asked for and neither rail of its guard is high, and falls where they aren't.
+-- A rail rises where the guards are requested and neither rail of its guard is high, and falls where they aren't.
 abbrev pub guard_wire : (eval : ℕ) → Pair → ℕ → Wire
 guard_wire eval p rail = wire rail (λ m. m.value eval && (not (m.value p.t) && not (m.value p.f)))
     (λ m. not (m.value eval))
@@ -162,16 +162,16 @@ branch_wires eval (b ∷ bs) = guard_wire eval b.guard b.guard.t ∷ guard_wire 
 abbrev pub request_wire : (request answer : ℕ) → Wire
 request_wire request answer = wire request (λ m. not (m.value answer)) (λ m. m.value answer)
 
--- The guards are asked for under the request (of a turn), where the answer, all their rails, all starts and the
--- branches' answers are low; they are let go where all of them are valid and no branch is under way.
+-- The guards are requested under the request (of a turn), where the answer, all their rails, all starts and the
+-- branches' answers are low; they are released where all of them are valid and no branch is under way.
 abbrev pub eval_wire : (request answer eval : ℕ) → List Branch → Wire
 eval_wire request answer eval bs =
     wire eval
     (λ m. m.value request && (not (m.value answer) && (guards_neutral m.value bs && branches_idle m.value bs)))
     (λ m. guards_valid m.value bs && branches_idle m.value bs)
 
--- The one branch whose guard alone was true is started, under the request, once the guards are let go and no branch is
--- under way; its start falls where it has answered.
+-- The one branch whose guard alone was true is started, under the request, once the guards are released and no branch
+-- is under way; its start falls where it has answered.
 abbrev pub start_wire : (request answer eval : ℕ) → List Branch → BranchPlace → Wire
 start_wire request answer eval bs p =
     wire p.this.start
@@ -182,16 +182,15 @@ start_wire request answer eval bs p =
 abbrev pub start_wires : (request answer eval : ℕ) → List Branch → List Wire
 start_wires request answer eval bs = map (start_wire request answer eval bs) (places_from [] bs)
 
--- A selection answers once its branch has, and takes its answer back once it has let go of the guards and of the
--- branches.
+-- A selection answers once its branch has, and takes its answer back once it has released the guards and the branches.
 abbrev pub select_answer : SelectNodes → Wire
 select_answer c =
     wire c.answer
     (λ m. m.value c.request && not (all_low m.value (answers_of c.branches)))
     (λ m. not (m.value c.request) && (not (m.value c.eval) && branches_idle m.value c.branches))
 
--- It asks for the guards once for each request, and starts a branch once for each time that they were asked for. It may
--- wait for ever where all guards are evaluated and not exactly one of them is true.
+-- It requests the guards once for each of its requests, and starts a branch once for each time that they were
+-- requested. It may wait for ever where all guards are evaluated and not exactly one of them is true.
 abbrev pub select_part : SelectNodes → Part
 select_part c = record {
   own = select_owned c;
@@ -205,8 +204,8 @@ select_part c = record {
   notes = noting c.request c.eval c.branches;
 }
 
--- A guarded repetition answers once the guards were asked for under its request and all were false, and moves its
--- answer only where the guards are let go and no branch is under way.
+-- A guarded repetition answers once the guards were requested under its request and all were false, and moves its
+-- answer only where the guards are released and no branch is under way.
 abbrev pub again_answer : AgainNodes → Wire
 again_answer c =
     wire c.answer
@@ -221,7 +220,7 @@ abbrev pub rises_under : (request : ℕ) → Wire → Wire
 rises_under request w = wire w.node (λ m. m.value request && w.rises m) w.falls
 
 -- In each turn it does as a selection does, under the request of the turn: it starts a branch once for each time that
--- the guards were asked for. It may wait for ever where all guards are evaluated and two or more of them are true.
+-- the guards were requested. It may wait for ever where all guards are evaluated and two or more of them are true.
 abbrev pub again_part : AgainNodes → Part
 again_part c = record {
   own = again_owned c;

@@ -1,15 +1,15 @@
 -- Selection and guarded repetition: the guards are evaluated under a request of their own, the one true guard is
--- latched, the guards are let go, and then its branch is run.
+-- latched, the guards are released, and then its branch is run.
 use Rattle.std.specs.Prelude.{ℕ, List, [], ◌∷◌, ◌++◌, map}
 use Rattle.prs_core.specs.declared.rule.Literal.{Literal}
 use Rattle.prs_core.specs.Nets.{NodeRules, is_high, is_low, one_term}
 use Rattle.prs_core.specs.Pairs.{Pair, rails_of, lows, or_of}
 
--- the literals that want each guard false
+-- the literals that require each guard to be false
 abbrev pub all_false : List Pair → List Literal
 all_false hs = map (λ (h : Pair). is_high h.f) hs
 
--- for each guard, with those before it and those behind it: the literals that want it true and all others false
+-- for each guard, with those before it and those after it: the literals that require it true and all others false
 abbrev pub only_one_true : (before behind : List Pair) → List (List Literal)
 only_one_true before [] = []
 only_one_true before (h ∷ behind) = (all_false before ++ is_high h.t ∷ all_false behind)
@@ -24,7 +24,7 @@ latches request hs = map (λ (wanted : List Literal). record {
       one_term (is_low request ∷ []);
 }) (only_one_true [] hs)
 
--- once the guards are let go the latched one has its way: l & ~h_1.t & ~h_1.f & .. -> s+, ~l -> s-
+-- once the guards are released the latched branch starts: l & ~h_1.t & ~h_1.f & .. -> s+, ~l -> s-
 abbrev pub started : (latch : ℕ) → List Pair → NodeRules
 started latch hs = record { up = one_term (is_high latch ∷ lows (rails_of hs)); down = one_term (is_low latch ∷ []) }
 
@@ -82,7 +82,7 @@ turn_request request joined = record {
 abbrev pub leave_latch : (turn : ℕ) → List Pair → NodeRules
 leave_latch turn hs = record { up = one_term (all_false hs); down = one_term (is_low turn ∷ []) }
 
--- and answers once the guards are let go: l_0 & ~h_1.t & .. -> a+, ~m -> a-
+-- and answers once the guards are released: l_0 & ~h_1.t & .. -> a+, ~m -> a-
 abbrev pub leave_answer : (leave any : ℕ) → List Pair → NodeRules
 leave_answer leave any hs = record {
   up = one_term (is_high leave ∷ lows (rails_of hs));

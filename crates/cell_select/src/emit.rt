@@ -15,8 +15,8 @@ use prs_core::{Rules, all_of, high, low};
 use std::alloc::{AllocError, Global};
 
 /// The nodes at a selection (Martin). Under `request` the guards are evaluated, under their own request `eval`; the
-/// latch of the one that is true rises, and `any` says that one is up; then the guards are let go, and the branch's
-/// start rises. The branch's answer becomes `answer`. The own nodes are `answer`, `eval`, `any`, `latches` and
+/// latch of the one that is true rises, and `any` says that a latch is up; then the guards are released, and the
+/// branch's start rises. The branch's answer becomes `answer`. The own nodes are `answer`, `eval`, `any`, `latches` and
 /// `starts`. `answers` are the branches' answers, and `guard_rails` has rail t and rail f of each guard, in order.
 #[derive(Debug, Drop)]
 pub struct SelectPorts {
@@ -32,8 +32,8 @@ pub struct SelectPorts {
 
 /// The nodes at a guarded repetition (Martin). It is a selection under a request of its own for each turn,
 /// `loop_request`, whose branches' answers are joined in `joined`. `leave` is the latch that rises where all guards are
-/// false; once the guards are let go it makes the answer. The own nodes are `answer`, `loop_request`, `joined`, `eval`,
-/// `any`, `leave`, `latches` and `starts`; `answers` and `guard_rails` are as at a selection.
+/// false; once the guards are released it makes the answer. The own nodes are `answer`, `loop_request`, `joined`,
+/// `eval`, `any`, `leave`, `latches` and `starts`; `answers` and `guard_rails` are as at a selection.
 #[derive(Debug, Drop)]
 pub struct AgainPorts {
     pub request: u32,
@@ -94,7 +94,7 @@ fn emit_evaluation(
     Ok(())
 }
 
-/// Writes the guards of the OR of some nodes, of which there is at least one.
+/// Writes the guards of the OR of some nodes. There is at least one node.
 #[tactic(auto, using(crate::proofs::GuardLemmas::some_within, crate::proofs::GuardLemmas::lows_within))]
 fn emit_any(alloc: Global, node: u32, inputs: &[u32], rules: &mut Rules) -> Result<(), AllocError>
     requires node { node < length rules.old.up }
@@ -239,8 +239,8 @@ fn emit_end(
 }
 
 /// Writes the guards of the selection's own nodes, and no others. There are 1 to 16 latches, as many starts and
-/// answers, and twice as many guard rails. Where memory runs out, some of the own nodes have their guards, and the
-/// others those that they had.
+/// answers, and twice as many guard rails. Out of memory may leave the write partial: some of the own nodes then have
+/// their new guards, and the others their old ones.
 pub fn emit_select(alloc: Global, p: &SelectPorts, rules: &mut Rules) -> Result<(), AllocError>
     requires { IsSelect (length rules.old.up) p.now }
     ensures made { OnOk result (rules.new ≡ with_owned (select_owned (select_of p.now)) rules.old) }
@@ -260,8 +260,8 @@ pub fn emit_select(alloc: Global, p: &SelectPorts, rules: &mut Rules) -> Result<
 }
 
 /// Writes the guards of the guarded repetition's own nodes, and no others. There are 1 to 16 latches, as many starts
-/// and answers, and twice as many guard rails. Where memory runs out, some of the own nodes have their guards, and the
-/// others those that they had.
+/// and answers, and twice as many guard rails. Out of memory may leave the write partial: some of the own nodes then
+/// have their new guards, and the others their old ones.
 pub fn emit_again(alloc: Global, p: &AgainPorts, rules: &mut Rules) -> Result<(), AllocError>
     requires { IsAgain (length rules.old.up) p.now }
     ensures made { OnOk result (rules.new ≡ with_owned (again_owned (again_of p.now)) rules.old) }

@@ -22,7 +22,7 @@ pub fn set_both(rules: &mut Rules, node: u32, up: Guard, down: Guard)
     rules.set_down(node, down);
 }
 
-/// The term that wants one node high.
+/// The term that requires one node to be high.
 fn high_term(alloc: Global, node: u32) -> Result<Term, AllocError>
     ensures { IfOk result (λ term. term ≡ is_high node ∷ []) }
 {
@@ -65,7 +65,7 @@ pub fn with_lows(alloc: Global, first: Literal, nodes: &[u32]) -> Result<Guard, 
     all_of(alloc, &literals)
 }
 
-/// The guard that holds where all of the nodes are low, of which there is at least one.
+/// The guard that holds where all of the nodes are low. There is at least one node.
 pub fn all_low(alloc: Global, nodes: &[u32]) -> Result<Guard, AllocError>
     requires { 0 < length nodes.now }
     ensures { IfOk result (λ guard. guard ≡ lows nodes.now ∷ []) }
@@ -73,7 +73,7 @@ pub fn all_low(alloc: Global, nodes: &[u32]) -> Result<Guard, AllocError>
     with_lows(alloc, low(nodes[0]), &nodes[1..])
 }
 
-/// Adds the literals that want false the guards from one number up to another.
+/// Adds the literals that require the guards from one number up to another to be false.
 fn want_false(
     literals: &mut Vec<Literal>,
     rails: &[u32],

@@ -42,13 +42,13 @@ bit_written b = record {
   down = one_term (is_low b.w.t ∷ is_low b.w.f ∷ []);
 }
 
--- the bit of this place, where the variable's write sites have these rails
+-- the bit of this index, where the variable's write sites have these rails
 abbrev pub bit_rules : (sites : List (List Pair)) → (place : ℕ) → Bit → List NodeRules
 bit_rules sites place b =
     kept_rail b.w.t b.x.f b.w.f ∷ kept_rail b.w.f b.x.t b.w.t ∷ merged_true sites place ∷ merged_false sites place
     ∷ bit_written b ∷ []
 
--- the bits from this place on
+-- the bits from this index on
 abbrev pub bits_rules : (sites : List (List Pair)) → (place : ℕ) → List Bit → List NodeRules
 bits_rules sites place [] = []
 bits_rules sites place (b ∷ bs) = bit_rules sites place b ++ bits_rules sites (suc place) bs
@@ -78,7 +78,7 @@ abbrev pub variable_owned : (width from : ℕ) → List Owned
 variable_owned width from = flat_map bit_owned (bits_from width from)
     ++ tree_owned (written_leaves width from) (from + 5 * width)
 
--- the merges beside them, where the bits are those from this place on
+-- the merges beside them, where the bits are those from this index on
 abbrev pub merges_owned : (sites : List (List Pair)) → (place : ℕ) → List Bit → List Owned
 merges_owned sites place [] = []
 merges_owned sites place (b ∷ bs) = owned b.w.t (merged_true sites place) ∷ owned b.w.f (merged_false sites place)

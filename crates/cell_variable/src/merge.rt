@@ -10,7 +10,7 @@ use crate::laws::variable_keeps;
 use prs_core::{Guard, Rules, Term, all_of, high, low};
 use std::alloc::{AllocError, Global};
 
-/// The term that wants one node high.
+/// The term that requires one node to be high.
 fn high_term(alloc: Global, node: u32) -> Result<Term, AllocError>
     ensures { IfOk result (λ term. term ≡ is_high node ∷ []) }
 {
@@ -29,7 +29,7 @@ fn some_high(alloc: Global, nodes: &[u32]) -> Result<Guard, AllocError>
     Ok(Guard::new(terms))
 }
 
-/// The guard that holds where all of the nodes are low, of which there is at least one.
+/// The guard that holds where all of the nodes are low. There is at least one node.
 fn all_low(alloc: Global, nodes: &[u32]) -> Result<Guard, AllocError>
     requires { 0 < length nodes.now }
     ensures { IfOk result (λ guard. guard ≡ lows nodes.now ∷ []) }
@@ -55,7 +55,7 @@ fn set_both(rules: &mut Rules, node: u32, up: Guard, down: Guard)
 }
 
 /// Writes the two guards of the OR of some nodes, and no others: it is high once one of them is, and low once none is.
-/// Of no nodes it has no rules afterwards. Where memory runs out, nothing is written.
+/// For no nodes it has no rules afterwards. Where memory runs out, nothing is written.
 #[tactic(auto, using(crate::proofs::Merges::terms_below, crate::proofs::Merges::lows_below))]
 pub fn emit_or(
     alloc: Global,

@@ -38,7 +38,7 @@ fn emit_rail(
     Ok(())
 }
 
-/// The term that wants two nodes high.
+/// The term that requires two nodes to be high.
 fn both_high(alloc: Global, first: u32, second: u32) -> Result<Term, AllocError>
     ensures { IfOk result (λ term. term ≡ is_high first ∷ is_high second ∷ []) }
 {
@@ -84,8 +84,8 @@ fn emit_bit(alloc: Global, bit: u32, rules: &mut Rules) -> Result<(), AllocError
 /// Writes the guards of a variable's own nodes, and no others. The variable's block has from `from` on for each bit,
 /// from the lowest, the two rails of its value, the two rails by which it is written, and the node that says that it
 /// has been written, and then the completion tree over these. The rails by which it is written are merges, which have
-/// rules of their own. Where memory runs out, some of the own nodes have their guards, and the others those that they
-/// had.
+/// rules of their own. Out of memory may leave the write partial: some of the own nodes then have their new guards, and
+/// the others their old ones.
 pub fn emit_variable(
     alloc: Global,
     from: u32,

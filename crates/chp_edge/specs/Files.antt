@@ -25,7 +25,7 @@ held_at files (Some place) = Some (bytes_of (slice_get files place))
 abbrev pub held_by : List File → List ℕ → Option (List ℕ)
 held_by files name = held_at files (position (is_named name) files)
 
--- what is left of the begun file behind its first bytes
+-- what is left of the begun file after its first bytes
 abbrev pub left_at : List File → (begun : Option ℕ) → (done : ℕ) → List ℕ
 left_at files None done = []
 left_at files (Some place) done = drop done (bytes_of (slice_get files place))

@@ -1,9 +1,9 @@
-//! Counts that stay at their type's end.
+//! Counts that saturate.
 
 ghost use Rattle.std.specs.Prelude.{◌≡◌, ◌<◌, ◌^◌};
 ghost use Rattle.chp_edge.specs.Faults.{Rose, one_higher};
 
-/// Counts one more. A count stays at its last value once it is there.
+/// Adds one to the count, which saturates at 2^64 - 1.
 pub fn count_up(count: &mut u64)
     ensures exact { count.new ≡ one_higher count.old }
     ensures rose { Rose count.old count.new }

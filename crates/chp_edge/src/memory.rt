@@ -1,4 +1,4 @@
-//! Shelves and a sink in memory, which tell their bytes.
+//! Shelves and a sink in memory, whose bytes are observable.
 
 ghost use Rattle.std.specs.Prelude.{◌≡◌, ℕ, ◌≤◌, ◌<◌, [], Some, None, length, take, drop, min, vec_len, vec_capacity, IfOk, IsOk, OnOk, IsErr, OnErr, Contains, ◌+◌, ◌-◌, ◌^◌, ◌++◌, ◌↔◌, ◌⊎◌, true, false, position, if◌then◌else◌};
 ghost use Rattle.chp_edge.specs.Faults.{Rose, IsReadFault, one_higher};
@@ -9,7 +9,7 @@ use crate::shelf::Shelf;
 use crate::sink::{Failed, Sink};
 use std::alloc::{AllocError, Global};
 
-/// Copies bytes into the front of the piece, as many as there are and as it takes.
+/// Copies the first bytes to the beginning of the piece, up to the shorter length of the two, and returns how many.
 fn copy_front(bytes: &[u8], piece: &mut [u8]) -> usize
     ensures count { result ≡ min (length piece.old) (length bytes.now) }
     ensures bytes { take result piece.new ≡ take result bytes.now }
@@ -19,7 +19,7 @@ fn copy_front(bytes: &[u8], piece: &mut [u8]) -> usize
     n
 }
 
-/// What stands behind the first `done` bytes.
+/// The bytes after the first `done`, none if there are no more than these.
 fn behind(bytes: &[u8], done: usize) -> &[u8]
     ensures { result.now ≡ drop done bytes.now }
 {
@@ -30,7 +30,7 @@ fn behind(bytes: &[u8], done: usize) -> &[u8]
     }
 }
 
-/// A shelf of files in memory, of which chosen calls fail: `begin` and `next` share one count, and the first call is
+/// A shelf of files in memory, on which chosen calls fail: `begin` and `next` share one count, and the first call is
 /// number 1.
 #[derive(Debug, Drop)]
 pub struct MemShelf {
@@ -42,7 +42,7 @@ pub struct MemShelf {
 
 impl MemShelf {
     /// The shelf of these files, each with its name; of several with one name only the first is found. `failing` has
-    /// the numbers of the calls that fail, each of which is a fault. To begin an unknown name fails without a fault.
+    /// the numbers of the calls that fail, each of which is a fault. Beginning an unknown name fails without a fault.
     pub fn new(files: Vec<(String, Vec<u8>)>, failing: Vec<u64>) -> MemShelf
         ensures files { result.files.items ≡ files.items }
         ensures failing { result.plan.failing.items ≡ failing.items }
@@ -191,8 +191,7 @@ impl Shelf for SureShelf {
     }
 }
 
-/// A sink in memory. It takes at most `most` bytes a call and `room` bytes in all, and its calls that are named as
-/// failing fail.
+/// A sink in memory. It takes at most `most` bytes a call and `room` bytes in all, and chosen calls on it fail.
 #[derive(Debug, Drop)]
 pub struct MemSink {
     most: usize,
@@ -205,9 +204,9 @@ pub struct MemSink {
 }
 
 impl MemSink {
-    /// An empty sink; all its memory, for `room` bytes, is taken here. A call of `put` is a fault where its number
-    /// is in `failing`, or where the room is used up. Otherwise it takes as much of the piece as `most` and the room
-    /// that is left allow.
+    /// An empty sink; all its memory, for `room` bytes, is allocated here. A call of `put` is a fault if its number,
+    /// counted from 1, is in `failing`, or if the room is used up. Otherwise it takes as much of the piece as `most`
+    /// and the room that is left allow.
     pub fn new(
         alloc: Global,
         most: usize,

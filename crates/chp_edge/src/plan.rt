@@ -6,8 +6,8 @@ ghost use Rattle.chp_edge.specs.Faults.{Rose, one_higher};
 
 use crate::count::count_up;
 
-/// The numbers of the calls that fail, counted from 1, with how many calls and faults there were. Both counts stay
-/// at their last value once they are there.
+/// The numbers of the calls that fail, counted from 1, with the numbers of calls and of faults so far. Both counts
+/// saturate at 2^64 - 1.
 #[derive(Debug, Drop)]
 pub struct Plan {
     failing: Vec<u64>,
@@ -41,7 +41,7 @@ impl Plan {
         count_up(&mut self.faults);
     }
 
-    /// Counts a call, and says whether it is one of those that fail, which counts as a fault.
+    /// Counts a call, and returns whether it is one of those that fail, which counts as a fault.
     pub fn fails(&mut self) -> bool
         ensures calls { self.new.calls ≡ one_higher self.old.calls }
         ensures failing { self.new.failing ≡ self.old.failing }

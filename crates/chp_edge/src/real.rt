@@ -1,5 +1,5 @@
-//! Files and the standard streams. None of these tells its bytes: what a real file or stream holds is trusted, and
-//! shown by tests alone.
+//! Files and the standard streams. Their bytes are not observable: what a real file or stream holds is trusted, and
+//! covered by tests only.
 
 ghost use Rattle.std.specs.Prelude.{◌≡◌, ◌^◌, ◌<◌, ◌≤◌, [], None, false, length, IfOk, OnOk, OnErr};
 ghost use Rattle.chp_edge.specs.Faults.{Rose, one_higher};
@@ -11,7 +11,7 @@ use std::fs;
 use std::io::{Read, Write};
 use std::rt::Files;
 
-/// The files of the system. Each error of the system is a fault, a name that can't be opened among them.
+/// The files of the system. Each error of the system is a fault, including a name that can't be opened.
 #[derive(Drop)]
 pub struct FileShelf<'a, R: Files> {
     rt: &'a R,
@@ -84,7 +84,7 @@ impl<'a, R: Files> Shelf for FileShelf<'a, R> {
     }
 }
 
-/// Writes some bytes of the piece. An error is a fault, and so is a writer that takes nothing.
+/// Writes some bytes of the piece, and returns how many. An error is a fault, and so is a writer that takes nothing.
 fn put_some<W: Write>(writer: &mut W, faults: &mut u64, piece: &[u8]) -> Result<usize, Failed>
     requires { 0 < length piece.now }
     ensures faults { faults.old ≤ faults.new }
@@ -105,7 +105,7 @@ fn put_some<W: Write>(writer: &mut W, faults: &mut u64, piece: &[u8]) -> Result<
     }
 }
 
-/// Standard output, or any other writer that is handed in for it.
+/// Standard output, or any other writer that is given in its place.
 #[derive(Drop)]
 pub struct OutSink<W: Write + Drop> {
     writer: W,
@@ -141,7 +141,7 @@ impl<W: Write + Drop> Sink for OutSink<W> {
     }
 }
 
-/// Standard error, or any other writer that is handed in for it.
+/// Standard error, or any other writer that is given in its place.
 #[derive(Drop)]
 pub struct ErrSink<W: Write + Drop> {
     writer: W,

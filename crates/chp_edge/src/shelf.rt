@@ -5,21 +5,22 @@ ghost use Rattle.chp_edge.specs.Faults.{Rose, IsReadFault};
 
 use crate::sink::Failed;
 
-/// A shelf of files, which may tell what it holds.
+/// A source of files. What it holds may be observable; the clauses on bytes hold only then.
 pub trait Shelf {
-    // Faults so far. The count never falls, and stays at its last value once it is there.
+    // The number of faults so far. It never falls, and saturates at 2^64 - 1.
     ghost faults: { Self → ℕ };
 
-    // Whether it tells its bytes.
+    // Whether its bytes are observable.
     ghost tells: { Self → Bool };
 
-    // What stands in the file of a name, if there is one. It stays so.
+    // The contents of the file of a name, if there is one. No call changes them.
     ghost holds: { Self → List ℕ → Option (List ℕ) };
 
     // What is still to be read of the begun file.
     ghost rest: { Self → List ℕ };
 
-    /// Opens the file of this name, at its beginning.
+    /// Opens the file of this name, at its beginning. It fails only on a fault, or if an observable shelf holds no such
+    /// file.
     fn begin(&mut self, name: &str) -> Result<(), Failed>
         ensures faults { faults self.old ≤ faults self.new }
         ensures counted { faults self.new < 2 ^ 64 }
@@ -30,8 +31,8 @@ pub trait Shelf {
             (holds self.old name.now)) }
         ensures emptied { OnErr result (tells self.old ≡ true → rest self.new ≡ []) };
 
-    /// Writes the next bytes of the begun file into the front of the piece, and answers how many: 0 exactly at
-    /// the file's end.
+    /// Writes the next bytes of the begun file at the beginning of the piece, and returns how many: 0 exactly at
+    /// the file's end. It fails only on a fault.
     fn next(&mut self, piece: &mut [u8]) -> Result<usize, Failed>
         requires { 0 < length piece.old }
         ensures faults { faults self.old ≤ faults self.new }

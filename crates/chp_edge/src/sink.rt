@@ -3,22 +3,23 @@
 ghost use Rattle.std.specs.Prelude.{◌≡◌, ℕ, ◌<◌, ◌≤◌, ◌^◌, List, ◌++◌, length, take, Bool, true, OnErr, IfOk};
 ghost use Rattle.chp_edge.specs.Faults.{Rose};
 
-/// The device outside failed.
+/// A call on a device failed.
 #[derive(Clone, Copy, Debug, PartialEq, Eq)]
 pub struct Failed;
 
-/// A place for bytes, which may tell what it took.
+/// A destination for bytes. What it took may be observable; the clauses on bytes hold only then.
 pub trait Sink {
-    // Faults so far. The count never falls, and stays at its last value once it is there.
+    // The number of faults so far. It never falls, and saturates at 2^64 - 1.
     ghost faults: { Self → ℕ };
 
-    // Whether it tells its bytes.
+    // Whether its bytes are observable.
     ghost tells: { Self → Bool };
 
-    // All bytes that were taken, where it tells them.
+    // All bytes that were taken, if they are observable.
     ghost written: { Self → List ℕ };
 
-    /// Takes some bytes from the front of the piece, at least one, and answers how many.
+    /// Takes some bytes from the beginning of the piece, at least one, and returns how many. It fails only on a fault;
+    /// an observable sink then takes none.
     fn put(&mut self, piece: &[u8]) -> Result<usize, Failed>
         requires { 0 < length piece.now }
         ensures faults { faults self.old ≤ faults self.new }

@@ -11,20 +11,22 @@ use std::alloc::{AllocError, Global};
 /// Why a file wasn't read whole.
 #[derive(Clone, Copy, Debug, PartialEq, Eq)]
 pub enum ReadEnd {
-    /// The shelf failed.
+    /// A call on the shelf failed.
     Failed,
     /// The file has more bytes than the limit.
     TooLong,
-    /// Memory ran out.
+    /// Out of memory.
     NoMemory,
 }
 
 const PIECE: usize = 4096;
 
-/// All bytes of the named file, which has at most `limit` bytes.
+/// All bytes of the named file, which has at most `limit` bytes. What is said of its bytes is proved for an observable
+/// shelf.
 ///
-/// It is `Failed` only where a device failed or this very file isn't there. Else it is `TooLong` just where the file
-/// exceeds the limit, of which one byte too many was then read, and the rest is still on the shelf.
+/// It is `Failed` only if the shelf's count of faults rose or is saturated, or an observable shelf holds no such file.
+/// `TooLong` means that the file exceeds the limit: `limit` + 1 bytes were read, and the rest is still on the shelf.
+/// After `NoMemory` some of its bytes were read, or none, and the rest is still on the shelf.
 pub fn read_all<S: Shelf>(
     alloc: Global,
     shelf: &mut S,
@@ -65,7 +67,7 @@ pub fn read_all<S: Shelf>(
     Err(ReadEnd::TooLong)
 }
 
-/// Puts the whole text, piece by piece. After `Failed` less than the whole was taken, a prefix of it.
+/// Writes the whole text, piece by piece. After `Failed` the sink has taken a prefix of it that is not the whole.
 pub fn write_all<K: Sink>(sink: &mut K, text: &[u8]) -> Result<(), Failed>
     ensures faults { K.faults sink.old ≤ K.faults sink.new }
     ensures same { K.tells sink.new ≡ K.tells sink.old }

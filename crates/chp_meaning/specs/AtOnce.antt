@@ -1,4 +1,4 @@
--- A round as one change: what each active statement does is settled by how things stand at the round's start.
+-- A round as one change: what each active statement does depends only on the state at the round's start.
 use Rattle.std.specs.Prelude.{ℕ, suc, ◌+◌, ◌-◌, Bool, true, false, ◌==◌, if◌then◌else◌, nat_lt, List, [], ◌∷◌, ◌++◌, length, take, option_to_list, slice_index, slice_index_or, slice_set, sum_by, Option, Some, None}
 use Rattle.env_script.specs.Scripts.{OfferValue, gives, takes, nothing, offer_at, is_over}
 use Rattle.env_script.specs.Runs.{history_at}
@@ -11,8 +11,8 @@ use Rattle.chp_meaning.specs.Steps.{one_fewer}
 use Rattle.chp_meaning.specs.Remaining as left
 use Rattle.chp_meaning.specs.Remaining.{Remains, over, whole, within, alongside, no_more, and_left, part_of, branch_of, begun, resumed, gathered}
 
--- how things stand at a round's start: besides store and script, on which channels a send waits, and into which
--- variable the receive takes its value that waits
+-- the state at a round's start: besides store and script, on which channels a send waits, and into which
+-- variable the waiting receive takes its value
 pub record Outset : Type 0 where
   pub store : List ℕ
   pub rests : List OfferValue
@@ -173,7 +173,7 @@ passed histories m = passed_on histories m.pass
 abbrev pub held_values : List (List ℕ) → ℕ
 held_values histories = sum_by length histories
 
--- the last value is taken away again
+-- without its last value
 abbrev pub shorter : List ℕ → List ℕ
 shorter vs = take (length vs - 1) vs
 

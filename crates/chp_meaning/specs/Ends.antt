@@ -1,4 +1,4 @@
--- What rounds answer.
+-- The results of rounds.
 use Rattle.std.specs.Prelude.{◌≡◌, ℕ, suc, ◌<◌, ◌≤◌, Bool, true, false, List, [], ◌∷◌, length}
 use Rattle.env_script.specs.Scripts.{OfferValue, IsScript}
 use Rattle.width_check.specs.Typed.{TypedValue, program_of}
@@ -12,7 +12,7 @@ use Rattle.chp_meaning.specs.Rounds.{rounds_from}
 use Rattle.chp_meaning.specs.AtOnce.{held_values}
 use Rattle.chp_meaning.specs.Standing.{IsStanding, configuration_of}
 
--- how a program stands
+-- the state of a program
 abbrev pub seen : TypedValue → Config → Configuration
 seen program c = configuration_of (process_of program.body) c
 
@@ -52,7 +52,7 @@ abbrev pub is_some_step : {X : Type 0} → List X → Bool
 is_some_step [] = false
 is_some_step (x ∷ xs) = true
 
--- behind rounds that could go on with these
+-- after rounds that could be followed by these moves
 abbrev pub end_by : {X : Type 0} → List X → RunEnd
 end_by [] = Rest
 end_by (x ∷ xs) = Spent

@@ -74,7 +74,7 @@ abbrev mutual
   halved_choices n no_choices = no_choices
   halved_choices n (and_choice g p more) = and_choice g (halved n p) (halved_choices (n + length (hidden_vars p)) more)
 
--- the hidden variables are declared behind all others
+-- the hidden variables are declared after all others
 abbrev pub halved_program : TypedProgram → TypedProgram
 halved_program p = record {
   channels = p.channels;
@@ -103,13 +103,13 @@ abbrev mutual
   ChoicesReadNoTarget no_choices = Unit {0}
   ChoicesReadNoTarget (and_choice g p more) = ReadsNoTarget p × ChoicesReadNoTarget more
 
--- declared but for its name
+-- declared except for its name
 pub record IsSizedVar (v : Var) : Type 0 where
   pub some : 1 ≤ v.width
   pub most : v.width ≤ 64
   pub first : v.first < 2 ^ v.width
 
--- a program is typed but for the names of its variables
+-- a program is typed except for the names of its variables
 pub record IsSized (channels : List Channel) (vars : List Var) (body : Process) : Type 0 where
   pub each_channel : All IsDeclaredChannel channels
   pub each_var : All IsSizedVar vars

@@ -1,4 +1,4 @@
--- What is to hold of rounds and runs.
+-- What is claimed of rounds and runs.
 use Rattle.std.specs.Prelude.{◌≡◌, ◌≤◌, ℕ, suc, List, ◌++◌}
 use Rattle.env_script.specs.Scripts.{OfferValue}
 use Rattle.env_script.specs.Runs.{history_at}

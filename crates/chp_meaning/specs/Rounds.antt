@@ -49,7 +49,7 @@ chosen c at again options (p ∷ []) =
 chosen c at true options [] = Some (leaving c at finished)
 chosen c at again options _ = None
 
--- the configuration behind the step of this statement at the place, if it has one
+-- the configuration after the step of this statement at the place, if it has one
 abbrev pub stepped : Configuration → Place → Option Process → Option Configuration
 stepped c at (Some skipping) = Some (leaving c at finished)
 stepped c at (Some (assigning x s e)) = Some (storing (leaving c at finished) x (value_in c e))

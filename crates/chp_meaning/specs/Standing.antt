@@ -1,4 +1,4 @@
--- How a program stands, seen as a configuration.
+-- The state of a program, seen as a configuration.
 use Rattle.std.specs.Prelude.{◌≡◌, ℕ, true, false, List, map, length, drop, replicate, fold, All, None}
 use Rattle.std.specs.declared.alloc.Global.{Global}
 use Rattle.std.specs.declared.vec.Vec.{Vec}
@@ -53,7 +53,7 @@ pub record IsStanding (body : Process) (c : Config) : Type 0 where
   pub sends : c.sends.items ≡ replicate (length c.rests.items) false
   pub receives : c.receives.items ≡ replicate (length c.rests.items) None
 
--- how things stand at the start of the next round
+-- the state at the start of the next round
 abbrev pub next_outset : Process → Config → Outset
 next_outset body c = record {
   store = c.store.items;
@@ -76,7 +76,7 @@ pub record AreWithin (c : Config) (moves : List Move) : Type 0 where
   pub writes : All (λ (m : Move). is_below (length c.store.items) m.write ≡ true) moves
   pub uses : All (λ (m : Move). number_below (length c.rests.items) m.uses ≡ true) moves
 
--- the same but for what the moves change, and what is left
+-- the same except for what the moves change, and what is left
 pub record HaveMoved (old new : Config) (left : Left) (moves : List Move) : Type 0 where
   pub left_is : new.left ≡ left
   pub store : new.store.items ≡ fold written old.store.items moves

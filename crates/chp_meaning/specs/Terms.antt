@@ -41,7 +41,7 @@ abbrev mutual
   opened_each no_members = no_branches
   opened_each (and_member p more) = and_branch (opened p) (opened_each more)
 
--- behind a finished part stands the rest of its sequence
+-- a finished part is followed by the rest of its sequence
 abbrev pub followed : Term → Processes → Term
 followed finished more = opened_turn more
 followed t more = in_sequence t more

@@ -1,4 +1,4 @@
-//! How a program under a script stands.
+//! Configurations: the state of a program under a script.
 
 ghost use Rattle.std.specs.Prelude.{◌≡◌, ◌<◌, map, length, replicate, [], false, None, IfOk};
 ghost use Rattle.env_script.specs.Offers.{offered};
@@ -28,7 +28,7 @@ pub(crate) enum Rest {
     Nothing,
 }
 
-/// How a program under a script stands between two rounds: what is left of it, the value of each variable, what is
+/// The state of a program under a script between two rounds: what is left of it, the value of each variable, what is
 /// left of the script, and the values that have passed on each channel.
 #[derive(Debug, Drop)]
 pub struct Config {

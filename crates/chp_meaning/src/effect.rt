@@ -11,7 +11,7 @@ use crate::config::{Config, Rest};
 use env_script::Count;
 use width_check::{TArm, TExpr, TStmt, value};
 
-/// What a step changes beside the term.
+/// What a step changes besides the term.
 #[derive(Clone, Copy, Debug)]
 pub(crate) struct Move {
     /// A variable, and its new value.
@@ -52,7 +52,7 @@ fn is_over(count: Count) -> bool
     }
 }
 
-/// The step of a send of this value that is active.
+/// The step of an active send of this value.
 fn sent(config: &Config, chan: u32, value: u64) -> Option<Move>
     requires tables { HasTables config.now }
     requires channel { chan < length config.now.rests.items }
@@ -82,7 +82,7 @@ fn sent(config: &Config, chan: u32, value: u64) -> Option<Move>
     }
 }
 
-/// The step of a receive that is active, where the environment sends.
+/// The step of an active receive, where the environment sends.
 fn received(config: &Config, chan: u32, var: u32) -> Option<Move>
     requires { chan < length config.now.rests.items }
     ensures { result ≡ received_move chan var (next_of (offer_at (outset_of config.now).rests chan)) }
@@ -115,7 +115,7 @@ pub(crate) fn ending(config: &Config, stmt: &TStmt) -> Option<Move>
     }
 }
 
-/// The statement is a receive to which an active send sends.
+/// Whether the statement is a receive to which an active send sends.
 pub(crate) fn is_met(config: &Config, stmt: &TStmt) -> bool
     requires { CanRun config.now (process_of stmt.now) }
     ensures { result ≡ is_met (outset_of config.now) (process_of stmt.now) }

@@ -49,7 +49,7 @@ pub fn halves_keep_pace()
     ensures { HalvesKeepPace }
 {}
 
-/// Law: such a program in halves meets the sharing rule too, it is typed but for the names of the variables h, and no
+/// Law: such a program in halves meets the sharing rule too, it is typed except for the names of the variables h; no
 /// assignment of it reads its own target.
 pub fn halves_are_plain()
     ensures { HalvesArePlain }

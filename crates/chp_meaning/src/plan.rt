@@ -12,7 +12,7 @@ use crate::left::{Left, entered, part, resumed, together};
 use std::alloc::{AllocError, Global};
 use width_check::TStmt;
 
-/// Notes at each channel which ends of it wait in what is left of the statement, or that none does.
+/// Records at each channel which ends of it wait in what is left of the statement, or that none does.
 pub(crate) fn note(
     left: &Left,
     stmt: &TStmt,

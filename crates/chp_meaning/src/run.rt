@@ -103,7 +103,7 @@ pub(crate) fn round_of(alloc: Global, config: &mut Config, body: &TStmt) -> Resu
     Ok(!moves.is_empty())
 }
 
-/// Makes one round: each step that is enabled now is taken once, in the order of the places (Martin). Answers whether
+/// Makes one round: each step that is enabled now is taken once, in the order of the places (Martin). Returns whether
 /// there was one. Where memory runs out nothing is changed.
 pub fn round(alloc: Global, config: &mut Config, program: &Typed) -> Result<bool, AllocError>
     requires sharing { MeetsSharing (process_of program.now.body) }
@@ -112,7 +112,7 @@ pub fn round(alloc: Global, config: &mut Config, program: &Typed) -> Result<bool
     ensures round { OnOk result (seen program.now config.new ≡ round (seen program.now config.old)) }
     ensures took { IfOk result (λ took. (took ≡ true) ↔ CanStep (seen program.now config.old)) }
     ensures err { OnErr result (seen program.now config.new ≡ seen program.now config.old) }
-    // Whatever order steps are taken in leads on to the rounds.
+    // Any order of steps leads on to the rounds.
     ensures one_history { (script : List OfferValue) → OneHistory (program_of program.now) script }
     // Rounds are steps, and only append to the histories.
     ensures rounds_hold { (script : List OfferValue) → RoundsHold (program_of program.now) script }
@@ -139,7 +139,7 @@ fn passing(moves: &[Move]) -> u64
     moves.iter().filter(|step| step.pass.is_some()).count() as u64
 }
 
-/// How a run ends behind which these would be the moves of one more round.
+/// How a run ends after which one more round would have these moves.
 fn end_by(moves: &[Move]) -> RunEnd
     ensures { result ≡ end_by moves.now }
 {
@@ -201,7 +201,7 @@ pub fn run_rounds(
     ensures end { IfOk result (λ end. IsEnd n most (seen program.now config.old) (seen program.now config.new) end) }
     ensures err { OnErr result (IsWithin n (seen program.now config.old) (seen program.now config.new)) }
     ensures few { OnErr result (held_in (seen program.now config.new) ≤ most) }
-    // Whatever order steps are taken in leads on to the rounds.
+    // Any order of steps leads on to the rounds.
     ensures one_history { (script : List OfferValue) → OneHistory (program_of program.now) script }
     // Rounds are steps, and only append to the histories.
     ensures rounds_hold { (script : List OfferValue) → RoundsHold (program_of program.now) script }

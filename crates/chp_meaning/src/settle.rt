@@ -21,7 +21,7 @@ fn pass(histories: &mut [Vec<u64>], step: &Move) -> Result<(), AllocError>
     Ok(())
 }
 
-/// Takes the value that has passed away again.
+/// Undoes the appending of the value that has passed.
 fn withdraw(histories: &mut [Vec<u64>], step: &Move)
     requires { is_below (length histories.old) step.now.pass ≡ true }
     ensures { items_of histories.new ≡ withdrawn_on (items_of histories.old) step.now.pass }
@@ -31,7 +31,7 @@ fn withdraw(histories: &mut [Vec<u64>], step: &Move)
     }
 }
 
-/// Takes the values that have passed away again.
+/// Undoes the appending of the values that have passed.
 fn withdraw_all(histories: &mut [Vec<u64>], moves: &[Move])
     requires { All (λ step. is_below (length histories.old) step.pass ≡ true) moves.now }
     ensures { (before : _) → items_of histories.old ≡ fold passed before moves.now → items_of histories.new ≡ before }

@@ -62,7 +62,7 @@ impl Bench {
         }
     }
 
-    /// A file of this name behind the others, with the text that may follow the name.
+    /// Adds a file of this name after the others, with the text that may follow the name.
     pub fn begin_file(&mut self, alloc: Global, line: &str) -> Result<(), AllocError> {
         let (name, text) = line.split_once(' ').unwrap_or((line, ""));
         self.files
@@ -102,7 +102,7 @@ impl Bench {
         self.failing = failing;
     }
 
-    /// A shelf of the files, of which the last one has only this many bytes.
+    /// A shelf of the files, the last one cut to at most this many bytes.
     pub fn shelf(&self, alloc: Global, bytes: usize) -> Result<MemShelf, AllocError> {
         let mut files = Vec::new(alloc);
         for (place, file) in self.files.iter().enumerate() {

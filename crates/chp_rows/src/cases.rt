@@ -28,7 +28,7 @@ fn repeat(alloc: Global, bench: &mut Bench, line: &str) -> Result<bool, AllocErr
     Ok(true)
 }
 
-/// Appends a text for each number from the first to the last one to the last file, with the number where `#` stands.
+/// Appends a text for each number from the first to the last one to the last file, with the number in place of `#`.
 fn enumerate(alloc: Global, bench: &mut Bench, line: &str) -> Result<bool, AllocError> {
     let mut words = line.splitn(3, ' ');
     let (Some(first), Some(last), Some(text)) = (words.next(), words.next(), words.next()) else {
@@ -108,7 +108,7 @@ fn act<R: Files + AllocGlobal>(
     Ok(true)
 }
 
-/// Does what the line says. A line that can't be understood is printed behind a question mark.
+/// Does what the line says. A line that can't be understood is printed after a question mark.
 pub fn obey<R: Files + AllocGlobal>(
     rt: &R,
     bench: &mut Bench,

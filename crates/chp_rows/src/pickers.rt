@@ -1,11 +1,11 @@
-//! Orders that mean ill.
+//! Adversarial schedulers.
 
 ghost use Rattle.std.specs.Prelude.{◌≡◌, ℕ, ◌-◌, ◌^◌, ◌%◌, ◌<◌, ◌==◌, if◌then◌else◌, [], length, codes, slice_index, Some, None, vec_capacity};
 
 use event_sim::Picker;
 use std::alloc::{AllocError, Global};
 
-/// Takes the last place of a list, then the first place of the next one, and so on.
+/// Chooses the last entry of a list, then the first one of the next list, and so on.
 #[derive(Drop)]
 pub struct Swing {
     log: Vec<usize>,
@@ -61,7 +61,7 @@ impl Picker for Swing {
     }
 }
 
-/// Takes the last place but one where there is one, so the node with the highest number waits as long as it can.
+/// Chooses the last entry but one where there is one, so the node with the highest number waits as long as it can.
 #[derive(Drop)]
 pub struct Starve {
     log: Vec<usize>,
@@ -113,8 +113,8 @@ impl Picker for Starve {
     }
 }
 
-/// Goes by the bytes of a text, one for each pick, from the first one on and again from there; it takes the place that
-/// is the byte modulo the length of the list.
+/// Chooses by the bytes of a text, one for each choice, in order and cyclically: the index is the byte modulo the
+/// length of the list.
 #[derive(Drop)]
 pub struct ByText {
     text: Vec<u8>,

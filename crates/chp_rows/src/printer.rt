@@ -1,4 +1,4 @@
-//! A plain printer of programs, in brackets wherever a group stands in a group.
+//! A plain printer of programs, with brackets wherever a group is in a group.
 
 use chp_syntax::{DeclKind, Expr, Op, Program, Stmt};
 use itoa::Buffer;
@@ -143,7 +143,7 @@ fn put_stmt(out: &mut Vec<u8>, s: &Stmt, nested: bool) -> Result<(), AllocError>
     }
 }
 
-/// Prints the program, its procedures behind its other declarations.
+/// Prints the program, with its procedures after its other declarations.
 pub fn put_program(out: &mut Vec<u8>, program: &Program) -> Result<(), AllocError> {
     for decl in &program.decls {
         put(

@@ -52,7 +52,7 @@ fn make_rounds(
     if script.len() > MOST_OF_SCRIPT {
         return page.push_str("too long\n");
     }
-    // what its type keeps is told of its channels
+    // brings the invariant of the program's type into scope, for its channels
     let _kept = program.body();
     let script = match read_script(alloc, script, program.channels()) {
         Ok(script) => script,

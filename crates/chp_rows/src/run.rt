@@ -17,11 +17,11 @@ struct Ran {
     status: Status,
     out: MemSink,
     say: MemSink,
-    /// What all orders have picked, one behind the other.
+    /// What all orders have chosen, concatenated.
     picks: Vec<usize>,
 }
 
-/// The text by which an order goes: the last file, or some byte where it has none.
+/// The text by which an order chooses: the last file, or some byte where it has none.
 fn text_to_go_by(alloc: Global, bench: &Bench) -> Result<Vec<u8>, AllocError>
     ensures { IfOk result (λ text. 0 < length text.items) }
 {
@@ -88,7 +88,7 @@ pub fn run(alloc: Global, bench: &Bench, line: &str, page: &mut String) -> Resul
     put_all(page, line, &ran)
 }
 
-/// Runs the words, and tells how many of the lines that were written begin with the front.
+/// Runs the words, and reports how many of the written lines begin with the prefix.
 pub fn run_count(
     alloc: Global,
     bench: &Bench,
@@ -139,7 +139,7 @@ pub fn run_cuts(
     Ok(())
 }
 
-/// Runs the words, and what they write becomes a file behind the others. Nothing is printed where all was written.
+/// Runs the words, and what they write becomes a file after the others. Nothing is printed where all was written.
 pub fn keep(
     alloc: Global,
     bench: &mut Bench,
@@ -157,7 +157,7 @@ pub fn keep(
 }
 
 /// Runs the words by each of the four orders, with the seed 7: the report by the first one, and then of each further
-/// one whether its report is the same, and whether it picked as one before it did.
+/// one whether its report is the same, and whether it chose as one before it did.
 pub fn run_orders(
     alloc: Global,
     bench: &Bench,

@@ -37,8 +37,7 @@ fn pieces(alloc: Global, streamer: Streamer, size: usize) -> Result<Vec<u8>, All
     Ok(text)
 }
 
-/// The rule file of the program, printed at once, with a reset node where one is asked for. None stands for one with
-/// too many nodes.
+/// The rule file of the program, printed at once, with a reset node where one is asked for. None means too many nodes.
 fn printed(alloc: Global, program: &Disjoint, reset: bool) -> Result<Option<Vec<u8>>, AllocError> {
     let net = match translate(alloc, program) {
         Ok(net) => net,

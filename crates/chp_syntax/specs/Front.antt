@@ -1,4 +1,4 @@
--- What stands at the front of a text.
+-- What a text begins with.
 use Rattle.std.specs.Prelude.{◌≡◌, ℕ, ◌≤◌, List, ◌++◌, length}
 use Rattle.chp_syntax.specs.declared.token.Mark.{Mark}
 use Rattle.chp_syntax.specs.declared.scan.Front.{Front}

@@ -19,7 +19,7 @@
 --   e6      = NUMBER | NAME | NAME "[" NUMBER "]" | NAME "[" NUMBER ":" NUMBER "]"
 --           | "{" expr { "," expr } "}" | "(" expr ")"
 --
--- Each relation has the tokens from a place on, those that are left, and what was read. A group of one is its only
+-- Each relation has the tokens from a position on, those that are left, and what was read. A group of one is its only
 -- member, and brackets leave no trace in the tree.
 use Rattle.std.specs.Prelude.{◌≡◌, ℕ, true, false, List, [], ◌∷◌, Option, Some, None}
 use Rattle.chp_base.specs.declared.span.Span.{Span}
@@ -38,7 +38,7 @@ use Rattle.chp_syntax.specs.declared.tree.Op.{Op}
 use Rattle.chp_syntax.specs.declared.tree.Op.TheVariants as op
 use Rattle.chp_syntax.specs.Trees.{Expression, number, whole, slice, bit, join, negation, chain, Expressions, no_parts, and_part, Links, no_links, and_link, Statement, skips, assigns, sends, receives, follows, besides, selects, repeats, calls, Statements, no_members, and_member, Arms, no_arms, and_arm, Procedure, ProgramTree}
 
--- tokens with their places
+-- tokens with their spans
 abbrev pub sign : Mark → Span → Token
 sign m s = record { kind = Sign m; at = s }
 
@@ -54,7 +54,7 @@ numeral n s = record { kind = Number n; at = s }
 abbrev pub named : List ℕ → Span → Named
 named n s = record { name = n; at = s }
 
--- from the beginning of one place to the end of another
+-- from the beginning of one span to the end of another
 abbrev pub from_to : Span → Span → Span
 from_to s t = record { from = s.from; to = t.to }
 
@@ -92,7 +92,7 @@ kind_of_channel (Word key.Out) = Some declares.Out
 kind_of_channel (Word key.Chan) = Some declares.Chan
 kind_of_channel _ = None
 
--- an expression with the tokens that it stands on, parentheses round it included
+-- an expression with the span of its tokens, including parentheses around it
 pub record Covered : Type 0 where
   pub expression : Expression
   pub at : Span
@@ -290,7 +290,7 @@ mutual
     one_more_par : {ts mid rest : List Token} {t : Statement} {us : Statements} {p : Span} → Seq ts mid t →
         MorePar mid rest us → MorePar (sign mark.BarBar p ∷ ts) rest (and_member t us)
 
--- what the declarations are: channels and variables, and procedures, each in order of the text
+-- what is declared: channels and variables, and procedures, each in text order
 pub record Declared : Type 0 where
   pub decls : List Decl
   pub procs : List Procedure

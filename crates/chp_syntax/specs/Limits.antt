@@ -1,4 +1,4 @@
--- Where tokens stand that the language leaves out, and where brackets are nested too deep.
+-- Where there are tokens that the language leaves out, and where brackets are nested too deep.
 use Rattle.std.specs.Prelude.{◌≡◌, ◌<◌, Bool, true, false, List, [], ◌∷◌, ◌++◌}
 use Rattle.std.specs.List.{list_any}
 use Rattle.chp_base.specs.declared.span.Span.{Span}
@@ -21,7 +21,7 @@ is_arbiter _ = false
 abbrev pub has_kind : (TokenKind → Bool) → List Token → Bool
 has_kind test ts = list_any (λ (t : Token). test t.kind) ts
 
--- the first of the tokens whose kind passes the test stands at this place
+-- the first of the tokens whose kind passes the test has this span
 pub record IsFirstToken (test : TokenKind → Bool) (ts : List Token) (place : Span) : Type 0 where
   pub before : List Token
   pub kind : TokenKind
@@ -30,7 +30,7 @@ pub record IsFirstToken (test : TokenKind → Bool) (ts : List Token) (place : S
   pub passes : test kind ≡ true
   pub none : has_kind test before ≡ false
 
--- the token at this place is the first behind which more than 256 brackets are open
+-- the token with this span is the first after which more than 256 brackets are open
 pub record GoesOver (ts : List Token) (place : Span) : Type 0 where
   pub before : List Token
   pub kind : TokenKind

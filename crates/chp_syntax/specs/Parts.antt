@@ -1,4 +1,4 @@
--- What is read of a part of the grammar, and where it can't go on.
+-- What is read of a part of the grammar, and where it can't continue.
 use Rattle.std.specs.Prelude.{◌≡◌, ℕ, ◌<◌, Bool, true, false, List, [], ◌∷◌, ◌++◌, Option, Some, None}
 use Rattle.chp_base.specs.declared.span.Span.{Span}
 use Rattle.chp_syntax.specs.declared.token.Token.{Token}
@@ -22,11 +22,11 @@ use Rattle.chp_syntax.specs.declared.tree.DeclKind.TheVariants as declares
 use Rattle.chp_syntax.specs.Trees.{Statement, selects, repeats, Arms}
 use Rattle.chp_syntax.specs.Grammar.{Par, GuardedCommands, name, numeral}
 
--- a part of the grammar: the tokens from a place on, those that are left, and what was read
+-- a part of the grammar: the tokens from a position on, those that are left, and what was read
 abbrev pub GrammarPart : Type 0 → Type 1
 GrammarPart A = List Token → List Token → A → Type 0
 
--- the one token of sight
+-- the one token of lookahead
 abbrev pub sees : List Token → Option Token
 sees [] = None
 sees (t ∷ ts) = Some t
@@ -53,7 +53,7 @@ abbrev pub numeral_value : TokenKind → Option ℕ
 numeral_value (Number n) = Some n
 numeral_value _ = None
 
--- how tightly a token binds on to what stands before it; 0 where it never does
+-- how tightly a token binds to what is before it; 0 if it never does
 abbrev pub rank : TokenKind → ℕ
 rank (Sign mark.Choice) = 1
 rank (Sign mark.BarBar) = 2
@@ -73,7 +73,7 @@ rank (Sign mark.Minus) = 9
 rank (Sign mark.OpenSquare) = 10
 rank _ = 0
 
--- what stands before isn't gone on with, from this rank up
+-- the next token doesn't continue what is before it at this rank or above
 abbrev pub StopsAt : ℕ → Option Token → Type 0
 StopsAt k None = Unit {0}
 StopsAt k (Some t) = rank t.kind < k
@@ -98,12 +98,12 @@ pub data AName : List Token → List Token → Named → Type 0 where
 pub data ANumber : List Token → List Token → Numeral → Type 0 where
   the_number : {rest : List Token} {n : Numeral} → ANumber (numeral n.value n.at ∷ rest) rest n
 
--- what stands between the brackets of a repetition
+-- what is between the brackets of a repetition
 pub data Inside : List Token → List Token → Statement → Type 0 where
   a_body : {ts rest : List Token} {t : Statement} → Par ts rest t → Inside ts rest (repeats t)
   some_arms : {ts rest : List Token} {bs : Arms} → GuardedCommands ts rest bs → Inside ts rest (selects true bs)
 
--- the tokens ts are read as a, by R, and what is left is left: whatever stands there with the same first token
+-- R reads the tokens ts up to `left` as a, and as nothing else so long as what follows has the same first token
 pub record Good {A : Type 0} (R : List Token → List Token → A → Type 0) (F : Option Token →
     Type 0) (ts left : List Token) (a : A) : Type 0 where
   pub done : List Token
@@ -112,7 +112,7 @@ pub record Good {A : Type 0} (R : List Token → List Token → A → Type 0) (F
   pub only : (l rest : List Token) (b : A) → sees l ≡ sees left → F (sees rest) → R (done ++ l) rest b →
       (rest ≡ l) × (b ≡ a)
 
--- the first token of what is left is the first with which R never goes on
+-- the first token of what is left is the first at which R can never continue
 pub record Bad {A : Type 0} (R : List Token → List Token → A → Type 0) (F : Option Token →
     Type 0) (ts left : List Token) : Type 0 where
   pub done : List Token
@@ -120,7 +120,7 @@ pub record Bad {A : Type 0} (R : List Token → List Token → A → Type 0) (F 
   pub stuck : (l rest : List Token) (b : A) → sees l ≡ sees left → F (sees rest) → ¬ R (done ++ l) rest b
   pub viable : (l : List Token) × (b : A) × ((rest : List Token) → R (done ++ (l ++ rest)) rest b)
 
--- what an expression, a statement, what is behind its name, and a declaration begin with
+-- what an expression, a statement, the rest of a statement after its name, and a declaration begin with
 abbrev pub primary_kind : TokenKind → PrimaryFront
 primary_kind (Number n) = primary.Number
 primary_kind (Ident n) = primary.Name
@@ -181,8 +181,8 @@ begins_par_with atom.Name inner next = acts (action_front next)
 begins_par_with atom.Other inner next = false
 begins_par_with _ inner next = true
 
--- behind any number of `(` stands what only a statement begins with: `skip`, `call`, `*`, `[`, or a name and behind
--- it `:=`, `!` or `?`
+-- after any number of `(` comes what only a statement begins with: `skip`, `call`, `*`, `[`, or a name followed by
+-- `:=`, `!` or `?`
 abbrev pub begins_par : List Token → Bool
 begins_par [] = false
 begins_par (t ∷ ts) = begins_par_with (atom_kind t.kind) (begins_par ts) (sees ts)

@@ -10,7 +10,7 @@ use Rattle.chp_syntax.specs.Tokens.{Tokens}
 use Rattle.chp_syntax.specs.Grammar.{Derives}
 use Rattle.std.specs.List.{list_all}
 
--- how many brackets are open behind a token, where so many were before it
+-- how many brackets are open after a token, given how many were open before it
 abbrev pub depth_after : ℕ → TokenKind → ℕ
 depth_after n (Sign mark.OpenRound) = suc n
 depth_after n (Sign mark.OpenSquare) = suc n
@@ -32,7 +32,7 @@ abbrev pub arm_count : Arms → ℕ
 arm_count no_arms = 0
 arm_count (and_arm g t bs) = suc (arm_count bs)
 
--- sixteen arms are the most, of selections and of guarded repetitions
+-- selections and guarded repetitions have at most sixteen arms
 abbrev mutual
   pub few_arms : Statement → Bool
   few_arms (follows us) = few_arms_each us
@@ -49,8 +49,8 @@ abbrev mutual
   few_arms_in no_arms = true
   few_arms_in (and_arm g t bs) = few_arms t && few_arms_in bs
 
--- the place, in a list of tokens, of the first one with which no program goes on; the number of tokens, where they stop
--- too early. The limits of nesting and of arms play no part in it
+-- the index, in a list of tokens, of the first one at which no program can continue; the number of tokens, if they
+-- stop too early. The limits of nesting and of arms play no part in it
 pub record FirstFault (ts : List Token) (n : ℕ) : Type 0 where
   pub within : n ≤ length ts
   pub never : n < length ts → (more : List Token) (p : ProgramTree) → ¬ Derives (take (n + 1) ts ++ more) p

@@ -1,4 +1,4 @@
--- What the parser answers where it makes no program.
+-- What the parser reports if it makes no program.
 use Rattle.std.specs.Prelude.{◌≡◌, ℕ, false, List, [], ◌∷◌, length, drop}
 use Rattle.chp_base.specs.declared.span.Span.{Span}
 use Rattle.chp_base.specs.declared.fault.FaultCode.{FaultCode}
@@ -13,7 +13,7 @@ use Rattle.chp_syntax.specs.Reading.{IsShallow, FirstFault}
 use Rattle.chp_syntax.specs.Limits.{is_probe, is_arbiter, has_kind, IsFirstToken, GoesOver}
 use Rattle.chp_syntax.specs.Seventeenth.{IsSeventeenth}
 
--- the place of a fault
+-- a fact of the index of a fault
 abbrev pub WhenSyntax : Unread → (ℕ → Type 0) → Type 0
 WhenSyntax (Syntax n) P = P n
 WhenSyntax (NoMemory e) P = Unit {0}
@@ -28,7 +28,7 @@ abbrev pub spot : List Token → ℕ → Span
 spot [] end = record { from = end; to = end }
 spot (t ∷ ts) end = t.at
 
--- nothing stands among the tokens that the language leaves out
+-- none of the tokens is one that the language leaves out
 pub record IsSpoken (ts : List Token) : Type 0 where
   pub probes : has_kind is_probe ts ≡ false
   pub arbiters : has_kind is_arbiter ts ≡ false

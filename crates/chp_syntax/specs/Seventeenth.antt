@@ -16,7 +16,7 @@ abbrev pub bar_counted : List ℕ → List ℕ
 bar_counted [] = []
 bar_counted (n ∷ ns) = suc n ∷ ns
 
--- how many signs `[]` stand, behind a token, in each bracket that is open, those of the innermost one first
+-- how many signs `[]` there are, after a token, in each open bracket, the innermost one first
 abbrev pub counted : List ℕ → TokenKind → List ℕ
 counted ns (Sign mark.OpenRound) = 0 ∷ ns
 counted ns (Sign mark.OpenSquare) = 0 ∷ ns
@@ -31,22 +31,22 @@ abbrev pub counts : List ℕ → List Token → List ℕ
 counts ns [] = ns
 counts ns (t ∷ ts) = counts (counted ns t.kind) ts
 
--- fifteen or more signs `[]` stand in the innermost bracket
+-- there are fifteen or more signs `[]` in the innermost bracket
 abbrev pub is_full : List ℕ → Bool
 is_full [] = false
 is_full (n ∷ ns) = nat_le 15 n
 
--- a further `[]` stands before a seventeenth arm
+-- a further `[]` comes before a seventeenth arm
 abbrev pub is_seventeenth : List ℕ → TokenKind → Bool
 is_seventeenth ns (Sign mark.Choice) = is_full ns
 is_seventeenth ns _ = false
 
--- no `[]` stands before a seventeenth arm
+-- no `[]` comes before a seventeenth arm
 abbrev pub is_narrow : List ℕ → List Token → Bool
 is_narrow ns [] = true
 is_narrow ns (t ∷ ts) = not (is_seventeenth ns t.kind) && is_narrow (counted ns t.kind) ts
 
--- the first `[]` that stands before a seventeenth arm stands at this place
+-- the first `[]` before a seventeenth arm has this span
 pub record IsSeventeenth (ts : List Token) (place : Span) : Type 0 where
   pub before : List Token
   pub behind : List Token

@@ -69,7 +69,7 @@ abbrev mutual
   AreShapedArms no_arms = Unit {0}
   AreShapedArms (and_arm g s more) = IsShapedExpression g × IsShapedStatement s × AreShapedArms more
 
--- what is declared is declared by a name, and only a variable has a first value of its own
+-- the declared name is a name, and only a variable has a first value of its own
 pub record IsShapedDecl (d : Decl) : Type 0 where
   pub name : IsName d.name.name
   pub first : d.kind ≢ Var → d.first ≡ 0

@@ -56,11 +56,11 @@ sign_text mark.Greater = codes ">"
 abbrev pub hex_digit : ℕ → Bool
 hex_digit b = digit b || between 97 102 b || between 65 70 b
 
--- what a digit of either kind stands for
+-- the value of a digit of either kind
 abbrev pub digit_value : ℕ → ℕ
 digit_value b = if digit b then b - 48 else if between 97 102 b then b - 87 else b - 55
 
--- what digits stand for, the highest first
+-- the value of digits, the highest first
 abbrev pub number_in : ℕ → List ℕ → ℕ
 number_in base bs = fold (λ n b. base * n + digit_value b) 0 bs
 

@@ -20,7 +20,7 @@ abbrev pub begins_blank : List ℕ → Bool
 begins_blank [] = false
 begins_blank (b ∷ bs) = blank b
 
--- the first n bytes are a comment: two slashes, and what stands behind them before the next LF or the end
+-- the first n bytes are a comment: two slashes, and what follows up to the next LF or the end
 pub record IsComment (n : ℕ) (text : List ℕ) : Type 0 where
   pub behind : List ℕ
   pub begins : text ≡ codes "//" ++ behind
@@ -53,8 +53,8 @@ pub record IsToken (kind : TokenKind) (n : ℕ) (text : List ℕ) : Type 0 where
 abbrev pub span : ℕ → ℕ → Span
 span from to = record { from = from; to = to }
 
--- the text, which stands from the place `at` on, is these tokens with blanks and comments between them, up to the
--- place `to`, where this rest of it is left
+-- the text, which begins at byte `at`, is these tokens with blanks and comments between them, up to byte `to`, where
+-- this rest of it is left
 pub data Cuts : ℕ → List Token → List ℕ → ℕ → List ℕ → Type 0 where
   so_far : {at : ℕ} {text : List ℕ} → Cuts at [] text at text
   a_gap : {at to : ℕ} {ts : List Token} {text rest : List ℕ} (n : ℕ) → IsGap n text →
@@ -66,7 +66,7 @@ pub data Cuts : ℕ → List Token → List ℕ → ℕ → List ℕ → Type 0 
 abbrev pub Tokens : List ℕ → List Token → Type 0
 Tokens text ts = Cuts 0 ts text (length text) []
 
--- at the front are n bytes that are no token: the whole of a run that spells none, or one byte with which neither a
+-- the text begins with n bytes that are no token: the whole of a run that spells none, or one byte with which neither a
 -- piece nor a gap begins
 abbrev pub IsNoToken : ℕ → List ℕ → Type 0
 IsNoToken n text = (IsLongest n text × ((kind : TokenKind) → ¬ Spells kind (take n text)))
@@ -81,7 +81,7 @@ pub record BadToken (text : List ℕ) (s : Span) : Type 0 where
   pub ends : s.to ≡ s.from + size
   pub is : IsNoToken size rest
 
--- tokens one behind the other, none of them empty, all between these places
+-- tokens one after another, none of them empty, all between these bytes
 abbrev pub InOrder : ℕ → List Token → ℕ → Type 0
 InOrder from [] to = from ≤ to
 InOrder from (t ∷ ts) to = (from ≤ t.at.from) × (t.at.from < t.at.to) × InOrder t.at.to ts to

@@ -1,4 +1,4 @@
--- Programs as plain trees: what a program says, without where it lies in memory.
+-- Programs as plain trees: what a program says, without its position in memory.
 use Rattle.std.specs.Prelude.{ℕ, Bool, List}
 use Rattle.chp_base.specs.declared.span.Span.{Span}
 use Rattle.chp_syntax.specs.declared.tree.Ident.{Ident}

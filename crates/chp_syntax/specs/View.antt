@@ -1,4 +1,4 @@
--- The plain tree of a tree that lies in memory.
+-- The plain tree of a tree in memory.
 use Rattle.std.specs.Prelude.{List, [], ◌∷◌, ◌++◌, map}
 use Rattle.std.specs.declared.alloc.Global.{Global}
 use Rattle.std.specs.declared.vec.Vec.{Vec}
@@ -70,7 +70,7 @@ onto more (b ∷ bs) us = more b (onto more bs us)
 abbrev pub covered_of : C.Covered → Covered
 covered_of c = cover (expression_of c.value) c.at
 
--- an operator and the expression behind it
+-- an operator and the expression after it
 abbrev pub link_of : Link → Op × Expression
 link_of l = (l.op, expression_of l.right)
 
@@ -100,7 +100,7 @@ item_of (item.Procedure p) = defined (procedure_of p)
 abbrev pub declared_of : Declared → Declarations_of
 declared_of d = record { decls = d.decls.items; procs = map procedure_of d.procs.items }
 
--- one declaration more, behind the others
+-- one more declaration, after the others
 abbrev pub with_item : Declarations_of → Item → Declarations_of
 with_item d (valued x) = record { decls = d.decls ++ (x ∷ []); procs = d.procs }
 with_item d (defined p) = record { decls = d.decls; procs = d.procs ++ (p ∷ []) }

@@ -12,7 +12,7 @@ pub fn one_program()
     ensures { (text : List ℕ) (p q : ProgramTree) → Reads text p → Reads text q → p ≡ q }
 {}
 
-/// A text is refused for at most one cause, at one place, and only where it reads as no program.
+/// A text is refused for at most one cause, at one span, and only if it reads as no program.
 pub fn one_fault()
     ensures cause { (text : List ℕ) (k j : FaultCode) (s t : Span) → RefusedText text k s → RefusedText text j t →
         k ≡ j }

@@ -22,7 +22,7 @@ fn is_arbiter(kind: &TokenKind) -> bool
     matches!(kind, TokenKind::Sign(Mark::BracketBar))
 }
 
-/// The place of the first sign `#` of a probe, which our profile leaves out.
+/// The span of the first `#` of a probe, which our profile leaves out; None if there is none.
 pub(crate) fn probe(tokens: &[Token]) -> Option<Span>
     ensures some { IfSome result (IsFirstToken is_probe tokens.now) }
     ensures none { IfNone result (has_kind is_probe tokens.now ≡ false) }
@@ -35,7 +35,7 @@ pub(crate) fn probe(tokens: &[Token]) -> Option<Span>
     None
 }
 
-/// The place of the first sign `[|` of an arbitrated selection, which our profile leaves out.
+/// The span of the first `[|` of an arbitrated selection, which our profile leaves out; None if there is none.
 pub(crate) fn arbiter(tokens: &[Token]) -> Option<Span>
     ensures some { IfSome result (IsFirstToken is_arbiter tokens.now) }
     ensures none { IfNone result (has_kind is_arbiter tokens.now ≡ false) }
@@ -61,7 +61,7 @@ fn depth_after(depth: usize, kind: &TokenKind) -> usize
     }
 }
 
-/// The place of the first token behind which more than 256 brackets are open, which is the limit of our profile.
+/// The span of the first token after which more than 256 brackets are open, the limit of our profile, if there is one.
 /// The signs `(`, `[` and `{` open one, and `)`, `]` and `}` close one if one is open; `[]` does neither.
 pub(crate) fn too_deep(tokens: &[Token]) -> Option<Span>
     ensures some { IfSome result (GoesOver tokens.now) }

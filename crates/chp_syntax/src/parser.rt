@@ -27,15 +27,15 @@ use program::program as read_program;
 use sight::Stop;
 use std::alloc::{AllocError, Global};
 
-/// Why no program was made of some tokens: none goes on with the token at this place, or none ends where they end,
-/// which is then their number; or memory ran out.
+/// Why some tokens do not parse: a syntax error at the token with this index, or, if they stop too early, at their
+/// number; or out of memory.
 #[derive(Drop)]
 pub enum Unread {
     Syntax(usize),
     NoMemory(AllocError),
 }
 
-/// The program that the tokens are, or the place of the first one with which no program goes on.
+/// Parses the tokens as a program, or reports the index of the first token at which no program can continue.
 pub fn parse_tokens(alloc: Global, tokens: &[Token]) -> Result<Program, Unread>
     ensures reads { IfOk result (λ p. Derives tokens.now (program_tree p)) }
     ensures only { IfOk result (λ p. (q : ProgramTree) → Derives tokens.now q → q ≡ program_tree p) }
@@ -76,7 +76,7 @@ fn spot_at(tokens: &[Token], at: usize, end: u32) -> Span
     front_spot(&tokens[at..], end)
 }
 
-/// The program of the tokens of a text that ends at `end`.
+/// Parses the tokens of a text that ends at byte `end`.
 fn parse_list(alloc: Global, tokens: &[Token], end: u32) -> Result<Program, TextError>
     ensures derives { IfOk result (λ p. Derives tokens.now (program_tree p)) }
     ensures only { IfOk result (λ p. (q : ProgramTree) → Derives tokens.now q → q ≡ program_tree p) }
@@ -114,13 +114,13 @@ fn parse_list(alloc: Global, tokens: &[Token], end: u32) -> Result<Program, Text
     Ok(program)
 }
 
-/// The program that a text of at most 262,144 bytes is. It has the shape of the grammar, and what it declares has
-/// names.
+/// Parses a text of at most 262,144 bytes as a program. The result has the shape of the grammar, and what it declares
+/// has names.
 ///
 /// A text is refused at its first bytes that are no token (10), else at the first `#` (13), at the first `[|` (14), at
-/// the first token behind which more than 256 brackets are open (12), at the first token with which no program goes on,
-/// or at its end where it stops too early (11), and at the first `[]` that stands before a seventeenth arm (15). The
-/// causes are tested in this order, which is our profile's, and so is all of the syntax.
+/// the first token after which more than 256 brackets are open (12), at the first token at which no program can
+/// continue, or at the text's end if it stops too early (11), and at the first `[]` before a seventeenth arm (15). The
+/// causes are tested in this order. The order and all of the syntax are our profile's.
 pub fn parse(alloc: Global, text: &[u8]) -> Result<Program, TextError>
     requires { length text.now ≤ 262144 }
     ensures reads { IfOk result (λ p. Reads text.now (program_tree p)) }

@@ -18,7 +18,7 @@ use std::alloc::{AllocError, Global};
 
 const MOST_HEX_DIGITS: usize = 16;
 
-/// What stands at the front of a text, and how many bytes of it.
+/// What a text begins with, and its length in bytes.
 #[derive(Drop)]
 enum Front {
     /// A blank, or a comment.
@@ -54,7 +54,7 @@ fn run_length(text: &[u8]) -> usize
     text.iter().take_while(|byte| is_word_part(**byte)).count()
 }
 
-/// How many bytes stand before the next LF, or before the end.
+/// The number of bytes before the next LF, or before the end if there is none.
 fn line_length(text: &[u8]) -> usize
     ensures { result ≡ position_or_len (λ b. b == 10) text.now }
 {
@@ -84,7 +84,7 @@ fn value_of_digit(byte: u8) -> u8
     }
 }
 
-/// The length of the blank or the comment at the front.
+/// The length of the blank or the comment that the text begins with, if it begins with one.
 fn gap(text: &[u8]) -> Option<usize>
     ensures some { IfSome result (λ n. IsGap n text.now) }
     ensures none { IfNone result ((n : ℕ) → ¬ IsGap n text.now) }
@@ -96,7 +96,7 @@ fn gap(text: &[u8]) -> Option<usize>
     }
 }
 
-/// The longest sign at the front, and its length.
+/// The longest sign that the text begins with, and its length, if it begins with one.
 fn sign(text: &[u8]) -> Option<(Mark, usize)>
     ensures mark { IfSome result (λ s. LongestSign text.now s.0) }
     ensures size { IfSome result (λ s. s.1 ≡ length (sign_text s.0)) }
@@ -184,7 +184,7 @@ fn keyword(run: &[u8]) -> Option<Key>
     }
 }
 
-/// What the digits stand for, where 64 bits hold it.
+/// The value of the digits in this base, if it fits in 64 bits.
 fn value_of(base: u64, digits: &[u8]) -> Option<u64>
     requires base { 1 ≤ base }
     requires digits { list_all hex_digit digits.now ≡ true }
@@ -235,7 +235,7 @@ fn word(alloc: Global, run: &[u8]) -> Result<Option<TokenKind>, AllocError>
     Ok(number(run).map(TokenKind::Number))
 }
 
-/// What stands at the front of the text.
+/// What the text begins with.
 fn next(alloc: Global, text: &[u8]) -> Result<Front, AllocError>
     requires { 0 < length text.now }
     ensures { IfOk result (IsFront text.now) }
@@ -276,8 +276,8 @@ fn bad_token(at: Span) -> TextError
     })
 }
 
-/// The tokens of a text of at most 262,144 bytes, with their places. A text is refused as BadToken exactly where
-/// some of its bytes begin no token; the place of the fault is the first such place. Spaces, tabs, CR and LF
+/// The tokens of a text of at most 262,144 bytes, with their spans. A text is refused as BadToken exactly if
+/// some of its bytes begin no token; the fault's span is the first such one. Spaces, tabs, CR and LF
 /// separate tokens, and so does a comment, which runs from `//` to the next LF or to the end. A longest run of
 /// letters, digits and `_` is a keyword, a name of at most 24 characters, a decimal number of at most 2^64 - 1, or
 /// `0x` with 1 to 16 hexadecimal digits; any other run is a fault as a whole. Of the signs the longest that fits is

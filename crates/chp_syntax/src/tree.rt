@@ -1,4 +1,4 @@
-//! The tree of a program, with the places of its parts in the text.
+//! The tree of a program, with the spans of its parts in the text.
 //!
 //! What the parser makes has the shape of the grammar throughout: two parts or more in `Then` and `Beside`, up to 16
 //! arms and at least one in `Select`, one part or more in `Join`, one link or more in `Chain`, and just one link where
@@ -6,7 +6,7 @@
 
 use chp_base::{Name, Span};
 
-/// A name where it stands in the text.
+/// A name and its span in the text.
 #[derive(Debug, Drop)]
 pub struct Ident {
     pub name: Name,
@@ -23,7 +23,7 @@ pub enum DeclKind {
     Var,
 }
 
-/// A declaration of a channel or a variable. A first value that isn't written is 0, and stands where the width does.
+/// A declaration of a channel or a variable. A first value that isn't written is 0, with the span of the width.
 #[derive(Debug, Drop)]
 pub struct Decl {
     pub kind: DeclKind,
@@ -41,7 +41,7 @@ pub struct Proc {
     pub body: Stmt,
 }
 
-/// A program: what it declares, in order of the text, and what it does.
+/// A program: its declarations, in text order, and its statement.
 #[derive(Debug, Drop)]
 pub struct Program {
     pub decls: Vec<Decl>,
@@ -73,7 +73,7 @@ pub enum Stmt {
     Call { of: Ident },
 }
 
-/// A guard and what is done where it is true.
+/// A guard and the statement that runs if it is true.
 #[cycle(statements)]
 #[derive(Debug, Drop)]
 pub struct Arm {
@@ -81,7 +81,7 @@ pub struct Arm {
     pub body: Stmt,
 }
 
-/// An expression. `at` is the stretch of its own tokens; brackets that only stand round it aren't among them.
+/// An expression. `at` is the span of its own tokens, without parentheses that only enclose it.
 #[cycle(expressions)]
 #[derive(Debug, Drop)]
 pub enum Expr {

@@ -6,11 +6,11 @@ use chp_edge::{ErrSink, FileShelf, OutSink, Sink, write_all};
 use event_sim::{Lowest, Newest, Oldest, Picker, Random};
 use std::alloc::AllocError;
 use std::env;
-use std::io::{ErrorKind, Write};
+use std::io::{BufWriter, ErrorKind, Write};
 use std::process::ExitCode;
 use std::rt::{Env, Files};
 
-/// The words behind the program's name. A word that isn't UTF-8 is a wrong word, and no words are wrong words too.
+/// The words after the program's name. No words where one of them isn't UTF-8, since a call without words is refused.
 fn words<R: Env + AllocGlobal>(rt: &R) -> Result<Vec<String>, AllocError> {
     let mut words = match env::args(rt) {
         Ok(args) => args,
@@ -39,7 +39,7 @@ fn run_words<R: AllocGlobal + Files, K: Sink, W: Sink>(
     Ok(chp_main(alloc, words, &mut shelf, out, say, &mut players))
 }
 
-/// Runs the words, or says that there is no memory for what a call is handed.
+/// Runs the words, or says out of memory where there is none for the arguments of a call.
 fn run<R: Env + AllocGlobal + Files, O: Write + Drop, E: Write + Drop>(
     rt: &R,
     out: O,
@@ -60,6 +60,12 @@ fn run<R: Env + AllocGlobal + Files, O: Write + Drop, E: Write + Drop>(
     }
 }
 
+/// The line on standard error is written at once, so that programs which share it don't mix their lines. Only a line
+/// of more than 8,192 bytes, or without memory for the buffer, goes out in pieces.
 fn main(rt: HostRuntime) -> ExitCode {
-    ExitCode::from(run(&rt, rt.stdout(), rt.stderr()).number())
+    let status = match BufWriter::new(rt.alloc(), rt.stderr()) {
+        Ok(say) => run(&rt, rt.stdout(), say),
+        Err(_) => run(&rt, rt.stdout(), rt.stderr()),
+    };
+    ExitCode::from(status.number())
 }

@@ -11,7 +11,8 @@ use Rattle.circuit_places.specs.Circuit.{is_apart}
 use Rattle.circuit_places.specs.Bounds.{circuit_most}
 use Rattle.circuit_places.specs.Whole.{Whole, Node, rail_node, ack_node, is_node, rule_in, enabled, cells_moved, value_on, neutral_on, Reaches}
 
--- no move takes away another that is enabled, no node is pulled both ways, and each channel keeps its phases
+-- no move disables another that is enabled, no node has interference (both guards holding), and each channel keeps its
+-- phases
 pub record IsSafe (P : TypedProgram) (script : List OfferValue) (x : Whole P.body) : Type 0 where
   pub stable : (n m : Node P.body) → n ≢ m → enabled P script x n ≡ true → enabled P script x m ≡ true
       → enabled P script (cells_moved P x m) n ≡ true

@@ -57,7 +57,7 @@ pub record Ring (A : Type 0) : Type 0 where
   pub ask : Bool
   pub inner : A
 
--- a member of a sequence in its Q-element, and the members behind it
+-- a member of a sequence in its Q-element, and the members after it
 pub record Turn (A B : Type 0) : Type 0 where
   pub member : QElementCells A
   pub later : B
@@ -76,7 +76,7 @@ abbrev pub GuardCells : Choices → Type 0
 GuardCells no_choices = Unit {0}
 GuardCells (and_choice g p more) = Pairs (gate_count g) × GuardCells more
 
--- The own nodes of a process. Of a sequence each member but the last has a Q-element.
+-- The own nodes of a process. In a sequence all members except the last have a Q-element.
 abbrev mutual
   pub Cells : Process → Type 0
   Cells skipping = Bool
@@ -249,8 +249,8 @@ mutual
     in_later : {p q : Process} {more : Processes} → TurnSpot (and_member q more)
         → TurnSpot (and_member p (and_member q more))
 
--- A gate's spot stands for a node where the expression has that gate, a rail's that is taken over where the channel has
--- it, and one in a tree where the tree has that node; each other spot does.
+-- A gate's spot is a node where the expression has that gate, a rail's that is taken over where the channel has it, and
+-- one in a tree where the tree has that node; every other spot is one.
 abbrev pub site_stands : {e : Formula} → SiteSpot e → Bool
 site_stands done = true
 site_stands {e = e} (gate k one) = nat_lt k (gate_count e)
@@ -392,7 +392,7 @@ abbrev mutual
   branch_rule (and_member p more) w r x (in_this s) = guarded_rule p w r x.0 s
   branch_rule (and_member p more) w r x (in_others s) = branch_rule more w r x.1 s
 
-  -- the next request of a member's Q-element is the request of what stands behind it
+  -- the next request of a member's Q-element is the request of what follows it
   pub turn_rule : (members : Processes) → Seen → Bool → TurnCells members → TurnSpot members → Rule
   turn_rule no_members w r x s = no_rule false
   turn_rule (and_member p no_members) w r x (in_last s) = rule p w r x s

@@ -17,7 +17,7 @@ abbrev pub low_bits : (n : ℕ) → Bits n
 low_bits zero = tt
 low_bits (suc n) = (false, low_bits n)
 
--- the one of this branch, some one, and all of them with this one turned over
+-- the one of this branch, some one, and all of them with this one flipped
 abbrev pub bit_of : {n : ℕ} → Index n → Bits n → Bool
 bit_of top x = x.0
 bit_of (under i) x = bit_of i x.1
@@ -67,7 +67,7 @@ abbrev pub told : {n : ℕ} → Index n → Pairs n → Bool
 told (top {n = n}) hs = not hs.0.f && nothing_true n hs.1
 told (under i) hs = not hs.0.t && told i hs.1
 
--- all guards are false; where there is no guard nothing is told
+-- all guards are false; never where there is no guard
 abbrev pub over : (n : ℕ) → Pairs n → Bool
 over zero hs = false
 over (suc n) hs = hs.0.f && each_false n hs.1

@@ -1,4 +1,4 @@
--- What many sites share; and what a statement sees of what stands apart from it.
+-- What many sites share; and what a statement sees of the nodes outside all statements.
 use Rattle.std.specs.Prelude.{ℕ, ◌==◌, Bool, false}
 use Rattle.chp_base.specs.declared.span.Span.{Span}
 use Rattle.width_check.specs.Processes.{Formula, Process, sending, assigning, TypedProgram}

@@ -16,7 +16,7 @@ pub use Rattle.function_blocks.specs.Rails.{value_on, neutral_on}
 use Rattle.circuit_places.specs.Lines.{Line, of_channel, of_var, same_line, line_width, Rails, Seen}
 use Rattle.circuit_places.specs.Circuit.{QElementCells, Cells, low_guarded, low, joint_count, tree_answer, tree_rule, GuardedSpot, guarded_stands, Rule, rule_of, no_rule, one_rule_fires, same_bit, guarded_rule, rails_turned, turned_guarded, site_rails, takers}
 
--- What stands apart from the statements: each channel's acknowledge, the rails of each line, and of each variable the
+-- What lies outside the statements: each channel's acknowledge, the rails of each line, and of each variable the
 -- rails of its bits, the nodes that say that a bit is written, and the tree over these.
 pub record Wires : Type 0 where
   pub ack : (chan : ℕ) → Bool
@@ -121,7 +121,7 @@ abbrev pub answers : (width : ℕ) → Wires → (chan : ℕ) → ℕ → OfferV
 answers width w k done (takes count) = receives width w k (is_over count done)
 answers width w k done _ = false
 
--- the rails that stand for a number, whose lowest bit comes first
+-- the rails that encode a number, lowest bit first
 abbrev pub number_rail : (width v : ℕ) → Rails
 number_rail zero v i one = false
 number_rail (suc n) v zero one = same_bit (is_odd v) one
@@ -212,7 +212,7 @@ first_bits [] x = λ i one. false
 first_bits (v ∷ vs) zero = number_rail v.width v.first
 first_bits (v ∷ vs) (suc x) = first_bits vs x
 
--- all nodes are low but for the variables' first values, and nothing has passed
+-- all nodes are low except for the variables' first values, and nothing has passed
 abbrev pub first_cells : (P : TypedProgram) → Whole P.body
 first_cells P = record {
   go = false;

@@ -1,4 +1,4 @@
--- A statement as a part of a process: where it stands, and what its cells, its request and its spots are there.
+-- A statement as a part of a process: its position, and its cells, its request and its spots there.
 use Rattle.std.specs.Prelude.{◌≡◌, ◌⊎◌, ℕ, Bool, true, false, not, List}
 use Rattle.env_script.specs.Scripts.{OfferValue, IsScript}
 use Rattle.chp_meaning.specs.Halves.{IsPlain}
@@ -7,7 +7,7 @@ use Rattle.circuit_places.specs.Heads.{Bits}
 use Rattle.circuit_places.specs.Circuit.{Cells, ChoiceCells, BranchCells, TurnCells, low, answer, Spot, ChoiceSpot, BranchSpot, TurnSpot, inner, in_members, of_branch, in_body, of_choice, this_choice, other_choice, in_this, in_others, in_last, in_member, in_later}
 use Rattle.circuit_places.specs.Whole.{Whole, Node, own_node, enabled, cells_moved, Reaches}
 
--- where a statement q stands in a process
+-- the position of a statement q in a process
 mutual
   pub data PartOf : Process → Process → Type 0 where
     whole : {q : Process} → PartOf q q
@@ -78,7 +78,7 @@ abbrev mutual
   turn_part_request (first_part h) r x = part_request h x.member.child x.member.inner
   turn_part_request (later_part t) r x = turn_part_request t x.member.next x.later
 
--- where its nodes stand
+-- the spots of its nodes in the process
 abbrev mutual
   pub part_spot : {q p : Process} → PartOf q p → Spot q → Spot p
   part_spot whole n = n

@@ -19,7 +19,7 @@ pub fn circuits_carry()
 
 /// Law: in each state that such a circuit reaches, its parts take turns. A statement that has answered moves no node of
 /// its own before its request falls; one whose request and answer are low has all its first values and moves nothing;
-/// of two that stand in one sequence or in one selection one rests at least; and each keeps the four phases of its
+/// of two that are in one sequence or in one selection at least one rests; and each keeps the four phases of its
 /// handshake.
 pub fn parts_take_turns()
     ensures { CircuitsTakeTurns }

@@ -1,4 +1,4 @@
--- What a command goes by, and what it answers. Nothing here knows a command.
+-- What a command's result depends on, and what it answers. Nothing here knows a command.
 use Rattle.std.specs.Prelude.{◌≡◌, ℕ, Bool, true, List, [], Option, Some, None}
 use Rattle.command_answers.specs.declared.answer.Ending.{Ending}
 use Rattle.command_answers.specs.declared.answer.Ending.TheVariants as ending
@@ -6,7 +6,7 @@ use Rattle.command_answers.specs.declared.status.Status.{Status}
 use Rattle.command_answers.specs.declared.status.Status.TheVariants as statuses
 use Rattle.command_answers.specs.Lines.{differs_line, hazard_found_line}
 
--- whether the shelf tells its bytes, and what it holds under each name
+-- whether the shelf's bytes are observable, and what it holds under each name
 pub record Given : Type 0 where
   pub tells : Bool
   pub files : List ℕ → Option (List ℕ)
@@ -14,11 +14,11 @@ pub record Given : Type 0 where
 abbrev pub given_by : Bool → (List ℕ → Option (List ℕ)) → Given
 given_by tells files = record { tells = tells; files = files }
 
--- this text may be read under this name: of a shelf that tells its bytes only what it holds
+-- this text may be read under this name: if the shelf's bytes are observable, only what it holds
 abbrev pub Gives : Given → (name text : List ℕ) → Type 0
 Gives given name text = given.tells ≡ true → given.files name ≡ Some text
 
--- the shelf tells its bytes, and has no file of this name
+-- the shelf's bytes are observable, and it has no file of this name
 pub record Lacks (given : Given) (name : List ℕ) : Type 0 where
   pub told : given.tells ≡ true
   pub none : given.files name ≡ None
@@ -35,7 +35,7 @@ status_with ending.Done = statuses.Done
 status_with ending.Hazard = statuses.Hazard
 status_with ending.Differs = statuses.Differs
 
--- what is said then
+-- the line that is said then
 abbrev pub line_with : Ending → List ℕ
 line_with ending.Done = []
 line_with ending.Hazard = hazard_found_line

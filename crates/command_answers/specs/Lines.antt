@@ -38,7 +38,7 @@ no_memory_line = codes "chp: 6 no memory\n"
 abbrev pub hazard_found_line : List ℕ
 hazard_found_line = codes "chp: 5 hazard\n"
 
--- the run isn't behind the rounds that it is compared with, and all was written
+-- the run differs from the rounds that it is compared with, and all was written
 abbrev pub differs_line : List ℕ
 differs_line = codes "chp: 10 differs\n"
 

@@ -1,4 +1,4 @@
--- What the code of a command comes to before anything is written, as an answer or a fault.
+-- What the code of a command results in before anything is written, as an answer or a fault.
 use Rattle.std.specs.Prelude.{ℕ, List, Contains, ◌⊎◌}
 use Rattle.chp_edge.specs.Faults.{Rose, IsReadFault}
 use Rattle.command_answers.specs.declared.answer.Output.{Output}
@@ -69,7 +69,7 @@ end_line CutOff = write_line
 end_line Usage = usage_line
 end_line (Stopped stop) = stop_line stop
 
--- a step that reads no file stops so: with one of these answers, or since memory ran out
+-- a step that reads no file ends so: with one of these answers, or out of memory
 abbrev pub Halts : (Answer → Type 0) → Stop → Type 0
 Halts IsAnswer (Refused refusal) = IsAnswer (refusing refusal)
 Halts IsAnswer (Unread name) = ⊥
@@ -83,7 +83,7 @@ pub record IsUnread (IsAnswer : Answer → Type 0) (files : List (List ℕ)) (gi
   pub fault : IsReadFault before after given.tells (given.files name)
   pub missed : Rose before after ⊎ IsAnswer (misses name)
 
--- one that reads these files stops so, where the shelf had so many faults before and has so many after it
+-- one that reads these files ends so, where the shelf had so many faults before and has so many after it
 abbrev pub Stops : (Answer → Type 0) → (files : List (List ℕ)) → Given → (before after : ℕ) → Stop → Type 0
 Stops IsAnswer files given before after (Refused refusal) = IsAnswer (refusing refusal)
 Stops IsAnswer files given before after (Unread name) = IsUnread IsAnswer files given before after name.now

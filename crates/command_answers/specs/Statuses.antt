@@ -1,4 +1,4 @@
--- The number of each status, and what it tells.
+-- The number of each status, and what it means.
 use Rattle.std.specs.Prelude.{ℕ, Bool, true, false}
 use Rattle.command_answers.specs.declared.status.Status.{Status}
 use Rattle.command_answers.specs.declared.status.Status.TheVariants.{Done, RefusedText, Usage, Read, Write, Hazard, NoMemory, TooLarge, BadFile, NoOrder, NoChannel, Differs, NotBuilt}

@@ -17,7 +17,8 @@ pub enum Ending {
     Done,
     /// The run that is reported ends in a hazard.
     Hazard,
-    /// The run that is reported isn't behind the rounds that it is compared with.
+    /// The reported run differs from the rounds that it is compared with: on a channel its history is no prefix of
+    /// theirs, or its net's channels aren't the program's.
     Differs,
 }
 
@@ -40,7 +41,7 @@ pub struct Output {
     pub end: Ending,
 }
 
-/// Why a command refuses, with what is told of it.
+/// Why a command refuses, with what is said of it.
 #[derive(Clone, Copy, Debug)]
 pub enum Refusal<'a> {
     /// A program text is refused.
@@ -116,7 +117,7 @@ impl Stop<'_> {
 pub enum End<'a> {
     /// The whole output was written.
     Whole(Ending),
-    /// Only a front of the output could be written.
+    /// Only a prefix of the output could be written.
     CutOff,
     /// The words are no command.
     Usage,

@@ -16,7 +16,7 @@ use itoa::Buffer;
 use prs_file::NetFault;
 use wave_file::WaveFault;
 
-/// Puts the pieces one behind the other, up to the first fault.
+/// Writes the pieces one after the other, up to the first fault.
 fn put_pieces<W: Sink>(say: &mut W, pieces: &[&str]) -> Result<(), Failed>
     ensures faults { W.faults say.old ≤ W.faults say.new }
     ensures same { W.tells say.new ≡ W.tells say.old }
@@ -30,7 +30,7 @@ fn put_pieces<W: Sink>(say: &mut W, pieces: &[&str]) -> Result<(), Failed>
     Ok(())
 }
 
-/// Says the pieces. Faults are let go.
+/// Says the pieces. Faults are ignored.
 fn say_pieces<W: Sink>(say: &mut W, pieces: &[&str])
     ensures faults { W.faults say.old ≤ W.faults say.new }
     ensures same { W.tells say.new ≡ W.tells say.old }

@@ -27,7 +27,8 @@ pub enum Status {
     BadFile,
     /// No handed-in order has the wanted name.
     NoOrder,
-    /// The run that was made isn't behind the rounds that it was compared with, and its report was written whole.
+    /// The run differs from the rounds that it was compared with (no prefix of them, or other channels); its report was
+    /// written whole.
     Differs,
     /// The program has no channel inside of it of the name that is to be buffered.
     NoChannel,

@@ -1,4 +1,4 @@
--- The step that puts a buffer on a channel of a program, where that is asked for.
+-- The step that puts a buffer on a channel of a program, where one is asked for.
 use Rattle.std.specs.Prelude.{◌≡◌, ℕ, List, Option, Some, None}
 use Rattle.chp_syntax.specs.Trees.{ProgramTree}
 use Rattle.slack_buffer.specs.BufferedTrees.{HasBuffer, IsInnerChannel}
@@ -21,7 +21,7 @@ abbrev pub IsBuffered : ProgramTree → (chan : Option (List ℕ)) → (made : P
 IsBuffered program None made = made ≡ program
 IsBuffered program (Some chan) made = PutsBuffer program chan made
 
--- the name that is given has to be that of a channel inside of the program; it goes on with the program so buffered
+-- the name that is given must be that of a channel inside of the program; it continues with the program so buffered
 pub data FromBuffer (program : ProgramTree) (chan : Option (List ℕ)) (Next : TypedProgram → Answer → Type 0) :
     Answer → Type 0 where
   no_channel : {name : List ℕ} → chan ≡ Some name → ¬ IsInnerChannel program.decls name →

@@ -14,12 +14,12 @@ use Rattle.command_steps.specs.Steps.{FromFile}
 abbrev pub most_of_delays : ℕ
 most_of_delays = 4194304
 
--- the text says these delays of the nodes of these names, and no other ones
+-- the text gives these delays for the nodes of these names, and no other ones
 pub record AreDelaysOf (names : List (List ℕ)) (text : List ℕ) (delays : DelayTable) : Type 0 where
   pub told : IsDelayText names text delays
   pub only : IsOnlyDelays names text delays
 
--- the text says no delays of them, for this cause at this line
+-- the text gives no delays for them, for this cause at this line
 pub record AreNoDelaysOf (names : List (List ℕ)) (text : List ℕ) (fault : DelayFault) (line : ℕ) : Type 0 where
   pub never : IsNoDelayText names text
   pub cause : IsDelayRefused names text fault line
@@ -40,7 +40,7 @@ pub record HoldsDelays (given : Given) (file : List ℕ) (names : List (List ℕ
   pub short : length text ≤ most_of_delays
   pub is : AreDelaysOf names text delays
 
--- where a file is named, it reads the delays in it; else it goes by those of an empty text, each of which is 1
+-- where a file is named, it reads the delays in it; else the delays are those of an empty text, each of which is 1
 abbrev pub FromDelayFile : Given → (file : Option (List ℕ)) → (names : List (List ℕ)) →
     (Next : DelayTable → Answer → Type 0) → Answer → Type 0
 FromDelayFile given None names Next = FromDelays names [] Next

@@ -1,4 +1,4 @@
--- The program with which a command goes on, whose file holds an accepted one.
+-- The program with which a command continues, whose file holds an accepted one.
 use Rattle.std.specs.Prelude.{◌≡◌, ℕ, ◌≤◌, List, length, Option}
 use Rattle.chp_syntax.specs.Trees.{ProgramTree}
 use Rattle.width_check.specs.Accepted.{IsAccepted}

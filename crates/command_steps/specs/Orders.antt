@@ -1,8 +1,8 @@
--- The handed-in orders, as far as a call speaks of them.
+-- The handed-in orders (schedulers), as far as the contract of a call mentions them.
 use Rattle.std.specs.Prelude.{◌≡◌, ◌≢◌, ℕ, List, map, slice_get, slice_set, position, bytes_eq, Option, Some}
 
--- what is known of an order: its name, all places that it has picked, and the last seed that it was given, with how
--- many places those were then
+-- what is known of an order: its name, each index that it has chosen (in its list of enabled moves), and the last seed
+-- that it was given, with how many choices there were then
 pub record OrderState : Type 0 where
   pub name : List ℕ
   pub log : List ℕ
@@ -19,17 +19,17 @@ pub record Played : Type 0 where
 abbrev pub played_by : (before after : List OrderState) → Played
 played_by before after = record { before = before; after = after }
 
--- the place of the first one of this name
+-- the index of the first one of this name
 abbrev pub place_named : List OrderState → (name : List ℕ) → Option ℕ
 place_named orders name = position (λ (o : OrderState). bytes_eq o.name name) orders
 
--- only the order at this place may have changed, and it has its name still
+-- only the order at this index may have changed, and it keeps its name
 pub record IsPlayedAt (place : ℕ) (played : Played) : Type 0 where
   pub order : OrderState
   pub changed : played.after ≡ slice_set played.before place order
   pub name : (was : OrderState) → slice_get played.before place ≡ Some was → order.name ≡ was.name
 
--- all have their names still, and each but the one at the place that is asked for, if any is, is as it was
+-- all keep their names, and all except the one at the index that is asked for, if any, are unchanged
 pub record KeepsOrders (asked : Option ℕ) (played : Played) : Type 0 where
   pub names : map (λ (o : OrderState). o.name) played.after ≡ map (λ (o : OrderState). o.name) played.before
   pub others : (place : ℕ) → asked ≢ Some place → slice_get played.after place ≡ slice_get played.before place

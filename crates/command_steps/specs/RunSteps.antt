@@ -12,7 +12,7 @@ use Rattle.command_steps.specs.Orders.{Played, place_named}
 
 -- ---- from a name to an order
 
--- it wants an order of this name
+-- it requires an order of this name
 pub data FromOrder (played : Played) (name : List ℕ) (Next : ℕ → Answer → Type 0) : Answer → Type 0 where
   no_order : place_named played.before name ≡ None → FromOrder played name Next (refuses NoOrder (no_order_line name))
   an_order : {place : ℕ} {answer : Answer} → place_named played.before name ≡ Some place → Next place answer →
@@ -24,7 +24,7 @@ pub data FromOrder (played : Played) (name : List ℕ) (Next : ℕ → Answer �
 abbrev pub lacks_reset : (power : Option Bool) → (reset : Option ℕ) → Bool
 lacks_reset power reset = is_some power && not (is_some reset)
 
--- where a power is given it wants a net with a reset node
+-- where a power is given it requires a net with a reset node
 pub data FromPower (net : NetValue) (power : Option Bool) (Next : Answer → Type 0) : Answer → Type 0 where
   no_reset : lacks_reset power net.reset ≡ true → FromPower net power Next (refuses BadFile no_reset_line)
   has_power : {answer : Answer} → lacks_reset power net.reset ≡ false → Next answer → FromPower net power Next answer

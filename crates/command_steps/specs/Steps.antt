@@ -1,5 +1,5 @@
--- Steps of which commands are made: each gives the answers with which the command ends there, and else goes on. So the
--- order of the steps is the order of the tests.
+-- Steps of which commands are made: each either ends the command with an answer or continues. So the order of the
+-- steps is the order of the tests.
 use Rattle.std.specs.Prelude.{◌≡◌, ℕ, ◌<◌, ◌≤◌, true, List, length, Some}
 use Rattle.chp_base.specs.declared.fault.Fault.{Fault}
 use Rattle.chp_base.specs.declared.fault.FaultCode.{FaultCode}
@@ -22,7 +22,7 @@ use Rattle.command_answers.specs.declared.status.Status.TheVariants.{RefusedText
 use Rattle.command_answers.specs.Answers.{Given, Gives, Lacks, Answer, refuses, misses}
 use Rattle.command_answers.specs.Lines.{too_long_line, refused_line, bad_net_line, nodes_line, not_built_line}
 
--- a command that never answers: what a step by itself goes on with
+-- a command that never answers: what a step by itself continues with
 abbrev pub Never : {X : Type 0} → X → Answer → Type 0
 Never x answer = ⊥
 
@@ -36,7 +36,7 @@ most_of_text = 262144
 abbrev pub most_of_net : ℕ
 most_of_net = 268435456
 
--- the file has more bytes than that, where the shelf tells them
+-- the file has more bytes than that, where the shelf's bytes are observable
 abbrev pub IsOverlong : Given → (name : List ℕ) → (most : ℕ) → Type 0
 IsOverlong given name most = given.tells ≡ true → (text : List ℕ) × (given.files name ≡ Some text)
     × (most < length text)

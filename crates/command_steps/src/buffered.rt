@@ -1,5 +1,5 @@
-//! Steps from the name of a file to the program that goes on: the accepted one that its text reads as, with a buffer on
-//! the channel that is named.
+//! Steps from the name of a file to the program to continue with: the accepted one that its text reads as, with a
+//! buffer on the channel that is named.
 
 ghost use Rattle.std.specs.Prelude.{◌≡◌, ◌≤◌, ◌∷◌, [], length, IfOk, IfErr, option_map};
 ghost use Rattle.chp_syntax.specs.Shape.{IsShaped};
@@ -73,7 +73,7 @@ fn resolved_with_buffer(
     resolved(alloc, &made)
 }
 
-/// The program that goes on: the accepted one as it is, or with a buffer on the channel inside of it that is named.
+/// The program to continue with: the accepted one as it is, or with a buffer on the channel inside of it that is named.
 fn buffered<'a>(
     alloc: Global,
     program: &Program,
@@ -104,7 +104,7 @@ fn buffered<'a>(
     }
 }
 
-/// The program that goes on of this text.
+/// The program to continue with, from this text.
 fn buffered_of_text<'a>(
     alloc: Global,
     text: &[u8],

@@ -18,7 +18,7 @@ use std::alloc::Global;
 /// The most bytes of a delay file.
 const MOST_OF_DELAYS: usize = 4_194_304;
 
-/// The delays that the text says of the net's nodes.
+/// The delays that the text gives for the net's nodes.
 fn delays_of_text<'a>(alloc: Global, text: &[u8], net: &Net) -> Result<Delays, Stop<'a>>
     requires { length text.now ≤ most_of_delays }
     ensures read { IfOk result (AreDelaysOf net.now.names text.now) }

@@ -1,4 +1,4 @@
-//! The steps of which commands are made: from the names of files to what these hold, and from that on.
+//! The steps of which commands are made: from the names of files to their contents, and on from there.
 #![tactic(auto)]
 
 mod buffered;

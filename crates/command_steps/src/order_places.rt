@@ -1,4 +1,4 @@
-//! Where an order stands among those that are handed in.
+//! The index of an order among those that are handed in.
 
 ghost use Rattle.std.specs.Prelude.{◌≡◌, ◌<◌, IfSome, bytes_eq, length, map, position};
 ghost use Rattle.command_steps.specs.Orders.{order_state, place_named};
@@ -21,7 +21,7 @@ fn first_named(orders: &[Box<dyn Picker>], wanted: &str) -> Option<usize>
     )
 }
 
-/// The place of the first order of this name.
+/// The index of the first order of this name.
 pub fn place_of(orders: &Vec<Box<dyn Picker>>, wanted: &str) -> Option<usize>
     ensures place { result ≡ place_named
         (map (λ order. order_state (name order) (log order) (seeded order)) orders.now.items) wanted.now }

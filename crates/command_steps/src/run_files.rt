@@ -58,7 +58,7 @@ pub fn channels_of(alloc: Global, net: &Net) -> Result<Vec<Channel>, AllocError>
     ensures widths { IfOk result (λ channels.
         All (λ (c : ChannelValue). (1 ≤ c.width) × (c.width ≤ 64)) channels.items) }
 {
-    // what the net's type keeps is told of its channels
+    // brings the invariant of the net's type into scope, for its channels
     let _kept = net.first();
     copied_channels(alloc, net)
 }

@@ -28,7 +28,7 @@ use Rattle.command_words.specs.declared.command.Verb.TheVariants as verb
 
 -- ---- the form of a command with one file
 
--- the one argument: a positional that has to be there, and is given once
+-- the one argument: a positional that is required, and is given once
 abbrev pub file_rule : Rule
 file_rule = record (new_rule (codes "FILE")) { required = true; action = Some Set }
 
@@ -144,7 +144,7 @@ abbrev pub simulate_asked : AskedSimulation → Asked
 simulate_asked (by_order run) = simulates run
 simulate_asked (by_delays timing) = times timing
 
--- what the words behind this word ask for
+-- what the words after this word ask for
 abbrev pub command_with : Verb → Text → List Text → Option Asked
 command_with verb.Compile word rest = option_map compiles (compile_of word rest)
 command_with verb.Migrate word rest = option_map migrates (file_of word rest)
@@ -163,7 +163,7 @@ command_of (word ∷ rest) = option_and_then (λ v. command_with v word rest) (v
 
 -- ---- the same in plain words
 
--- the words of `simulate`, of `waves` and of `run` are told by their forms alone
+-- the words of `simulate`, of `waves` and of `run` are described by their forms alone
 abbrev pub plain_with : Verb → Text → List Text → Option Asked
 plain_with verb.Compile word rest = option_map compiles (plain_compile rest)
 plain_with verb.Migrate word rest = option_map migrates (plain_file rest)

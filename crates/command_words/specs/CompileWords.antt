@@ -35,7 +35,7 @@ abbrev pub compile_with : (file reset buffer : Option Text) → Option AskedComp
 compile_with file reset buffer =
     option_map (λ name. record { file = name; reset = is_set reset; buffer = buffer }) file
 
--- what the words behind `compile` ask for, where its form takes them
+-- what the words after `compile` ask for, where its form takes them
 unfoldable pub compile_of : Text → List Text → Option AskedCompilation
 compile_of name words = if takes (compile_form name) words
     then compile_with (first_of (codes "FILE") (matches_of (compile_form name) words))
@@ -52,13 +52,13 @@ plain_reset buffer words = if asks (codes "--reset") words
     (plain_file (without_first (codes "--reset") words))
     else option_map (λ file. record { file = file; reset = false; buffer = buffer }) (plain_file words)
 
--- the text behind this front, where it begins so
+-- the text after this prefix, where it begins so
 abbrev pub behind : (front : Text) → Text → Option Text
 behind [] text = Some text
 behind (x ∷ front) [] = None
 behind (x ∷ front) (y ∷ text) = if y == x then behind front text else None
 
--- a value that is given, and the words beside it
+-- a value that is given, and the other words
 abbrev pub OptionApart : Type 0
 OptionApart = Option Text × List Text
 
@@ -72,8 +72,8 @@ abbrev pub value_or : Option Text → (word : Text) → (rest : List Text) → O
 value_or (Some value) word rest more = Some (Some value, rest)
 value_or None word rest more = option_map (λ (a : OptionApart). (a.0, word ∷ a.1)) more
 
--- the value of `--buffer X` or `--buffer=X`, if that stands among the words with no `--` before it, and the words
--- without it; nothing where the value is missing
+-- the value of `--buffer X` or `--buffer=X`, if that is among the words with no `--` before it, and the words without
+-- it; nothing where the value is missing
 abbrev pub buffer_apart : List Text → Option OptionApart
 buffer_apart [] = Some (None, [])
 buffer_apart (word ∷ rest) = if bytes_eq word (codes "--") then Some (None, word ∷ rest)

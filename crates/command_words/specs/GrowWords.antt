@@ -33,7 +33,7 @@ abbrev pub growth_with : (seed stages sum : Option Text) → Option Growth
 growth_with (Some seed) (Some stages) sum = growth_in seed stages (is_set sum)
 growth_with _ _ sum = None
 
--- what the words behind `grow` ask for, where its form takes them
+-- what the words after `grow` ask for, where its form takes them
 abbrev pub growth_of : Text → List Text → Option Growth
 growth_of name words = if takes (grow_form name) words
     then growth_with (first_of (codes "SEED") (matches_of (grow_form name) words))

@@ -24,7 +24,7 @@ rounds_with (Some file) (Some script) rounds buffer =
     (number_or 1000 1000000 rounds)
 rounds_with _ _ rounds buffer = None
 
--- what the words behind `run` ask for, where its form takes them
+-- what the words after `run` ask for, where its form takes them
 abbrev pub rounds_of : Text → List Text → Option AskedRounds
 rounds_of name words = if takes (rounds_form name) words
     then rounds_with (first_of (codes "FILE") (matches_of (rounds_form name) words))

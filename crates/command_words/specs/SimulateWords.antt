@@ -21,14 +21,14 @@ abbrev pub number_up_to : (most : ℕ) → Text → Option ℕ
 number_up_to most text =
     if is_decimal text && nat_le (number_of_word 10 text) most then Some (number_of_word 10 text) else None
 
--- an option that isn't given stands for a number
+-- the number of an option, at most `most`; `otherwise` where it isn't given
 abbrev pub number_or : (otherwise most : ℕ) → Option Text → Option ℕ
 number_or otherwise most None = Some otherwise
 number_or otherwise most (Some text) = number_up_to most text
 
 -- ---- the form: two files, and six options, each with a value
 
--- a positional that has to be there, and is given once
+-- a positional that is required, and is given once
 abbrev pub word_rule : Text → Rule
 word_rule id = record (new_rule id) { required = true; action = Some Set }
 
@@ -142,7 +142,7 @@ pub record AskedTiming : Type 0 where
   pub power : Option Bool
   pub against : Option (List ℕ)
 
--- with delays neither an order nor a seed
+-- with delays there is no order and no seed
 abbrev pub timing_with : GivenTexts → (delays : Text) → Option AskedTiming
 timing_with t delays = if is_some t.order || is_some t.seed then None else option_and_then (λ net. option_and_then
     (λ script. option_and_then (λ steps. option_map (λ power. record {
@@ -166,7 +166,7 @@ simulation_by t (Some delays) = option_map by_delays (timing_with t delays)
 abbrev pub simulation_with : GivenTexts → Option AskedSimulation
 simulation_with t = simulation_by t t.delays
 
--- what the words behind `simulate` ask for, where its form takes them
+-- what the words after `simulate` ask for, where its form takes them
 unfoldable pub simulate_of : Text → List Text → Option AskedSimulation
 simulate_of name words = if takes (simulate_form name) words
     then simulation_with (given_texts (matches_of (simulate_form name) words)) else None

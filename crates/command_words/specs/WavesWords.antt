@@ -31,7 +31,7 @@ waves_with (Some net) (Some script) steps delays causes = option_map
     (number_or 100000 most_of_steps steps)
 waves_with _ _ steps delays causes = None
 
--- what the words behind `waves` ask for, where its form takes them
+-- what the words after `waves` ask for, where its form takes them
 unfoldable pub waves_of : Text → List Text → Option AskedWaves
 waves_of name words = if takes (waves_form name) words
     then waves_with (first_of (codes "PRS") (matches_of (waves_form name) words))

@@ -8,12 +8,12 @@ abbrev pub is_set : Option Text → Bool
 is_set None = false
 is_set (Some text) = bytes_eq text (codes "true")
 
--- a word that `clap` takes for a flag: a hyphen (45) with something behind it
+-- a word that `clap` takes for a flag: a hyphen (45) with something after it
 abbrev pub is_flag : Text → Bool
 is_flag (first ∷ second ∷ rest) = first == 45
 is_flag _ = false
 
--- one word that is no flag, with or without `--` behind it, or one word of any kind behind `--`
+-- one word that is no flag, with or without `--` after it, or one word of any kind after `--`
 abbrev pub plain_file : List Text → Option Text
 plain_file (word ∷ []) = if is_flag word then None else Some word
 plain_file (first ∷ second ∷ []) = if bytes_eq first (codes "--") then Some second
@@ -22,7 +22,7 @@ plain_file (first ∷ second ∷ []) = if bytes_eq first (codes "--") then Some 
     else None
 plain_file _ = None
 
--- this word stands among the words, and no `--` before it
+-- this word is among the words, with no `--` before it
 abbrev pub asks : Text → List Text → Bool
 asks flag [] = false
 asks flag (word ∷ rest) = not (bytes_eq word (codes "--")) && (bytes_eq word flag || asks flag rest)

@@ -43,7 +43,7 @@ pub enum Command<'a> {
     Unwave { file: &'a str },
     /// `run FILE SCRIPT`: report rounds of the program text in this file under this script.
     Run(Rounds<'a>),
-    /// `grow SEED STAGES [--sum]`: write the text of the program that is made of these numbers, or its summary.
+    /// `grow SEED STAGES [--sum]`: write the text of the program that is generated from these numbers, or its summary.
     Grow(Growth),
 }
 
@@ -61,17 +61,17 @@ enum Verb {
     Grow,
 }
 
-/// The command that the words ask for, or `None` where they aren't a command's form. The words are those behind the
+/// The command that the words ask for, or `None` where they aren't a command's form. The words are those after the
 /// program's name.
 ///
-/// The first word names the command. The words behind it are read by `clap`, by the form of that command: one file and,
-/// for `compile`, the flag `--reset` and the option `--buffer` with a value, each of which may stand once, before the
-/// file or behind it; for `simulate` and `run` two files and such options, and for `waves` the flag `--causes` besides.
+/// The first word names the command. The words after it are read by `clap`, by the form of that command: one file and,
+/// for `compile`, the flag `--reset` and the option `--buffer` with a value, each at most once, before the file or
+/// after it; for `simulate` and `run` two files and such options, and for `waves` the flag `--causes` besides.
 /// A file is one word, which may be empty or `-`.
 /// Any other word that begins with a hyphen and has more is taken for a flag and refused, a call for help too, but
-/// behind `--` any word may stand; `--` may also end the words.
+/// after `--` any word is allowed; `--` may also end the words.
 ///
-/// `Err` stands for want of memory, and it is left open when that comes.
+/// `Err` means out of memory; the contract leaves open when that comes.
 pub fn command_in<'a>(alloc: Global, words: &'a [String]) -> Result<Option<Command<'a>>, AllocError>
     ensures form { IfOk result (λ found.
         option_map asked found ≡ command_of (texts_of words.now)) }
@@ -117,7 +117,7 @@ fn verb_in(word: &str) -> Option<Verb>
     }
 }
 
-/// What the words behind `grow` ask for, where they are its form.
+/// What the words after `grow` ask for, where they are its form.
 fn grow_in<'a>(
     alloc: Global,
     name: &'a str,
@@ -135,7 +135,7 @@ fn grow_in<'a>(
     }
 }
 
-/// What the words behind `simulate` ask for, where they are its form.
+/// What the words after `simulate` ask for, where they are its form.
 fn simulate_in<'a>(
     alloc: Global,
     name: &'a str,
@@ -152,7 +152,7 @@ fn simulate_in<'a>(
     }
 }
 
-/// What the words behind `waves` ask for, where they are its form.
+/// What the words after `waves` ask for, where they are its form.
 fn trace_in<'a>(
     alloc: Global,
     name: &'a str,
@@ -178,7 +178,7 @@ pub fn is_set(text: Option<&str>) -> bool
     }
 }
 
-/// The file that the words behind a command's name give, where they are the form of a command with one file.
+/// The file that the words after a command's name give, where they are the form of a command with one file.
 fn file_in<'a>(
     alloc: Global,
     name: &'a str,

@@ -22,7 +22,7 @@ pub struct Compilation<'a> {
     pub buffer: Option<&'a str>,
 }
 
-/// What the words behind `compile` ask for, where they are its form: the name of a program text, the flag `--reset`
+/// What the words after `compile` ask for, where they are its form: the name of a program text, the flag `--reset`
 /// and the option `--buffer`, each at most once.
 pub fn compilation_of<'a>(
     alloc: Global,

@@ -11,7 +11,7 @@ use crate::run_words::{bare_form, number_up_to, word_arg};
 use clap::{Arg, ArgAction, ArgMatches};
 use std::alloc::{AllocError, Global};
 
-/// The most stages of a program that is made of a number.
+/// The most stages of a generated program.
 const MOST_OF_STAGES: u64 = 400;
 
 /// What `grow` is asked for.
@@ -24,7 +24,7 @@ pub struct Growth {
     pub sum: bool,
 }
 
-/// What the words behind `grow` ask for, where they are its form.
+/// What the words after `grow` ask for, where they are its form.
 pub fn growth_of<'a>(
     alloc: Global,
     name: &'a str,

@@ -30,7 +30,7 @@ pub struct Rounds<'a> {
     pub buffer: Option<&'a str>,
 }
 
-/// What the words behind `run` ask for, where they are its form: the names of a program text and of a script, and the
+/// What the words after `run` ask for, where they are its form: the names of a program text and of a script, and the
 /// options `--rounds` and `--buffer`, each at most once.
 pub fn rounds_in<'a>(
     alloc: Global,

@@ -26,9 +26,9 @@ const MOST_OF_STEPS: u64 = 1_000_000;
 /// The most moves, where no number is given.
 const STEPS: u64 = 100_000;
 
-/// What the words behind `simulate` ask for, where they are its form: the names of a rule file and of a script, and the
+/// What the words after `simulate` ask for, where they are its form: the names of a rule file and of a script, and the
 /// options `--order`, `--seed`, `--steps`, `--power`, `--against` and `--delays`, each at most once. With `--delays`
-/// there is neither `--order` nor `--seed`.
+/// there is no `--order` and no `--seed`.
 pub(crate) fn simulation_in<'a>(
     alloc: Global,
     name: &'a str,
@@ -89,8 +89,8 @@ impl<'a> Texts<'a> {
         }
     }
 
-    /// What they ask for by these delays, where both other files are given, each option has a value of its kind, and
-    /// there is neither an order nor a seed.
+    /// What they ask for with these delays, where both other files are given, each option has a value of its kind, and
+    /// no order and no seed is given.
     fn timing(self, delays: &'a str) -> Option<Timing<'a>>
         ensures asked { option_map timing_asked result ≡ timing_with (texts_given self.entry) delays.entry.now }
         ensures few { IfSome result (λ timing. timing.steps ≤ 1000000) }
@@ -134,7 +134,7 @@ impl<'a> Texts<'a> {
     }
 }
 
-/// The name of the order, where none is given too.
+/// The name of the order, or of the default order where none is given.
 fn order_or_lowest<'a>(text: Option<&'a str>) -> &'a str
     ensures { result.now ≡ order_or (option_map (λ t. t.now) text.entry) }
 {
@@ -144,7 +144,7 @@ fn order_or_lowest<'a>(text: Option<&'a str>) -> &'a str
     }
 }
 
-/// The power that is given, if any is, or `None` where the text is neither.
+/// The power: none where no text is given, and `None` where the text is neither `low` nor `high`.
 fn power_of(text: Option<&str>) -> Option<Option<bool>>
     ensures { result ≡ power_of_words (option_map (λ t. t.now) text.entry) }
 {
@@ -156,7 +156,7 @@ fn power_of(text: Option<&str>) -> Option<Option<bool>>
     }
 }
 
-/// The number that the text is, where it is one of at most so much; the other one where no text is given.
+/// The text's number, where it is at most so much; the default where no text is given.
 pub(crate) fn number_or(text: Option<&str>, otherwise: u64, most: u64) -> Option<u64>
     requires { otherwise ≤ most }
     ensures number { result ≡ number_or otherwise most (option_map (λ t. t.now) text.entry) }
@@ -168,7 +168,7 @@ pub(crate) fn number_or(text: Option<&str>, otherwise: u64, most: u64) -> Option
     }
 }
 
-/// The number that the text is, where it is one of at most so much: 1 to 20 decimal digits.
+/// The text's number, where it is at most so much and has 1 to 20 decimal digits.
 pub(crate) fn number_up_to(text: &str, most: u64) -> Option<u64>
     ensures number { result ≡ number_up_to most text.now }
     ensures within { IfSome result (λ n. n ≤ most) }
@@ -195,7 +195,7 @@ fn is_digit(byte: u8) -> bool
     byte.is_ascii_digit()
 }
 
-/// What a digit stands for.
+/// The value of a digit.
 fn value_of_digit(byte: u8) -> u8
     requires { digit byte ≡ true }
     ensures { result ≡ digit_of_word byte }
@@ -203,7 +203,7 @@ fn value_of_digit(byte: u8) -> u8
     byte - b'0'
 }
 
-/// What decimal digits stand for, the highest first, or None where that is above 2^64 - 1.
+/// The value of decimal digits, the highest first, or None where that is above 2^64 - 1.
 fn value_of(digits: &[u8]) -> Option<u64>
     requires { list_all digit digits.now ≡ true }
     ensures some { IfSome result (λ n. n ≡ number_of_word 10 digits.now) }
@@ -217,7 +217,7 @@ fn value_of(digits: &[u8]) -> Option<u64>
     Some(value)
 }
 
-/// A positional that has to be there, and is given once.
+/// A positional that is required, and is given once.
 pub(crate) fn word_arg<'a>(alloc: Global, id: &'a str) -> Arg<'a>
     ensures rule { rule_of result ≡ word_rule id.entry.now }
     ensures local { result.global ≡ false }

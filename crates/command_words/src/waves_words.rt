@@ -17,7 +17,7 @@ const MOST_OF_STEPS: u64 = 1_000_000;
 /// The most moves, where no number is given.
 const STEPS: u64 = 100_000;
 
-/// What is asked of a timed run whose moves are told.
+/// What `waves` is asked for: a timed run whose moves are reported.
 #[derive(Clone, Copy, Debug, PartialEq, Eq)]
 pub struct Waves<'a> {
     /// The name of the rule file.
@@ -32,7 +32,7 @@ pub struct Waves<'a> {
     pub causes: bool,
 }
 
-/// What the words behind `waves` ask for, where they are its form: the names of a rule file and of a script, the
+/// What the words after `waves` ask for, where they are its form: the names of a rule file and of a script, the
 /// options `--steps` and `--delays`, and the flag `--causes`, each at most once.
 pub fn waves_in<'a>(
     alloc: Global,

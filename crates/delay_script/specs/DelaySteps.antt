@@ -11,7 +11,7 @@ use Rattle.delay_script.specs.DelayText.{SaysDelays, IsQuick, has_line, rise_sai
 abbrev pub marked_at : List Bool → ℕ → Bool
 marked_at marks place = slice_index_or marks place false
 
--- the name stands at this place
+-- the name is at this index
 pub record IsNodePlace (names : List (List ℕ)) (name : List ℕ) (place : ℕ) : Type 0 where
   pub within : place < length names
   pub is : slice_index_or names place [] ≡ name

@@ -30,7 +30,7 @@ pub record IsQuick (l : DelayLine) : Type 0 where
   pub rise : l.up ≤ 1000000
   pub fall : l.down ≤ 1000000
 
--- lines of a delay file: each is of a node that no other one is of
+-- lines of a delay file: no two are of the same node
 pub record AreDelays (names : List (List ℕ)) (ls : List DelayLine) : Type 0 where
   pub nodes : All (λ (l : DelayLine). Contains names l.node) ls
   pub once : AllPairs (λ (a b : DelayLine). a.node ≢ b.node) ls
@@ -66,7 +66,7 @@ IsOnlyDelays names text d = (other : DelayTable) → IsDelayText names text othe
 abbrev pub IsNoDelayText : List (List ℕ) → List ℕ → Type 0
 IsNoDelayText names text = (d : DelayTable) → ¬ IsDelayText names text d
 
--- why the words of a line are refused behind lines that are not: each cause where none of those before it is there
+-- why the words of a line are refused after lines that are not: each cause where none of those before it holds
 pub data DelayLineFault (names : List (List ℕ)) (before : List DelayLine) (words : List (List ℕ)) : DelayFault → Type 0
   where
     no_delays : 0 < length words → ((l : DelayLine) → ¬ SaysDelays words l) → DelayLineFault names before words BadLine
@@ -93,7 +93,7 @@ abbrev pub IsOnlyDelayRefusal : List (List ℕ) → List ℕ → DelayFault → 
 IsOnlyDelayRefusal names text fault line = (f : DelayFault) (n : ℕ) → IsDelayRefused names text f n →
     (f ≡ fault) × (n ≡ line)
 
--- a fact of the cause and the line for which a text is refused; want of memory is no refusal
+-- a fact of the cause and the line for which a text is refused; out of memory is no refusal
 abbrev pub OfDelayRefusal : (DelayFault → ℕ → Type 0) → DelayError → Type 0
 OfDelayRefusal P (Refused fault line) = P fault line
 OfDelayRefusal P (NoMemory e) = Unit {0}

@@ -20,7 +20,7 @@ use Rattle.delay_script.specs.TimedRuns.{moved_nodes, due_time, ComesNoLater, Is
 abbrev pub due_at : List (Option Due) → ℕ → Option Due
 due_at dues n = slice_index_or dues n None
 
--- behind these moves a node's move is enabled since that cause, and due at that time
+-- after these moves a node's move is enabled since that cause, and due at that time
 pub record IsDue (d : DelayTable) (net : NetValue) (script : List OfferValue) (st : RunState) (ms : List NotedMove)
     (n : ℕ) (due : Due) : Type 0 where
   pub since : IsEnabledSince net script st (moved_nodes ms) n due.cause
@@ -56,24 +56,24 @@ abbrev pub without : List (Option Due) → Option Next → List (Option Due)
 without dues None = dues
 without dues (Some m) = slice_set dues m.node None
 
--- what is kept of a node behind a move, where it is enabled then or isn't, and the move is its own or isn't
+-- what is kept of a node after a move, where it is enabled then or not, and the move is its own or not
 abbrev pub renewed_due : (now own : Bool) → Option Due → Due → Option Due
 renewed_due false own was fresh = None
 renewed_due true true was fresh = Some fresh
 renewed_due true false None fresh = Some fresh
 renewed_due true false (Some due) fresh = Some due
 
--- if it is enabled since the move of this cause and time
+-- the entry of a node that is enabled since the move of this cause and time
 abbrev pub fresh_due : DelayTable → (ℕ → Bool) → Due → ℕ → Due
 fresh_due d v made n = record { cause = made.cause; time = made.time + next_delay d v n }
 
--- what is kept of a node that is to be kept if it isn't, or is left as it is
+-- what is kept of a node: an entry is added where it is wanted and there is none; else nothing changes
 abbrev pub filled_due : Bool → Option Due → Due → Option Due
 filled_due false was fresh = was
 filled_due true None fresh = Some fresh
 filled_due true (Some due) fresh = Some due
 
--- of these nodes each that is enabled is kept: if it wasn't, as enabled since the move of this cause and time
+-- each of these nodes that is enabled has an entry: a new one is as enabled since the move of this cause and time
 pub record AreFilled (s : StageValue) (d : DelayTable) (made : Due) (nodes : List ℕ) (was now : List (Option Due)) :
     Type 0 where
   pub count : length now ≡ length was

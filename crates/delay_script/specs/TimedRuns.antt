@@ -24,11 +24,11 @@ abbrev pub due_time : DelayTable → NetValue → RunState → List NotedMove �
 due_time d net st ms number n =
     time_behind ms number + next_delay d (high (after net st (moved_nodes ms)).values) n
 
--- the one by time, and at one time by node
+-- ordered by time, and at equal times by node
 abbrev pub ComesNoLater : (time node other_time other : ℕ) → Type 0
 ComesNoLater t n u m = (t < u) ⊎ ((t ≡ u) × (n ≤ m))
 
--- behind these moves comes this one: its node is enabled since its cause, and of all enabled moves it is the first
+-- this move is the next one after these: its node is enabled since its cause, and of all enabled moves it is the first
 pub record IsNextMove (d : DelayTable) (net : NetValue) (script : List OfferValue) (st : RunState) (ms : List NotedMove)
     (m : NotedMove) : Type 0 where
   pub cause : IsEnabledSince net script st (moved_nodes ms) m.node m.cause
@@ -36,7 +36,7 @@ pub record IsNextMove (d : DelayTable) (net : NetValue) (script : List OfferValu
   pub first : (n number : ℕ) → IsEnabledSince net script st (moved_nodes ms) n number →
       ComesNoLater m.time m.node (due_time d net st ms number n) n
 
--- behind some moves come these, one by one
+-- after some moves these come, one by one
 abbrev pub ComeNext : DelayTable → NetValue → List OfferValue → RunState → List NotedMove → List NotedMove → Type 0
 ComeNext d net script st before [] = Unit {0}
 ComeNext d net script st before (m ∷ ms) =
@@ -60,7 +60,7 @@ timed_value net script steps delays high =
 abbrev pub timed_start : TimedValue → RunState
 timed_start t = begin_at t.net (power_of t.net t.high)
 
--- these moves are the timed run until it has ended, this is what it answers, and the time of its last move
+-- these moves are the timed run until it has ended, this is its result, and the time of its last move
 pub record IsTimedRan (t : TimedValue) (ms : List NotedMove) (r : RanValue) (end_time : ℕ) : Type 0 where
   pub run : IsRun t.net t.script (timed_start t) (moved_nodes ms)
   pub timed : IsTimedRun t.delays t.net t.script (timed_start t) ms

@@ -44,7 +44,7 @@ impl Delays {
         Ok(Delays { up, down })
     }
 
-    /// How long the node's rise takes.
+    /// How long the node's rise takes, from 0 to 1,000,000 units of time.
     pub fn up(&self, node: u32) -> u32
         requires { node < length self.now.up }
         ensures rise { result ≡ rise_delay self.now node }
@@ -53,7 +53,7 @@ impl Delays {
         self.up[node as usize]
     }
 
-    /// How long the node's fall takes.
+    /// How long the node's fall takes, from 0 to 1,000,000 units of time.
     pub fn down(&self, node: u32) -> u32
         requires { node < length self.now.up }
         ensures fall { result ≡ fall_delay self.now node }

@@ -24,7 +24,7 @@ pub struct Next {
     pub due: Due,
 }
 
-/// The move that the node would come with, if it is enabled since the move of this cause and time.
+/// The cause and time of the node's move, if it is enabled since the move of this cause and time.
 fn fresh_due(stage: &Stage, delays: &Delays, made: Due, node: u32) -> Due
     requires node { node < length stage.now.net.first }
     requires delays { IsDelayTable (length stage.now.net.first) delays.now }
@@ -42,7 +42,7 @@ fn fresh_due(stage: &Stage, delays: &Delays, made: Due, node: u32) -> Due
     }
 }
 
-/// Puts the node's move into the queue, where it is enabled and isn't there.
+/// Puts the node's move into the queue, where it is enabled and is not there yet.
 fn look(stage: &Stage, delays: &Delays, queue: &mut Queue, node: u32, made: Due)
     requires node { node < length stage.now.net.first }
     requires queue { length queue.old ≡ length stage.now.net.first }
@@ -59,7 +59,7 @@ fn look(stage: &Stage, delays: &Delays, queue: &mut Queue, node: u32, made: Due)
     queue.put(node, fresh_due(stage, delays, made, node));
 }
 
-/// Brings the moves of these nodes up to date behind the move of this number and time: what is enabled and wasn't due,
+/// Updates the due moves of these nodes after the move of this number and time: a move that is enabled and was not due
 /// is due now.
 pub(crate) fn fill(stage: &Stage, delays: &Delays, queue: &mut Queue, nodes: &[u32], made: Due)
     requires nodes { All (λ n. n < length stage.now.net.first) nodes.now }
@@ -73,8 +73,7 @@ pub(crate) fn fill(stage: &Stage, delays: &Delays, queue: &mut Queue, nodes: &[u
     }
 }
 
-/// Brings the moves that are due up to date behind the move of the node, of this number and time, once that move is
-/// taken out.
+/// Updates the due moves after the move of the node, of this number and time, once that move is removed.
 pub(crate) fn refill(stage: &Stage, delays: &Delays, queue: &mut Queue, node: u32, made: Due)
     requires node { node < length stage.now.net.first }
     requires queue { length queue.old ≡ length stage.now.net.first }

@@ -12,7 +12,7 @@ ghost use Rattle.delay_script.specs.DelayText.{IsDelayText, IsDelayRefused};
 ghost use Rattle.delay_script.specs.Causes.{IsEnabledSince};
 ghost use Rattle.delay_script.specs.TimedRuns.{TimedValue, IsTimedRan};
 
-/// Law: a text says at most one table of delays of the nodes of some names.
+/// Law: a text gives at most one table of delays for the nodes of some names.
 pub fn one_delay_table()
     ensures { (names : List (List ℕ)) (text : List ℕ) (d e : DelayTable)
         → IsDelayText names text d
@@ -31,7 +31,7 @@ pub fn one_delay_refusal()
         → (f ≡ g) × (n ≡ m) }
 {}
 
-/// Law: behind a run each move that is enabled has one cause, and what has a cause is enabled.
+/// Law: after a run each move that is enabled has one cause, and a move with a cause is enabled.
 pub fn one_cause()
     ensures some { (net : NetValue) (script : List OfferValue) (st : RunState) (ns : List ℕ) (n : ℕ)
         → move_enabled net script (after net st ns) n ≡ true

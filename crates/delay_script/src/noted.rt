@@ -32,8 +32,8 @@ pub struct TimedRan {
     pub time: u64,
 }
 
-/// A move of a timed run: when it came, its node, and the number of the move, counted from 1, behind which the node's
-/// move became enabled and stayed so, 0 where that is the start. Its time is that of its cause, or 0, and its delay.
+/// A move of a timed run: when it came, its node, and the number of the move, counted from 1, after which the node's
+/// move became enabled and stayed so, 0 where that is the start. Its time is that of its cause, or 0, plus its delay.
 #[derive(Clone, Copy, Debug, PartialEq, Eq)]
 pub struct NotedMove {
     pub time: u64,
@@ -57,7 +57,7 @@ struct Course {
     moves: Vec<NotedMove>,
 }
 
-/// What comes where fewer moves were made than are allowed: the next move, or the end.
+/// What follows where fewer moves were made than are allowed: the next move, or the end.
 fn onward(hazard: Option<Hazard>, next: Option<Next>) -> Result<Next, End>
     ensures end { IfErr result (λ end. end_with hazard (list_of_next next) false ≡ Some end) }
     ensures calm { IfOk result (λ m. hazard ≡ None) }
@@ -82,7 +82,7 @@ fn last_end(hazard: Option<Hazard>, next: Option<Next>) -> End
 }
 
 impl Course {
-    /// Makes the move, which is taken out of the queue, and tells the hazard that this brings.
+    /// Makes the move, which was removed from the queue, and returns the hazard that this brings.
     fn make(&mut self, next: Next) -> Option<Hazard>
         requires node { next.node < length self.old.stage.net.first }
         requires enabled { move_enabled self.old.stage.net self.old.stage.script (now_of self.old.stage) next.node ≡
@@ -158,7 +158,8 @@ impl Course {
     }
 }
 
-/// A timed run that hasn't begun, whose moves are noted with their times and causes. All memory of the run is taken.
+/// A timed run that hasn't begun, whose moves are recorded with their times and causes. All memory of the run is
+/// allocated.
 #[derive(Debug, Drop)]
 pub struct Noted {
     course: Course,
@@ -215,8 +216,8 @@ impl Noted {
         })
     }
 
-    /// The timed run of the net under the script by these delays, for so many moves at most. Where the net has a reset
-    /// node, the nodes that have rules are low at power-up.
+    /// The timed run of the net under the script by these delays, for at most `steps` moves (up to 1,000,000). Where
+    /// the net has a reset node, the nodes that have rules are low at power-up.
     pub fn new(
         alloc: Global,
         net: Net,
@@ -232,10 +233,10 @@ impl Noted {
         Noted::begin(alloc, net, script, steps, delays, false)
     }
 
-    /// Runs the net. It takes no memory. A node's move comes its delay later than the move since which it is enabled,
-    /// or that long behind the start; of the moves that are enabled the one that is due first is made, and of several
-    /// at one time that of the least node. The run ends as a simulation does. (Whether a net's gates have these delays
-    /// is not ours to say.)
+    /// Runs the net. It allocates no memory. A node's move comes its delay later than the move since which it is
+    /// enabled, or that long after the start; of the enabled moves the one that is due first is made, and of several
+    /// due at the same time that of the least node. The run ends as a simulation does. (That a net's gates have these
+    /// delays is not claimed.)
     pub fn run(self) -> NotedRan
         ensures timed { IsTimedRun self.delays self.net self.script (timed_start self) result.moves.items }
         ensures run { IsRun self.net self.script (timed_start self) (moved_nodes result.moves.items) }

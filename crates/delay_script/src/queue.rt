@@ -9,7 +9,7 @@ use std::cmp::Reverse;
 use std::collections::BinaryHeap;
 use std::marker::Model;
 
-/// For each node of a net its move, where that is due. Beside that stand the times and the nodes of these moves, of
+/// For each node of a net its move, where that is due. It also keeps the times and the nodes of these moves, of
 /// which the least comes first.
 #[derive(Debug, Drop)]
 pub(crate) struct Queue {
@@ -30,7 +30,7 @@ impl Model for Queue {
     ghost invariant = { λ q. IsQueue q.dues.items (heap_items q.order) (heap_capacity q.order) };
 }
 
-/// That no node's move is due.
+/// An empty entry for each of so many nodes: no move is due.
 fn no_dues(alloc: Global, nodes: usize) -> Result<Vec<Option<Due>>, AllocError>
     ensures { IfOk result (λ v. v.items ≡ replicate nodes None) }
 {
@@ -51,7 +51,7 @@ fn next_due(node: u32, due: Option<Due>) -> Option<Next>
 }
 
 impl Queue {
-    /// The queue of so many nodes, of which none's move is due.
+    /// The queue of so many nodes, with no move due.
     pub(crate) fn new(alloc: Global, nodes: usize) -> Result<Queue, AllocError>
         ensures { IfOk result (λ q. q ≡ replicate nodes None) }
     {
@@ -68,7 +68,7 @@ impl Queue {
         self.dues[node as usize].is_some()
     }
 
-    /// Puts the node's move in. It takes no memory.
+    /// Inserts the node's move. It allocates no memory.
     pub(crate) fn put(&mut self, node: u32, due: Due)
         requires node { node < length self.old }
         requires free { due_at self.old node ≡ None }
@@ -80,7 +80,7 @@ impl Queue {
         }
     }
 
-    /// Takes the move that is due first, of several at one time that of the least node.
+    /// Removes the move that is due first, of several at the same time that of the least node.
     pub(crate) fn take(&mut self) -> Option<Next>
         ensures first { IsFirstOf self.old (length self.old) result }
         ensures rest { self.new ≡ without self.old result }

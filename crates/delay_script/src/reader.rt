@@ -39,7 +39,7 @@ fn alike(alloc: Global, nodes: usize, number: u32) -> Result<Vec<u32>, AllocErro
     Ok(numbers)
 }
 
-/// That no node is marked.
+/// A mark for each of so many nodes, all false.
 fn unmarked(alloc: Global, nodes: usize) -> Result<Vec<bool>, AllocError>
     ensures { IfOk result (λ v. v.items ≡ replicate nodes false) }
 {
@@ -50,7 +50,7 @@ fn unmarked(alloc: Global, nodes: usize) -> Result<Vec<bool>, AllocError>
     Ok(marks)
 }
 
-/// Notes what a line says.
+/// Records what a line says.
 fn note(up: &mut [u32], down: &mut [u32], marks: &mut [bool], taken: &TakenDelay)
     requires up { taken.now.node < length up.old }
     requires down { taken.now.node < length down.old }

@@ -40,7 +40,7 @@ fn is_quick(line: &DelayLine) -> bool
     line.up <= LONGEST_DELAY && line.down <= LONGEST_DELAY
 }
 
-/// What the line does, where the nodes of these names are told of that are marked.
+/// What the line does, where the marked nodes of these names already had a line.
 pub fn step_of(
     alloc: Global,
     names: &Symbols,

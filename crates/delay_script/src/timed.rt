@@ -13,7 +13,7 @@ use prs_core::Net;
 use std::alloc::{AllocError, Global};
 use std::marker::Model;
 
-/// A timed run that hasn't begun. All memory of the run is taken.
+/// A timed run that hasn't begun. All memory of the run is allocated.
 #[derive(Debug, Drop)]
 pub struct Timed {
     noted: Noted,
@@ -30,8 +30,8 @@ impl Model for Timed {
 impl Timed {
     ghost use Rattle.delay_script.specs.TimedRuns.{timed_value, IsTimedRan};
 
-    /// The timed run of the net under the script by these delays, for so many moves at most. Where the net has a reset
-    /// node, the nodes that have rules are low at power-up.
+    /// The timed run of the net under the script by these delays, for at most `steps` moves (up to 1,000,000). Where
+    /// the net has a reset node, the nodes that have rules are low at power-up.
     pub fn new(
         alloc: Global,
         net: Net,
@@ -67,7 +67,7 @@ impl Timed {
         Ok(Timed { noted })
     }
 
-    /// Runs the net as a `Noted` does, and leaves its moves out. It takes no memory.
+    /// Runs the net as a `Noted` does, without recording its moves. It allocates no memory.
     pub fn run(self) -> TimedRan
         ensures { (ms : List NotedMove) × IsTimedRan self ms result.ran result.time }
     {

@@ -2,11 +2,11 @@
 use Rattle.std.specs.Prelude.{ℕ, Bool, not, ◌&&◌, ◌||◌, ◌==◌, List, [], ◌∷◌, length, filter, if◌then◌else◌}
 use Rattle.std.specs.List.{slice_split}
 
--- the lines, without their ends; the last one may lack its end, or be empty behind it
+-- the lines, without their ends; the last one may lack its end, or be empty after it
 abbrev pub lines_of : List ℕ → List (List ℕ)
 lines_of text = slice_split (λ b. b == 10) text
 
--- what stands before the first two slashes
+-- what comes before the first two slashes
 abbrev pub uncommented : List ℕ → List ℕ
 uncommented [] = []
 uncommented (b ∷ []) = b ∷ []
@@ -19,6 +19,6 @@ is_blank b = b == 32 || b == 9
 abbrev pub is_some_word : List ℕ → Bool
 is_some_word word = not (length word == 0)
 
--- the words of a line: what stands between blanks
+-- the words of a line: what is between blanks
 abbrev pub words_of : List ℕ → List (List ℕ)
 words_of line = filter is_some_word (slice_split is_blank (uncommented line))

@@ -32,7 +32,7 @@ rules_rest net v = all_below (length net.first) (λ n. not (rule_enabled net v n
 abbrev pub is_odd : ℕ → Bool
 is_odd n = n % 2 == 1
 
--- both rails of a bit are low, and the node is the one that stands for the bit
+-- both rails of a bit are low, and the node is the rail of the bit's value
 abbrev pub raises_bit : (ℕ → Bool) → Bool → (t f n : ℕ) → Bool
 raises_bit v bit t f n = (n == (if bit then t else f)) && (not (v t) && not (v f))
 
@@ -54,11 +54,11 @@ lowers v rails n = v n && list_any (λ rail. n == rail) rails
 abbrev pub valid : (ℕ → Bool) → List ℕ → Bool
 valid v rails = is_some (rail_value_of v rails)
 
--- who sends moves the rails, towards the next value where there is one
+-- the sender moves the rails, towards the next value where there is one
 abbrev pub sender_moves : (ℕ → Bool) → Wires → Option ℕ → ℕ → Bool
 sender_moves v w next n = if v w.ack then lowers v w.rails n else raises_next v next w.rails n
 
--- who receives moves the acknowledge
+-- the receiver moves the acknowledge
 abbrev pub receiver_moves : (ℕ → Bool) → Wires → Bool → ℕ → Bool
 receiver_moves v w more n = (n == w.ack) && (if v w.ack then neutral v w.rails else valid v w.rails && more)
 

@@ -17,17 +17,16 @@ abbrev pub least_below : ℕ → (ℕ → Bool) → Option ℕ
 least_below zero p = None
 least_below (suc n) p = or_else (least_below n p) (if p n then Some n else None)
 
--- the move of the node n takes away that of the node m
+-- the move of the node n disables that of the node m
 abbrev pub takes_away : NetValue → List OfferValue → RunState → ℕ → ℕ → Bool
 takes_away net script st n m = not (m == n)
     && (move_enabled net script st m && not (move_enabled net script (moved net st n) m))
 
--- in a state: the least node that is pulled both ways
+-- in a state: the least node with interference (both guards hold)
 abbrev pub first_hazard : NetValue → RunState → Option Hazard
 first_hazard net st = option_map BothWays (least_below (length net.first) (both_ways net (high st.values)))
 
--- after the move of the node n: nodes that are pulled both ways come first, then moves that were taken away, then
--- phases
+-- after the move of the node n: interference comes first, then disabled moves, then phases
 abbrev pub hazard_of : NetValue → List OfferValue → RunState → ℕ → Option Hazard
 hazard_of net script st n =
     or_else (first_hazard net (moved net st n))

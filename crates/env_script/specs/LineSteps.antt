@@ -21,7 +21,7 @@ pub record IsPlace (channels : List Channel) (name : List ℕ) (place : ℕ) (c 
   pub named : c.name ≡ name
   pub found : channel_named channels name ≡ Some c
 
--- why the words are refused, where these channels were told of and so many values came before
+-- why the words are refused, where the marked channels already had a line and so many values came before
 pub data StepFault (channels : List Channel) (told : List Bool) (values : ℕ) (words : List (List ℕ)) : ScriptFault →
     Type 0 where
   says_nothing : 0 < length words → ((l : Line) → ¬ LineSays words l) → StepFault channels told values words BadLine

@@ -6,11 +6,11 @@ use Rattle.chp_base.specs.Names.{between, digit}
 abbrev pub hex_digit_of_word : ℕ → Bool
 hex_digit_of_word b = digit b || between 97 102 b || between 65 70 b
 
--- what a digit of either kind stands for
+-- the value of a digit of either kind
 abbrev pub digit_of_word : ℕ → ℕ
 digit_of_word b = if digit b then b - 48 else if between 97 102 b then b - 87 else b - 55
 
--- what digits stand for, the highest first
+-- the value of digits, the highest first
 abbrev pub number_of_word : ℕ → List ℕ → ℕ
 number_of_word base bs = fold (λ n b. base * n + digit_of_word b) 0 bs
 

@@ -1,4 +1,4 @@
--- An offer, without where its values lie in memory.
+-- An offer, without the position of its values in memory.
 use Rattle.env_script.specs.declared.script.Offer.{Offer}
 use Rattle.env_script.specs.declared.script.Offer.TheVariants.{Values, Accept, Nothing}
 use Rattle.env_script.specs.Scripts.{OfferValue, gives, takes, nothing}

@@ -1,4 +1,4 @@
--- What is to hold of runs of a net that is free of hazards: those that rest are all of one length.
+-- What is claimed of runs of a net that is free of hazards: those that rest all have one length.
 use Rattle.std.specs.Prelude.{◌≡◌, ℕ, ◌≤◌, ◌==◌, List, length}
 use Rattle.std.specs.List.{count_by}
 use Rattle.prs_core.specs.Nets.{NetValue}

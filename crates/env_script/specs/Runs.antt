@@ -66,11 +66,11 @@ run_start net = begin_at net net.first
 abbrev pub IsAtRest : NetValue → List OfferValue → RunState → Type 0
 IsAtRest net script st = (n : ℕ) → move_enabled net script st n ≡ false
 
--- no node is pulled both ways
+-- no node has interference (both guards hold)
 abbrev pub IsApart : NetValue → RunState → Type 0
 IsApart net st = (n : ℕ) → both_ways net (high st.values) n ≡ false
 
--- the move takes away no other enabled move, and breaks the phases of no channel
+-- the move disables no other enabled move, and breaks the phases of no channel
 pub record IsSafeMove (net : NetValue) (script : List OfferValue) (st : RunState) (n : ℕ) : Type 0 where
   pub stable : (m : ℕ) → m ≢ n → move_enabled net script st m ≡ true → move_enabled net script (moved net st n) m ≡ true
   pub phases : phase_fault net (high st.values) n ≡ None

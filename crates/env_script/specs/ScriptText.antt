@@ -17,7 +17,7 @@ use Rattle.env_script.specs.Scripts.{OfferValue, gives, takes, nothing}
 use Rattle.env_script.specs.Numbers.{IsNumber}
 use Rattle.env_script.specs.Cutting.{lines_of, words_of}
 
--- what stands behind the name: the word all, or numbers
+-- what follows the name: the word all, or numbers
 abbrev pub SaysBehind : List (List ℕ) → Said → Type 0
 SaysBehind words Every = words ≡ codes "all" ∷ []
 SaysBehind words (Numbers ns) = AllZip IsNumber words ns
@@ -61,14 +61,14 @@ values_on (Some c) said = values_in c.kind said
 abbrev pub values_told : List Channel → List Line → ℕ
 values_told channels ls = sum_by (λ (l : Line). values_on (channel_named channels l.name) l.said) ls
 
--- the line speaks of an external channel, and suits it
+-- the line is about an external channel, and suits it
 pub record IsLineOf (channels : List Channel) (l : Line) : Type 0 where
   pub channel : Channel
   pub named : channel_named channels l.name ≡ Some channel
   pub suited : suits channel.kind l.said ≡ true
   pub fitting : fits channel.kind channel.width l.said ≡ true
 
--- lines of a script: none of them speaks of the channel of another, and there are at most 65,536 values in all
+-- lines of a script: no two are about the same channel, and there are at most 65,536 values in all
 pub record IsGood (channels : List Channel) (ls : List Line) : Type 0 where
   pub each : All (IsLineOf channels) ls
   pub once : AllPairs (λ (a b : Line). a.name ≢ b.name) ls
@@ -112,7 +112,7 @@ IsOnlyScript channels text script = (other : List OfferValue) → IsScriptText c
 abbrev pub IsNoScript : List Channel → List ℕ → Type 0
 IsNoScript channels text = (script : List OfferValue) → ¬ IsScriptText channels text script
 
--- why a line is refused behind lines that are not: of the causes the first one counts
+-- why a line is refused after lines that are not: the first cause counts
 
 abbrev pub is_told : List Line → List ℕ → Bool
 is_told ls name = list_any (λ (l : Line). bytes_eq l.name name) ls
@@ -155,7 +155,7 @@ abbrev pub IsOnlyRefusal : List Channel → List ℕ → ScriptFault → ℕ →
 IsOnlyRefusal channels text fault line = (f : ScriptFault) (n : ℕ) → IsScriptRefused channels text f n →
     (f ≡ fault) × (n ≡ line)
 
--- a fact of the cause and the line for which a text is refused; want of memory is no refusal
+-- a fact of the cause and the line for which a text is refused; out of memory is no refusal
 abbrev pub OfScriptRefusal : (ScriptFault → ℕ → Type 0) → ScriptError → Type 0
 OfScriptRefusal P (Refused fault line) = P fault line
 OfScriptRefusal P (NoMemory e) = Unit {0}

@@ -1,5 +1,5 @@
--- How far a run has come at least, whatever moves first: sweeps, in each of which every node moves that was enabled when
--- it began, and layers, which make no move that wasn't.
+-- How far a run has come at least, whatever the scheduler: sweeps, in each of which every node moves that was enabled
+-- when it began, and layers, which make no move that wasn't.
 use Rattle.std.specs.Prelude.{◌≡◌, ℕ, zero, suc, true, List, [], ◌∷◌, ◌++◌, Contains}
 use Rattle.prs_core.specs.Nets.{NetValue}
 use Rattle.env_script.specs.Scripts.{OfferValue}

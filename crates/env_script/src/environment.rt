@@ -114,7 +114,7 @@ fn receiver_moves(state: &State, wires: &Wires, more: bool, node: u32) -> bool
 
 /// Whether the environment may move the node as a wire of one channel, for the offer on it, of which so many values are
 /// completed. This is the part of one channel in `env_enabled`, outside of reset: the node is a rail or the acknowledge
-/// of the channel, or the answer is no.
+/// of the channel, or the result is false.
 pub fn offer_moves(state: &State, wires: &Wires, offer: &Offer, done: u64, node: u32) -> bool
     requires wired { IsWired (length state.now) wires.now }
     requires node { node < length state.now }
@@ -156,7 +156,7 @@ fn channels_move(net: &Net, script: &Script, done: &[u64], state: &State, node: 
 }
 
 /// Whether the environment has a move at the node, under the script and with the number of values that are completed
-/// on each channel. It raises `go` where that is low. Of an `in` channel whose acknowledge is low it raises, for each
+/// on each channel. It raises `go` where that is low. On an `in` channel whose acknowledge is low it raises, for each
 /// bit with both rails low, the rail of the next value, while the script lists one; where the acknowledge is high it
 /// lowers each rail that is high. It raises the acknowledge of an `out` channel where that is low, each bit has
 /// exactly one rail high and the script has acceptances left, and lowers it where all rails are low. While a reset

@@ -3,9 +3,9 @@
 /// Why a move isn't safe.
 #[derive(Clone, Copy, Debug, PartialEq, Eq)]
 pub enum Hazard {
-    /// Both guards of the node hold behind the move.
+    /// Both guards of the node hold after the move.
     BothWays { node: u32 },
-    /// The node had a move, and has none behind this one.
+    /// The node had an enabled move before this one, and has none after it.
     Unstable { node: u32 },
     /// The move breaks the phases of the channel.
     Protocol { chan: u32 },

@@ -47,7 +47,7 @@ impl NumberList {
     }
 }
 
-/// What stands behind the name in a line.
+/// What follows the name in a line.
 #[derive(Drop)]
 pub enum Said {
     Numbers(NumberList),
@@ -62,7 +62,7 @@ pub struct Line {
     pub said: Said,
 }
 
-/// The name that stands before the colon, or None where the word isn't a name with its colon.
+/// The name before the colon, or None where the word is not a name followed by a colon.
 fn name_in(alloc: Global, word: &[u8]) -> Result<Option<Name>, AllocError>
     ensures some { IfOk result (λ o. IfSome o (λ name. word.now ≡ name ++ codes ":")) }
     ensures name { IfOk result (λ o. IfSome o IsName) }
@@ -84,7 +84,7 @@ fn is_all(words: &[&[u8]]) -> bool
     }
 }
 
-/// The numbers that these words are, or None where one of them is none.
+/// The numbers that these words are, or None where one of them is not a number.
 fn numbers_in(alloc: Global, words: &[&[u8]]) -> Result<Option<NumberList>, AllocError>
     ensures some { IfOk result (λ o. IfSome o (λ ns. AllZip IsNumber (map (λ word. word.now) words.now) ns)) }
     ensures none { IfOk result
@@ -100,7 +100,7 @@ fn numbers_in(alloc: Global, words: &[&[u8]]) -> Result<Option<NumberList>, Allo
     Ok(Some(NumberList::new(numbers)))
 }
 
-/// What the words behind a name say, or None where they say nothing.
+/// What the words after a name say, or None where they say nothing.
 fn said_in(alloc: Global, words: &[&[u8]]) -> Result<Option<Said>, AllocError>
     ensures some { IfOk result (λ o. IfSome o (SaysBehind (map (λ word. word.now) words.now))) }
     ensures none { IfOk result
@@ -115,7 +115,7 @@ fn said_in(alloc: Global, words: &[&[u8]]) -> Result<Option<Said>, AllocError>
     Ok(Some(Said::Numbers(numbers)))
 }
 
-/// What the words of a line say, or None where they aren't a name with its colon followed by numbers or `all`.
+/// What the words of a line say, or None where they are not a name with its colon followed by numbers or `all`.
 pub fn line_in(alloc: Global, words: &[&[u8]]) -> Result<Option<Line>, AllocError>
     ensures some { IfOk result (λ o. IfSome o (LineSays (map (λ word. word.now) words.now))) }
     ensures none { IfOk result (λ o. IfNone o ((l : Line) → ¬ LineSays (map (λ word. word.now) words.now) l)) }

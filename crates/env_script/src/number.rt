@@ -42,7 +42,7 @@ fn value_of_digit(byte: u8) -> u8
     }
 }
 
-/// What the digits stand for, the highest first, or None where that is above 2^64 - 1.
+/// The value of the digits, the highest first, or None where it is above 2^64 - 1.
 fn value_of(base: u64, digits: &[u8]) -> Option<u64>
     requires base { 1 ≤ base }
     requires digits { list_all hex_digit_of_word digits.now ≡ true }
@@ -57,7 +57,7 @@ fn value_of(base: u64, digits: &[u8]) -> Option<u64>
     Some(value)
 }
 
-/// The number that the word is, or None where it is none: decimal digits with a value of at most 2^64 - 1, or `0x`
+/// The number that the word is, or None where it is not one: decimal digits with a value of at most 2^64 - 1, or `0x`
 /// and 1 to 16 hexadecimal digits.
 pub fn number_of(word: &[u8]) -> Option<u64>
     ensures some { IfSome result (λ n. IsNumber word.now n) }

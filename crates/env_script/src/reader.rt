@@ -35,7 +35,7 @@ fn first_offers(alloc: Global, channels: &[Channel]) -> Result<Vec<Offer>, Alloc
     Ok(offers)
 }
 
-/// That no channel was told of.
+/// A mark for each channel, all false: none has had a line yet.
 fn none_told(alloc: Global, channels: &[Channel]) -> Result<Vec<bool>, AllocError>
     ensures { IfOk result
         (λ told. told.items ≡ map (λ (c : Channel). is_told [] c.name) channels.now) }
@@ -43,7 +43,7 @@ fn none_told(alloc: Global, channels: &[Channel]) -> Result<Vec<bool>, AllocErro
     channels.iter().map(|_channel| false).collect(alloc)
 }
 
-/// Notes what a line changes.
+/// Records what a line changes.
 fn note(offers: &mut [Offer], told: &mut [bool], taken: Taken)
     requires offers { taken.place < length offers.old }
     requires told { taken.place < length told.old }
@@ -55,7 +55,7 @@ fn note(offers: &mut [Offer], told: &mut [bool], taken: Taken)
     told[place] = true;
 }
 
-/// The script of these channels that the text says. A line is the name of a channel, a colon at once behind it, and
+/// The script of these channels that the text says. A line is the name of a channel, a colon right after it, and
 /// words that are separated by spaces or tabs: the values of an `in` channel, or for an `out` channel how many values
 /// are received, a number or `all`. A comment runs from `//` to the end of its line. An `in` channel without a line
 /// has no values, an `out` channel without a line has `all`. It is refused at the first line with a fault, for the

@@ -71,7 +71,7 @@ fn are_below(values: &[u64], width: u8) -> bool
     values.iter().all(|value| is_below(*value, width))
 }
 
-/// Whether each value is one of the width.
+/// Whether each value is below 2 to the width.
 fn fits(kind: Kind, width: u8, said: &Said) -> bool
     requires { width ≤ 64 }
     ensures { result ≡ fits kind width said.now }
@@ -93,7 +93,7 @@ fn values_in(kind: Kind, said: &Said) -> usize
     }
 }
 
-/// Why a line of the channel is refused, or None where it isn't: `again` says whether an earlier line was of the
+/// Why a line of the channel is refused, or None where it is not: `again` says whether an earlier line was for the same
 /// channel, and `values` how many values the earlier lines have.
 fn fault_on(channel: &Channel, again: bool, values: usize, said: &Said) -> Option<ScriptFault>
     requires width { channel.now.width ≤ 64 }
@@ -119,7 +119,7 @@ fn fault_on(channel: &Channel, again: bool, values: usize, said: &Said) -> Optio
     None
 }
 
-/// How many values the environment receives, where the numbers of a line are these.
+/// How many values the environment receives, where these are the numbers of a line.
 fn count_of(numbers: &[u64]) -> Count
     ensures { takes result ≡ offer_of Kind.Out (Some (Said.Numbers numbers.now)) }
 {
@@ -155,7 +155,7 @@ fn place_of(channels: &[Channel], name: &[u8]) -> Option<usize>
     channels.iter().position(|channel| is_named(channel, name))
 }
 
-/// What the line does, where these channels were told of and so many values came before.
+/// What the line does, where the marked channels already had a line and so many values came before.
 pub fn step_of(
     alloc: Global,
     channels: &[Channel],

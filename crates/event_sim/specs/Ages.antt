@@ -1,4 +1,4 @@
--- How long nodes have been in the lists of a picker, and which of them is the oldest or the newest.
+-- How long nodes have been in the lists of a scheduler, and which of them is the oldest or the newest.
 use Rattle.std.specs.Prelude.{ℕ, ◌+◌, ◌-◌, ◌≤◌, nat_le, ◌==◌, if◌then◌else◌, List, length, map, slice_index, Option}
 use Rattle.std.specs.List.{list_any, list_all, position_or_len, range_with_len}
 use Rattle.event_sim.specs.declared.ages.Presence.{Presence}
@@ -16,15 +16,15 @@ abbrev pub aged : List ℕ → List ℕ → List ℕ
 aged list ages = map (λ node. if list_any (λ n. n == node) list then slice_index ages node + 1 else 0)
     (range_with_len 0 (length ages))
 
--- a picker that goes by age: all places that it answered, for how many picks it has room, the last seed and how many
--- places it had answered then, and the age of each node
+-- a scheduler that goes by age: all indexes that it returned, for how many picks it has room, the last seed and how
+-- many indexes it had returned then, and the age of each node
 pub record AgedValue : Type 0 where
   pub log : List ℕ
   pub spare : ℕ
   pub seeded : Option (ℕ × ℕ)
   pub ages : List ℕ
 
--- the ages that the nodes of the list have by a pick from it
+-- the ages of the nodes of the list after a pick from it
 abbrev pub ages_in : List ℕ → List ℕ → List ℕ
 ages_in list ages = map (slice_index (aged list ages)) list
 
@@ -37,7 +37,7 @@ pub record IsPast (now : ℕ) (p : Presence) : Type 0 where
 abbrev pub renewed : ℕ → Presence → Presence
 renewed now p = record { since = if p.last == now then p.since else now; last = now + 1 }
 
--- the first place of a number that none of the list exceeds, and of one that none is below
+-- the first index of a greatest number of the list, and of a least one
 abbrev pub first_greatest : List ℕ → ℕ
 first_greatest xs = position_or_len (λ x. list_all (λ y. nat_le y x) xs) xs
 

@@ -1,12 +1,12 @@
--- Which lists a picker is asked with in a run.
+-- Which lists a scheduler is asked with in a run.
 use Rattle.std.specs.Prelude.{◌≡◌, ℕ, ◌+◌, ◌<◌, List, [], ◌∷◌, ◌++◌, length, take, slice_index, Option}
 use Rattle.prs_core.specs.Nets.{NetValue}
 use Rattle.env_script.specs.Scripts.{OfferValue}
 use Rattle.env_script.specs.Runs.{RunState, after}
 use Rattle.event_sim.specs.Following.{enabled_moves, follow}
 
--- what is known of a picker: its name, all places that it answered, for how many picks and for how many nodes it has
--- room, the last seed and how many places it had answered then, and the place that it answers to a list now
+-- what is known of a scheduler: its name, all indexes that it returned, for how many picks and for how many nodes it
+-- has room, the last seed and how many indexes it had returned then, and the index that it would return for a list now
 pub record PickerValue : Type 0 where
   pub name : List ℕ
   pub log : List ℕ
@@ -19,7 +19,7 @@ abbrev pub picker_value : (name log : List ℕ) (spare nodes : ℕ) → Option (
 picker_value name log spare nodes seeded choice =
     record { name = name; log = log; spare = spare; nodes = nodes; seeded = seeded; choice = choice }
 
--- What one pick makes of a picker: it answered this place to this list. What it answers to a list may be another now.
+-- The effect of one pick: the scheduler returned this index for this list. What it returns for a list may change by it.
 pub record IsPick (list : List ℕ) (place : ℕ) (was is : PickerValue) : Type 0 where
   pub choice : place ≡ was.choice list
   pub log : is.log ≡ was.log ++ place ∷ []
@@ -32,7 +32,7 @@ pub record IsPick (list : List ℕ) (place : ℕ) (was is : PickerValue) : Type 
 abbrev pub enabled_after : NetValue → List OfferValue → RunState → List ℕ → List ℕ
 enabled_after net script st picks = enabled_moves net script (after net st (follow net script st picks))
 
--- A picker was asked before each move of a run with the list of the moves that were enabled then, and these are its
+-- A scheduler was asked before each move of a run with the list of the moves that were enabled then, and these are its
 -- picks. It has a state after each number of picks.
 pub record IsAskedAlong {P : Type 0} (known : P → PickerValue) (net : NetValue) (script : List OfferValue)
     (st : RunState) (picks : List ℕ) (was is : P) : Type 0 where

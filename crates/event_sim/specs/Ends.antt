@@ -10,8 +10,8 @@ use Rattle.event_sim.specs.declared.ran.End.{End}
 use Rattle.event_sim.specs.declared.ran.End.TheVariants.{AtRest, Spent, Unstable, BothWays, Protocol}
 use Rattle.event_sim.specs.Following.{enabled_moves}
 
--- the hazard of the last move: a node that is pulled both ways, else a move that was taken away, else broken phases; in
--- the first state only a node that is pulled both ways
+-- the hazard of the last move: a node with interference, else a disabled move, else broken phases; in
+-- the first state only a node with interference
 abbrev pub last_hazard : NetValue → List OfferValue → RunState → List ℕ → Option Hazard
 last_hazard net script st [] = first_hazard net st
 last_hazard net script st (n ∷ []) = hazard_of net script st n

@@ -19,17 +19,17 @@ abbrev pub power_of : NetValue → Bool → List Bool
 power_of net high = if is_some net.reset then map (power_value net high) (range_with_len 0 (length net.first)) else
     net.first
 
--- the move at a place of the list of enabled moves
+-- the move at an index of the list of enabled moves
 abbrev pub move_at : NetValue → List OfferValue → RunState → ℕ → ℕ
 move_at net script st place = slice_index (enabled_moves net script st) place
 
--- the moves whose places in the lists of enabled moves are these, one after the other
+-- the moves whose indexes in the lists of enabled moves are these, one after the other
 abbrev pub follow : NetValue → List OfferValue → RunState → List ℕ → List ℕ
 follow net script st [] = []
 follow net script st (p ∷ picks) =
     move_at net script st p ∷ follow net script (moved net st (move_at net script st p)) picks
 
--- each of these is a place of the list that it picks from
+-- each of these is an index of the list that it picks from
 abbrev pub ArePicks : NetValue → List OfferValue → RunState → List ℕ → Type 0
 ArePicks net script st [] = Unit {0}
 ArePicks net script st (p ∷ picks) =

@@ -1,4 +1,4 @@
--- Which nodes a move may concern, and what is kept beside a net so as to find them.
+-- Which nodes a move may concern, and the index that is kept with a net to find them.
 use Rattle.std.specs.Prelude.{◌≡◌, ℕ, ◌+◌, ◌<◌, ◌≤◌, nat_lt, ◌⊎◌, Bool, true, false, not, ◌&&◌, ◌||◌, ◌==◌, if◌then◌else◌, List, length, drop, filter, slice_index, slice_index_or, slice_set, Option, Some, None, IfSome, Result, MatchResult}
 use Rattle.std.specs.List.{list_any, range_with_len}
 use Rattle.prs_core.specs.declared.wires.Wires.{Wires}
@@ -70,14 +70,14 @@ is_member marks n = slice_index_or marks n false
 abbrev pub members : List Bool → List ℕ
 members marks = filter (is_member marks) (range_with_len 0 (length marks))
 
--- the node stands at this place of the list, or would stand there
+-- the node is at this index of the list, or would be inserted there
 abbrev pub IsListPlace : List ℕ → ℕ → Result ℕ ℕ → Type 0
 IsListPlace list n r = MatchResult r
     (λ i. (i < length list) × (slice_index_or list i 0 ≡ n))
     (λ i. (i ≤ length list) × ((k : ℕ) → k < i → slice_index_or list k 0 < n)
     × ((k : ℕ) → i ≤ k → k < length list → n < slice_index_or list k 0))
 
--- the list stands in the slots from this one on, and there is one slot more than nodes
+-- the list fills the slots from this one on, and there is one slot more than nodes
 pub record IsNodeSet (marks : List Bool) (slots : List ℕ) (from : ℕ) : Type 0 where
   pub list_is : drop from slots ≡ members marks
   pub from_in : from ≤ length slots
@@ -91,8 +91,8 @@ pub record IsPassing (count : ℕ) (passes : ℕ → Bool) (marks : List Bool) :
   pub count_is : length marks ≡ count
   pub each : (n : ℕ) → n < count → is_member marks n ≡ passes n
 
--- These nodes were tested again. The least one that is lost was the least of those that f tells, and is now the least
--- of these and of the nodes that were in the set and don't pass any more.
+-- These nodes were tested again. If the least lost node before was the least one for which f holds, it is now the least
+-- for which f holds or which is one of these, was in the set and does not pass any more.
 pub record IsRetested (passes : ℕ → Bool) (nodes : List ℕ) (old new : List Bool) (before now : Option ℕ) : Type 0 where
   pub count_is : length new ≡ length old
   pub each : (n : ℕ) → n < length old →
@@ -105,8 +105,8 @@ abbrev pub lesser : Option ℕ → ℕ → Option ℕ
 lesser None n = Some n
 lesser (Some k) n = if nat_lt k n then Some k else Some n
 
--- whom a move of the node may concern beside itself: who reads it, and who shares a channel with it in which the
--- environment has a part
+-- the nodes that a move of the node may concern besides itself: its readers, and those that share a channel with it in
+-- which the environment has a part
 pub record IsNear (x : IndexedValue) (n : ℕ) (nodes : List ℕ) : Type 0 where
   pub readers : (m : ℕ) → m < length x.net.first → is_among nodes m ≡ false → is_reader x.net n m ≡ false
   pub wires : (m c : ℕ) (d : Wires) → is_among nodes m ≡ false → c < length x.net.channels →
@@ -129,18 +129,18 @@ pub record IsCountedMove (x : IndexedValue) (n : ℕ) (was done : List ℕ) (bef
   pub counts_are : (c : ℕ) (d : Wires) → c < length x.net.channels →
       (n == (slice_index_or x.net.channels c d).ack) ≡ false → slice_index done c ≡ slice_index was c
 
--- the least node whose move it took away
+-- the least node whose move it disabled
 abbrev pub lost_by : IndexedValue → ℕ → (was done : List ℕ) → (before values : List Bool) → Option ℕ
 lost_by x n was done before values = least_below (length x.net.first) (λ m. not (m == n)
     && (has_move x.net x.script was before m && not (has_move x.net x.script done values m)))
 
--- the set behind it, but for a reset node, and that node
+-- the set after it, except for the move of a reset node, and that least node
 pub record IsListedBehind (x : IndexedValue) (n : ℕ) (was done : List ℕ) (before values new : List Bool)
     (lost : Option ℕ) : Type 0 where
   pub set_is : IsPassing (length x.net.first) (is_ready x done values) new
   pub lost_is : lost ≡ lost_by x n was done before values
 
--- the set behind it, and that node
+-- the set after it, and that least node
 pub record IsRelisted (x : IndexedValue) (n : ℕ) (was done : List ℕ) (before values new : List Bool)
     (lost : Option ℕ) : Type 0 where
   pub set_is : IsPassing (length x.net.first) (has_move x.net x.script done values) new

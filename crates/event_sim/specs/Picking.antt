@@ -1,15 +1,15 @@
--- Whom the pickers choose.
+-- What the schedulers choose.
 use Rattle.std.specs.Prelude.{ℕ, ◌-◌, ◌%◌, ◌<◌, List, length, All, AllPairs, Option, Some, None}
 use Rattle.rand_pcg.specs.Lcg.{started, advance, increment_of}
 use Rattle.rand_pcg.specs.Pcg.{multiplier_64, pcg32}
 
--- a list that a picker may be asked with: nodes below a number, ascending without repeats, at least one
+-- a list that a scheduler may be asked with: nodes below a number, ascending without repeats, at least one
 pub record IsChoiceList (nodes : ℕ) (list : List ℕ) : Type 0 where
   pub some : 0 < length list
   pub ascending : AllPairs (λ (a b : ℕ). a < b) list
   pub below : All (λ n. n < nodes) list
 
--- the words of the generator that is made of a seed and the stream 54, counted from 0
+-- the words of the generator that is seeded with a seed and the stream 54, counted from 0
 abbrev pub word_of : ℕ → ℕ → ℕ
 word_of seed count = (pcg32 (advance 64 multiplier_64 count (started 64 multiplier_64 seed (increment_of 64 54)))).0
 

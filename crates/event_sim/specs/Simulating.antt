@@ -17,11 +17,11 @@ pub record SimValue : Type 0 where
 abbrev pub start_at : SimValue → RunState
 start_at s = begin_at s.net (power_of s.net s.high)
 
--- what a log has that it hadn't before
+-- what was appended to a log
 abbrev pub growth : (before now : List ℕ) → List ℕ
 growth before now = drop (length before) now
 
--- the moves that the growth of a picker's log leads to
+-- the moves that the growth of a scheduler's log leads to
 abbrev pub picked_moves : SimValue → (before now : List ℕ) → List ℕ
 picked_moves s before now = follow s.net s.script (start_at s) (growth before now)
 

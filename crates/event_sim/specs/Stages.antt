@@ -33,8 +33,7 @@ now_of s = record { values = s.values; histories = channel_histories (length s.n
 abbrev pub moves_now : StageValue → List ℕ
 moves_now s = enabled_moves s.net s.script (now_of s)
 
--- what is kept beside: the counts of completed values, the set of the enabled moves, and the least node that is pulled
--- both ways
+-- what is also kept: the counts of completed values, the set of the enabled moves, and the least node with interference
 pub record IsKeptBeside (s : StageValue) (counts : List ℕ) (moves : List Bool) (pulled : Option ℕ) : Type 0 where
   pub net : IsNet s.net
   pub script : IsScript (net_channels s.net) s.script
@@ -44,14 +43,14 @@ pub record IsKeptBeside (s : StageValue) (counts : List ℕ) (moves : List Bool)
   pub moves_are : IsPassing (length s.net.first) (move_enabled s.net s.script (now_of s)) moves
   pub pulled_is : pulled ≡ least_below (length s.net.first) (both_ways s.net (high s.values))
 
--- Behind a move of the node: these nodes have it among them, and each node that has a move now and had none before.
+-- After a move of the node: these nodes have it among them, and each node that has a move now and had none before.
 pub record AreConcerned (s : StageValue) (n : ℕ) (nodes : List ℕ) : Type 0 where
   pub own : is_among nodes n ≡ true
   pub others : (before : RunState) (m : ℕ) → now_of s ≡ moved s.net before n →
       length before.histories ≡ length s.net.channels → m < length s.net.first → is_among nodes m ≡ false →
       move_enabled s.net s.script (now_of s) m ≡ true → move_enabled s.net s.script before m ≡ true
 
--- a node that is pulled both ways, else one whose move was taken away, else a channel whose phases are broken
+-- a node with interference, else one whose move was disabled, else a channel whose phases are broken
 abbrev pub worst_cause : Option ℕ → Option ℕ → Option ℕ → Option Hazard
 worst_cause (Some k) lost broken = Some (BothWays k)
 worst_cause None (Some k) broken = Some (Unstable k)

@@ -9,7 +9,7 @@ use Rattle.env_script.specs.Scripts.{OfferValue, gives, takes, nothing, offer_at
 use Rattle.env_script.specs.Runs.{RunState, completed}
 use Rattle.event_sim.specs.Locality.{IndexedValue, is_ready, IsRetested}
 
--- one value or one acceptance, and how many times it stands, if it does
+-- one value or one acceptance, and how many times it is offered, if it is
 pub record StandingValue : Type 0 where
   pub one : OfferValue
   pub times : Option ℕ
@@ -71,7 +71,7 @@ number_of (takes Each) = None
 number_of (takes (Times k)) = Some k
 number_of nothing = None
 
--- with one more value, which stands for all before it too, or with one more acceptance
+-- with one more value, in place of all before it too, or with one more acceptance
 abbrev pub one_more : ℕ → OfferValue → OfferValue
 one_more value (gives values) = gives (replicate (length values + 1) value)
 one_more value (takes Each) = takes Each

@@ -1,11 +1,11 @@
-//! How long the nodes of a picker's lists have been in them.
+//! How long the nodes of a scheduler's lists have been in them.
 
 ghost use Rattle.std.specs.Prelude.{◌≡◌, ◌+◌, ◌<◌, ◌≤◌, ◌^◌, ℕ, All, length, replicate, slice_index, map, vec_capacity};
 ghost use Rattle.event_sim.specs.Ages.{ages_at, aged, IsPast, renewed, first_greatest, first_least};
 ghost use Rattle.event_sim.specs.Picking.{IsChoiceList};
 
-/// How a node was present in the lists of a picker: the pick at which its presence began, and the pick at which it was
-/// last present, where picks are counted from 1.
+/// How a node was present in the lists of a scheduler: the pick at which its presence began, and the pick at which it
+/// was last present, where picks are counted from 1.
 #[derive(Clone, Copy, Debug, PartialEq, Eq)]
 pub struct Presence {
     pub since: u64,
@@ -27,7 +27,7 @@ fn renewed(presence: Presence, now: u64) -> Presence
     }
 }
 
-/// Notes one more pick from the list, after so many.
+/// Records one more pick from the list, after so many.
 pub(crate) fn note(table: &mut [Presence], list: &[u32], now: u64)
     requires list { IsChoiceList (length table.old) list.now }
     requires past { All (IsPast now) table.old }
@@ -56,7 +56,7 @@ fn age(table: &[Presence], node: u32, now: u64) -> u64
     }
 }
 
-/// The first place of the list's oldest node.
+/// The first index of the list's oldest node.
 pub(crate) fn oldest(table: &[Presence], list: &[u32], now: u64) -> usize
     requires list { IsChoiceList (length table.now) list.now }
     requires past { All (IsPast now) table.now }
@@ -72,7 +72,7 @@ pub(crate) fn oldest(table: &[Presence], list: &[u32], now: u64) -> usize
     best
 }
 
-/// The first place of the list's newest node.
+/// The first index of the list's newest node.
 pub(crate) fn newest(table: &[Presence], list: &[u32], now: u64) -> usize
     requires list { IsChoiceList (length table.now) list.now }
     requires past { All (IsPast now) table.now }

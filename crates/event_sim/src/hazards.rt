@@ -10,7 +10,7 @@ use crate::indexed::IndexedNet;
 use env_script::Hazard;
 use prs_core::{Net, State, enabled, holds, pulled_both_ways};
 
-/// The least node that is pulled both ways.
+/// The least node with interference (both guards hold).
 pub(crate) fn first_pulled(net: &Net, state: &State) -> Option<u32>
     requires { length state.now ≡ length net.now.first }
     ensures { result ≡ least_below (length net.now.first) (both_ways net.now (high state.now)) }
@@ -21,7 +21,7 @@ pub(crate) fn first_pulled(net: &Net, state: &State) -> Option<u32>
     }
 }
 
-/// Whether the node is pulled both ways. Most nodes have no enabled rule, and then the other guard needs no look.
+/// Whether the node has interference. Most nodes have no enabled rule, and then the other guard is not evaluated.
 fn is_pulled(net: &Net, state: &State, node: u32) -> bool
     requires state { length state.now ≡ length net.now.first }
     requires node { node < length net.now.first }
@@ -31,7 +31,7 @@ fn is_pulled(net: &Net, state: &State, node: u32) -> bool
     enabled(net, state, node) && holds(net.up(node), state) && holds(net.down(node), state)
 }
 
-/// The first of these nodes that is pulled both ways.
+/// The first of these nodes that has interference.
 fn pulled_among(net: &Net, state: &State, nodes: &[u32]) -> Option<u32>
     requires state { length state.now ≡ length net.now.first }
     requires nodes { All (λ n. n < length net.now.first) nodes.now }
@@ -45,7 +45,7 @@ fn pulled_among(net: &Net, state: &State, nodes: &[u32]) -> Option<u32>
     None
 }
 
-/// The least node that is pulled both ways behind a move of the node, where this was the least before it.
+/// The least node with interference after a move of the node, where this was the least before it.
 pub(crate) fn pulled_behind(
     indexed: &IndexedNet,
     state: &State,
@@ -65,7 +65,7 @@ pub(crate) fn pulled_behind(
     }
 }
 
-/// A node that is pulled both ways comes before one whose move was taken away, and that before a channel whose
+/// A node with interference comes before one whose move was disabled, and that before a channel whose
 /// phases are broken.
 pub(crate) fn worst_cause(
     pulled: Option<u32>,

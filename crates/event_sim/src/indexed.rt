@@ -19,7 +19,7 @@ use prs_core::{Fan, Net, State, enabled, fan_of};
 use std::alloc::{AllocError, Global};
 use std::marker::Model;
 
-/// A net under a script. Beside it stand the readers of each node, and the channel that it is a wire of.
+/// A net under a script, with the readers of each node and the channel that it is a wire of.
 #[derive(Debug, Drop)]
 pub(crate) struct IndexedNet {
     net: Net,
@@ -178,7 +178,7 @@ impl IndexedNet {
         self.offers.number(chan)
     }
 
-    /// Offers one more value on the channel, which stands for those before it too, or makes one more acceptance.
+    /// Offers one more value on the channel, in place of all values before it too, or makes one more acceptance.
     pub(crate) fn add(&mut self, chan: u32, value: u64)
         requires chan { chan < length self.old.net.channels }
         requires number { IsSome (number_of (offer_at self.old.script chan)) }

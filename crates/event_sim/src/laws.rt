@@ -14,7 +14,7 @@ ghost use Rattle.event_sim.specs.Passing.{passed_in, values_through};
 
 use prs_core::only_readers;
 
-/// Law: what picks lead to is a run, and every run is what some picks lead to.
+/// Law: picks lead to a run, and every run is led to by some picks.
 pub fn runs_are_picked()
     ensures run { (net : NetValue) (script : List OfferValue) (st : RunState) (picks : List ℕ)
         → ArePicks net script st picks
@@ -42,14 +42,14 @@ pub fn moves_are_in_range()
         → n < length net.first }
 {}
 
-/// Law: a move is safe, and no node is pulled both ways behind it, exactly where it brings no hazard.
+/// Law: a move is safe, and no node has interference after it, exactly where it brings no hazard.
 pub fn safe_moves_bring_no_hazard()
     ensures { (net : NetValue) (script : List OfferValue) (st : RunState) (n : ℕ)
         → IsNet net
         → ((IsSafeMove net script st n × IsApart net (moved net st n)) ↔ (hazard_of net script st n ≡ None)) }
 {}
 
-/// Law: where a net with a reset node begins is one of its power-up states.
+/// Law: the start of a run of a net with a reset node is one of its power-up states.
 pub fn power_is_powered()
     ensures { (net : NetValue) (high : Bool)
         → IsNet net

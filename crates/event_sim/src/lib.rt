@@ -1,4 +1,4 @@
-//! The simulator: it makes one run of a net under a script, whose moves a picker chooses.
+//! The simulator: it makes one run of a net under a script, whose moves a scheduler chooses.
 #![tactic(auto)]
 
 mod ages;

@@ -18,14 +18,14 @@ fn lesser(lost: Option<u32>, node: u32) -> Option<u32>
     }
 }
 
-/// The least node that is lost, where this one was in the set and is now or isn't.
+/// The least lost node once this one is counted too, if it was in the set and is not in it now.
 fn least_lost(lost: Option<u32>, node: u32, was: bool, is: bool) -> Option<u32>
     ensures { result ≡ (if was && not is then lesser lost node else lost) }
 {
     if was && !is { lesser(lost, node) } else { lost }
 }
 
-/// Tests these nodes again. The least of those that were lost before and that are lost now.
+/// Tests these nodes again. Returns the least of those that were lost before and of those that are lost now.
 fn retest(
     indexed: &IndexedNet,
     done: &[u64],
@@ -50,8 +50,8 @@ fn retest(
     lost
 }
 
-/// Tests again what a move of the node concerns: itself, its readers, and the wires of its channel. The least of the
-/// others that is lost.
+/// Tests again what a move of the node concerns: itself, its readers, and the wires of its channel. Returns the least
+/// of the other nodes that is lost.
 fn retest_near(
     indexed: &IndexedNet,
     done: &[u64],
@@ -109,8 +109,8 @@ pub(crate) fn add_reset(indexed: &IndexedNet, state: &State, moves: &mut NodeSet
     }
 }
 
-/// Tests again what a move of the node concerns: all nodes, where that is the reset node. The least of the other nodes
-/// whose moves were taken away.
+/// Tests again what a move of the node concerns: all nodes, where that is the reset node. Returns the least of the
+/// other nodes whose moves were disabled.
 fn retest_behind(
     indexed: &IndexedNet,
     done: &[u64],
@@ -134,7 +134,8 @@ fn retest_behind(
     retest_near(indexed, done, state, node, moves)
 }
 
-/// Makes the set that of the state behind a move of the node. The least of the other nodes whose moves were taken away.
+/// Updates the set to the state after a move of the node. Returns the least of the other nodes whose moves were
+/// disabled.
 pub(crate) fn relist(
     indexed: &IndexedNet,
     done: &[u64],

@@ -1,4 +1,4 @@
-//! The picker that takes the first move of each list.
+//! The scheduler that takes the first move of each list.
 
 ghost use Rattle.std.specs.Prelude.{◌≡◌, ℕ, ◌-◌, ◌^◌, [], length, codes, Some, None};
 ghost use Rattle.std.specs.Prelude.{vec_capacity};
@@ -14,7 +14,7 @@ pub struct Lowest {
 }
 
 impl Lowest {
-    /// A picker that has made no pick. It takes no memory.
+    /// A scheduler that has made no pick. It allocates no memory.
     pub fn new(alloc: Global) -> Lowest
         ensures log { result.log.items ≡ [] }
         ensures seeded { result.seeded ≡ None }

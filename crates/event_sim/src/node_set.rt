@@ -12,7 +12,7 @@ use std::marker::Model;
 const NEAR: usize = 16;
 
 /// Some of the nodes below a number, with their list in ascending order. It is seen as a mark for each node. The list
-/// stands at the end of its slots, so that a change near its front, as where the least node is picked, moves little.
+/// is kept at the end of its slots, so that a change near its front, as where the least node is picked, moves little.
 #[derive(Debug, Drop)]
 pub(crate) struct NodeSet {
     marks: Vec<bool>,
@@ -59,8 +59,8 @@ fn list_from(slots: &[u32], from: usize) -> &[u32]
     &slots[from..]
 }
 
-/// The place of the node in the list of a set, or the place where it would stand. Where the least node is picked, it is
-/// mostly near the front.
+/// The index of the node in the list of a set, or the index at which it would be inserted. Where the least node is
+/// picked, it is mostly near the front.
 fn place_in(list: &[u32], node: u32) -> Result<usize, usize>
     ensures within { IsSearchInRange result (length list.now) }
     ensures place { (marks : List Bool) → list.now ≡ members marks → IsListPlace list.now node result }
@@ -71,7 +71,7 @@ fn place_in(list: &[u32], node: u32) -> Result<usize, usize>
     list.binary_search(&node)
 }
 
-/// Inserts the node at a place of the list that begins at this slot, and begins one slot before it then.
+/// Inserts the node at an index of the list that begins at this slot; the list then begins one slot earlier.
 fn insert_at(slots: &mut Vec<u32>, from: usize, place: usize, node: u32)
     requires room { 0 < from }
     requires place { from + place ≤ vec_len slots.old }
@@ -82,7 +82,7 @@ fn insert_at(slots: &mut Vec<u32>, from: usize, place: usize, node: u32)
     slots[from - 1..from + place].rotate_left(1);
 }
 
-/// Removes the node at a place of the list that begins at this slot, and begins one slot behind it then.
+/// Removes the node at an index of the list that begins at this slot; the list then begins one slot later.
 fn remove_at(slots: &mut Vec<u32>, from: usize, place: usize)
     requires place { from + place < vec_len slots.old }
     ensures list { drop (from + 1) slots.new.items ≡ remove (drop from slots.old.items) place }
@@ -91,7 +91,7 @@ fn remove_at(slots: &mut Vec<u32>, from: usize, place: usize)
     slots[from..from + place + 1].rotate_left(place);
 }
 
-/// Puts the node into the list of a set in which it isn't.
+/// Inserts the node into the list of a set that does not have it.
 fn put_in(slots: &mut Vec<u32>, from: usize, node: u32)
     requires room { 0 < from }
     requires from { from ≤ vec_len slots.old }
@@ -105,7 +105,7 @@ fn put_in(slots: &mut Vec<u32>, from: usize, node: u32)
     }
 }
 
-/// Takes the node out of the list of a set in which it is.
+/// Removes the node from the list of a set that has it.
 fn take_out(slots: &mut Vec<u32>, from: usize, node: u32)
     requires from { from ≤ vec_len slots.old }
     ensures list { (marks : List Bool) → drop from slots.old.items ≡ members marks → node < length marks →
@@ -145,7 +145,7 @@ impl NodeSet {
         self.marks[node as usize]
     }
 
-    /// Puts the node into the set or takes it out. It takes no memory.
+    /// Inserts the node into the set or removes it. It allocates no memory.
     pub(crate) fn set(&mut self, node: u32, member: bool)
         requires { node < length self.old }
         ensures { self.new ≡ slice_set self.old node member }

@@ -1,4 +1,4 @@
-//! What the environment does: what a script lists, and what stands in its place.
+//! What the environment does: what a script lists, and what is offered in its place.
 
 ghost use Rattle.std.specs.Prelude.{◌≡◌, ◌+◌, ◌<◌, ◌^◌, length, map, slice_index, IfOk, IsSome, IfSome, Some, None};
 ghost use Rattle.prs_core.specs.Moves.{high};
@@ -15,7 +15,7 @@ use prs_core::{State, Wires};
 use std::alloc::{AllocError, Global};
 use std::marker::Model;
 
-/// A script, seen as its offers, with what stands in their place.
+/// A script, seen as its offers, with what is offered in their place.
 #[derive(Debug, Drop)]
 pub(crate) struct Offers {
     script: Script,
@@ -86,7 +86,7 @@ impl Offers {
         self.standing[chan as usize].number(self.script.offer(chan))
     }
 
-    /// Offers one more value on the channel, which stands for those before it too, or makes one more acceptance.
+    /// Offers one more value on the channel, in place of all values before it too, or makes one more acceptance.
     pub(crate) fn add(&mut self, chan: u32, value: u64)
         requires chan { chan < length self.old }
         requires number { IsSome (number_of (offer_at self.old chan)) }

@@ -1,4 +1,4 @@
-//! The picker that takes the move which was enabled longest.
+//! The scheduler that takes the move which was enabled longest.
 
 ghost use Rattle.std.specs.Prelude.{◌≡◌, ◌+◌, ◌<◌, ◌≤◌, [], ◌∷◌, ◌++◌, length, replicate, codes, None, Some, OnOk, OnErr};
 ghost use Rattle.event_sim.specs.Ages.{aged, ages_in, first_greatest};
@@ -9,7 +9,7 @@ use crate::picker::Picker;
 use std::alloc::{AllocError, Global};
 use std::marker::Model;
 
-/// Chooses the node that was in the most lists in a row, this one included; of several the least.
+/// Chooses the node that was in the most lists in a row, this one included; among equals the least.
 #[derive(Debug, Drop)]
 pub struct Oldest {
     log: Vec<usize>,
@@ -34,7 +34,7 @@ impl Model for Oldest {
 }
 
 impl Oldest {
-    /// A picker that has made no pick. It takes no memory.
+    /// A scheduler that has made no pick. It allocates no memory.
     pub fn new(alloc: Global) -> Oldest
         ensures log { result.log ≡ [] }
         ensures seeded { result.seeded ≡ None }

@@ -1,4 +1,4 @@
-//! What a simulation answers.
+//! The result of a simulation.
 
 ghost use Rattle.std.specs.Prelude.{◌≡◌};
 
@@ -12,9 +12,9 @@ pub enum End {
     AtRest,
     /// As many moves were made as were allowed, and one more is enabled.
     Spent,
-    /// The last move took away that of this node, the least one.
+    /// The last move disabled that of this node, the least such one.
     Unstable { node: u32 },
-    /// Both guards of this node hold, the least one.
+    /// Both guards of this node hold; it is the least such one.
     BothWays { node: u32 },
     /// The last move broke the phases of this channel.
     Protocol { chan: u32 },
@@ -108,7 +108,7 @@ impl Ran {
         self.moves
     }
 
-    /// Whether the node `done` is high behind the last move.
+    /// Whether the node `done` is high after the last move.
     pub fn done_high(&self) -> bool
         ensures { result ≡ self.now.done_high }
     {

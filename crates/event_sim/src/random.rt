@@ -1,4 +1,4 @@
-//! The picker that draws lots.
+//! The scheduler that chooses at random.
 
 ghost use Rattle.std.specs.Prelude.{◌≡◌, ℕ, ◌-◌, ◌^◌, ◌≤◌, [], length, codes, Some, None, vec_capacity};
 ghost use Rattle.rand_pcg.specs.Lcg.{started, advance, increment_of};
@@ -25,7 +25,7 @@ pub struct Random {
 }
 
 impl Random {
-    /// A picker that has made no pick, as if it had the seed 0. It takes no memory.
+    /// A scheduler that has made no pick, as if it had the seed 0. It allocates no memory.
     pub fn new(alloc: Global) -> Random
         ensures log { result.log.items ≡ [] }
         ensures seeded { result.seeded ≡ None }

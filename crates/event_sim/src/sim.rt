@@ -23,7 +23,7 @@ use std::alloc::{AllocError, Global};
 use std::marker::Model;
 
 /// A simulation that hasn't begun: a net, a script of its channels, how many moves may be made, and the value of the
-/// nodes that have rules at power-up, where the net has a reset node. All memory of the run is taken.
+/// nodes that have rules at power-up, where the net has a reset node. All memory of the run is allocated.
 #[derive(Debug, Drop)]
 pub struct Sim {
     stage: Stage,
@@ -109,8 +109,8 @@ impl Sim {
         Ok(Sim { stage, steps, high })
     }
 
-    /// The simulation of the net under the script, for so many moves at most. Where the net has a reset node, the nodes
-    /// that have rules are low at power-up.
+    /// The simulation of the net under the script, for at most `steps` moves (up to 1,000,000). Where the net has a
+    /// reset node, the nodes that have rules are low at power-up.
     pub fn new(alloc: Global, net: Net, script: Script, steps: u32) -> Result<Sim, AllocError>
         requires script { IsScript (net_channels net) script }
         requires steps { steps ≤ 1000000 }
@@ -119,8 +119,8 @@ impl Sim {
         Sim::begin(alloc, net, script, steps, false)
     }
 
-    /// The simulation of a net that has a reset node, under the script, for so many moves at most, where the nodes that
-    /// have rules have this value at power-up.
+    /// The simulation of a net that has a reset node, under the script, for at most `steps` moves (up to 1,000,000),
+    /// where the nodes that have rules have this value at power-up.
     pub fn powered(
         alloc: Global,
         net: Net,
@@ -136,11 +136,11 @@ impl Sim {
         Sim::begin(alloc, net, script, steps, high)
     }
 
-    /// Runs the net. It takes no memory. Before each move the picker is asked for a place in the ascending list of the
-    /// nodes that have an enabled move. The run ends at a node that is pulled both ways, at a move that was taken away,
-    /// at broken phases, at rest, or when as many moves were made as are allowed, which is tested in this order after
-    /// each move; in the first state it can end by a node that is pulled both ways, at rest, or where no move is
-    /// allowed. (Martin's rules fire one at a time; who chooses among them is our profile.)
+    /// Runs the net. It allocates no memory. Before each move the scheduler is asked for an index into the ascending
+    /// list of the nodes that have an enabled move. The run ends at a node with interference (both guards hold), at a
+    /// move that was disabled, at broken phases, at rest, or when as many moves were made as are allowed, tested in
+    /// this order after each move; in the first state it can end by a node with interference, at rest, or where no move
+    /// is allowed. (Martin's rules fire one at a time; who chooses among them is our profile.)
     pub fn run(self, picker: &mut Box<dyn Picker>) -> Ran
         requires spare { self.steps ≤ spare picker.old }
         requires nodes { length self.net.first ≤ nodes picker.old }

@@ -32,9 +32,8 @@ pub struct Concerned<'a> {
     pub others: [u32; 3],
 }
 
-/// How far a run has come: its net and script, the values of the nodes, and what has passed. Beside that it keeps how
-/// many values are completed on each channel, the list of the enabled moves, and the least node that is pulled both
-/// ways.
+/// How far a run has come: its net and script, the values of the nodes, and what has passed. It also keeps how many
+/// values are completed on each channel, the list of the enabled moves, and the least node with interference.
 #[derive(Debug, Drop)]
 pub struct Stage {
     indexed: IndexedNet,
@@ -69,7 +68,7 @@ fn no_counts(alloc: Global, channels: usize) -> Result<Vec<u64>, AllocError>
     Ok(counts)
 }
 
-/// Notes what a move completes, where it completes something.
+/// Records what a move completes, where it completes something.
 fn note(done: &mut Vec<u64>, passed: &mut Vec<(u32, u64)>, completed: Option<(u32, u64)>)
     requires counts { done.old.items ≡
         map (λ (h : List ℕ). length h) (channel_histories (length done.old.items) passed.old.items) }
@@ -163,8 +162,8 @@ impl Stage {
         self.moves.contains(node)
     }
 
-    /// Behind a move of the node: the node, and at least all that have an enabled move now and had none before. Where
-    /// that is the reset node, these are all that have one.
+    /// After a move of the node: the node, and at least all that have an enabled move now and had none before. Where
+    /// the node is the reset node, these are all that have one.
     pub fn concerned(&self, node: u32) -> Concerned<'_>
         requires { node < length self.now.net.first }
         ensures concerned { AreConcerned self.now node (result.readers.now ++ result.rails.now ++ result.others) }
@@ -199,7 +198,7 @@ impl Stage {
         }
     }
 
-    /// The hazard in the first state: a node that is pulled both ways.
+    /// The hazard in the first state: a node with interference (both guards hold).
     pub fn first_hazard(&self) -> Option<Hazard>
         ensures hazard { result ≡ first_hazard self.now.net (now_of self.now) }
         ensures net { IsNet self.now.net }
@@ -208,7 +207,7 @@ impl Stage {
         worst_cause(self.pulled, None, None)
     }
 
-    /// Makes the enabled move of the node, and tells the hazard that this brings.
+    /// Makes the enabled move of the node, and returns the hazard that this brings.
     pub fn make(&mut self, node: u32) -> Option<Hazard>
         requires node { node < length self.old.net.first }
         requires enabled { move_enabled self.old.net self.old.script (now_of self.old) node ≡ true }
@@ -267,7 +266,7 @@ impl Stage {
         }
     }
 
-    /// Offers one more value on an idle channel, which stands for those before it too, or makes one more acceptance.
+    /// Offers one more value on an idle channel, in place of all values before it too, or makes one more acceptance.
     /// No reset is on.
     pub fn add(&mut self, chan: u32, value: u64)
         requires chan { chan < length self.old.net.channels }

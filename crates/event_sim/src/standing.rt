@@ -1,4 +1,4 @@
-//! What stands on a channel in place of what a script lists.
+//! What is offered on a channel in place of what a script lists.
 
 ghost use Rattle.std.specs.Prelude.{◌≡◌, ◌<◌, length, Some, None, IfOk};
 ghost use Rattle.prs_core.specs.Moves.{high};
@@ -13,7 +13,7 @@ use prs_core::{State, Wires};
 use std::alloc::{AllocError, Global};
 use std::marker::Model;
 
-/// One value or one acceptance, and how many times it stands in place of what a script lists, where it does.
+/// One value or one acceptance, and how many times it is offered in place of what a script lists, where it is.
 #[derive(Debug, Drop)]
 pub(crate) struct Standing {
     one: Offer,
@@ -70,7 +70,7 @@ fn is_nothing(offer: &Offer) -> bool
 impl Standing {
     ghost use Rattle.event_sim.specs.Standings.{StandingValue, standing_of, stands, one_now};
 
-    /// One that doesn't stand, for a channel on which a script lists this.
+    /// One that is not in use, for a channel on which a script lists this.
     pub(crate) fn new(alloc: Global, listed: &Offer) -> Result<Standing, AllocError>
         ensures { IfOk result (λ s. s ≡ standing_of (one_like (offered listed.now)) None) }
     {
@@ -122,7 +122,7 @@ impl Standing {
         }
     }
 
-    /// Stands so many times from now on, with this value where it is one of values.
+    /// It is in use so many times from now on, with this value where it is one of values.
     pub(crate) fn set(&mut self, times: u64, value: u64)
         ensures { self.new ≡ standing_of (one_now value self.old.one) (Some times) }
     {

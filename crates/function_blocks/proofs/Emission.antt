@@ -21,12 +21,12 @@ use Rattle.function_blocks.specs.Gates.{operator_rules, operator_result}
 use Rattle.function_blocks.specs.Expressions.{HasBits, bits_between, formula_result, joined_result, chained_result, formula_rules, joined_rules, chained_rules}
 use Rattle.function_blocks.specs.Blocks.{bits_apart, bits_in_blocks, HasBit}
 use Rattle.function_blocks.specs.BitsRead.{EachRead, EachPart, EachOperation, bits_read}
-use Rattle.function_blocks.specs.ExpressionParts.{IsOutside, AreDistinct, expression_part}
+use Rattle.function_blocks.specs.ExpressionParts.{IsOutside, AreDistinct, InItsMoments, IsWhollyNeutral, IsWhollyValid, StandsApart, WaitsAtRest, expression_part}
 use Rattle.width_check.proofs.Bounds.{width_most}
 use Rattle.function_blocks.proofs.PartSizes.{some_width}
 use Rattle.handshake_expand.proofs.Rows.{parts_of, links_of, part_at, link_at}
 use Rattle.function_blocks.proofs.ReadBits.{each_formed, var_bound, vars_over, over_bits, over_reads}
-use Rattle.function_blocks.proofs.ExpressionKeeps.{expression_keeps}
+use Rattle.function_blocks.proofs.ExpressionKeeps.{all_neutral_inside, all_valid_inside, expression_keeps, expression_rests}
 use Rattle.function_blocks.proofs.Sizes.{result_length, rules_length, operator_length, each_bit}
 
 -- bits of a block
@@ -340,16 +340,28 @@ first_made none now rules from empty is =
     let place : from + length none ≡ from = let e = ap length empty in omega (arith, e) in
     is ∙ (ap (λ n. none ++ rules n) place ∙ ap (λ l. l ++ rules from) empty)
 
-pub blocks_keep : (firsts : List ℕ) (e : Formula) (request from : ℕ) → IsWellFormed e
-    → All (IsOutside from (formula_size e)) (request ∷ nodes.rails_of (bits_read (bits_in_blocks firsts) e))
-    → All (λ rail. rail ≢ request) (nodes.rails_of (bits_read (bits_in_blocks firsts) e)) → AreDistinct (bits_read (bits_in_blocks firsts) e)
-    → Keeps (expression_part (bits_in_blocks firsts) e request from)
-blocks_keep firsts e request from h outside unasked distinct =
-    expression_keeps (bits_in_blocks firsts) e request from (record {
-      formed = h;
-      there = blocks_there firsts e h;
-      outside = outside;
-      unasked =
-          unasked;
-      distinct = distinct;
-    })
+-- over blocks of variables
+module _ (firsts : List ℕ) (e : Formula) (request from : ℕ) (h : IsWellFormed e)
+    (outside : All (IsOutside from (formula_size e)) (request ∷ nodes.rails_of (bits_read (bits_in_blocks firsts) e)))
+    (unasked : All (λ rail. rail ≢ request) (nodes.rails_of (bits_read (bits_in_blocks firsts) e)))
+    (distinct : AreDistinct (bits_read (bits_in_blocks firsts) e)) where
+  blocks_apart : StandsApart (bits_in_blocks firsts) e request from
+  blocks_apart = record {
+    formed = h;
+    there = blocks_there firsts e h;
+    outside = outside;
+    unasked = unasked;
+    distinct = distinct;
+  }
+
+  pub blocks_keep : Keeps (expression_part (bits_in_blocks firsts) e request from)
+  blocks_keep = expression_keeps (bits_in_blocks firsts) e request from blocks_apart
+
+  pub blocks_valid : InItsMoments IsWhollyValid (bits_in_blocks firsts) e request from
+  blocks_valid = all_valid_inside (bits_in_blocks firsts) e request from blocks_apart
+
+  pub blocks_neutral : InItsMoments IsWhollyNeutral (bits_in_blocks firsts) e request from
+  blocks_neutral = all_neutral_inside (bits_in_blocks firsts) e request from blocks_apart
+
+  pub blocks_wait : InItsMoments WaitsAtRest (bits_in_blocks firsts) e request from
+  blocks_wait = expression_rests (bits_in_blocks firsts) e request from blocks_apart

@@ -22,7 +22,7 @@ abbrev mutual
   EachOperation P no_operations = Unit {0}
   EachOperation P (and_operation op e more) = EachRead P e × EachOperation P more
 
--- their rails, where the variables have these bits; a bit that is read twice stands there twice
+-- their rails, where the variables have these bits; a bit that is read twice is listed twice
 abbrev mutual
   pub bits_read : (ℕ → List Pair) → Formula → List Pair
   bits_read bits (constant width v) = []

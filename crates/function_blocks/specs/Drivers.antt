@@ -1,4 +1,4 @@
--- What drives a node of an expression's circuit: the two guards that each kind of driver stands for.
+-- What drives a node of an expression's circuit: the two guards of each kind of driver.
 use Rattle.std.specs.Prelude.{◌∷◌}
 use Rattle.prs_core.specs.Nets.{NodeRules}
 use Rattle.prs_core.specs.Pairs.{no_rules}

@@ -2,7 +2,7 @@
 use Rattle.std.specs.Prelude.{◌≡◌, ◌≢◌, ℕ, suc, ◌+◌, ◌/◌, ◌%◌, ◌^◌, ◌<◌, ◌==◌, Bool, true, false, not, ◌&&◌, ◌⊎◌, List, [], ◌∷◌, length, map, All, Contains}
 use Rattle.std.specs.List.{list_all}
 use Rattle.prs_core.specs.Pairs.{Pair, pair_of, pairs_from, rails_of}
-use Rattle.prs_core.specs.Parts.{Owned, Part, Wire, Moment, Reached, owned_from, wire, may_move, all_low, is_valid, never_blocked, no_notes}
+use Rattle.prs_core.specs.Parts.{Owned, Part, Wire, Moment, Reached, owned_from, fires, wire, may_move, all_low, is_valid, never_blocked, no_notes}
 use Rattle.width_check.specs.Processes.{Formula}
 use Rattle.width_check.specs.Values.{IsWellFormed, value}
 use Rattle.handshake_expand.specs.Layout.{formula_size}
@@ -82,7 +82,7 @@ AreDistinct read =
     (p q : Pair) (one side : Bool) → Contains read p → Contains read q → node_of p one ≡ node_of q side → (p ≡ q)
     × (one ≡ side)
 
--- A well-formed expression whose request and whose variables' rails are nodes apart, and none of its own.
+-- A well-formed expression whose request and whose variables' rails are distinct nodes, and none of its own.
 pub record StandsApart (bits : ℕ → List Pair) (e : Formula) (request from : ℕ) : Type 0 where
   pub formed : IsWellFormed e
   pub there : EachRead (λ x bit. bit < length (bits x)) e
@@ -96,11 +96,34 @@ ExpressionRests bits e request from m =
     (may_move m (asking_wire request (bits_read bits e) (formula_result e from)) ≡ true)
     ⊎ ((m.value request ≡ false) × (list_all (is_valid m.value) (bits_read bits e) ≡ false))
 
--- in each moment that such a circuit reaches, whatever its neighbours do within the contract
+-- Where the request is high and all bits of the result are valid, all inner bits are valid.
+abbrev pub IsWhollyValid : (ℕ → List Pair) → Formula → (request from : ℕ) → Moment → Type 0
+IsWhollyValid bits e request from m =
+    m.value request ≡ true → list_all (is_valid m.value) (formula_result e from) ≡ true →
+    list_all (is_valid m.value) (inner_bits e from) ≡ true
+
+-- Where the request is low and all rails of the result are low, all inner rails are low.
+abbrev pub IsWhollyNeutral : (ℕ → List Pair) → Formula → (request from : ℕ) → Moment → Type 0
+IsWhollyNeutral bits e request from m =
+    m.value request ≡ false → all_low m.value (rails_of (formula_result e from)) ≡ true →
+    all_low m.value (rails_of (inner_bits e from)) ≡ true
+
+-- Where no rule of the circuit is enabled, it waits.
+abbrev pub WaitsAtRest : (ℕ → List Pair) → Formula → (request from : ℕ) → Moment → Type 0
+WaitsAtRest bits e request from m =
+    ((o : Owned) → Contains (owned_from from (formula_rules bits e request from)) o → fires m.value o ≡ false) →
+    ExpressionRests bits e request from m
+
+-- in each moment that the circuit reaches, whatever its neighbours do within the contract
+abbrev pub InItsMoments : ((ℕ → List Pair) → Formula → (request from : ℕ) → Moment → Type 0) →
+    (ℕ → List Pair) → Formula → (request from : ℕ) → Type 0
+InItsMoments P bits e request from =
+    (m : Moment) → Reached (expression_part bits e request from) m → P bits e request from m
+
 abbrev pub InEachMoment : ((ℕ → List Pair) → Formula → (request from : ℕ) → Moment → Type 0) → Type 0
 InEachMoment P =
     (bits : ℕ → List Pair) (e : Formula) (request from : ℕ) → StandsApart bits e request from
-    → (m : Moment) → Reached (expression_part bits e request from) m → P bits e request from m
+    → InItsMoments P bits e request from
 
 -- The nodes with their rules, and the rails that are read, where the variables' blocks begin at these nodes.
 abbrev pub expression_owned : (firsts : List ℕ) → Formula → (request from : ℕ) → List Owned

@@ -14,7 +14,7 @@ truth Equal = alike
 truth Carry = carries
 truth Borrow = borrows
 
--- what is carried on from below, or nothing
+-- what is carried in from below, or nothing
 abbrev pub carried_on : Option Pair → List Pair
 carried_on None = []
 carried_on (Some p) = p ∷ []

@@ -45,7 +45,7 @@ abbrev pub odd_ones : List Bool → Bool
 odd_ones [] = false
 odd_ones (b ∷ bs) = exclusive b (odd_ones bs)
 
--- both are alike
+-- both are equal
 abbrev pub alike : List Bool → Bool
 alike row = not (odd_ones row)
 
@@ -65,7 +65,7 @@ abbrev pub bitwise : (List Bool → Bool) → List Pair → List Pair → List N
 bitwise f (a ∷ xs) (b ∷ ys) = gate (a ∷ b ∷ []) f ++ bitwise f xs ys
 bitwise f _ _ = []
 
--- For each bit the bit of the result and, below the top bit, what is carried on: `carried` is what came from below.
+-- For each bit the bit of the result and, below the top bit, its carry: `carried` is the carry from below.
 abbrev pub ripple : (List Bool → Bool) → List Pair → List Pair → (carried : List Pair) → (from : ℕ) → List NodeRules
 ripple carry (a ∷ []) (b ∷ []) carried from = gate (a ∷ b ∷ carried) odd_ones
 ripple carry (a ∷ xs) (b ∷ ys) carried from =
@@ -73,7 +73,7 @@ ripple carry (a ∷ xs) (b ∷ ys) carried from =
     (from + 4))
 ripple carry _ _ carried from = []
 
--- the bits of the result, of which each but the top one is followed by what is carried on
+-- the bits of the result; after each but the top one come the nodes of its carry
 abbrev pub ripple_result : List Pair → (from : ℕ) → List Pair
 ripple_result [] from = []
 ripple_result (a ∷ xs) from = pair_at from ∷ ripple_result xs (from + 4)
@@ -84,7 +84,7 @@ borrow_gates (a ∷ xs) (b ∷ ys) borrowed from =
     gate (a ∷ b ∷ borrowed) borrows ++ borrow_gates xs ys (pair_at from ∷ []) (from + 2)
 borrow_gates _ _ borrowed from = []
 
--- the conjunction of a bit with the next one, of that with the one behind it, and so on
+-- the conjunction of a bit with the next one, of that with the one after it, and so on
 abbrev pub conjunctions : Pair → List Pair → (from : ℕ) → List NodeRules
 conjunctions p [] from = []
 conjunctions p (q ∷ qs) from = gate (p ∷ q ∷ []) all_one ++ conjunctions (pair_at from) qs (from + 2)

@@ -30,7 +30,7 @@ abbrev pub rules_listed : (ℕ → List nodes.Pair) → (request from : ℕ) →
 rules_listed bits request from [] = []
 rules_listed bits request from (g ∷ gs) = part_rules bits request from g ++ rules_listed bits request from gs
 
--- the place of a rail among the nodes of the gates
+-- the index of a rail among the nodes of the gates
 abbrev pub rail_place : (gate : ℕ) → Bool → ℕ
 rail_place zero true = 0
 rail_place zero false = 1
@@ -49,13 +49,13 @@ pub record Valued (vars : List Var) (bits : ℕ → List nodes.Pair) (e : Formul
   pub read : (x i : ℕ) (one : Bool) → reads x e ≡ true → i < var_width vars x
       → v (node_of (nodes.pair_of (bits x) i) one) ≡ now x i one
 
--- A node of these guards, and what they say, is as the rule says.
+-- A node's value and what these guards say of it agree with the rule.
 pub record Told (v : ℕ → Bool) (node : ℕ) (rules : NodeRules) (r : Rule) : Type 0 where
   pub now : v node ≡ r.now
   pub up : guard_holds v rules.up ≡ r.up
   pub down : guard_holds v rules.down ≡ r.down
 
--- The rules that are listed of an expression are those of its gates, in order.
+-- The rules that are listed for an expression are those of its gates, in order.
 pub record Listed (vars : List Var) (e : Formula) : Type 0 where
   pub size : formula_size e ≡ 2 * gate_count e
   pub count : length (block_parts e 0) ≡ gate_count e

@@ -46,7 +46,7 @@ abbrev pub result_inputs : List Input → (from : ℕ) → List Input
 result_inputs [] from = []
 result_inputs (a ∷ us) from = input from ∷ result_inputs us (suc from)
 
--- for each bit the bit of the result and, below the top bit, what is carried on
+-- for each bit the bit of the result and, below the top bit, its carry
 abbrev pub ripple_parts : (List Bool → Bool) → List Input → List Input → (carried : List Input) → (from : ℕ) →
     List BlockPart
 ripple_parts carry [] vs carried from = []
@@ -67,7 +67,7 @@ borrow_parts (a ∷ us) [] borrowed from = []
 borrow_parts (a ∷ us) (b ∷ vs) borrowed from =
     made borrows a (b ∷ borrowed) ∷ borrow_parts us vs (input from ∷ []) (suc from)
 
--- the conjunction of a bit with the next one, of that with the one behind it, and so on
+-- the conjunction of a bit with the next one, of that with the one after it, and so on
 abbrev pub conjunction_parts : Input → List Input → (from : ℕ) → List BlockPart
 conjunction_parts p [] from = []
 conjunction_parts p (q ∷ qs) from = made all_one p (q ∷ []) ∷ conjunction_parts (input from) qs (suc from)

@@ -1,4 +1,4 @@
--- Facts of rails alone, for whoever holds the law of an expression.
+-- Facts of rails alone, for proofs that use the law of an expression.
 use Rattle.std.specs.Prelude.{◌≡◌, ℕ, zero, suc, ◌<◌, Bool, true, false, not, ◌&&◌, Option, Some, None, is_some}
 use Rattle.std.proofs.Common.{refl, sym, ap, ◌∙◌, arith}
 use Rattle.prs_core.specs.Moves.{bit_value, with_bit}
@@ -87,7 +87,7 @@ lows_in (suc n) out h zero false l =
 lows_in (suc n) out h (suc i) one l = lows_in n (λ i. out (suc i))
     (right_of (not (out zero true) && not (out zero false)) _ h) i one (let g : i < n = omega (arith, l) in g)
 
--- a number of at least one bit isn't told by low rails
+-- rails that give a value of at least one bit aren't neutral
 pub told_high : (n : ℕ) (out : Rails) → 0 < n → is_some (value_on n out) ≡ true → neutral_on n out ≡ false
 told_high zero out p h = absurd (let g : ⊥ = omega (arith, p) in g)
 told_high (suc n) out p h = pair (out zero true) (out zero false) (neutral_on n (λ i. out (suc i)))

@@ -16,7 +16,7 @@ abbrev pub side_of : RailLevels → (one : Bool) → Bool
 side_of x true = x.t
 side_of x false = x.f
 
--- the pair with this rail turned over
+-- the pair with this rail flipped
 abbrev pub turned_side : RailLevels → Bool → RailLevels
 turned_side x true = levels_of (not x.t) x.f
 turned_side x false = levels_of x.t (not x.f)
@@ -45,7 +45,7 @@ abbrev pub low_pairs : (n : ℕ) → Pairs n
 low_pairs zero = tt
 low_pairs (suc n) = (levels_of false false, low_pairs n)
 
--- the pair of this number, low behind the last one
+-- the pair of this number, low beyond the last one
 abbrev pub pair_in : (n : ℕ) → Pairs n → ℕ → RailLevels
 pair_in zero u k = levels_of false false
 pair_in (suc n) u zero = u.0

@@ -62,7 +62,7 @@ wet look (made f i more) = list_any some (inputs_taken look (i ∷ more))
 wet look _ = false
 
 -- What holds of a gate: one rail at most; the rails go with their guards; and while the request is low a gate is
--- neutral only behind neutral inputs.
+-- neutral only if its inputs are.
 abbrev pub legal : (request ut uf wet : Bool) → RailLevels → Bool
 legal r ut uf w p = single p && (binds r p.t ut && (binds r p.f uf && implies (not r && w) (some p)))
 

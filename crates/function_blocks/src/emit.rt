@@ -10,7 +10,7 @@ ghost use Rattle.handshake_expand.specs.Layout.{formula_size};
 ghost use Rattle.function_blocks.specs.Expressions.{formula_result};
 ghost use Rattle.function_blocks.specs.Blocks.{bits_in_blocks, AreBelow, HasBit};
 ghost use Rattle.function_blocks.specs.BitsRead.{EachRead, bits_read};
-ghost use Rattle.function_blocks.specs.ExpressionParts.{IsOutside, AreDistinct, expression_part, expression_owned, rails_read};
+ghost use Rattle.function_blocks.specs.ExpressionParts.{IsOutside, AreDistinct, InItsMoments, IsWhollyNeutral, IsWhollyValid, WaitsAtRest, expression_part, expression_owned, rails_read};
 
 use crate::expression::expr_drivers;
 use crate::node::{NodeGuards, rails_of};
@@ -48,11 +48,14 @@ fn give(guards: Vec<NodeGuards>, from: u32, rules: &mut Rules)
 }
 
 /// Writes the guards of the nodes of an expression's circuit (Martin), which are numbered from `from` on, and no
-/// others, and answers the rails of its value: rail t and rail f of each bit, the lowest bit first. Under `request` the
+/// others, and returns the rails of its value: rail t and rail f of each bit, the lowest bit first. Under `request` the
 /// rails rise to the value, and when it falls they fall. `vars` has for each variable the first node of its block,
 /// which begins with five nodes for each bit, the first two of them the bit's rails. The request and the rails that are
 /// read are none of the own nodes, and the request is none of the rails. Where memory runs out, nothing is written.
-/// Where no two of the bits that are read share a node, the circuit keeps the contract of an expression alone.
+/// Where no two of the bits that are read share a node, the circuit keeps the contract of an expression alone: a rail of
+/// the result that rises is that of the value's bit. Once the whole result is valid under the request, so is every
+/// gate's, and once it is neutral without the request, so is every gate's; at rest the circuit waits for its request or
+/// for a bit that is read.
 pub fn emit_expr(
     alloc: Global,
     e: &TExpr,
@@ -78,6 +81,12 @@ pub fn emit_expr(
         → IsAlone rules.old rules.new node }
     ensures keeps { AreDistinct (bits_read (bits_in_blocks vars.now) (formula_of e.now))
         → Keeps (expression_part (bits_in_blocks vars.now) (formula_of e.now) request from) }
+    ensures valid { AreDistinct (bits_read (bits_in_blocks vars.now) (formula_of e.now))
+        → InItsMoments IsWhollyValid (bits_in_blocks vars.now) (formula_of e.now) request from }
+    ensures neutral { AreDistinct (bits_read (bits_in_blocks vars.now) (formula_of e.now))
+        → InItsMoments IsWhollyNeutral (bits_in_blocks vars.now) (formula_of e.now) request from }
+    ensures waits { AreDistinct (bits_read (bits_in_blocks vars.now) (formula_of e.now))
+        → InItsMoments WaitsAtRest (bits_in_blocks vars.now) (formula_of e.now) request from }
 {
     // tells the proof that there are fewer than 2^32 nodes, so that the numbers from `from` on fit
     let _count = rules.nodes();

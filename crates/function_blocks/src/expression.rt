@@ -67,7 +67,7 @@ pub fn read_drivers(
     Ok(())
 }
 
-/// The bits turned over.
+/// The negated bits.
 fn exchanged(alloc: Global, bits: &[Bit]) -> Result<Vec<Bit>, AllocError>
     ensures { IfOk result (λ turned. turned.items ≡ map exchanged bits.now) }
 {
@@ -78,7 +78,7 @@ fn exchanged(alloc: Global, bits: &[Bit]) -> Result<Vec<Bit>, AllocError>
     Ok(turned)
 }
 
-/// Adds the drivers of an expression's nodes, and answers the bits of its value. The first of all drivers is that of
+/// Adds the drivers of an expression's nodes, and returns the bits of its value. The first of all drivers is that of
 /// node `from`.
 pub fn expr_drivers(
     alloc: Global,

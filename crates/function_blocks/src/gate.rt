@@ -11,13 +11,13 @@ use crate::node::Bit;
 use prs_core::{Guard, Term, all_of, high, low};
 use std::alloc::{AllocError, Global};
 
-/// The truth function of a gate. An input's value stands in a row of the truth table at the input's place.
+/// The truth function of a gate. Each row of the truth table has an input's value at the input's index.
 #[derive(Clone, Copy, Debug, PartialEq, Eq)]
 pub enum Function {
     And,
     Or,
     Xor,
-    /// The exclusive or turned over: of two inputs, whether they are equal.
+    /// The negated exclusive or: of two inputs, whether they are equal.
     Equal,
     /// Whether at least two of three inputs are 1, or both of two.
     Carry,
@@ -182,7 +182,7 @@ fn all_neutral(alloc: Global, inputs: &[Bit]) -> Result<Guard, AllocError>
 }
 
 /// The guard by which a rail of a gate rises: it holds on the rows on which the function has this value. The gate has
-/// two inputs, or three where something is carried on from below.
+/// two inputs, or three where there is a carry from below.
 pub fn gate_rows(
     alloc: Global,
     function: Function,

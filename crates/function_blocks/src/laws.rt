@@ -1,6 +1,6 @@
 //! Laws of the circuits of expressions.
 
-ghost use Rattle.std.specs.Prelude.{◌≡◌, List, ℕ, ◌/◌, ◌%◌, ◌^◌, ◌<◌, ◌==◌, Bool, true, false, Some, Contains, length};
+ghost use Rattle.std.specs.Prelude.{◌≡◌, List, ℕ, ◌/◌, ◌%◌, ◌^◌, ◌<◌, ◌==◌, Bool, true, Some, length};
 ghost use Rattle.std.specs.List.{list_all};
 ghost use Rattle.prs_core.specs.Moves.{rail_value_of};
 ghost use Rattle.prs_core.specs.Pairs.{Pair, pair_of, rails_of};
@@ -12,8 +12,8 @@ ghost use Rattle.handshake_expand.specs.Layout.{formula_size};
 ghost use Rattle.function_blocks.specs.Expressions.{HasBits, formula_result, formula_rules};
 ghost use Rattle.function_blocks.specs.Waves.{Waves};
 ghost use Rattle.function_blocks.specs.Listed.{Listed, node_of};
-ghost use Rattle.function_blocks.specs.ExpressionParts.{InEachMoment, StandsApart, ExpressionRests, expression_part, inner_bits, value_seen};
-ghost use Rattle.prs_core.specs.Parts.{Keeps, Owned, all_low, fires, is_valid, owned_from};
+ghost use Rattle.function_blocks.specs.ExpressionParts.{InEachMoment, IsWhollyNeutral, IsWhollyValid, StandsApart, WaitsAtRest, expression_part, value_seen};
+ghost use Rattle.prs_core.specs.Parts.{Keeps, is_valid};
 
 /// Law: the value of a well-formed expression has as many bits as the expression's width.
 pub fn bits_counted()
@@ -50,23 +50,17 @@ pub fn expressions_keep()
 /// Law: where no rule of the circuit is enabled it waits for its request, or, while that is low, for a bit that is read
 /// and isn't valid.
 pub fn expressions_wait()
-    ensures { InEachMoment (λ bits e request from m.
-        ((o : Owned) → Contains (owned_from from (formula_rules bits e request from)) o → fires m.value o ≡ false)
-        → ExpressionRests bits e request from m) }
+    ensures { InEachMoment WaitsAtRest }
 {}
 
 /// Law: where the request is high and all bits of the result are valid, all inner bits are valid.
 pub fn all_valid()
-    ensures { InEachMoment (λ bits e request from m.
-        m.value request ≡ true → list_all (is_valid m.value) (formula_result e from) ≡ true
-        → list_all (is_valid m.value) (inner_bits e from) ≡ true) }
+    ensures { InEachMoment IsWhollyValid }
 {}
 
 /// Law: where the request is low and all rails of the result are low, all inner rails are low.
 pub fn all_neutral()
-    ensures { InEachMoment (λ bits e request from m.
-        m.value request ≡ false → all_low m.value (rails_of (formula_result e from)) ≡ true
-        → all_low m.value (rails_of (inner_bits e from)) ≡ true) }
+    ensures { InEachMoment IsWhollyNeutral }
 {}
 
 /// Law: where the request is high, each rail of the result that is high is that of the value's bit, and once all bits

@@ -61,7 +61,7 @@ impl Bit {
         if one { self.t } else { self.f }
     }
 
-    /// The bit turned over.
+    /// The negated bit.
     pub fn exchanged(&self) -> Bit
         ensures { result ≡ exchanged self.now }
     {
@@ -72,7 +72,7 @@ impl Bit {
     }
 }
 
-/// So many bits, the first one's rails at `from`, and each further one's `step` nodes behind those of the one before.
+/// So many bits, the first one's rails at `from`, and each further one's `step` nodes after those of the one before.
 pub fn bits_apart(alloc: Global, step: u32, count: u8, from: u32) -> Result<Vec<Bit>, AllocError>
     requires { from + step * count + 2 ≤ 2 ^ 32 + step }
     ensures { IfOk result (λ bits. bits.items ≡ bits_apart step count from) }

@@ -12,7 +12,7 @@ use crate::rail::RailDriver;
 use chp_syntax::Op;
 use std::alloc::{AllocError, Global};
 
-/// Adds the drivers of the rails of a gate of two inputs, or of three where something is carried on from below.
+/// Adds the drivers of the rails of a gate of two inputs, or of three where there is a carry from below.
 fn gate_over(
     function: Function,
     left: &Bit,
@@ -28,7 +28,7 @@ fn gate_over(
     Ok(())
 }
 
-/// Adds a gate for each place of the two numbers.
+/// Adds a gate for each bit of the two numbers.
 fn bitwise(
     function: Function,
     left: &[Bit],
@@ -44,7 +44,7 @@ fn bitwise(
     Ok(())
 }
 
-/// Adds a gate for each place of the two numbers, and answers their bits. They are numbered from `from` on.
+/// Adds a gate for each bit of the two numbers, and returns their bits. They are numbered from `from` on.
 #[tactic(auto, using(crate::proofs::Emitted::results_apart))]
 fn each_place(
     alloc: Global,
@@ -65,9 +65,8 @@ fn each_place(
     bits_apart(alloc, 2, left.len() as u8, from)
 }
 
-/// Adds for each place the gate of the result's bit and, below the top place, that of what is carried on, and answers
-/// the result's bits. No gate carries on from the top place: nothing would wait for its rails. The gates' nodes are
-/// numbered from `from` on.
+/// Adds for each bit the gate of the result's bit and, below the top bit, that of its carry, and returns the result's
+/// bits. The top bit has no carry: nothing would wait for its rails. The gates' nodes are numbered from `from` on.
 #[tactic(auto, using(crate::proofs::Emitted::ripples_apart))]
 fn ripple(
     alloc: Global,
@@ -104,7 +103,7 @@ fn ripple(
     bits_apart(alloc, 4, left.len() as u8, from)
 }
 
-/// Adds the gate of the borrow of each place, and answers the top one: whether the left number is less.
+/// Adds the gate of the borrow of each bit, and returns the top one: whether the left number is less.
 fn less(
     left: &[Bit],
     right: &[Bit],
@@ -133,7 +132,7 @@ fn less(
     Ok(Bit::at(node - 2))
 }
 
-/// Adds the gates of each place's equality, then those of the conjunctions, from the lowest place on, and answers the
+/// Adds the gates of each bit's equality, then those of the conjunctions, from the lowest bit on, and returns the
 /// last one: whether the numbers are equal.
 fn equal(
     alloc: Global,
@@ -170,7 +169,7 @@ fn alone(alloc: Global, bit: Bit) -> Result<Vec<Bit>, AllocError>
     Ok(bits)
 }
 
-/// Adds the gates of an operator on two numbers of one width, from 1 to 64 bits, and answers the bits of its result.
+/// Adds the gates of an operator on two numbers of one width, from 1 to 64 bits, and returns the bits of its result.
 /// The gates' nodes are numbered from `from` on.
 pub fn operator(
     alloc: Global,

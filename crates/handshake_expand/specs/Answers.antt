@@ -1,27 +1,27 @@
--- Which node answers a statement's request, and where its parts begin, where its own nodes are numbered from `from` on.
+-- Which node answers a statement's request, and where its parts begin, if its own nodes are numbered from `from` on.
 use Rattle.std.specs.Prelude.{ℕ, ◌+◌, ◌-◌, ◌*◌, if◌then◌else◌}
 use Rattle.width_check.specs.Processes.{Process, assigning, in_turn, side_by_side, Processes, no_members, and_member, Choices, choice_count, TypedProgram}
 use Rattle.width_check.specs.Typing.{var_width}
 use Rattle.handshake_expand.specs.Layout.{formula_size, block_size, size_of, guards_size}
 use Rattle.width_check.specs.Reads.{reads}
 
--- the second answer of an assignment through a hidden variable stands behind its block, its Q-element, and its first
+-- the second answer of an assignment through a hidden variable comes after its block, its Q-element, and its first
 -- answer with the expression
 abbrev pub second_answer : TypedProgram → (x from size : ℕ) → ℕ
 second_answer p x from size = from + block_size (var_width p.vars x) + 3 + 1 + size
 
--- the q rails of a receive stand behind its two answers
+-- the q rails of a receive come after its two answers
 abbrev pub written_from : ℕ → ℕ
 written_from from = from + 2
 
--- the branches of a selection stand behind its own nodes and the guards
+-- the guards of a selection come after its own nodes and each guard's latch and start, its branches after the guards
 abbrev pub guards_from : Choices → (own from : ℕ) → ℕ
 guards_from choices own from = from + own + 2 * choice_count choices
 
 abbrev pub bodies_from : Choices → (own from : ℕ) → ℕ
 bodies_from choices own from = guards_from choices own from + guards_size choices
 
--- so many nodes of its own has a selection beside one latch and one start for each guard, and a guarded repetition
+-- the number of own nodes of a selection, and of a guarded repetition, not counting a latch and a start for each guard
 abbrev pub select_own : ℕ
 select_own = 3
 

@@ -11,7 +11,7 @@ use Rattle.width_check.specs.Values.{width_of}
 use Rattle.width_check.specs.Typing.{channel_width, var_width}
 use Rattle.width_check.specs.Reads.{reads}
 
--- a number as it is counted: the greatest one of 64 bits stands for all above it
+-- a number as it is counted: it saturates at the greatest one of 64 bits
 abbrev pub capped : ℕ → ℕ
 capped n = min n (2 ^ 64 - 1)
 
@@ -136,6 +136,6 @@ body_from p = root_request p + 2
 abbrev pub nodes_of : TypedProgram → ℕ
 nodes_of p = body_from p + size_of p p.body
 
--- the same, as far as it is counted
+-- the same, saturated
 abbrev pub node_count : TypedProgram → ℕ
 node_count p = capped (nodes_of p)

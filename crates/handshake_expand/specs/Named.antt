@@ -7,7 +7,7 @@ use Rattle.width_check.specs.declared.typed.Var.{Var}
 use Rattle.width_check.specs.Processes.{TypedProgram}
 use Rattle.handshake_expand.specs.Layout.{block_size, vars_from, root_request, size_of}
 
--- every other node is called by its number behind an n: those of statements and trees, of the root and of hidden
+-- every other node is named by an n and its number: those of statements and trees, of the root and of hidden
 -- variables
 abbrev pub numbered : ℕ → List ℕ
 numbered node = codes "n" ++ decimal node

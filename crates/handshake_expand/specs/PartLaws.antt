@@ -6,7 +6,7 @@ use Rattle.handshake_expand.specs.Expansions.{BlockValue, Expansion, expansion}
 use Rattle.handshake_expand.specs.Layout.{size_of, nodes_of}
 use Rattle.handshake_expand.specs.PartTree.{PartTree, part, PartTrees, no_children, and_child}
 
--- the nodes from one on, so many
+-- `count` nodes from `from` on
 pub record Range : Type 0 where
   pub from : ℕ
   pub count : ℕ
@@ -17,7 +17,7 @@ range from count = record { from = from; count = count }
 abbrev pub Has : Range → (node : ℕ) → Type 0
 Has r node = (r.from ≤ node) × (node < r.from + r.count)
 
--- the whole range lies in the other one, and before it
+-- the whole range lies within the other one; the whole range lies before the other one
 abbrev pub LiesIn : Range → Range → Type 0
 LiesIn r outer = (outer.from ≤ r.from) × (r.from + r.count ≤ outer.from + outer.count)
 
@@ -31,7 +31,7 @@ abbrev pub ranges_of : PartTrees → List Range
 ranges_of no_children = []
 ranges_of (and_child child more) = range_of child ∷ ranges_of more
 
--- the children of each part lie in it, one before the other
+-- the children of each part lie within it, one after another
 abbrev mutual
   pub IsNested : PartTree → Type 0
   IsNested (part kind request answer from count children) =

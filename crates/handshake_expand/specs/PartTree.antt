@@ -12,7 +12,7 @@ use Rattle.handshake_expand.specs.declared.parts.PartKind.TheVariants.{Root, Ski
 use Rattle.handshake_expand.specs.Layout.{size_of, go_node, done_node, root_request, body_from}
 use Rattle.handshake_expand.specs.Answers.{answer_of, bodies_from, select_own, again_own}
 
--- a part: its request, its answer, the first of its nodes and how many it has, and the parts that lie in it
+-- a part: its request, its answer, the first of its nodes and how many it has, and the parts in it
 mutual
   pub data PartTree : Type 0 where
     part : PartKind → (request answer from count : ℕ) → PartTrees → PartTree
@@ -31,11 +31,11 @@ part_kind (side_by_side _) = Parallel
 part_kind (choosing again _) = if again then Again else Select
 part_kind (repeating s) = Loop
 
--- a statement's part has all of its nodes, those of the statements in it as well
+-- a statement's part has all of its nodes, including those of the statements in it
 abbrev pub part_over : TypedProgram → Process → (request from : ℕ) → PartTrees → PartTree
 part_over p s request from children = part (part_kind s) request (answer_of p s from) from (size_of p s) children
 
--- how many nodes stand before a selection's latches
+-- how many nodes come before a selection's latches
 abbrev pub own_before : (again : Bool) → ℕ
 own_before again = if again then again_own else select_own
 
@@ -54,7 +54,7 @@ abbrev mutual
       part_over p (repeating s) request from (and_child (expanded p s (from + 1) (from + 2)) no_children)
   expanded p s request from = part_over p s request from no_children
 
-  -- each member but the last stands behind a Q-element, whose next request is that of what follows
+  -- each member but the last is the child of a Q-element, whose next request is that of what follows
   pub expanded_in_turn : TypedProgram → Processes → (request from : ℕ) → PartTrees
   expanded_in_turn p no_members request from = no_children
   expanded_in_turn p (and_member s no_members) request from = and_child (expanded p s request from) no_children
@@ -62,13 +62,13 @@ abbrev mutual
       and_child (expanded p s from (from + 3))
       (expanded_in_turn p (and_member t more) (from + 2) (from + 3 + size_of p s))
 
-  -- each branch stands behind a Q-element
+  -- each branch is the child of a Q-element
   pub expanded_branches : TypedProgram → Processes → (from : ℕ) → PartTrees
   expanded_branches p no_members from = no_children
   expanded_branches p (and_member s more) from =
       and_child (expanded p s from (from + 3)) (expanded_branches p more (from + 3 + size_of p s))
 
-  -- each branch stands under its start
+  -- the request of each branch is its start
   pub expanded_bodies : TypedProgram → Choices → (start from : ℕ) → PartTrees
   expanded_bodies p no_choices start from = no_children
   expanded_bodies p (and_choice g s more) start from =

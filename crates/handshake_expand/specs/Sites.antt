@@ -7,8 +7,8 @@ use Rattle.handshake_expand.specs.declared.site.SiteKind.TheVariants.{Send, Rece
 use Rattle.handshake_expand.specs.Layout.{size_of, body_from}
 use Rattle.handshake_expand.specs.Answers.{answer_of, bodies_from, select_own, again_own}
 
--- What the statements of a program contribute at their places, in text order; a statement that is made of others
--- contributes nothing of its own.
+-- What the statements of a program contribute at their positions, in text order; a statement made of others contributes
+-- nothing of its own.
 abbrev pub Sites : Type 0 → Type 0
 Sites A = Process → (from : ℕ) → List A
 
@@ -43,8 +43,8 @@ in_body p site = sites_in p site p.body (body_from p)
 abbrev pub site_node : SiteKind → ℕ → SiteNode
 site_node kind node = record { kind = kind; node = node }
 
--- Each site with the first of its own nodes. A write's is the node that answers it, behind which the rails stand by
--- which the variable is written: that of the second assignment, where there are two, and that of the store, in a
+-- Each site with the first of its own nodes. For a write this is the node that answers it, followed by the rails by
+-- which the variable is written: the answer of the second assignment, if there are two, and of the store, in a
 -- receive.
 abbrev pub own_sites : TypedProgram → Sites SiteNode
 own_sites p (assigning x at e) from = site_node (Write x) (answer_of p (assigning x at e) from) ∷ []

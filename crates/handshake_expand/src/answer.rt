@@ -14,7 +14,7 @@ use crate::count::{block_nodes, statement_nodes, var_bits};
 use crate::expr::{expr_nodes, reads};
 use width_check::{TExpr, TStmt, Typed};
 
-/// The node that answers an assignment: its first one or, where it goes through a hidden variable, the one by which the
+/// The node that answers an assignment: its first one or, if it goes through a hidden variable, the one by which the
 /// second assignment answers.
 fn assign_answer(program: &Typed, var: u32, value: &TExpr, from: u32) -> u32
     requires formed { IsWellFormed (formula_of value.now) }

@@ -13,7 +13,7 @@ use crate::site::{SiteKind, SiteNode};
 use std::alloc::{AllocError, Global};
 use width_check::Typed;
 
-/// A block of so many nodes, still without sites.
+/// A block of `count` nodes, still without sites.
 fn empty_block(alloc: Global, from: u32, count: u32) -> Block
     ensures { block_value result ≡ record { from = from; count = count; sends = []; receives = []; writes = [] } }
 {
@@ -26,7 +26,7 @@ fn empty_block(alloc: Global, from: u32, count: u32) -> Block
     }
 }
 
-/// The blocks of the channels, still without sites, and the first node behind them.
+/// The blocks of the channels, still without sites, and the first node after them.
 pub(crate) fn channel_blocks(
     alloc: Global,
     program: &Typed,
@@ -45,7 +45,7 @@ pub(crate) fn channel_blocks(
     Ok((blocks, next))
 }
 
-/// The blocks of the variables, still without sites, and the first node behind them.
+/// The blocks of the variables, still without sites, and the first node after them.
 pub(crate) fn var_blocks(
     alloc: Global,
     program: &Typed,
@@ -66,7 +66,7 @@ pub(crate) fn var_blocks(
     Ok((blocks, next))
 }
 
-/// Notes a site at the block of its channel or variable.
+/// Records a site in the block of its channel or variable.
 fn place_site(site: SiteNode, channels: &mut [Block], vars: &mut [Block]) -> Result<(), AllocError>
     ensures channels { OnOk result ((p : TypedProgram) (before : List Site) →
         map block_value channels.old ≡ channel_blocks p before →
@@ -94,7 +94,7 @@ fn place_site(site: SiteNode, channels: &mut [Block], vars: &mut [Block]) -> Res
     Ok(())
 }
 
-/// Notes each site at the block of its channel or variable.
+/// Records each site in the block of its channel or variable.
 pub(crate) fn place_sites(
     sites: &[SiteNode],
     channels: &mut [Block],

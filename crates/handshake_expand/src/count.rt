@@ -12,7 +12,7 @@ ghost use Rattle.handshake_expand.specs.PartTree.{HasFormedGuards};
 use crate::expr::{expr_nodes, reads};
 use width_check::{TArm, TExpr, TStmt, Typed};
 
-/// The number of bits of a channel; a channel that the program hasn't counts 0.
+/// The number of bits of a channel; 0 for a channel that the program doesn't have.
 #[tactic(auto, using(crate::proofs::Rows::channel_found, crate::proofs::Rows::no_channel))]
 fn channel_bits(program: &Typed, chan: u32) -> u8
     ensures { result ≡ channel_width program.now.channels chan }
@@ -23,7 +23,7 @@ fn channel_bits(program: &Typed, chan: u32) -> u8
     }
 }
 
-/// The number of bits of a variable; a variable that the program hasn't counts 0.
+/// The number of bits of a variable; 0 for a variable that the program doesn't have.
 #[tactic(auto, using(crate::proofs::Rows::var_found, crate::proofs::Rows::no_var))]
 pub(crate) fn var_bits(program: &Typed, var: u32) -> u8
     ensures { result ≡ var_width program.now.vars var }
@@ -55,15 +55,15 @@ fn assign_nodes(program: &Typed, var: u32, value: &TExpr) -> u64
     }
 }
 
-/// How many nodes a selection or a guarded repetition has beside the latch and the start of each guard.
+/// How many nodes a selection or a guarded repetition has, not counting the latch and the start of each guard.
 pub(crate) fn own_nodes(again: bool) -> u64
     ensures { result ≡ if again then again_own else select_own }
 {
     if again { 6 } else { 3 }
 }
 
-/// How many nodes a statement of the program has, those of the statements in it among them; 2^64 - 1 stands for all
-/// numbers above it.
+/// How many nodes a statement of the program has, including those of the statements in it; the count saturates at
+/// 2^64 - 1.
 pub fn statement_nodes(program: &Typed, s: &TStmt) -> u64
     requires { IsProcess program.now.channels program.now.vars (process_of s.now) }
     ensures { result ≡ capped (size_of (program_of program.now) (process_of s.now)) }
@@ -106,7 +106,7 @@ pub fn statement_nodes(program: &Typed, s: &TStmt) -> u64
     }
 }
 
-/// How many nodes the guards have together; 2^64 - 1 stands for all numbers above it.
+/// How many nodes the guards have together; the count saturates at 2^64 - 1.
 pub(crate) fn guard_nodes(arms: &[TArm]) -> u64
     requires { HasFormedGuards (choices_in arms.now) }
     ensures { result ≡ capped (guards_size (choices_in arms.now)) }
@@ -118,7 +118,7 @@ pub(crate) fn guard_nodes(arms: &[TArm]) -> u64
     count
 }
 
-/// How many nodes the circuit of a program has; 2^64 - 1 stands for all numbers above it.
+/// How many nodes the circuit of a program has; the count saturates at 2^64 - 1.
 pub fn count_nodes(program: &Typed) -> u64
     ensures { result ≡ node_count (program_of program.now) }
 {

@@ -20,7 +20,7 @@ pub fn operator_nodes(op: Op, width: u8) -> u64
     }
 }
 
-/// How many nodes the circuit of a well-formed expression has; 2^64 - 1 stands for all numbers above it.
+/// How many nodes the circuit of a well-formed expression has; the count saturates at 2^64 - 1.
 pub fn expr_nodes(e: &TExpr) -> u64
     requires { IsWellFormed (formula_of e.now) }
     ensures { result ≡ capped (formula_size (formula_of e.now)) }

@@ -19,7 +19,7 @@ pub fn blocks_cover()
         IsIn (outer_ranges (expansion p)) node }
 {}
 
-/// Law: the parts in a part lie in it, one before the other.
+/// Law: the parts in a part lie within it, one after another.
 pub fn parts_nest()
     ensures { (p : TypedProgram) → IsNested (root_part p) }
 {}

@@ -10,7 +10,7 @@ use chp_base::Channel;
 use itoa::Buffer;
 use width_check::{Typed, Var};
 
-/// Writes the text from a place on, and answers the place behind it.
+/// Writes the text at an index of the buffer, and returns the index after it.
 fn put(buffer: &mut [u8], at: usize, text: &[u8]) -> usize
     requires { at + length text.now ≤ length buffer.old }
     ensures end { result ≡ at + length text.now }
@@ -31,7 +31,7 @@ fn put_number(buffer: &mut [u8], at: usize, number: u32) -> usize
     put(buffer, at, digits.format(number).as_bytes())
 }
 
-/// Writes the name of a node that is called by its number.
+/// Writes the name of a node that is named by its number.
 pub(crate) fn numbered_name(node: u32, buffer: &mut [u8]) -> usize
     requires { 32 ≤ length buffer.old }
     ensures name { take result buffer.new ≡ numbered node }
@@ -41,7 +41,7 @@ pub(crate) fn numbered_name(node: u32, buffer: &mut [u8]) -> usize
     put_number(buffer, at, node)
 }
 
-/// Writes a name, the number of one of its bits, and what stands behind that.
+/// Writes a name, the number of one of its bits, and the tail after that.
 fn bit_name(name: &[u8], bit: u32, tail: &[u8], buffer: &mut [u8]) -> usize
     requires name { length name.now ≤ 24 }
     requires bit { bit < 64 }
@@ -75,7 +75,7 @@ fn wire_name(channel: &Channel, wire: u32, buffer: &mut [u8]) -> usize
     }
 }
 
-/// What stands behind the number of a bit in the names of its five nodes.
+/// What follows the number of a bit in the name of the node at this index among its five.
 fn bit_tail(place: u32) -> &'static [u8]
     requires { place < 5 }
     ensures tail { result.now ≡ slice_index_or bit_tails place [] }
@@ -101,7 +101,7 @@ fn var_name(var: &Var, node: u32, buffer: &mut [u8]) -> usize
     bit_name(var.name.bytes(), node / 5, bit_tail(node % 5), buffer)
 }
 
-/// Writes the name of the node to the front of the buffer, and answers its length, which is at most 32.
+/// Writes the name of the node at the beginning of the buffer, and returns its length in bytes, which is at most 32.
 pub fn node_name(program: &Typed, node: u32, buffer: &mut [u8; 32]) -> usize
     requires { node < nodes_of (program_of program.now) }
     ensures name { take result buffer.new ≡ name_of_node (program_of program.now) node }
@@ -112,7 +112,7 @@ pub fn node_name(program: &Typed, node: u32, buffer: &mut [u8; 32]) -> usize
         1 => return put(buffer, 0, b"done"),
         _ => {}
     }
-    // what the program's type keeps is told of its body
+    // brings the invariant of the program's type into scope
     let _body = program.body();
     let mut place = node - 2;
     for channel in program.channels() {

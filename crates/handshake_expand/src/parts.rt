@@ -21,8 +21,8 @@ pub enum PartKind {
     Again,
 }
 
-/// A part: the node that asks it and the node that answers, the first of its nodes and how many it has, those of the
-/// parts in it among them, and these parts in text order.
+/// A part: its request node and its answer node, the first of its nodes and how many it has, including those of the
+/// parts in it, and these parts in text order.
 #[derive(Debug, Drop)]
 pub struct Part {
     pub kind: PartKind,

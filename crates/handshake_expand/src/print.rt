@@ -79,15 +79,15 @@ fn kind_word(kind: PartKind) -> &'static [u8]
     }
 }
 
-/// Writes a node's name, where `root` is the first node of the root: from there on nodes are called by their numbers,
-/// so that no declaration has to be looked at.
+/// Writes a node's name, where `root` is the first node of the root: from there on nodes are named by their numbers,
+/// so no declaration has to be looked up.
 fn name_from(program: &Typed, root: u32, node: u32, buffer: &mut [u8; 32]) -> usize
     requires root { root ≡ root_request (program_of program.now) }
     requires node { node < nodes_of (program_of program.now) }
     ensures name { take result buffer.new ≡ name_of_node (program_of program.now) node }
     ensures within { result ≤ 32 }
 {
-    // what the program's type keeps is told of its body
+    // brings the invariant of the program's type into scope
     let _body = program.body();
     if node < root {
         node_name(program, node, buffer)
@@ -96,7 +96,7 @@ fn name_from(program: &Typed, root: u32, node: u32, buffer: &mut [u8; 32]) -> us
     }
 }
 
-/// Appends the line of a part behind the margin, where these are the names of its request and its answer.
+/// Appends the line of a part after the margin, given the names of its request and its answer.
 fn named_line(
     part: &Part,
     request: &[u8],
@@ -121,7 +121,7 @@ fn named_line(
     )
 }
 
-/// Appends the line of a part behind the margin.
+/// Appends the line of a part after the margin.
 fn part_line(
     program: &Typed,
     root: u32,
@@ -149,7 +149,7 @@ fn part_line(
     )
 }
 
-/// Appends the lines of a part and of those in it, which stand two spaces further to the right.
+/// Appends the lines of a part and of those in it, which are indented by two more spaces.
 fn part_lines(
     program: &Typed,
     root: u32,
@@ -172,12 +172,12 @@ fn part_lines(
     Ok(())
 }
 
-/// The text of the tree of parts of a program, whose parts these are.
+/// The text of the tree of parts of a program, given its parts.
 pub fn print_parts(alloc: Global, program: &Typed, parts: &Parts) -> Result<Vec<u8>, AllocError>
     requires { expansion_of parts.now ≡ expansion (program_of program.now) }
     ensures { IfOk result (λ text. text.items ≡ parts_text (program_of program.now) (expansion_of parts.now)) }
 {
-    // what the program's type keeps is told of its body
+    // brings the invariant of the program's type into scope
     let _body = program.body();
     let mut text = Vec::new(alloc);
     channel_lines(program, &parts.channels, &mut text)?;

@@ -26,8 +26,7 @@ pub(crate) struct SiteNode {
     pub node: u32,
 }
 
-/// Notes the sites of a statement whose nodes are numbered from `from` on; those of the statements in it aren't its
-/// own.
+/// Records the sites of a statement whose nodes are numbered from `from` on, without those of the statements in it.
 pub(crate) fn note_sites(
     program: &Typed,
     s: &TStmt,

@@ -47,7 +47,7 @@ fn part_kind(s: &TStmt) -> PartKind
     }
 }
 
-/// The part of a statement in which no other stands.
+/// The part of a statement that contains no other.
 fn single(
     alloc: Global,
     program: &Typed,
@@ -74,8 +74,8 @@ fn single(
     })
 }
 
-/// The part of a sequence. Each member but the last stands behind a Q-element of three nodes: its request, the latch,
-/// and the request of what follows.
+/// The part of a sequence. Each member but the last is the child of a Q-element of three nodes: the child's request,
+/// the latch, and the request of what follows.
 #[cycle(parts)]
 fn sequence(
     alloc: Global,
@@ -117,8 +117,8 @@ fn sequence(
     })
 }
 
-/// The part of a parallel composition. Each branch stands behind a Q-element; a completion tree over the branches comes
-/// last, with one node fewer than there are branches.
+/// The part of a parallel composition. Each branch is the child of a Q-element; a completion tree over the branches
+/// comes last, with one node fewer than there are branches.
 #[cycle(parts)]
 fn parallel(
     alloc: Global,
@@ -197,7 +197,7 @@ fn selection(
     })
 }
 
-/// The part of a statement whose nodes are numbered from `from` on and which this node asks; its sites are noted.
+/// The part of a statement with this request node, whose nodes are numbered from `from` on; its sites are recorded.
 #[cycle(parts)]
 fn part(
     alloc: Global,
@@ -235,7 +235,7 @@ fn part(
     }
 }
 
-/// The root, whose child request and latch stand before the nodes of the body; the sites are noted.
+/// The root, whose child request and latch come before the nodes of the body; the sites are recorded.
 fn root(
     alloc: Global,
     program: &Typed,

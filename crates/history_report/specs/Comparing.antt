@@ -1,4 +1,4 @@
--- How the histories of a run stand against those of a program's rounds.
+-- How the histories of a run compare with those of a program's rounds.
 use Rattle.std.specs.Prelude.{◌≡◌, ◌≢◌, ℕ, ◌<◌, List, [], ◌∷◌, ◌++◌, length, take, slice_get, codes, decimal}
 use Rattle.std.specs.List.{concat}
 use Rattle.prs_core.specs.Nets.{NetValue}
@@ -13,12 +13,12 @@ use Rattle.history_report.specs.declared.comparison.Against.{Against}
 use Rattle.history_report.specs.declared.comparison.Against.TheVariants.{Agrees, Channels, Differs}
 use Rattle.history_report.specs.Reports.{channel_name}
 
--- the second list is the first one and what comes behind it
+-- the first list is a prefix of the second
 abbrev pub IsFrontOf : List ℕ → List ℕ → Type 0
 IsFrontOf xs ys = (rest : List ℕ) × (ys ≡ xs ++ rest)
 
--- The first place at which the first list isn't the second: before it they are alike, and there the first has a number
--- that the second hasn't there.
+-- The first index at which the first list differs from the second: before it they are alike, and there the first has a
+-- number that the second doesn't have there.
 pub record IsFirstDifference (xs ys : List ℕ) (place : ℕ) : Type 0 where
   pub alike : take place xs ≡ take place ys
   pub within : place < length xs
@@ -35,8 +35,8 @@ rounds_history r p script chan = history_at (rounds p script r.moves).histories 
 abbrev pub IsBehindRounds : RanValue → TypedProgram → List OfferValue → (chan : ℕ) → Type 0
 IsBehindRounds r p script chan = IsFrontOf (run_history r chan) (rounds_history r p script chan)
 
--- The run's net has other channels than the program. Or it has the same, and on the first channel on which the run
--- isn't behind the rounds this is the first place that differs. Or it is behind them on each.
+-- The run's net has other channels than the program. Or it has the same, and on the first channel on which the run's
+-- history is no prefix of that of the rounds this is the first index that differs. Or it is a prefix on each.
 abbrev pub IsAgainst : RanValue → TypedProgram → List OfferValue → Against → Type 0
 IsAgainst r p script Channels = net_channels r.net ≢ p.channels
 IsAgainst r p script (Differs chan place) = (net_channels r.net ≡ p.channels) × (chan < length p.channels)
@@ -50,7 +50,7 @@ abbrev pub IsAgainstIn : NetValue → Against → Type 0
 IsAgainstIn net (Differs chan place) = chan < length net.channels
 IsAgainstIn net _ = Unit {0}
 
--- the line of a report that tells it
+-- the line of a report that states it
 abbrev pub against_line : NetValue → Against → List ℕ
 against_line net Agrees = codes "against agrees\n"
 against_line net Channels = codes "against channels\n"

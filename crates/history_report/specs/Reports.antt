@@ -36,7 +36,7 @@ abbrev pub done_line : Bool → List ℕ
 done_line true = codes "done 1\n"
 done_line false = codes "done 0\n"
 
--- each behind a blank
+-- each after a blank
 abbrev pub value_words : List ℕ → List ℕ
 value_words values = flat_map (λ value. codes " " ++ decimal value) values
 

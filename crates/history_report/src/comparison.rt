@@ -23,15 +23,15 @@ use prs_core::Wires;
 use std::alloc::{AllocError, Global};
 use width_check::Typed;
 
-/// How the histories of a run stand against those of as many rounds of a program as the run has moves.
+/// How the histories of a run compare with those of as many rounds of a program as the run has moves.
 #[derive(Clone, Copy, Debug, PartialEq, Eq)]
 pub enum Against {
-    /// On each channel the run has passed a front of what the rounds pass.
+    /// The net has the program's channels, and on each the run's history is a prefix of that of the rounds.
     Agrees,
     /// The net's channels aren't the program's.
     Channels,
-    /// What the run has passed on this channel, the first such one, is no front of what the rounds pass there. This is
-    /// the first place, counted from 0, at which the run's value isn't that of the rounds, or they have none.
+    /// The run's history of channel `chan`, the first such one, is not a prefix of that of the rounds. `place` is the
+    /// first index, counted from 0, at which the run's value isn't that of the rounds, or they have none.
     Differs { chan: u32, place: u32 },
 }
 
@@ -68,7 +68,7 @@ fn values_on(alloc: Global, passed: &[(u32, u64)], chan: u32) -> Result<Vec<u64>
         .collect(alloc)
 }
 
-/// The first place at which the values aren't those of the history.
+/// The first index at which the value isn't the history's, or it has none; None where the values are a prefix of it.
 fn first_difference(values: &[u64], history: &[u64]) -> Option<usize>
     ensures some { IfSome result (λ place. IsFirstDifference values.now history.now place) }
     ensures none { IfNone result (IsFrontOf values.now history.now) }
@@ -81,8 +81,8 @@ fn first_difference(values: &[u64], history: &[u64]) -> Option<usize>
     None
 }
 
-/// Makes rounds until so many values have passed on the channel. As many rounds as `left` says may still be made; where
-/// no step is left all of them are over.
+/// Makes rounds until so many values have passed on the channel. At most `left` more rounds may be made, and each is
+/// counted off; where no step is left, `left` becomes 0.
 fn reach(
     alloc: Global,
     config: &mut Config,
@@ -111,8 +111,8 @@ fn reach(
     Ok(())
 }
 
-/// The first place at which what the run has passed on the channel isn't what the rounds pass there. The rounds go on
-/// only until they have passed as many values there: what more of them would pass stands behind these.
+/// The first index at which the run's value on the channel isn't that of the rounds, or they have none; None where no
+/// such index exists. Rounds are made only until they have passed as many values there: more of them only append.
 fn difference_on(
     alloc: Global,
     ran: &Ran,
@@ -138,8 +138,8 @@ fn difference_on(
     Ok(first_difference(&values, config.history(chan)))
 }
 
-/// The place as a number of 32 bits. A run with a place beyond them has more values than memory holds, and counts as
-/// want of it.
+/// The index as a 32-bit number. A run with a larger index has more values than memory holds, and counts as
+/// out of memory.
 fn place_number(place: usize) -> Result<u32, AllocError>
     ensures { IfOk result (λ number. number ≡ place) }
 {

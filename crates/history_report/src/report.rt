@@ -95,7 +95,7 @@ pub(crate) fn done_line(done_high: bool, to: &mut Vec<u8>) -> Result<(), AllocEr
     }
 }
 
-/// Appends a value behind a blank.
+/// Appends a blank and a value.
 pub(crate) fn value_word(value: u64, to: &mut Vec<u8>) -> Result<(), AllocError>
     ensures { OnOk result (to.new.items ≡ to.old.items ++ codes " " ++ decimal value) }
 {

@@ -34,7 +34,7 @@ fn rounds_line(n: u32, to: &mut Vec<u8>) -> Result<(), AllocError>
     append(to, &[b"rounds ", number, b"\n"])
 }
 
-/// Appends the values, each behind a blank.
+/// Appends the values, each after a blank.
 fn words_of(values: &[u64], to: &mut Vec<u8>) -> Result<(), AllocError>
     ensures { OnOk result (to.new.items ≡ to.old.items ++ value_words values.now) }
 {

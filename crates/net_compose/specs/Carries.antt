@@ -1,4 +1,4 @@
--- What it is for a net to carry a program: whatever the environment offers and in whatever order the gates switch.
+-- What it means for a net to carry a program: whatever the environment offers and in whatever order the gates switch.
 -- How the net was made plays no part in it.
 use Rattle.std.specs.Prelude.{◌≡◌, ◌↔◌, ◌≤◌, ℕ, Bool, true, List, ◌++◌, map, length, All, ◌≢◌, codes, Some, None}
 use Rattle.prs_core.specs.declared.wires.Wires.{Wires}
@@ -13,7 +13,7 @@ use Rattle.chp_meaning.specs.Terms.{Place, finished}
 use Rattle.chp_meaning.specs.Steps.{Configuration, Step}
 use Rattle.chp_meaning.specs.Rounds.{rounds}
 
--- on each channel the circuit has passed a front of what the program has
+-- on each channel the circuit's history is a prefix of the program's
 abbrev pub IsFollowing : RunState → Configuration → Type 0
 IsFollowing st c = (k : ℕ) → (rest : List ℕ) × (history_at c.histories k ≡ history_at st.histories k ++ rest)
 
@@ -23,8 +23,8 @@ pub record IsSettled (st : RunState) (c : Configuration) : Type 0 where
   pub still : (at : Place) (d : Configuration) → ¬ Step c at d
   pub answer : (high st.values done_node ≡ true) ↔ (c.term ≡ finished)
 
--- One run, from these first values: it is safe, behind the program's rounds, as many as moves count, and level with
--- them once it is at rest.
+-- One run, from these first values: it is safe, its histories are prefixes of those after as many rounds of the program
+-- as moves count, and it is settled with these rounds once it is at rest.
 pub record IsCarrying (net : NetValue) (p : TypedProgram) (script : List OfferValue) (values : List Bool) (counted : ℕ)
     (moves : List ℕ) : Type 0 where
   pub safe : IsSafeRun net script (begin_at net values) moves

@@ -1,4 +1,4 @@
--- The net that a circuit stands for, told by the drivers of its nodes, with a reset node or without one.
+-- The net of a circuit that is given by the drivers of its nodes, with a reset node or without one.
 use Rattle.std.specs.Prelude.{ℕ, ◌<◌, Bool, true, false, not, List, [], ◌∷◌, ◌++◌, map, Option, Some, None, if◌then◌else◌}
 use Rattle.prs_core.specs.declared.rule.Literal.{Literal}
 use Rattle.prs_core.specs.declared.wires.Wires.{Wires}
@@ -15,7 +15,7 @@ reset_rules reset high r =
     record { up = reset_guard reset high r.up; down = reset_guard reset (not high) r.down }
     else no_rules
 
--- the rules of each node, one behind the other, where the net has a reset node
+-- the rules of each node, in order, where the net has a reset node
 abbrev pub each_reset : (reset : ℕ) → List Bool → List NodeRules → List NodeRules
 each_reset reset (high ∷ first) (r ∷ rs) = reset_rules reset high r ∷ each_reset reset first rs
 each_reset reset first rs = []
@@ -41,7 +41,7 @@ term_end Plain = []
 term_end (Held reset) = is_low reset ∷ []
 term_end (Forced reset) = []
 
--- what it puts behind the last term
+-- what it appends after the last term
 abbrev pub guard_end : Ending → GuardValue
 guard_end Plain = []
 guard_end (Held reset) = []

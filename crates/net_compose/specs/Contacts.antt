@@ -1,4 +1,4 @@
--- Where the statements of a program meet its channels and variables.
+-- The sites of a program's statements on its channels and variables.
 use Rattle.std.specs.Prelude.{ℕ, ◌+◌, ◌==◌, Bool, if◌then◌else◌, List, [], ◌∷◌}
 use Rattle.prs_core.specs.Pairs.{Pair, pairs_from}
 use Rattle.width_check.specs.Processes.{assigning, sending, receiving, TypedProgram}
@@ -29,7 +29,7 @@ every_contact p (receiving chan chan_at x var_at) from =
     takes chan (from + 1) ∷ writes x (pairs_from (channel_width p.channels chan) (from + 2)) ∷ []
 every_contact p s from = []
 
--- what one contributes to a channel as a send and as a receive, and to a variable
+-- what a site contributes to a channel as a send and as a receive, and to a variable
 abbrev pub sent_by : ℕ → ContactValue → List (List Pair)
 sent_by k (sends chan bits) = if chan == k then bits ∷ [] else []
 sent_by k v = []

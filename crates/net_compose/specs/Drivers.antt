@@ -1,4 +1,4 @@
--- What drives a node, told by the nodes that it reads: the two guards that each kind of driver stands for.
+-- What drives a node, given by the nodes that it reads: the two guards of each kind of driver.
 use Rattle.std.specs.Prelude.{ℕ, List, [], ◌∷◌, map}
 use Rattle.prs_core.specs.Nets.{NodeRules, is_high, is_low, one_term}
 use Rattle.prs_core.specs.Pairs.{lows, or_of}
@@ -15,7 +15,7 @@ use Rattle.net_compose.specs.declared.driver.Pattern.TheVariants.{Rail, Until, L
 abbrev pub wanted_latch : (request : ℕ) → List ℕ → NodeRules
 wanted_latch request wanted = record { up = one_term (map is_high wanted); down = one_term (is_low request ∷ []) }
 
--- a node that rises behind a latch once all of these are low, and falls once another one is low
+-- a node that rises after a latch once all of these are low, and falls once another one is low
 abbrev pub let_go : (latch until : ℕ) → List ℕ → NodeRules
 let_go latch until rails = record { up = one_term (is_high latch ∷ lows rails); down = one_term (is_low until ∷ []) }
 

@@ -17,11 +17,11 @@ OfEachRun net p holds =
     → (moves : List ℕ) → IsRun net script (begin_at net net.first) moves
     → holds script moves
 
--- no enabled move is taken away, no node is pulled both ways, and no channel leaves its phases
+-- no enabled move is disabled, no node has interference (both guards holding), and no channel leaves its phases
 abbrev pub CarriesSafe : NetValue → TypedProgram → Type 0
 CarriesSafe net p = OfEachRun net p (λ script moves. IsSafeRun net script (begin_at net net.first) moves)
 
--- after k moves each channel has passed a front of what it has after k rounds
+-- after k moves each channel's history is a prefix of what it is after k rounds
 abbrev pub CarriesPrefix : NetValue → TypedProgram → Type 0
 CarriesPrefix net p = OfEachRun net p (λ script moves.
     IsFollowing (after net (begin_at net net.first) moves) (rounds p script (length moves)))

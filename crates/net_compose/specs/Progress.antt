@@ -1,4 +1,4 @@
--- A net keeps pace with its program; so where that comes to rest, each run of the net does, and right.
+-- A net keeps pace with its program; so where that comes to rest, each run of the net comes to rest settled with it.
 use Rattle.std.specs.Prelude.{◌≡◌, ◌≢◌, ◌↔◌, ℕ, suc, ◌*◌, ◌≤◌, Bool, true, List, ◌++◌, length, All, Option, Some, None, codes}
 use Rattle.prs_core.specs.Nets.{NetValue, IsNet}
 use Rattle.prs_core.specs.Moves.{high}

@@ -1,4 +1,4 @@
--- The contacts of a program by channel and by variable.
+-- The sites of a program by channel and by variable.
 use Rattle.std.specs.Prelude.{◌≡◌, ℕ, ◌<◌, List, [], map, length, slice_index_or}
 use Rattle.std.specs.declared.alloc.Global.{Global}
 use Rattle.std.specs.declared.vec.Vec.{Vec}
@@ -8,7 +8,7 @@ use Rattle.net_compose.specs.Translation.{send_site, receive_site, write_site}
 use Rattle.net_compose.specs.declared.sorted.Sorted.{Sorted}
 use Rattle.net_compose.specs.Contacts.{ContactValue, sends, takes, writes}
 
--- the channel or the variable of a contact is one of so many
+-- the channel or the variable of a site is one of so many
 abbrev pub IsDeclaredContact : (channels vars : ℕ) → ContactValue → Type 0
 IsDeclaredContact channels vars (sends chan bits) = chan < channels
 IsDeclaredContact channels vars (takes chan node) = chan < channels

@@ -1,5 +1,6 @@
--- How soon a net passes what its program passes, counted in sweeps. No time stands in it, and both kinds follow: where each
--- enabled move is made within a delay, a sweep takes no longer; where each is made within so many moves, it has no more.
+-- How soon a net passes what its program passes, counted in sweeps. No times occur in it, and both kinds follow: where
+-- each enabled move is made within a delay, a sweep takes no longer; where each is made within so many moves, it has no
+-- more.
 use Rattle.std.specs.Prelude.{◌≡◌, ◌*◌, ℕ, suc, List, ◌++◌}
 use Rattle.prs_core.specs.Nets.{NetValue}
 use Rattle.env_script.specs.Scripts.{OfferValue, IsScript}
@@ -14,8 +15,8 @@ use Rattle.chp_meaning.specs.Rounds.{rounds}
 abbrev pub HasPassed : RunState → Configuration → Type 0
 HasPassed st c = (k : ℕ) → (rest : List ℕ) × (history_at st.histories k ≡ history_at c.histories k ++ rest)
 
--- Each run from the net's first values, under every script and in every order, whose moves begin with so many sweeps for each
--- of n rounds of the program, has passed what these pass.
+-- Each run from the net's first values, under every script and in every order, whose moves begin with so many sweeps
+-- for each of n rounds of the program, has passed what these pass.
 abbrev pub KeepsTime : NetValue → TypedProgram → (sweeps : ℕ) → Type 0
 KeepsTime net p sweeps =
     (script : List OfferValue) → IsScript p.channels script

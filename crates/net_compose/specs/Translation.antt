@@ -88,7 +88,7 @@ guards_rules p no_choices request from = []
 guards_rules p (and_choice g s more) request from =
     formula_rules (bits_at p) g request from ++ guards_rules p more request (from + formula_size g)
 
--- the nodes of a selection, of which so many stand before its latches
+-- the nodes of a selection, with so many before its latches
 abbrev pub choosing_at : TypedProgram → Choices → (request any own from : ℕ) → Choosing
 choosing_at p choices request any own from = record {
   request = request;
@@ -140,7 +140,7 @@ abbrev mutual
   rules_of p (repeating s) request from =
       no_rules ∷ loop_request request (answer_of p s (from + 2)) ∷ rules_of p s (from + 1) (from + 2)
 
-  -- each member but the last stands behind a Q-element, whose next request is that of what follows
+  -- all members except the last have a Q-element, whose next request is that of what follows
   pub turn_rules : TypedProgram → Processes → (request from : ℕ) → List NodeRules
   turn_rules p no_members request from = []
   turn_rules p (and_member s no_members) request from = rules_of p s request from
@@ -148,14 +148,14 @@ abbrev mutual
       q_rules request (answer_of p s (from + 3)) from
       ++ (rules_of p s from (from + 3) ++ turn_rules p (and_member t more) (from + 2) (from + 3 + size_of p s))
 
-  -- each branch stands behind a Q-element under the common request
+  -- each branch has a Q-element under the common request
   pub branches_rules : TypedProgram → Processes → (request from : ℕ) → List NodeRules
   branches_rules p no_members request from = []
   branches_rules p (and_member s more) request from =
       q_rules request (answer_of p s (from + 3)) from
       ++ (rules_of p s from (from + 3) ++ branches_rules p more request (from + 3 + size_of p s))
 
-  -- each branch stands under its start
+  -- each branch is run under its start
   pub bodies_rules : TypedProgram → Choices → (start from : ℕ) → List NodeRules
   bodies_rules p no_choices start from = []
   bodies_rules p (and_choice g s more) start from =
@@ -225,7 +225,7 @@ composed p = record {
       map (λ (r : NodeRules). r.down) (all_rules p);
 }
 
--- at first all nodes are low but one rail of each bit of each variable, declared or hidden
+-- at first all nodes are low except one rail of each bit of each variable, declared or hidden
 abbrev pub vars_high : TypedProgram → (x : ℕ) → List Var → List ℕ
 vars_high p x [] = []
 vars_high p x (v ∷ vs) = high_first v.width v.first (var_from p x) ++ vars_high p (suc x) vs

@@ -6,7 +6,7 @@ use Rattle.prs_core.specs.Pairs.{Pair}
 abbrev pub all_unwanted : List Pair → List ℕ
 all_unwanted guards = map (λ (g : Pair). g.f) guards
 
--- the guard of this place true, and all others false
+-- the guard of this index true, and all others false
 abbrev pub one_wanted : List Pair → (place : ℕ) → List ℕ
 one_wanted [] place = []
 one_wanted (g ∷ more) zero = g.t ∷ all_unwanted more

@@ -37,7 +37,7 @@ fn statements_counted()
     cell_parallel::laws::tree_counted();
 }
 
-/// Adds the driver of a skip's answer, its only node, and answers that node.
+/// Adds the driver of a skip's answer, its only node, and returns that node.
 fn skip(request: u32, from: u32, drivers: &mut Vec<Driver>) -> Result<u32, AllocError>
     ensures made { OnOk result (drivers.new.items ≡ drivers.old.items ++ skip_answer request ∷ []) }
     ensures answer { IfOk result (λ answer. answer ≡ from) }
@@ -64,8 +64,8 @@ fn close_loop(place: usize, request: u32, body_answer: u32, drivers: &mut Vec<Dr
     drivers[place + 1] = Driver::child(request, body_answer);
 }
 
-/// Adds the drivers of a sequence, and answers the node that answers its request. Each member but the last stands
-/// behind a Q-element of three nodes: its request, the latch, and the request of what follows.
+/// Adds the drivers of a sequence, and returns the node that answers its request. Each member but the last has a
+/// Q-element of three nodes: its request, the latch, and the request of what follows.
 #[cycle(statements)]
 fn sequence(
     alloc: Global,
@@ -118,8 +118,8 @@ fn sequence(
     )
 }
 
-/// Adds the drivers of a parallel composition, and answers the node that answers its request, its last one. Each branch
-/// stands behind a Q-element under the common request; a completion tree over the next requests of these comes last.
+/// Adds the drivers of a parallel composition, and returns the node that answers its request, its last one. Each branch
+/// has a Q-element under the common request; a completion tree over the next requests of these comes last.
 #[cycle(statements)]
 fn parallel(
     alloc: Global,
@@ -224,9 +224,9 @@ fn selection(
     Ok(from)
 }
 
-/// Adds the drivers of a statement whose own nodes are numbered from `from` on and which this node asks, and answers
-/// the node that answers the request. Where it meets channels and variables is listed in text order, and the nodes of
-/// hidden variables that are high at first are raised.
+/// Adds the drivers of a statement whose own nodes are numbered from `from` on and which this node requests, and
+/// returns the node that answers the request. Its sites on channels and variables are listed in text order, and the
+/// nodes of hidden variables that are high at first are raised.
 #[cycle(statements)]
 fn statement(
     alloc: Global,
@@ -291,7 +291,7 @@ fn statement(
     }
 }
 
-/// The drivers of a program's body, and where it meets channels and variables in text order. The nodes of its hidden
+/// The drivers of a program's body, and its sites on channels and variables in text order. The nodes of its hidden
 /// variables that are high at first are raised.
 pub(crate) fn body(
     alloc: Global,

@@ -21,7 +21,7 @@ use function_blocks::{Bit, rails_of};
 use std::alloc::{AllocError, Global};
 use width_check::{TArm, Typed};
 
-/// How many nodes stand before the latches: 3 of a selection, and 6, where `again`, of a guarded repetition.
+/// How many nodes come before the latches: 3 in a selection, and 6, where `again`, in a guarded repetition.
 pub(crate) fn own_nodes(again: bool) -> u32
     ensures { result ≡ own_before again }
 {
@@ -40,7 +40,7 @@ fn numbered_nodes(alloc: Global, from: u32, count: u32) -> Result<Vec<u32>, Allo
     Ok(nodes)
 }
 
-/// The rails that want all guards false.
+/// The rails that require all guards to be false.
 fn all_unwanted(alloc: Global, guards: &[Bit]) -> Result<Vec<u32>, AllocError>
     ensures { IfOk result (λ rails. rails.items ≡ all_unwanted guards.now) }
 {
@@ -51,7 +51,7 @@ fn all_unwanted(alloc: Global, guards: &[Bit]) -> Result<Vec<u32>, AllocError>
     Ok(rails)
 }
 
-/// The rails that want one guard true and all others false.
+/// The rails that require one guard to be true and all others false.
 fn one_wanted(alloc: Global, guards: &[Bit], place: usize) -> Result<Vec<u32>, AllocError>
     requires { place < length guards.now }
     ensures { IfOk result (λ rails. rails.items ≡ one_wanted guards.now place) }
@@ -98,7 +98,7 @@ fn add_starts(
     Ok(())
 }
 
-/// Adds the drivers of the guards, whose nodes are numbered from `from` on, and answers their bits.
+/// Adds the drivers of the guards, whose nodes are numbered from `from` on, and returns their bits.
 fn guards(
     alloc: Global,
     program: &Typed,
@@ -128,7 +128,7 @@ fn guards(
     Ok(bits)
 }
 
-/// Adds the drivers of a selection's own nodes, numbered from `from` on, and of its guards behind them. The joined
+/// Adds the drivers of a selection's own nodes, numbered from `from` on, and of its guards after them. The joined
 /// answer isn't driven until the answers of the branches are known: `join_answers` sets it.
 #[tactic(auto, using(handshake_expand::proofs::Branches::choosing_size, handshake_expand::proofs::Rows::arms_counted))]
 fn selection_nodes(
@@ -173,7 +173,7 @@ fn selection_nodes(
     Ok(())
 }
 
-/// Adds the drivers of a guarded repetition's own nodes, numbered from `from` on, and of its guards behind them. The
+/// Adds the drivers of a guarded repetition's own nodes, numbered from `from` on, and of its guards after them. The
 /// joined answer isn't driven until the answers of the branches are known: `join_answers` sets it.
 #[tactic(auto, using(handshake_expand::proofs::Branches::choosing_size, handshake_expand::proofs::Rows::arms_counted))]
 fn repetition_nodes(
@@ -259,9 +259,9 @@ pub(crate) fn choice(
     }
 }
 
-/// Sets the joined answer of a selection or guarded repetition, whose own nodes are numbered from `from` on and whose drivers begin at `place`:
-/// the first one of a selection, and the third one, where `again`, of a guarded repetition. `answers` are the nodes
-/// that answer the branches.
+/// Sets the joined answer of a selection or guarded repetition, whose own nodes are numbered from `from` on and whose
+/// drivers begin at `place`: the first one of a selection, and the third one, where `again`, of a guarded repetition.
+/// `answers` are the nodes that answer the branches.
 pub(crate) fn join_answers(
     place: usize,
     again: bool,

@@ -1,4 +1,4 @@
-//! A program's circuit, told by the drivers of its nodes.
+//! A program's circuit, given by the drivers of its nodes.
 
 ghost use Rattle.std.specs.Prelude.{◌≡◌, ◌<◌, ◌≤◌, true, length, if◌then◌else◌, IfOk, OnOk, IfErr, [], ◌∷◌, ◌++◌, Some, None};
 ghost use Rattle.chp_base.specs.Names.{IsNodeName};
@@ -115,7 +115,7 @@ impl Circuit {
     }
 }
 
-/// Adds a reset node, where one is asked for, and answers its number.
+/// Adds a reset node, where one is asked for, and returns its number.
 fn add_reset(
     reset: bool,
     first: &mut Vec<bool>,

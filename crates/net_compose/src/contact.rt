@@ -1,4 +1,4 @@
-//! Where the statements of a program meet its channels and variables.
+//! The sites of a program's statements on its channels and variables.
 
 ghost use Rattle.std.specs.Prelude.{◌≡◌, List, map, IfOk};
 ghost use Rattle.prs_core.specs.Pairs.{Pair, pair_of};
@@ -41,7 +41,7 @@ impl Site {
     }
 }
 
-/// What a statement does at a channel or a variable.
+/// What a statement does at its site on a channel or a variable.
 #[derive(Debug, Drop)]
 pub(crate) enum Meeting {
     /// It sends these bits on the channel.
@@ -52,7 +52,7 @@ pub(crate) enum Meeting {
     Writes { var: u32, site: Site },
 }
 
-/// A place where a statement meets a channel or a variable.
+/// A site of a statement on a channel or a variable.
 #[derive(Debug, Drop)]
 pub(crate) struct Contact {
     pub meeting: Meeting,

@@ -139,7 +139,7 @@ pub(crate) fn drivers_of(
     ensures count { length first.new ≡ length first.old }
 {
     let mut contacts = Vec::new(alloc);
-    // What drives the declared nodes is known behind the body alone, and they come first.
+    // What drives the declared nodes is known only after the body, and they come first.
     let mut drivers = body(alloc, program, firsts, first, &mut contacts)?;
     let own = drivers.len();
     let statement = program.body();

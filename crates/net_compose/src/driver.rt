@@ -73,7 +73,7 @@ pub enum Pattern {
         request: u32,
         wanted: Vec<u32>,
     },
-    /// It rises behind a latch once all of the rails are low, and falls once the other node is.
+    /// It rises after a latch once all of the rails are low, and falls once the other node is.
     Started {
         latch: u32,
         until: u32,

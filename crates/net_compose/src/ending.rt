@@ -1,4 +1,4 @@
-//! How a reset bears on rules.
+//! What a reset does to rules.
 
 ghost use Rattle.std.specs.Prelude.{◌≡◌, not, if◌then◌else◌};
 ghost use Rattle.net_compose.specs.Circuits.{ending_of};

@@ -1,4 +1,4 @@
-//! Where the wires of channels and the nodes of variables stand.
+//! The numbers of the wires of channels and of the nodes of variables.
 
 ghost use Rattle.std.specs.Prelude.{◌≡◌, ◌+◌, ◌*◌, ◌^◌, ◌<◌, length, slice_index_or, IfOk};
 ghost use Rattle.prs_core.specs.Pairs.{pairs_from, rails_of};
@@ -26,7 +26,7 @@ pub(crate) fn rails_from(alloc: Global, width: u8, from: u32) -> Result<Vec<u32>
     Ok(rails)
 }
 
-/// The number at a place of a list, counted from 0, as the first node of the channel or the variable of that number; 0
+/// The number at an index of a list, counted from 0, as the first node of the channel or the variable of that number; 0
 /// where the list ends before it.
 #[tactic(auto, using(crate::proofs::EndsReady::first_found, crate::proofs::EndsReady::no_first))]
 pub(crate) fn first_of(firsts: &[u32], place: u32) -> u32
@@ -62,8 +62,8 @@ pub(crate) fn var_bits(program: &Typed, var: u32) -> u8
     }
 }
 
-/// The acknowledge of the channel number `chan`: the node behind its rails. `channels` are the first wires of all
-/// channels, as `firsts_of` answers them.
+/// The acknowledge of the channel number `chan`: the node after its rails. `channels` are the first wires of all
+/// channels, as `firsts_of` returns them.
 pub(crate) fn ack_node(program: &Typed, chan: u32, channels: &[u32]) -> u32
     requires channels { channels.now ≡ channel_firsts (program_of program.now) }
     requires within { chan < length program.now.channels }
@@ -75,7 +75,7 @@ pub(crate) fn ack_node(program: &Typed, chan: u32, channels: &[u32]) -> u32
 }
 
 /// The node that says that all bits of the variable number `var` are written: the last one of its block. `vars` are the
-/// first nodes of the blocks of all variables, as `firsts_of` answers them.
+/// first nodes of the blocks of all variables, as `firsts_of` returns them.
 pub(crate) fn written_node(program: &Typed, var: u32, vars: &[u32]) -> u32
     requires vars { vars.now ≡ var_firsts (program_of program.now) }
     requires within { var < length program.now.vars }

@@ -17,7 +17,7 @@ pub(crate) struct Firsts {
     pub vars: Vec<u32>,
 }
 
-/// The first wire of each channel, and the first node behind all of them.
+/// The first wire of each channel, and the first node after all of them.
 fn channel_firsts(alloc: Global, program: &Typed) -> Result<(Vec<u32>, u32), AllocError>
     requires { vars_from (program_of program.now) < 2 ^ 32 }
     ensures firsts { IfOk result (λ r. r.0.items ≡ channel_firsts (program_of program.now)) }
@@ -32,7 +32,7 @@ fn channel_firsts(alloc: Global, program: &Typed) -> Result<(Vec<u32>, u32), All
     Ok((firsts, next))
 }
 
-/// The first node of the block of each variable, where the first block begins at `from`, and the first node behind all
+/// The first node of the block of each variable, where the first block begins at `from`, and the first node after all
 /// of them.
 fn var_firsts(alloc: Global, program: &Typed, from: u32) -> Result<(Vec<u32>, u32), AllocError>
     requires from { from ≡ vars_from (program_of program.now) }

@@ -28,7 +28,7 @@ pub(crate) fn add_rails(rails: Vec<RailDriver>, drivers: &mut Vec<Driver>) -> Re
     Ok(())
 }
 
-/// Adds the drivers of an expression of the program, whose nodes are numbered from `from` on, and answers the bits of
+/// Adds the drivers of an expression of the program, whose nodes are numbered from `from` on, and returns the bits of
 /// its value, the lowest one first.
 pub(crate) fn formula(
     alloc: Global,

@@ -48,7 +48,7 @@ fn some_high(alloc: Global, nodes: &[u32]) -> Result<Guard, AllocError>
     Ok(Guard::new(terms))
 }
 
-/// Adds the literals that want all of the nodes high, or low.
+/// Adds the literals that require all of the nodes to be high, or low.
 fn want(nodes: &[u32], value: bool, literals: &mut Vec<Literal>) -> Result<(), AllocError>
     ensures { OnOk result (literals.new.items ≡ literals.old.items ++ all_wanted value nodes.now) }
 {

@@ -52,8 +52,8 @@ pub fn carries()
     circuits_carry();
 }
 
-/// Law: the net of each such program is free of hazards. In every run no enabled move is taken away (stability), no
-/// node is pulled both ways (non-interference), and no channel leaves its four phases.
+/// Law: the net of each such program is free of hazards. In every run no enabled move is disabled (stability), no
+/// node's two guards both hold (non-interference), and no channel leaves its four phases.
 pub fn carries_safe()
     ensures { (p : TypedProgram) → IsTranslated p → CarriesSafe (translation p) p }
 {
@@ -61,7 +61,7 @@ pub fn carries_safe()
     three_points();
 }
 
-/// Law: what has passed on a channel of the net of each such program after some moves is a front of what has passed
+/// Law: what has passed on a channel of the net of each such program after some moves is a prefix of what has passed
 /// there after as many rounds of the program.
 pub fn carries_prefix()
     ensures { (p : TypedProgram) → IsTranslated p → CarriesPrefix (translation p) p }
@@ -100,7 +100,7 @@ pub fn runs_end()
 }
 
 /// Law: a net carries a program exactly where its channels are the program's and each of the three points holds in
-/// every run: it is free of hazards, it is behind the rounds, and at rest it is level with them.
+/// every run: it is free of hazards, its histories are prefixes of the rounds', and at rest it is settled with them.
 pub fn three_points()
     ensures { (net : NetValue) (p : TypedProgram) → Carries net p ↔ HasPoints net p }
 {}
@@ -132,10 +132,10 @@ pub fn runs_end_reset()
     reset_runs();
 }
 
-/// Law: the net of a typed program of at most 65,536 nodes, whose guards speak of its own nodes alone, is a net that a
-/// rule file can hold: each name is the name of a node and no two are alike, the wires of its channels stand where
-/// their names say and are low at first, those of the environment have no rules, no term is empty, and there are at
-/// most 64 literals for each node.
+/// Law: the net of a typed program of at most 65,536 nodes, whose guards are over its own nodes only, is a net that a
+/// rule file can hold: each name is the name of a node and no two are alike, the wires of its channels have the numbers
+/// that their names say and are low at first, those of the environment have no rules, no term is empty, and there are
+/// at most 64 literals for each node.
 pub fn nets_hold()
     ensures { (p : TypedProgram) → IsTyped p.channels p.vars p.body → nodes_of p ≤ 65536 → IsRules (composed p) →
         IsNet (translation p) }
@@ -170,7 +170,7 @@ pub fn plain_nets_keep_time()
     expressions_hold();
 }
 
-/// Law: the net of each such program, whatever it is made of, does so with the rounds of the program in halves, in
+/// Law: the net of each such program, whatever it is made of, keeps time with the rounds of the program in halves, in
 /// which an assignment that reads its own target takes two steps.
 pub fn nets_keep_time()
     ensures { (p : TypedProgram) → IsTranslated p → nodes_of p ≤ 65536 →
@@ -183,10 +183,10 @@ pub fn nets_keep_time()
     expressions_hold();
 }
 
-/// Law: in each state of each run of the net of a typed program that meets the sharing rule, the statements in it take
-/// turns, those that hold no assignment which reads its own target. One that has answered moves no node of its own
-/// before its request falls; one whose request and answer are low has all its nodes low and moves none; of two that
-/// stand in one sequence or in one selection one rests at least; and each keeps the four phases of its handshake.
+/// Law: in each state of each run of the net of a typed program that meets the sharing rule, those statements in it
+/// take turns that hold no assignment which reads its own target. One that has answered moves no node of its own before
+/// its request falls; one whose request and answer are low has all its nodes low and moves none; of two that are in one
+/// sequence or in one selection at least one rests; and each keeps the four phases of its handshake.
 pub fn parts_in_turns()
     ensures { TranslationTakesTurns }
 {

@@ -1,4 +1,4 @@
-//! The drivers of statements in which no other stands.
+//! The drivers of statements that contain no other statement.
 
 ghost use Rattle.std.specs.Prelude.{◌≡◌, ◌+◌, ◌*◌, ◌^◌, ◌<◌, ◌≤◌, ◌++◌, ◌∷◌, [], length, fold, slice_set, true, IfOk, OnOk};
 ghost use Rattle.chp_base.specs.declared.span.Span.{Span};
@@ -28,7 +28,7 @@ use handshake_expand::reads;
 use std::alloc::{AllocError, Global};
 use width_check::{TExpr, Typed};
 
-/// Adds the drivers of a send, whose nodes are numbered from `from` on, and answers the first of these, its answer.
+/// Adds the drivers of a send, whose nodes are numbered from `from` on, and returns the first of these, its answer.
 pub(crate) fn send(
     alloc: Global,
     program: &Typed,
@@ -68,7 +68,7 @@ pub(crate) fn send(
 }
 
 /// Adds the drivers of a receive, whose nodes are numbered from `from` on: its answer, the node that says that the
-/// value is stored, and its port. Answers the first of these.
+/// value is stored, and its port. Returns the first of these.
 pub(crate) fn receive(
     alloc: Global,
     program: &Typed,
@@ -106,7 +106,7 @@ pub(crate) fn receive(
     Ok(from)
 }
 
-/// Adds the drivers of an assignment to a variable that its own expression doesn't read, and answers the bits.
+/// Adds the drivers of an assignment to a variable that its own expression doesn't read, and returns the bits.
 fn plain(
     alloc: Global,
     program: &Typed,
@@ -132,7 +132,7 @@ fn plain(
     formula(alloc, program, value, request, from + 1, vars, drivers)
 }
 
-/// Adds the drivers of an assignment, and answers the node that answers its request and the bits by which the variable
+/// Adds the drivers of an assignment, and returns the node that answers its request and the bits by which the variable
 /// is written. One that reads its own target goes through a hidden variable, which is 0 at first.
 fn assigned(
     alloc: Global,
@@ -171,7 +171,7 @@ fn assigned(
     }
 }
 
-/// Adds the drivers of an assignment, whose nodes are numbered from `from` on, and answers the node that answers its
+/// Adds the drivers of an assignment, whose nodes are numbered from `from` on, and returns the node that answers its
 /// request.
 pub(crate) fn assign(
     alloc: Global,

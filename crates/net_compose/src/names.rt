@@ -15,7 +15,7 @@ use std::alloc::{AllocError, Global};
 use std::marker::Model;
 use width_check::{Typed, Var};
 
-/// The names of nodes, one behind the other in one text. Contracts see the list of them.
+/// The names of nodes, concatenated in one text. Contracts see the list of them.
 #[derive(Debug, Drop)]
 pub struct Names {
     bytes: Vec<u8>,
@@ -123,7 +123,7 @@ impl Names {
         Ok(())
     }
 
-    /// Appends a name, the number of one of its bits, and what stands behind that.
+    /// Appends a name, the number of one of its bits, and what follows that.
     fn push_tail(&mut self, name: &[u8], bit: u8, tail: &[u8]) -> Result<(), AllocError>
         ensures { OnOk result (self.new ≡ self.old ++ (name.now ++ codes "." ++ decimal bit ++ tail.now) ∷ []) }
     {
@@ -159,7 +159,7 @@ impl Names {
         Ok(())
     }
 
-    /// Appends the names of all channels' wires, and answers the number of the node behind them.
+    /// Appends the names of all channels' wires, and returns the number of the node after them.
     fn push_channels(&mut self, channels: &[Channel]) -> Result<u32, AllocError>
         requires { wires_before channels.now (length channels.now) ≤ 65536 }
         ensures names { OnOk result (self.new ≡ self.old ++ wire_names channels.now) }
@@ -196,8 +196,8 @@ impl Names {
         Ok(())
     }
 
-    /// Appends the names of a variable's block, which begins at a node: its bits, and a tree over them. Answers the
-    /// number of the node behind it.
+    /// Appends the names of a variable's block, which begins at a node: its bits, and a tree over them. Returns the
+    /// number of the node after it.
     fn push_block(&mut self, var: &Var, from: u32) -> Result<u32, AllocError>
         requires { from + block_size var.now.width ≤ 65536 }
         ensures names { OnOk result (self.new ≡ self.old
@@ -212,8 +212,8 @@ impl Names {
         Ok(tree + count)
     }
 
-    /// Appends the names of all variables' blocks, of which the first begins at a node, and answers the number of the
-    /// node behind them.
+    /// Appends the names of all variables' blocks, the first of which begins at a node, and returns the number of the
+    /// node after them.
     fn push_blocks(&mut self, vars: &[Var], from: u32) -> Result<u32, AllocError>
         requires { from + blocks_before vars.now (length vars.now) ≤ 65536 }
         ensures names { OnOk result (self.new ≡ self.old ++ block_names vars.now from) }
@@ -235,7 +235,7 @@ impl Names {
         Ok(())
     }
 
-    /// Appends the names of the program's nodes, of which there are that many, in order of their numbers.
+    /// Appends the names of the program's nodes, which are that many, in order of their numbers.
     fn push_nodes(&mut self, program: &Typed, count: u32) -> Result<(), AllocError>
         requires small { nodes_of (program_of program.now) ≤ 65536 }
         requires count { count ≡ nodes_of (program_of program.now) }
@@ -261,7 +261,7 @@ impl Names {
         }
     }
 
-    /// The name at a place.
+    /// The name at an index.
     pub(crate) fn at(&self, place: usize) -> &[u8]
         requires { place < length self.now }
         ensures { result.now ≡ slice_index_or self.now place [] }
@@ -272,7 +272,7 @@ impl Names {
     }
 }
 
-/// The names of the program's nodes, in order of their numbers, and behind them that of a reset node where one is
+/// The names of the program's nodes, in order of their numbers, and after them that of a reset node where one is
 /// asked for. They are made declaration by declaration, in time that grows with their number.
 pub(crate) fn names_of(alloc: Global, program: &Typed, reset: bool) -> Result<Names, AllocError>
     requires { nodes_of (program_of program.now) ≤ 65536 }
@@ -286,7 +286,7 @@ pub(crate) fn names_of(alloc: Global, program: &Typed, reset: bool) -> Result<Na
     Ok(names)
 }
 
-/// Where the name at a place begins.
+/// Where the name at an index begins.
 fn cut_begin(ends: &[usize], place: usize) -> usize
     requires { place < length ends.now }
     ensures { result ≡ cut_begin 0 ends.now place }

@@ -22,7 +22,7 @@ use thiserror::Error;
 /// Why there is no net.
 #[derive(Debug, Drop, Error)]
 pub enum NetError {
-    /// The circuit has so many nodes; 2^64 - 1 stands for all numbers above it.
+    /// The circuit has so many nodes; 2^64 - 1 means that many or more.
     #[error("{0} nodes")]
     TooManyNodes(u64),
     #[error("no memory")]

@@ -7,7 +7,7 @@ use crate::driver::Pattern;
 use function_blocks::{Bit, Function, RailPattern};
 use prs_core::{Literal, high, low};
 
-/// The form of a guard. The nodes of a list, where it has one, stand apart.
+/// The form of a guard. The nodes of a list, where it has one, are given separately.
 #[derive(Clone, Copy, Debug)]
 pub enum Shape {
     /// It has no terms.

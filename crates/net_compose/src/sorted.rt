@@ -1,4 +1,4 @@
-//! The contacts of a program by channel and by variable.
+//! The sites of a program by channel and by variable.
 
 ghost use Rattle.std.specs.Prelude.{◌≡◌, ℕ, ◌<◌, ◌==◌, ◌++◌, [], ◌∷◌, if◌then◌else◌, length, IfOk, OnOk};
 ghost use Rattle.width_check.specs.Typed.{program_of};
@@ -10,7 +10,7 @@ use crate::contact::{Contact, Meeting, Site};
 use std::alloc::{AllocError, Global};
 use width_check::Typed;
 
-/// What the contacts contribute, in text order.
+/// What the sites contribute, in text order.
 #[derive(Debug, Drop)]
 pub(crate) struct Sorted {
     /// Of each channel what each send on it sends.
@@ -44,7 +44,7 @@ fn add_item<T: Drop>(lists: &mut [Vec<T>], number: u32, item: T) -> Result<(), A
     Ok(())
 }
 
-/// Appends what a contact contributes to its list.
+/// Appends what a site contributes to its list.
 fn add_contact(sorted: &mut Sorted, contact: Contact) -> Result<(), AllocError>
     requires taken { length sorted.old.taken.items ≡ length sorted.old.sent.items }
     requires number { IsDeclaredContact (length sorted.old.sent.items) (length sorted.old.written.items) contact }
@@ -63,7 +63,7 @@ fn add_contact(sorted: &mut Sorted, contact: Contact) -> Result<(), AllocError>
     }
 }
 
-/// The contacts of a program by channel and by variable.
+/// The sites of a program by channel and by variable.
 pub(crate) fn sort_contacts(
     alloc: Global,
     program: &Typed,

@@ -57,7 +57,7 @@ fn read_all(
     Ok(())
 }
 
-/// Adds the drivers of an assignment to a variable that its own expression reads, and answers the node that answers its
+/// Adds the drivers of an assignment to a variable that its own expression reads, and returns the node that answers its
 /// request and the bits by which the variable is written. The value goes through a hidden variable of the assignment's
 /// own: it is stored there first, and then read back.
 pub(crate) fn through(

@@ -6,7 +6,7 @@ ghost use Rattle.cell_parallel.specs.Trees.{level_rules, next_level, tree_rules}
 use crate::driver::Driver;
 use std::alloc::{AllocError, Global};
 
-/// Adds the drivers that join each two nodes of a level, from the front, and answers the nodes of the level above.
+/// Adds the drivers that join each two nodes of a level, from the first on, and returns the nodes of the level above.
 fn join_level(
     alloc: Global,
     nodes: &[u32],

@@ -97,7 +97,7 @@ fn act(
     Ok(true)
 }
 
-/// Does what the line says. A line that can't be understood is printed behind a question mark.
+/// Does what the line says. A line that can't be understood is printed after a question mark.
 pub fn obey(
     alloc: Global,
     bench: &mut Bench,

@@ -184,7 +184,7 @@ fn variable(alloc: Global, rules: &mut Rules, nodes: &[u32]) -> Result<bool, All
     Ok(true)
 }
 
-/// A write: its request, the node that tells that all bits are written, and its answer.
+/// A write: its request, the node that says that all bits are written, and its answer.
 fn write_site(alloc: Global, rules: &mut Rules, nodes: &[u32]) -> Result<bool, AllocError> {
     let count = rules.nodes();
     match nodes {

@@ -1,5 +1,5 @@
-//! Worked cases of the calls below the top: names and numbers, scripts, the cells, nets and their runs. They stand in
-//! data/, and what each must do in the file stdout; how they are written is told in docs/TESTS.md.
+//! Worked cases of the calls below the top: names and numbers, scripts, the cells, nets and their runs. They are in
+//! data/, and the output that they must give in the file stdout; docs/TESTS.md says how they are written.
 #![tactic(auto)]
 
 mod bench;

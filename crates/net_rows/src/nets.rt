@@ -1,4 +1,4 @@
-//! Rule files read, and what stands in their nets.
+//! Rule files read, and what their nets contain.
 
 use crate::bench::Bench;
 use crate::cells::put_guard;

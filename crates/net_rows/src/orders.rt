@@ -1,4 +1,4 @@
-//! Simulations by each order, and plain runs by the picks of those that go by age.
+//! Simulations by each scheduler, and plain runs by the choices of those that go by age.
 
 ghost use Rattle.std.specs.Prelude.{◌≤◌};
 
@@ -10,7 +10,7 @@ use plain_runs::Run;
 use std::alloc::{AllocError, Global};
 use std::fmt::Write;
 
-/// What a simulation came to, with what passed channel by channel, and the places that its order picked.
+/// The result of a simulation, with what passed channel by channel, and the indices that its scheduler chose.
 #[derive(Drop)]
 struct Simulated {
     end: End,
@@ -21,7 +21,7 @@ struct Simulated {
 }
 
 impl Simulated {
-    /// Whether both came to the same.
+    /// Whether both have the same result.
     fn agrees(&self, other: &Simulated) -> bool {
         self.end == other.end
             && self.moves == other.moves
@@ -30,7 +30,7 @@ impl Simulated {
     }
 }
 
-/// The simulation by the picker, or None where a text is refused.
+/// The simulation by the scheduler, or None where a text is refused.
 fn simulate(
     alloc: Global,
     bench: &Bench,
@@ -65,7 +65,7 @@ fn simulate(
     }))
 }
 
-/// A node with an enabled move, and the number of the list in which it began to stand without a break.
+/// A node with an enabled move, and the number of the list since which it has been enabled without a break.
 #[derive(Clone, Copy)]
 struct Waiting {
     node: usize,
@@ -91,15 +91,15 @@ fn listed(
     Ok(list)
 }
 
-/// The first place of a node that has waited longest, or shortest.
+/// The first index of a node that has waited longest, or shortest.
 fn by_age(list: &[Waiting], longest: bool) -> Option<usize> {
     let times = list.iter().map(|waiting| waiting.since);
     let since = if longest { times.min() } else { times.max() }?;
     list.iter().position(|waiting| waiting.since == since)
 }
 
-/// Makes the move of the node at this place of the list of this number. The list, where that was the first node of
-/// those that have waited longest, or shortest, and the move brought no hazard; else None.
+/// Makes the move of the node at this index of the list of this number. Returns the list, where that was the first node
+/// of those that have waited longest, or shortest, and the move brought no hazard; else None.
 #[tactic(auto, using(crate::proofs::ScriptChannels::counted))]
 fn step(
     alloc: Global,
@@ -126,7 +126,7 @@ fn step(
     }
 }
 
-/// Whether each of these picks takes the first node of those that have waited longest, or shortest, in a run without a
+/// Whether each of these choices is the first node of those that have waited longest, or shortest, in a run without a
 /// hazard.
 fn go_by_age(
     alloc: Global,
@@ -148,8 +148,8 @@ fn go_by_age(
     Ok(true)
 }
 
-/// Prints of the picks by this order how many they are, whether each took the oldest node and whether each took the
-/// newest one, and whether it picks the same again.
+/// Prints how many choices this order made, whether each was the oldest node and whether each was the newest one, and
+/// whether it chooses the same again.
 fn tell_picks(
     alloc: Global,
     bench: &Bench,
@@ -170,8 +170,8 @@ fn tell_picks(
 }
 
 /// Simulates by each of these orders, with a seed and for so many moves at most, and then once more by the same one. It
-/// prints of each how many picks it made, whether each took the oldest node and whether each took the newest one, and
-/// whether it picked the same again; then whether all came to the same, and whether all picks differ.
+/// prints of each how many choices it made, whether each was the oldest node and whether each was the newest one, and
+/// whether it chose the same again; then whether all results are the same, and whether all choices differ.
 fn compare(
     alloc: Global,
     bench: &Bench,
@@ -200,7 +200,7 @@ fn compare(
     Ok(true)
 }
 
-/// Compares the four orders, where the line tells a seed and the most moves.
+/// Compares the four schedulers, where the line gives a seed and the most moves.
 pub fn orders(
     alloc: Global,
     bench: &Bench,

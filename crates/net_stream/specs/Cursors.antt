@@ -5,7 +5,7 @@ use Rattle.net_stream.specs.declared.cursor.Cursor.{Cursor}
 use Rattle.net_stream.specs.Places.{text_from, IsPlaceOf}
 use Rattle.net_stream.specs.Rooms.{HasRoom}
 
--- what is left of the text: the rest of the line in the buffer, and the lines behind it
+-- what is left of the text: the rest of the line in the buffer, and the lines after it
 abbrev pub text_left : NetValue → Cursor → List ℕ
 text_left n c = drop c.given c.line.items ++ text_from n c.place
 

@@ -1,4 +1,4 @@
--- The text of a rule, literal by literal, each behind its lead.
+-- The text of a rule, literal by literal, each after its lead.
 use Rattle.std.specs.Prelude.{◌≡◌, ℕ, zero, suc, ◌+◌, ◌*◌, ◌/◌, ◌%◌, ◌≤◌, ◌==◌, Bool, true, false, List, [], ◌∷◌, ◌++◌, length, map, filter}
 use Rattle.prs_core.specs.declared.rule.Literal.{Literal}
 use Rattle.prs_core.specs.Nets.{GuardValue, NetValue, name_at, guard_literals}
@@ -16,7 +16,7 @@ abbrev pub terms_behind : NetValue → Lead → GuardValue → List ℕ
 terms_behind net lead [] = []
 terms_behind net lead (t ∷ ts) = literals_behind net lead t ++ terms_behind net Or ts
 
--- what leads to what follows some literals of a term, and some terms
+-- the lead of what follows some literals of a term, and some terms
 abbrev pub and_behind : Lead → List Literal → Lead
 and_behind lead [] = lead
 and_behind lead (l ∷ ls) = And
@@ -25,13 +25,13 @@ abbrev pub lead_behind : Lead → GuardValue → Lead
 lead_behind lead [] = lead
 lead_behind lead (t ∷ ts) = Or
 
--- whether some term stands before
+-- whether some term comes before
 abbrev pub has_begun : Lead → Bool
 has_begun Rule = false
 has_begun And = true
 has_begun Or = true
 
--- a text, before of so many bytes and now of so many, has these literals more, behind their leads
+-- a text, before of so many bytes and now of so many, has these literals more, after their leads
 pub record IsTermPut (net : NetValue) (lead next : Lead) (ls : List Literal) (before now : List ℕ)
     (start end : ℕ) : Type 0 where
   pub text : now ≡ before ++ literals_behind net lead ls

@@ -18,7 +18,7 @@ channel_lines_from n chan = flat_map (λ (w : Wires). channel_spelling w.channel
 abbrev pub rule_lines_from : NetValue → ℕ → List ℕ
 rule_lines_from n node = flat_map (rules_spelling n) (range_with_len node (length n.first - node))
 
--- the text that begins with the line at a place
+-- the text that begins with the line at a position
 abbrev pub text_from : NetValue → Place → List ℕ
 text_from n Head = spelling n
 text_from n (Node node) = node_lines_from n node ++ (channel_lines_from n 0 ++ rule_lines_from n 0)
@@ -26,7 +26,7 @@ text_from n (Channel chan) = channel_lines_from n chan ++ rule_lines_from n 0
 text_from n (Up node) = rule_lines_from n node
 text_from n (Down node) = rule_spelling n (down_of n node) node false ++ rule_lines_from n (node + 1)
 
--- how many places are left, the one behind each kind of lines included
+-- how many positions are left, including the one after each kind of lines
 abbrev pub places_left : NetValue → Place → ℕ
 places_left n Head = 3 * length n.first + length n.channels + 3
 places_left n (Node node) = (length n.first - node) + length n.channels + 2 * length n.first + 2
@@ -34,7 +34,7 @@ places_left n (Channel chan) = (length n.channels - chan) + 2 * length n.first +
 places_left n (Up node) = 2 * (length n.first - node)
 places_left n (Down node) = 2 * (length n.first - node) - 1
 
--- a place of the net's file
+-- a position in the net's file
 abbrev pub IsPlaceOf : NetValue → Place → Type 0
 IsPlaceOf n Head = Unit {0}
 IsPlaceOf n (Node node) = node ≤ length n.first
@@ -42,7 +42,7 @@ IsPlaceOf n (Channel chan) = chan ≤ length n.channels
 IsPlaceOf n (Up node) = node ≤ length n.first
 IsPlaceOf n (Down node) = node < length n.first
 
--- From one place to the next a line is written, or none where the place has none.
+-- From one position to the next a line is written, or none where the position has none.
 pub record IsMadeAt (n : NetValue) (place next : Place) (before now : List ℕ) : Type 0 where
   pub text : now ++ text_from n next ≡ before ++ text_from n place
   pub within : IsPlaceOf n next

@@ -9,7 +9,7 @@ use std::alloc::{AllocError, Global};
 /// As many literals as the terms of a gate of three inputs have together.
 const MOST_OF_GATE: usize = 24;
 
-/// So many literals, and so many terms, no guard of the driver has more than.
+/// An upper bound on the literals, and on the terms, of each of the driver's guards.
 fn most_literals(driver: &Driver) -> usize
     ensures { IsFew result driver.now }
 {
@@ -36,7 +36,7 @@ fn most_of(drivers: &[Driver]) -> usize
 }
 
 /// 64 bytes for each literal and for the end of the rule, where a reset adds a literal to each term, or a term. None
-/// where that is more than memory has.
+/// where that is more than a `usize` holds.
 fn bytes_for(most: usize) -> Option<usize>
     ensures { IfSome result (λ bytes. bytes ≡ 128 * (most + 1)) }
 {

@@ -8,7 +8,7 @@ use crate::line::make_line;
 use crate::place::Place;
 use net_compose::Circuit;
 
-/// The line in the buffer, how many of its bytes were given out, and the place of the next line.
+/// The line in the buffer, how many of its bytes were given out, and the position of the next line.
 #[derive(Debug, Drop)]
 pub(crate) struct Cursor {
     pub line: Vec<u8>,
@@ -16,7 +16,7 @@ pub(crate) struct Cursor {
     pub place: Place,
 }
 
-/// Whether the text has ended at this place.
+/// Whether the text has ended at this position.
 fn is_over(net: &Circuit, place: Place) -> bool
     requires { IsPlaceOf net.now place }
     ensures over { result ≡ true → text_from net.now place ≡ [] }
@@ -28,7 +28,7 @@ fn is_over(net: &Circuit, place: Place) -> bool
     }
 }
 
-/// Copies bytes into the front of the piece, as many as there are and as it takes.
+/// Copies bytes to the start of the piece, as many as there are and as it takes, and returns their number.
 fn copy_to_front(bytes: &[u8], piece: &mut [u8]) -> usize
     ensures count { result ≡ min (length piece.old) (length bytes.now) }
     ensures bytes { take result piece.new ≡ take result bytes.now }
@@ -38,7 +38,7 @@ fn copy_to_front(bytes: &[u8], piece: &mut [u8]) -> usize
     n
 }
 
-/// What stands behind the first `done` bytes.
+/// What follows the first `done` bytes.
 fn behind(bytes: &[u8], done: usize) -> &[u8]
     requires { done ≤ length bytes.now }
     ensures { result.now ≡ drop done bytes.now }

@@ -19,7 +19,7 @@ use prs_core::Literal;
 use prs_file::{Lead, literal_text, rule_end};
 use std::alloc::AllocError;
 
-/// Appends a literal behind what leads to it.
+/// Appends a literal after its lead.
 fn put(net: &Circuit, lead: Lead, literal: Literal, to: &mut Vec<u8>) -> Result<(), AllocError>
     requires { literal.node < length net.now.first }
     ensures put { OnOk result (IsTermPut net.now lead Lead.And (literal ∷ []) to.old.items to.new.items
@@ -30,7 +30,7 @@ fn put(net: &Circuit, lead: Lead, literal: Literal, to: &mut Vec<u8>) -> Result<
     literal_text(lead, literal.high, net.name(literal.node), to)
 }
 
-/// Appends literals, and answers what leads to a further one.
+/// Appends literals, and returns the lead of a further one.
 fn literals_text(
     net: &Circuit,
     lead: Lead,
@@ -101,7 +101,7 @@ fn term_end_text(
     }
 }
 
-/// Appends a term: some literals, and behind them nodes that are all wanted high, or low. It answers what leads to a
+/// Appends a term: some literals, and after them nodes that are all wanted high, or low. It returns the lead of a
 /// further term.
 fn term_text(
     net: &Circuit,
@@ -316,7 +316,7 @@ fn triples_text(
     Ok(lead)
 }
 
-/// The same of two inputs, or of three where something is carried on from below.
+/// The same of two inputs, or of three where there is a carry from below.
 fn rows_text(
     net: &Circuit,
     function: Function,
@@ -451,7 +451,7 @@ fn shape_text(
     }
 }
 
-/// Appends the term that a reset puts behind the last one, and answers what leads to a further one.
+/// Appends the term that a reset puts after the last one, and returns the lead of a further one.
 fn guard_end_text(
     net: &Circuit,
     lead: Lead,
@@ -501,7 +501,7 @@ fn guard_text(
     guard_end_text(net, lead, ending, to)
 }
 
-/// Whether some term stands before what is led to.
+/// Whether some term comes before this lead.
 fn has_begun(lead: Lead) -> bool
     ensures { result ≡ has_begun lead }
 {

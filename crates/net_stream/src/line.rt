@@ -24,7 +24,7 @@ fn version(net: &Circuit) -> u8
     }
 }
 
-/// Appends the first line, and answers the next place.
+/// Appends the first line, and returns the next position.
 fn head_at(net: &Circuit, to: &mut Vec<u8>) -> Result<Place, AllocError>
     ensures made { IfOk result (λ next. IsMadeAt net.now Head next to.old.items to.new.items) }
     ensures room { OnErr result (vec_capacity to.old < vec_len to.old + 64) }
@@ -91,7 +91,7 @@ fn down_at(net: &Circuit, node: u32, to: &mut Vec<u8>) -> Result<Place, AllocErr
     Ok(Place::Up(node + 1))
 }
 
-/// Appends the line at the place, if it has one, to an empty buffer.
+/// Appends the line at the position, if it has one, to an empty buffer.
 fn line_at(net: &Circuit, place: Place, to: &mut Vec<u8>) -> Result<Place, AllocError>
     requires place { IsPlaceOf net.now place }
     requires goes_on { 0 < places_left net.now place }
@@ -110,8 +110,8 @@ fn line_at(net: &Circuit, place: Place, to: &mut Vec<u8>) -> Result<Place, Alloc
     }
 }
 
-/// Writes the line at the place, if it has one, into an empty buffer with room for each line of the file, and answers
-/// the next place.
+/// Writes the line at the position, if it has one, into an empty buffer with room for each line of the file, and
+/// returns the next position.
 pub(crate) fn make_line(net: &Circuit, place: Place, to: &mut Vec<u8>) -> Place
     requires place { IsPlaceOf net.now place }
     requires goes_on { 0 < places_left net.now place }

@@ -1,6 +1,6 @@
-//! The places of a rule file's lines.
+//! The positions of a rule file's lines.
 
-/// Where a line stands. Behind the last one of a kind is a place with no line, from which the next kind follows.
+/// The position of a line. After the last line of a kind is a position with no line, from which the next kind follows.
 #[derive(Clone, Copy, Debug, PartialEq, Eq)]
 pub(crate) enum Place {
     /// The first line.
@@ -9,7 +9,7 @@ pub(crate) enum Place {
     Node(u32),
     /// The line of this channel.
     Channel(usize),
-    /// The line of this node's up rule; behind the last node the text has ended.
+    /// The line of this node's up rule; after the last node the text has ended.
     Up(u32),
     /// The line of this node's down rule.
     Down(u32),

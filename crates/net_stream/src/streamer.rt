@@ -75,7 +75,7 @@ fn stream_program(alloc: Global, program: &Disjoint, reset: bool) -> Result<Stre
 }
 
 impl Streamer {
-    /// The streamer of the program's rule file: of the one text of the net that `translate` answers, which carries the
+    /// The streamer of the program's rule file: of the one text of the net that `translate` returns, which carries the
     /// program. A program whose circuit has more than 65,536 nodes is refused with their number.
     pub fn new(alloc: Global, program: &Disjoint) -> Result<Streamer, NetError>
         ensures text { IfOk result (λ s. NetText s (translation (program_of program.now))) }
@@ -106,8 +106,8 @@ impl Streamer {
         stream_program(alloc, program, true)
     }
 
-    /// Writes the next bytes of the file into the front of the piece, as many as it takes and as are left, and answers
-    /// their number: 0 at the end alone. It takes no memory.
+    /// Writes the next bytes of the file to the start of the piece, as many as it takes and as are left, and returns
+    /// their number. The piece must not be empty; 0 is returned exactly at the end of the file. It takes no memory.
     pub fn next(&mut self, piece: &mut [u8]) -> usize
         requires { 0 < length piece.old }
         ensures text { self.old ≡ take result piece.new ++ self.new }

@@ -33,13 +33,13 @@ abbrev pub chan_is : (Kind → Bool) → NetValue → Option ℕ → Bool
 chan_is p net None = false
 chan_is p net (Some c) = kind_passes p (slice_get net.channels c)
 
--- The move of the node from one state to another lets the device be asked: reset is low behind it, and it lowered reset
+-- The move of the node from one state to another lets the device be asked: reset is low after it, and it lowered reset
 -- or changed the acknowledge of an external channel.
 abbrev pub lets_ask : NetValue → (was is : RunState) → ℕ → Bool
 lets_ask net was is n = not (in_reset net.reset (high is.values))
     && (in_reset net.reset (high was.values) || chan_is is_external net (channel_acknowledged net.channels n))
 
--- what the device is told where this completes: a value that it took on an `out` channel
+-- the note of a completion: a value that the device took on an `out` channel
 abbrev pub told_passed : NetValue → (at : ℕ) → Option (ℕ × ℕ) → List Note
 told_passed net at None = []
 told_passed net at (Some p) = if chan_is is_out net (Some p.0) then Took at p.0 p.1 ∷ [] else []
@@ -53,8 +53,8 @@ IsAskedIf false known net st at notes more was is = (more ≡ []) × (is ≡ was
 abbrev pub low_reset : NetValue → RunState → Bool
 low_reset net st = not (in_reset net.reset (high st.values))
 
--- What a device notes along a run: at the start it is asked, unless reset is high. Behind each move it is told what it
--- took, and then it is asked, if the move lets it.
+-- What a device notes along a run: at the start it is asked, unless reset is high. After each move it is notified of
+-- what it took, and then it is asked, if the move lets it.
 pub data IsNotedAlong {P : Type 0} (known : P → PeerValue) (net : NetValue) (start : RunState) (was : P) :
     (moves : List ℕ) → (notes : List Note) → (is : P) → Type 0 where
   at_first : (more : List Note) (is : P) → IsAskedIf (low_reset net start) known net start 0 [] more was is →
@@ -75,7 +75,7 @@ IsSilent p In width chan = p.due chan width ≡ None
 IsSilent p Out width chan = p.willing chan ≡ false
 IsSilent p Chan width chan = Unit {0}
 
--- so it is on each idle channel
+-- this holds on each idle channel
 abbrev pub NothingComes : NetValue → List Note → RunState → PeerValue → Type 0
 NothingComes net notes st p = (chan : ℕ) (w : Wires) → slice_get net.channels chan ≡ Some w →
     is_idle net (script_by net notes) st chan ≡ true → IsSilent p w.channel.kind w.channel.width chan

@@ -24,7 +24,7 @@ abbrev pub peer_value : (name : List ℕ) (log : List Note) (spare : ℕ) → (�
 peer_value name log spare due willing =
     record { name = name; log = log; spare = spare; due = due; willing = willing }
 
--- it noted this. Where that is nothing it is as it was; else what is due and what it takes may be anything then.
+-- it noted this. Where that is nothing it is unchanged; else what is due and what it takes may be anything then.
 pub record HasNoted (more : List Note) (was is : PeerValue) : Type 0 where
   pub log : is.log ≡ was.log ++ more
   pub spare : is.spare + length more ≡ was.spare
@@ -48,12 +48,12 @@ abbrev pub answer_on : PeerValue → Option Wires → (at chan : ℕ) → List N
 answer_on p None at chan = []
 answer_on p (Some w) at chan = answer p w.channel.kind w.channel.width at chan
 
--- and what it answers on a channel behind these notes: it is asked only where the channel is idle
+-- and what it answers on a channel after these notes: it is asked only where the channel is idle
 abbrev pub asked_on : NetValue → List Note → RunState → PeerValue → (at chan : ℕ) → List Note
 asked_on net notes st p at chan =
     if is_idle net (script_by net notes) st chan then answer_on p (slice_get net.channels chan) at chan else []
 
--- Some channels are asked one after the other, after so many moves: behind these notes come more.
+-- Some channels are asked one after the other, after so many moves: these notes are followed by more.
 abbrev pub IsPassOver : {P : Type 0} (known : P → PeerValue) → NetValue → RunState → (at : ℕ) → (channels : List ℕ) →
     (notes more : List Note) → (was is : P) → Type 0
 IsPassOver known net st at [] notes more was is = (more ≡ []) × (is ≡ was)

@@ -37,22 +37,22 @@ pub record IsUnasked (stage : StageValue) (steps : ℕ) : Type 0 where
   pub room : steps ≤ stage.room
   pub steps_few : steps ≤ 1000000
 
--- what a log has that it hadn't before
+-- what was appended to a log
 abbrev pub noted_since : (before now : List Note) → List Note
 noted_since before now = drop (length before) now
 
--- the moves to which picks lead, under the scripts that these notes tell moment by moment
+-- the moves to which picks lead, under the scripts that these notes give move by move
 abbrev pub bench_moves : NetValue → List Note → (picks : List ℕ) → List ℕ
 bench_moves net notes picks = follow_under net (script_after net notes) (bench_start net) picks
 
--- A run on a bench, by what a picker chose and a device noted in it.
+-- A run on a bench, by what a scheduler chose and a device noted in it.
 pub record IsBenchRun {P : Type 0} (known : P → PeerValue) (s : SetupValue) (picks : List ℕ) (notes : List Note)
     (was is : P) (ran : RanValue) : Type 0 where
   -- each move is picked from those that are enabled under the script of its moment
   pub picked : ArePicksUnder s.net (script_after s.net notes) (bench_start s.net) picks
   -- and enabled under the script of all notes
   pub run : IsRun s.net (script_by s.net notes) (bench_start s.net) (bench_moves s.net notes picks)
-  -- the device was told what it took, and then asked, and noted this and nothing else
+  -- the device was notified of what it took, and then asked, and noted this and nothing else
   pub noted : IsNotedAlong known s.net (bench_start s.net) was (bench_moves s.net notes picks) notes is
   pub ends : EndsUnder s.net (script_after s.net notes) s.steps (bench_start s.net) (bench_moves s.net notes picks)
       ran.end
@@ -61,7 +61,7 @@ pub record IsBenchRun {P : Type 0} (known : P → PeerValue) (s : SetupValue) (p
       × (in_reset s.net.reset (high (after s.net (bench_start s.net) (bench_moves s.net notes picks)).values) ≡
       false)) →
       NothingComes s.net notes (after s.net (bench_start s.net) (bench_moves s.net notes picks)) (known is)
-  -- and what is answered of it
+  -- and its result
   pub net : ran.net ≡ s.net
   pub moves : ran.moves ≡ length picks
   pub done : ran.done_high ≡ high (after s.net (bench_start s.net) (bench_moves s.net notes picks)).values 1

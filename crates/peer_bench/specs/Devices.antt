@@ -12,7 +12,7 @@ up_to_ten chan log = length (take 10 (filter (is_offer_on chan) log))
 abbrev pub ramp_due : List Note → (chan width : ℕ) → Option ℕ
 ramp_due log chan width = if up_to_ten chan log == 10 then None else Some (up_to_ten chan log % 2 ^ width)
 
--- what is held after these notes, where this was held before them: an offer takes it away, and a value that is taken
+-- what is held after these notes, where this was held before them: an offer removes it, and a value that is taken
 -- brings the next number
 abbrev pub held_after : Option ℕ → List Note → Option ℕ
 held_after held [] = held
@@ -30,7 +30,7 @@ pub record NotedValue : Type 0 where
   pub log : List Note
   pub spare : ℕ
 
--- what an echo keeps beside its notes: what it holds, and how many values it has offered
+-- what an echo keeps besides its notes: what it holds, and how many values it has offered
 pub record IsEcho (log : List Note) (held : Option ℕ) (offers : ℕ) : Type 0 where
   pub held_is : held ≡ held_after (Some 0) log
   pub offers_are : offers ≡ count_by is_offer log

@@ -1,4 +1,4 @@
--- The script of what a device has offered and taken, as its notes tell it.
+-- The script of what a device has offered and taken, by its notes.
 use Rattle.std.specs.Prelude.{ℕ, List, length, map, slice_get, Option, Some, None}
 use Rattle.std.specs.List.{range_with_len}
 use Rattle.chp_base.specs.declared.channel.Kind.{Kind}

@@ -17,19 +17,19 @@ Scripts = ℕ → List OfferValue
 abbrev pub later : Scripts → Scripts
 later scripts = λ moves. scripts (suc moves)
 
--- the moves whose places in the lists of enabled moves are these, each list under the script of its moment
+-- the moves whose indexes in the lists of enabled moves are these, each list under the script of its moment
 abbrev pub follow_under : NetValue → Scripts → RunState → List ℕ → List ℕ
 follow_under net scripts st [] = []
 follow_under net scripts st (p ∷ picks) =
     move_at net (scripts 0) st p ∷ follow_under net (later scripts) (moved net st (move_at net (scripts 0) st p)) picks
 
--- each of these is a place of the list that it picks from
+-- each of these is an index of the list that it picks from
 abbrev pub ArePicksUnder : NetValue → Scripts → RunState → List ℕ → Type 0
 ArePicksUnder net scripts st [] = Unit {0}
 ArePicksUnder net scripts st (p ∷ picks) = (p < length (enabled_moves net (scripts 0) st))
     × ArePicksUnder net (later scripts) (moved net st (move_at net (scripts 0) st p)) picks
 
--- the hazard of the last move; in the first state only a node that is pulled both ways
+-- the hazard of the last move; in the first state only interference (both guards of a node hold)
 abbrev pub hazard_under : NetValue → Scripts → RunState → List ℕ → Option Hazard
 hazard_under net scripts st [] = first_hazard net st
 hazard_under net scripts st (n ∷ []) = hazard_of net (scripts 0) st n

@@ -17,7 +17,7 @@ use crate::peer::Peer;
 use chp_base::Kind;
 use event_sim::Stage;
 
-/// Asks for a value on the idle `in` channel, and offers it. Whether one came.
+/// Asks for a value on the idle `in` channel, and offers it. Returns whether one came.
 fn ask_value(stage: &mut Stage, peer: &mut Box<dyn Peer>, chan: u32, width: u8, at: u32) -> bool
     requires chan { chan < length stage.old.net.channels }
     requires idle { is_idle stage.old.net stage.old.script (now_of stage.old) chan ≡ true }
@@ -44,7 +44,7 @@ fn ask_value(stage: &mut Stage, peer: &mut Box<dyn Peer>, chan: u32, width: u8, 
     }
 }
 
-/// Asks whether a value is taken on the idle `out` channel, and makes an acceptance of it. Whether it is.
+/// Asks whether a value is taken on the idle `out` channel, and if so adds an acceptance. Returns whether it is.
 fn ask_ready(stage: &mut Stage, peer: &mut Box<dyn Peer>, chan: u32, at: u32) -> bool
     requires chan { chan < length stage.old.net.channels }
     requires idle { is_idle stage.old.net stage.old.script (now_of stage.old) chan ≡ true }
@@ -66,7 +66,7 @@ fn ask_ready(stage: &mut Stage, peer: &mut Box<dyn Peer>, chan: u32, at: u32) ->
     is_ready
 }
 
-/// Asks on the channel, where it is idle. Whether an answer came.
+/// Asks on the channel, where it is idle. Returns whether an answer came.
 fn ask(stage: &mut Stage, peer: &mut Box<dyn Peer>, chan: u32, at: u32) -> bool
     requires chan { chan < length stage.old.net.channels }
     requires low { in_reset stage.old.net.reset (high stage.old.values) ≡ false }
@@ -96,7 +96,7 @@ fn ask(stage: &mut Stage, peer: &mut Box<dyn Peer>, chan: u32, at: u32) -> bool
     }
 }
 
-/// Asks on each channel once, in ascending order. Whether an answer came.
+/// Asks on each channel once, in ascending order. Returns whether an answer came.
 fn ask_each(stage: &mut Stage, peer: &mut Box<dyn Peer>, at: u32) -> bool
     requires low { in_reset stage.old.net.reset (high stage.old.values) ≡ false }
     requires offered { AreOffered stage.old.script (now_of stage.old) }

@@ -11,7 +11,7 @@ use event_sim::{Picker, Ran};
 use prs_core::Net;
 use std::alloc::{AllocError, Global};
 
-/// A net that is to run against one of these devices, for so many moves at most. All memory of the run is taken.
+/// A net that is to run against one of these devices, for so many moves at most. All memory of the run is allocated.
 #[derive(Drop)]
 pub struct Bench {
     setup: Setup,
@@ -30,8 +30,9 @@ pub struct Benched {
 impl Bench {
     ghost use Rattle.peer_bench.specs.Benches.{SetupValue, external_channels, noted_since, IsBenchRun};
 
-    /// The bench of the net and the device at this place of the list, for so many moves at most. Where the net has a
-    /// reset node, the nodes that have rules are low at power-up. Where there is no memory the devices are given back.
+    /// The bench of the net and the device at this index of the list, for at most `steps` moves (up to 1,000,000).
+    /// Where the net has a reset node, the nodes that have rules are low at power-up. When out of memory it returns the
+    /// devices.
     pub fn new(
         alloc: Global,
         net: Net,
@@ -56,10 +57,10 @@ impl Bench {
         }
     }
 
-    /// Runs the net against the device at its place of the list, by the picker's choices. It takes no memory and
-    /// changes no other device. The device is asked at the start and behind each move that changes the acknowledge of
-    /// an external channel, never while a reset node is high, but behind the move that lowers it; before it is asked it
-    /// is told what it took by the move.
+    /// Runs the net against the device at its index of the list, by the scheduler's choices. It allocates nothing and
+    /// changes no other device. The device is asked at the start and after each move that changes the acknowledge of an
+    /// external channel or lowers reset, never while a reset node is high. Before it is asked after a move it is
+    /// notified of what it took by that move.
     pub fn run(self, picker: &mut Box<dyn Picker>) -> Benched
         requires spare { self.setup.steps ≤ (⟦<dyn Picker as Picker>⟧ picker.old.vtable).spare picker.old.value }
         requires nodes { length self.setup.net.first ≤ nodes picker.old }

@@ -58,7 +58,7 @@ fn is_external_ack(stage: &Stage, node: u32) -> bool
     }
 }
 
-/// Tells the device the value that it took.
+/// Notifies the device of the value that it took.
 fn tell_taken(peer: &mut Box<dyn Peer>, chan: u32, value: u64, at: u32)
     requires { 1 ≤ spare peer.old }
     ensures { HasNoted (Took at chan value ∷ [])
@@ -68,7 +68,7 @@ fn tell_taken(peer: &mut Box<dyn Peer>, chan: u32, value: u64, at: u32)
     peer.took(chan, value, at);
 }
 
-/// Tells the device the value that passed on the channel, where that is an `out` channel.
+/// Notifies the device of the value that passed on the channel, where that is an `out` channel.
 fn tell_value(stage: &Stage, peer: &mut Box<dyn Peer>, chan: u32, value: u64, at: u32)
     requires chan { chan < length stage.now.net.channels }
     requires room { 1 ≤ spare peer.old }
@@ -81,7 +81,7 @@ fn tell_value(stage: &Stage, peer: &mut Box<dyn Peer>, chan: u32, value: u64, at
     }
 }
 
-/// Tells the device the value that passed, where one did, and on an `out` channel.
+/// Notifies the device of the value that passed, where one did, and on an `out` channel.
 fn tell(stage: &Stage, peer: &mut Box<dyn Peer>, passed: Option<(u32, u64)>, at: u32)
     requires chan { IfSome passed (λ p. p.0 < length stage.now.net.channels) }
     requires room { 1 ≤ spare peer.old }
@@ -95,7 +95,7 @@ fn tell(stage: &Stage, peer: &mut Box<dyn Peer>, passed: Option<(u32, u64)>, at:
     }
 }
 
-/// Whether a device may be asked behind a move: reset is low, and it was high before or the move changed the
+/// Whether a device may be asked after a move: reset is low, and it was high before or the move changed the
 /// acknowledge of an external channel.
 fn may_ask(is_in_reset: bool, was_in_reset: bool, is_ack: bool) -> bool
     ensures { result ≡ (not is_in_reset && (was_in_reset || is_ack)) }
@@ -103,7 +103,7 @@ fn may_ask(is_in_reset: bool, was_in_reset: bool, is_ack: bool) -> bool
     !is_in_reset && (was_in_reset || is_ack)
 }
 
-/// Asks the device on all channels, where that is to be.
+/// Asks the device on all channels, where it may be asked.
 fn ask_if(stage: &mut Stage, peer: &mut Box<dyn Peer>, asks: bool, at: u32)
     requires low { asks ≡ true → in_reset stage.old.net.reset (high stage.old.values) ≡ false }
     requires offered { AreOffered stage.old.script (now_of stage.old) }
@@ -121,8 +121,8 @@ fn ask_if(stage: &mut Stage, peer: &mut Box<dyn Peer>, asks: bool, at: u32)
     }
 }
 
-/// Makes the enabled move of the node, tells the device what it took by that, and asks it where the move lets it be
-/// asked. The hazard that the move brings.
+/// Makes the enabled move of the node, notifies the device of what it took by that, and asks it where the move allows
+/// it. Returns the hazard that the move brings.
 fn make(stage: &mut Stage, peer: &mut Box<dyn Peer>, node: u32, at: u32) -> Option<Hazard>
     requires node { node < length stage.old.net.first }
     requires enabled { move_enabled stage.old.net stage.old.script (now_of stage.old) node ≡ true }

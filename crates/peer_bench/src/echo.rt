@@ -32,7 +32,7 @@ impl Model for Echo {
 }
 
 impl Echo {
-    /// A device that has done nothing. It takes no memory.
+    /// A device that has done nothing. It allocates no memory.
     pub fn new(alloc: Global) -> Echo
         ensures { result.log ≡ [] }
     {

@@ -52,7 +52,7 @@ pub fn notes_are_placed()
         → may_ask_after net (bench_start net) moves 0 ≡ false }
 {}
 
-/// Law: where every run of the net under that script is safe, a run on a bench ends at rest, or for want of moves.
+/// Law: where every run of the net under that script is safe, a run on a bench ends at rest, or with its moves spent.
 pub fn bench_runs_are_calm()
     ensures { (s : SetupValue) (picks : List ℕ) (notes : List Note) (was is : PeerValue) (ran : RanValue)
         → IsNet s.net

@@ -7,7 +7,7 @@ ghost use Rattle.peer_bench.specs.declared.note.Note.TheVariants.{Offered, Ready
 use std::alloc::AllocError;
 
 /// A device on the external channels of a circuit. It is asked for values on the `in` channels and whether it takes
-/// one on the `out` channels, is told what it took, and keeps a list of its answers and of what it was told.
+/// one on the `out` channels, is notified of what it took, and keeps a list of its answers and of these notifications.
 pub trait Peer: Drop {
     // Its name, which never changes.
     ghost name: { Self → List ℕ };
@@ -15,7 +15,7 @@ pub trait Peer: Drop {
     // All its notes, the first one first.
     ghost log: { Self → List Note };
 
-    // For how many more notes it has room.
+    // How many more notes it has room for.
     ghost spare: { Self → ℕ };
 
     // The value that it offers now on the `in` channel of this number and width, where it offers one.
@@ -24,11 +24,11 @@ pub trait Peer: Drop {
     // Whether it would take a value now on the `out` channel of this number.
     ghost willing: { Self → ℕ → Bool };
 
-    /// The name by which it is asked for.
+    /// The name by which it is requested.
     fn name(&self) -> &str
         ensures { result.now ≡ name self.now };
 
-    /// Makes room for so many notes.
+    /// Makes room for so many more notes.
     fn make_room(&mut self, notes: u32) -> Result<(), AllocError>
         ensures name { name self.new ≡ name self.old }
         ensures log { log self.new ≡ log self.old }
@@ -36,7 +36,8 @@ pub trait Peer: Drop {
         ensures willing { willing self.new ≡ willing self.old }
         ensures room { OnOk result (notes ≤ spare self.new) };
 
-    /// The value that it offers on the `in` channel of this number and width, after so many moves. It notes the offer.
+    /// The value that it offers on the `in` channel of this number and width (1 to 64), after so many moves: below 2 to
+    /// the width, or None where it offers none. It logs an offer.
     fn offer(&mut self, chan: u32, width: u8, at: u32) -> Option<u64>
         requires room { 1 ≤ spare self.old }
         requires some { 1 ≤ width }
@@ -51,7 +52,7 @@ pub trait Peer: Drop {
         ensures same_due { result ≡ None → due self.new ≡ due self.old }
         ensures same_willing { result ≡ None → willing self.new ≡ willing self.old };
 
-    /// Whether it takes a value on the `out` channel of this number, after so many moves. It notes that it is ready.
+    /// Whether it takes a value on the `out` channel of this number, after so many moves. If so, it logs `Ready`.
     fn ready(&mut self, chan: u32, at: u32) -> bool
         requires room { 1 ≤ spare self.old }
         ensures willing { result ≡ willing self.old chan }
@@ -63,7 +64,8 @@ pub trait Peer: Drop {
         ensures same_due { result ≡ false → due self.new ≡ due self.old }
         ensures same_willing { result ≡ false → willing self.new ≡ willing self.old };
 
-    /// Tells it the value that passed on the `out` channel of this number, by the move of this number. It notes that.
+    /// Notifies it of the value that passed on the `out` channel of this number, by the move of this number. It logs
+    /// `Took`.
     fn took(&mut self, chan: u32, value: u64, at: u32)
         requires room { 1 ≤ spare self.old }
         ensures noted { log self.new ≡ log self.old ++ Took at chan value ∷ [] }

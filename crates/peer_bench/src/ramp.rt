@@ -15,7 +15,7 @@ pub struct Ramp {
 }
 
 impl Ramp {
-    /// A device that has done nothing. It takes no memory.
+    /// A device that has done nothing. It allocates no memory.
     pub fn new(alloc: Global) -> Ramp
         ensures { result.log.items ≡ [] }
     {

@@ -13,7 +13,7 @@ use std::alloc::{AllocError, Global};
 use std::marker::Model;
 
 /// A net on a stage on which nothing has been offered yet, and how many moves may be made. All memory of the run is
-/// taken.
+/// allocated.
 #[derive(Debug, Drop)]
 pub(crate) struct Setup {
     pub(crate) stage: Stage,
@@ -41,7 +41,7 @@ fn no_offer(alloc: Global, kind: Kind) -> Offer
     }
 }
 
-/// The script of these channels by which nothing is offered.
+/// The script of these channels that offers nothing.
 fn no_script(alloc: Global, channels: &[Wires]) -> Result<Script, AllocError>
     ensures { IfOk result (λ s. s ≡ map (λ (w : Wires). offer_by w.channel.kind 0 []) channels.now) }
 {

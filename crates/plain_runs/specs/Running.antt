@@ -21,11 +21,11 @@ pub record IsRunning (r : RunValue) : Type 0 where
   pub values : length r.now.values ≡ length r.net.first
   pub histories : length r.now.histories ≡ length r.net.channels
 
--- a node other than this one had a move, and has none
+-- a node other than this one had an enabled move, and has none
 abbrev pub lost : (was now : Bool) (other node : ℕ) → Bool
 lost was now other node = not (other == node) && (was && not now)
 
--- a node that is pulled both ways, else a node whose move is lost, else a channel whose phases are broken
+-- a node with interference, else a node whose move is lost, else a channel whose phases are broken
 abbrev pub worst : Option ℕ → Option ℕ → Option ℕ → Option Hazard
 worst (Some k) taken broken = Some (BothWays k)
 worst None (Some k) broken = Some (Unstable k)

@@ -120,7 +120,7 @@ fn is_lost(was: bool, now: bool, other: u32, node: u32) -> bool
     other != node && was && !now
 }
 
-/// The least node but this one that was enabled and is no longer.
+/// The least node other than this one that was enabled and is no longer.
 fn first_lost(was: &[bool], now: &[bool], node: u32) -> Option<u32>
     requires nodes { length now.now ≡ length was.now }
     requires few { length was.now < 2 ^ 32 }
@@ -135,7 +135,7 @@ fn first_lost(was: &[bool], now: &[bool], node: u32) -> Option<u32>
     None
 }
 
-/// The least node that is pulled both ways.
+/// The least node with interference (both guards hold).
 fn first_pulled(net: &Net, state: &State) -> Option<u32>
     requires { length state.now ≡ length net.now.first }
     ensures { result ≡ least_below (length net.now.first) (both_ways net.now (high state.now)) }
@@ -161,7 +161,7 @@ fn worst(pulled: Option<u32>, lost: Option<u32>, broken: Option<u32>) -> Option<
     }
 }
 
-/// The hazard in this state, behind a move of the node that broke the phases of this channel, where it broke any.
+/// The hazard in this state, after a move of the node that broke the phases of this channel, where it broke any.
 fn hazard(
     net: &Net,
     state: &State,
@@ -248,8 +248,8 @@ impl Run {
         Ok(())
     }
 
-    /// Moves the node, whether or not its move is enabled, and tells the hazard that this brings, or None where there
-    /// is none: the least node that is pulled both ways behind the move; else the least other node that had an enabled
+    /// Moves the node, whether or not its move is enabled, and returns the hazard that this brings, or None where there
+    /// is none: the least node with interference after the move; else the least other node that had an enabled
     /// move and has none; else the channel whose phases the move breaks.
     pub fn make(&mut self, alloc: Global, node: u32) -> Result<Option<Hazard>, AllocError>
         requires { node < length self.old.net.first }

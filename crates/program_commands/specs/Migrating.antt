@@ -19,8 +19,8 @@ resettable (Some node) n = n
 abbrev pub named_reset : List (List ℕ) → Option ℕ
 named_reset names = position (λ name. bytes_eq name (codes "reset")) names
 
--- A net without a reset node can't be migrated where one of its nodes has that name, which stands in the line after as
--- many as its number and one. Else the one text of the net with a reset node is written.
+-- A net without a reset node can't be migrated where one of its nodes has that name; the refusal gives the line of that
+-- name: the node's number and two. Else the one text of the net with a reset node is written.
 pub data MigratesNet (net : NetValue) : Answer → Type 0 where
   taken : {node : ℕ} → net.reset ≡ None → named_reset net.names ≡ Some node →
       MigratesNet net (refuses BadFile (bad_net_line DoubleName (node + 2)))

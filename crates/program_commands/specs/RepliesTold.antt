@@ -1,4 +1,4 @@
--- What is written of a reply, and the answer that it comes to. A rule file, which is made while it is written, always
+-- What is written of a reply, and the answer that it amounts to. A rule file, which is made while it is written, always
 -- ends well.
 use Rattle.std.specs.Prelude.{ℕ, List}
 use Rattle.command_answers.specs.declared.answer.Ending.{Ending}

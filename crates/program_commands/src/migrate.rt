@@ -42,7 +42,7 @@ fn reset_text(alloc: Global, net: Net) -> Result<Vec<u8>, AllocError>
     print_net(alloc, &net)
 }
 
-/// The rule file of version 2 that is to stand for this one, which is that of the net: itself where it is of version 2,
+/// The rule file of version 2 that is to replace this one, which is that of the net: itself where it is of version 2,
 /// else that of the net with a reset node.
 fn migrate_net<'a>(alloc: Global, text: Vec<u8>, net: Net) -> Result<Output, Stop<'a>>
     requires { IsFileOf text.items net }

@@ -12,6 +12,6 @@ drawn_after seed words = advance 64 multiplier_64 words (started 64 multiplier_6
 abbrev pub word_at : (seed place : ℕ) → ℕ
 word_at seed place = (pcg32 (drawn_after seed place)).0
 
--- what the input offers: the lowest bytes of the four words behind those of the stages
+-- what the input offers: the lowest bytes of the four words after those of the stages
 abbrev pub drawn_values : (seed stages : ℕ) → List ℕ
 drawn_values seed stages = map (λ place. word_at seed place % 256) (range_with_len stages 4)

@@ -18,7 +18,7 @@ stage_sends word stage =
     else (if word % 4 == 2 then variable ++ codes " - " ++ constant
     else codes "~" ++ variable))
 
--- what stands before a stage's loop: from the second stage on, the sign that it runs beside the others
+-- what comes before a stage's loop: from the second stage on, the sign for parallel composition
 abbrev pub stage_begins : (stage : ℕ) → List ℕ
 stage_begins stage = if stage == 1 then [] else codes "|| "
 

@@ -25,8 +25,8 @@ fn next_value(words: &mut Lcg64Xsh32) -> u64
     u64::from(words.next_word() % 256)
 }
 
-/// The four values that are meant for the input `c0` of the program of `grow_text`, each below 256: the lowest bytes of
-/// the four words of the seed that come behind those of the stages.
+/// The four values for the input `c0` of the program of `grow_text`, each below 256: the lowest bytes of the seed's
+/// four words after those of the stages.
 pub fn grow_values(seed: u64, stages: u32) -> [u64; 4]
     requires some { 1 ≤ stages }
     requires most { stages ≤ 400 }

@@ -1,4 +1,4 @@
-//! The text of a program that is made of a seed.
+//! The text of a program that is generated from a seed.
 
 ghost use Rattle.std.specs.Prelude.{◌≡◌, ◌≤◌, ◌++◌, IfOk, OnOk};
 ghost use Rattle.std.specs.List.{flat_map};
@@ -43,7 +43,7 @@ fn stage_sends(word: u32, stage: u32, to: &mut Vec<u8>) -> Result<(), AllocError
     }
 }
 
-/// What stands before a stage's loop.
+/// What comes before a stage's loop.
 fn stage_begins(stage: u32) -> &'static [u8]
     ensures { result.now ≡ stage_begins stage }
 {

@@ -1,4 +1,4 @@
-//! Programs made of a number: pipelines whose stages are drawn from a seed, and the values that they are fed.
+//! Programs generated from a seed: pipelines whose stages are drawn from it, and the values that they are fed.
 #![tactic(auto)]
 
 mod drawn;

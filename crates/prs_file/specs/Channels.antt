@@ -5,7 +5,7 @@ use Rattle.chp_base.specs.declared.channel.Kind.{Kind}
 use Rattle.chp_base.specs.declared.channel.Kind.TheVariants.{In, Out, Chan}
 use Rattle.prs_file.specs.Spelling.{kind_spelling}
 
--- the kind that the first letter tells, in a channel's line
+-- the kind given by the first letter of a channel's line
 abbrev pub kind_by_letter : List ℕ → Kind
 kind_by_letter [] = Chan
 kind_by_letter (b ∷ bs) = if b == 105 then In else (if b == 111 then Out else Chan)

@@ -22,7 +22,7 @@ abbrev pub channel_fault_of : List (List ℕ) → List Bool → List Wires → C
 channel_fault_of names first ws c =
     if is_some (place_in (channel_names ws) c.name) then Some DoubleName else wires_fault_of names first c
 
--- a form that may stand behind the nodes
+-- a form that may come after the nodes
 abbrev pub stands_late : Form → Bool
 stands_late (head v) = false
 stands_late (node name first) = false

@@ -6,7 +6,7 @@ use Rattle.std.specs.declared.hash.FoldHasher.{FoldHasher}
 use Rattle.std.specs.declared.hash.BuildHasherDefault.{BuildHasherDefault}
 use Rattle.chp_base.specs.Names.{IsNodeName}
 
--- the first place at which a name stands in a list
+-- the index of a name's first occurrence in a list
 abbrev pub place_in : List (List ℕ) → List ℕ → Option ℕ
 place_in [] name = None
 place_in (n ∷ ns) name = if bytes_eq n name then Some 0 else option_map (λ k. suc k) (place_in ns name)

@@ -54,7 +54,7 @@ pub record Says (line : List ℕ) (f : Form) : Type 0 where
   pub form : IsForm f
   pub spelled : line ≡ form_spelling f
 
--- what the lines so far have told
+-- what the lines so far say
 
 abbrev pub version_in : Form → Option ℕ
 version_in (head version) = Some version
@@ -92,7 +92,7 @@ is_unknown before name = is_none (number_of_node before name)
 abbrev pub is_high_first : List Form → List ℕ → Bool
 is_high_first before name = list_any (λ (n : List ℕ × Bool). bytes_eq n.0 name && n.1) (told_nodes before)
 
--- where a line may stand
+-- where a line is allowed
 
 abbrev pub last_of : List Form → Option Form
 last_of [] = None
@@ -115,7 +115,7 @@ stands_behind reset (Some (channel d)) (rule g name up) = true
 stands_behind reset (Some (rule h n v)) (rule g name up) = true
 stands_behind reset last f = false
 
--- the third line is that of the node done, and no channel or rule stands before it
+-- the third line is that of the node done, and no channel or rule comes before it
 abbrev pub is_done_line : Form → Bool
 is_done_line (node name first) = bytes_eq name (codes "done") && not first
 is_done_line _ = false
@@ -169,7 +169,7 @@ driven_wire before (rule g name up) =
     || list_any (λ (c : Channel). list_any (bytes_eq name) (outside_of c)) (told_channels before))
 driven_wire before _ = false
 
--- the place of a rule in the order of rules: by its node, up before down
+-- the position of a rule in the order of rules: by its node, up before down
 abbrev pub place_of : List Form → List ℕ → Bool → ℕ
 place_of before name up = 2 * unwrap_or (number_of_node before name) 0 + (if up then 0 else 1)
 
@@ -205,7 +205,7 @@ too_many before (rule g name up) =
     nat_lt (literal_limit before) (sum_by literals_in before + literals_in (rule g name up))
 too_many before _ = false
 
--- of a line that says something and may stand: the first cause that holds
+-- of a line that has a form and is allowed at its position: the first cause that holds
 abbrev pub form_fault : List Form → Form → Option NetFault
 form_fault before f =
     if double_name before f then Some DoubleName else (
@@ -228,7 +228,7 @@ pub record IsBadVersion (line : List ℕ) (digits : List ℕ) : Type 0 where
 abbrev pub BadVersionAt : List Form → List ℕ → Type 0
 BadVersionAt before line = (before ≡ []) × (digits : List ℕ) × IsBadVersion line digits
 
--- why a line is refused behind lines that are not
+-- why a line is refused after lines that are not
 pub data LineFault (before : List Form) (line : List ℕ) : NetFault → Type 0 where
   bad_version : BadVersionAt before line → LineFault before line BadVersion
   bad_line : ¬ BadVersionAt before line → ((f : Form) → Says line f → may_stand before f ≡ false) →
@@ -236,7 +236,7 @@ pub data LineFault (before : List Form) (line : List ℕ) : NetFault → Type 0 
   of_form : (f : Form) {fault : NetFault} → Says line f → may_stand before f ≡ true → form_fault before f ≡ Some fault →
       LineFault before line fault
 
--- each line may stand behind those before it, and has no fault
+-- each line is allowed after those before it, and has no fault
 abbrev pub AllStand : List Form → List Form → Type 0
 AllStand before [] = Unit {0}
 AllStand before (f ∷ rest) =
@@ -247,7 +247,7 @@ pub record IsTaken (text : List ℕ) (before : List Form) (rest : List ℕ) : Ty
   pub told : text ≡ flat_map form_spelling before ++ rest
   pub stand : AllStand [] before
 
--- the text is refused for this cause behind so many lines: at a line, or at its end where it may not end
+-- after these lines the text is refused for this cause: at the next line, or at its end if it may not end there
 pub data RefusedBehind (before : List Form) (rest : List ℕ) : NetFault → Type 0 where
   at_line : {fault : NetFault} → 0 < length rest → LineFault before (first_line rest) fault →
       RefusedBehind before rest fault

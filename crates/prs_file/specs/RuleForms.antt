@@ -25,7 +25,7 @@ pub record IsRuleForm (ls : List Led) (name : List ℕ) : Type 0 where
   pub names : All (λ (l : Led). IsNodeName l.name) ls
   pub node : IsNodeName name
 
--- a literal at the front of a text: its sign, its word up to a space, and what stands behind it
+-- the literal that a text begins with: its sign, its word up to a space, and what follows it
 abbrev pub tells_high : List ℕ → Bool
 tells_high [] = true
 tells_high (b ∷ bs) = if b == 126 then false else true

@@ -1,4 +1,4 @@
--- Why a rule is refused, by what the lines before it have told.
+-- Why a rule is refused, by what the lines before it say.
 use Rattle.std.specs.Prelude.{◌≡◌, ℕ, ◌<◌, ◌==◌, true, false, ◌+◌, ◌*◌, Bool, ◌&&◌, ◌||◌, nat_lt, List, Option, Some, None, unwrap_or, sum_by, length, codes, bytes_eq, if◌then◌else◌}
 use Rattle.std.specs.List.{list_any}
 use Rattle.chp_base.specs.declared.channel.Channel.{Channel}
@@ -23,7 +23,7 @@ rule_place names name up = 2 * unwrap_or (place_in names name) 0 + (if up then 0
 abbrev pub literals_allowed : Bool → ℕ
 literals_allowed reset = if reset then 8454144 else 4194304
 
--- behind a rule at the last place, and so many literals
+-- after a rule at the last position, and so many literals
 abbrev pub rule_fault_of : List (List ℕ) → List Channel → Bool → Option ℕ → ℕ → List (List Signed) → List ℕ → Bool →
     Option NetFault
 rule_fault_of names channels reset last count g name up =
@@ -44,7 +44,7 @@ is_rule (node name first) = false
 is_rule (channel c) = false
 is_rule (rule g name up) = true
 
--- the rules of a text up to what is left of it: what these lines have told, and what may stand behind them
+-- the rules of a text up to what is left of it: what these lines say, and what may follow them
 pub record IsRulesRead (before : List Form) (version : ℕ) (names : List (List ℕ)) (first : List Bool)
     (channels : List Channel) (place : Option ℕ) (count : ℕ) (text rest : List ℕ) : Type 0 where
   pub taken : IsTaken text before rest

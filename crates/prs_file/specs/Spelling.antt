@@ -71,7 +71,7 @@ spelling n =
 abbrev pub NetText : List ℕ → NetValue → Type 0
 NetText text n = text ≡ spelling n
 
--- what stands before a literal: the word of a new rule, or the sign of conjunction or disjunction
+-- what comes before a literal: the word of a new rule, or the sign of conjunction or disjunction
 abbrev pub lead_spelling : Lead → List ℕ
 lead_spelling Rule = codes "rule "
 lead_spelling And = codes " & "

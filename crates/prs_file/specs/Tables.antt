@@ -39,7 +39,7 @@ with_guard node up g r = if up then record r { up = slice_set r.up node g } else
       slice_set r.down node g;
 }
 
--- a place behind the last one
+-- a position after the last one
 abbrev pub IsBeyond : Option ℕ → ℕ → Type 0
 IsBeyond None place = Unit {0}
 IsBeyond (Some last) place = last < place
@@ -52,7 +52,7 @@ known_fault_of reset driven last count place literals =
     (if stands_above last place then Some OutOfOrder else
     (if nat_lt (literals_allowed reset) (count + literals) then Some TooMany else None)))
 
--- the guards up to a place, with so many literals
+-- the guards up to a position, with so many literals
 pub record IsTable (reset : Bool) (channels : List Channel) (names : List (List ℕ)) (last : Option ℕ) (count : ℕ)
     (r : RulesValue) : Type 0 where
   pub ups : length r.up ≡ length names

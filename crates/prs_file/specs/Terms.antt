@@ -13,7 +13,7 @@ signed_of l = record { high = l.high; name = l.name }
 abbrev pub led_by : Lead → Signed → Led
 led_by lead s = record { lead = lead; high = s.high; name = s.name }
 
--- a literal in front of the first term, or as a term of its own, by what leads to the next literal
+-- a literal prepended to the first term, or as a term of its own, by what leads to the next literal
 abbrev pub in_front : Signed → List (List Signed) → List (List Signed)
 in_front s [] = (s ∷ []) ∷ []
 in_front s (t ∷ ts) = (s ∷ t) ∷ ts

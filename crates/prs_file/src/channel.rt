@@ -12,7 +12,7 @@ use chp_base::{Channel, Kind, name_of};
 use itoa::Buffer;
 use std::alloc::{AllocError, Global};
 
-/// The kind that the line's first letter tells, where it is a channel's line.
+/// The kind given by the line's first letter, if it is a channel's line.
 fn kind_of(line: &[u8]) -> Kind
     ensures { result ≡ kind_by_letter line.now }
 {
@@ -50,7 +50,7 @@ fn is_line_of(line: &[u8], kind: Kind, name: &[u8], width: u8) -> bool
     }
 }
 
-/// The width with which the line is that of a channel of this kind and name.
+/// The width for which the line is that of a channel of this kind and name, if there is one.
 fn width_of(line: &[u8], kind: Kind, name: &[u8]) -> Option<u8>
     ensures some { IfSome result (λ width. line.now ≡ line_of kind name.now width) }
     ensures range { IfSome result (λ width. (1 ≤ width) × (width ≤ 64)) }
@@ -74,7 +74,7 @@ fn kind_len(kind: Kind) -> usize
     }
 }
 
-/// The word behind the kind.
+/// The word after the kind.
 fn word_of(line: &[u8], kind: Kind) -> &[u8]
     ensures { result.now ≡ word_behind kind line.now }
 {

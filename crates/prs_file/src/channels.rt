@@ -21,7 +21,7 @@ use chp_base::Channel;
 use prs_core::Wires;
 use std::alloc::{AllocError, Global};
 
-/// The channel in the first line, and what stands behind the line, or None where the line is no channel's.
+/// The channel in the first line, and the text after the line, or None if the line is no channel's.
 fn next_channel(alloc: Global, text: &[u8]) -> Result<Option<(Channel, &[u8])>, AllocError>
     ensures line { IfOk result (λ o. IfSome o (λ form. first_line text.now ≡ channel_spelling form.0)) }
     ensures rest { IfOk result (λ o. IfSome o (λ form. text.now ≡ first_line text.now ++ form.1.now)) }
@@ -37,7 +37,7 @@ fn next_channel(alloc: Global, text: &[u8]) -> Result<Option<(Channel, &[u8])>, 
     Ok(Some((channel, behind)))
 }
 
-/// The channels of a file behind its nodes, and what stands behind them.
+/// The channels of a file, read after its nodes, and the text after them.
 pub fn read_channels<'a>(
     alloc: Global,
     nodes: &Nodes,

@@ -6,10 +6,10 @@ ghost use Rattle.prs_file.specs.Faults.{net_fault_number};
 use std::alloc::{AllocError, AllocFailed};
 use thiserror::Error;
 
-/// The causes for which a rule file is refused. Each has a number that is never given to another.
+/// The causes for which a rule file is refused. Each has a number that is never reused for another cause.
 #[derive(Clone, Copy, Debug, PartialEq, Eq)]
 pub enum NetFault {
-    /// A line that isn't of a form that may stand at its place, or isn't ended; or a file that ends too early.
+    /// A line that has no form allowed at its position, or isn't ended; or a file that ends too early.
     BadLine,
     /// A name that no node has.
     UnknownNode,
@@ -17,11 +17,12 @@ pub enum NetFault {
     DoubleRule,
     /// A rule for a node that the environment moves.
     DrivenWire,
-    /// More nodes or literals than a file may have.
+    /// More nodes or literals than a file may have: 65,536 nodes and 4,194,304 literals, in version 2 65,537 and
+    /// 8,454,144.
     TooMany,
     /// A version of the file that isn't known.
     BadVersion,
-    /// A rule that stands below a later one in the order of rules.
+    /// A rule that comes after one that is later in the order of rules.
     OutOfOrder,
     /// A node or a channel with the name of an earlier one.
     DoubleName,
@@ -48,7 +49,7 @@ impl NetFault {
     }
 }
 
-/// Why no net was made of a rule file: it is refused at a line, counted from 1, or memory ran out.
+/// Why no net was made from a rule file: it is refused at a line, counted from 1, or out of memory.
 #[derive(Debug, Drop, Error)]
 pub enum NetReadError {
     #[error("the rule file is refused")]

@@ -1,5 +1,5 @@
-//! The lines of a rule file, and the pieces of its rules, each put at the end of a text. A call that finds no memory
-//! leaves the text alone, and with room for 64 more bytes in its vector every call finds it.
+//! The lines of a rule file, and the pieces of its rules, each appended to a text. A call that runs out of memory
+//! leaves the text unchanged; with room for 64 more bytes in the text's vector no call does.
 
 ghost use Rattle.std.specs.Prelude.{◌≡◌, ℕ, ◌+◌, ◌<◌, ◌≤◌, ◌++◌, List, map, length, sum_by, vec_len, vec_capacity, OnOk, OnErr};
 ghost use Rattle.std.specs.List.{concat, flat_map};
@@ -13,7 +13,7 @@ use std::alloc::AllocError;
 /// The most bytes that one call of this module appends.
 const ROOM: usize = 64;
 
-/// What stands before a literal.
+/// What comes before a literal.
 #[derive(Clone, Copy, Debug, PartialEq, Eq)]
 pub enum Lead {
     /// The word that begins a rule.
@@ -87,7 +87,7 @@ pub fn channel_line(channel: &Channel, to: &mut Vec<u8>) -> Result<(), AllocErro
     }
 }
 
-/// Appends a literal behind what leads to it: the name of its node, behind the sign of negation where it wants
+/// Appends what leads to a literal and then the literal: the name of its node, after the sign of negation if it wants
 /// the node low.
 pub fn literal_text(lead: Lead, high: bool, name: &[u8], to: &mut Vec<u8>) -> Result<(), AllocError>
     requires { IsNodeName name.now }

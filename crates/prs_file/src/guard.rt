@@ -15,7 +15,7 @@ use prs_core::{Guard, Literal, Term};
 use std::alloc::{AllocError, Global};
 use std::mem;
 
-/// The literal by the number of its node, or None where its name is no node's.
+/// The literal by the number of its node, or None if its name is no node's.
 fn literal_of(index: &NodeIndex, led: &Led) -> Option<Literal>
     ensures high { IfSome result (λ literal. literal.high ≡ led.now.high) }
     ensures node { IfSome result (λ literal. place_in index.now led.now.name ≡ Some literal.node) }
@@ -30,7 +30,7 @@ fn literal_of(index: &NodeIndex, led: &Led) -> Option<Literal>
     })
 }
 
-/// Puts the literal behind those of the last term, or begins a new term with it, by what leads to it.
+/// Appends the literal to the last term, or begins a new term with it, depending on what leads to it.
 fn add_literal(
     terms: &mut Vec<Term>,
     last: &mut Vec<Literal>,
@@ -54,7 +54,7 @@ fn add_literal(
     Ok(())
 }
 
-/// The guard of these literals, or None where one of them names no node.
+/// The guard of these literals, or None if one of them names no node.
 pub fn guard_of(alloc: Global, index: &NodeIndex, leds: &[Led]) -> Result<Option<Guard>, AllocError>
     ensures named { IfOk result (λ o. IfSome o (λ guard. guard_named index.now guard ≡ terms_of leds.now)) }
     ensures within { IfOk result (λ o. IfSome o (λ guard. IsBelow (length index.now) guard)) }

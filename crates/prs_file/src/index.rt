@@ -9,8 +9,8 @@ use std::collections::HashMap;
 use std::marker::Model;
 use std::str;
 
-/// The names of nodes in order of their numbers, seen as the list of them, with an index that finds the number of
-/// a name.
+/// The names of nodes in order of their numbers, with an index that finds the number of a name. Its view is the list
+/// of names.
 #[derive(Drop)]
 pub struct NodeIndex {
     names: Vec<Name>,

@@ -52,7 +52,7 @@ fn first_nodes(alloc: Global, version: u8) -> Result<Nodes, AllocError>
     })
 }
 
-/// Whether the node lines may end behind this one: in version 2 the reset node is the last one.
+/// Whether the node lines may end after this one: in version 2 the reset node is the last one.
 fn may_be_last(version: u8, name: &[u8], first: bool) -> bool
     ensures { result ≡ ends_nodes (version == 2) (Some (node name.now first)) }
 {
@@ -79,7 +79,7 @@ fn node_fault(version: u8, index: &NodeIndex, name: &[u8]) -> Option<NetFault>
     None
 }
 
-/// The node in the first line, and what stands behind the line, or None where the line is no node's.
+/// The node in the first line, and the text after the line, or None if the line is no node's.
 fn next_node(alloc: Global, text: &[u8]) -> Result<Option<(Name, bool, &[u8])>, AllocError>
     ensures line { IfOk result (λ o. IfSome o (λ form. first_line text.now ≡ node_spelling form.0 form.1)) }
     ensures rest { IfOk result (λ o. IfSome o (λ form. text.now ≡ first_line text.now ++ form.2.now)) }
@@ -95,8 +95,8 @@ fn next_node(alloc: Global, text: &[u8]) -> Result<Option<(Name, bool, &[u8])>, 
     Ok(Some((name, first, behind)))
 }
 
-/// The nodes of a file behind its first three lines, and what stands behind them. It is refused where the node
-/// lines may not end.
+/// The nodes of a file, read after its first three lines, and the text after them. The file is refused at a node that
+/// has a fault, or if the node lines end where they may not.
 pub fn read_nodes(alloc: Global, version: u8, text: &[u8]) -> Result<(Nodes, &[u8]), NetReadError>
     requires { AllStand [] (opening version) }
     ensures version { IfOk result (λ r. r.0.version ≡ version) }

@@ -11,7 +11,7 @@ use crate::fault::{NetFault, NetReadError};
 use crate::form::head_form;
 use crate::spelled::{cut_line, is_spelled};
 
-/// What stands behind the word that begins a file, or None where the line doesn't begin with it.
+/// What follows the word that begins a file, or None if the line doesn't begin with it.
 fn behind_prs(line: &[u8]) -> Option<&[u8]>
     ensures some { IfSome result (λ text. line.now ≡ codes "prs " ++ text.now) }
     ensures none { IfNone result ((text : List ℕ) → line.now ≢ codes "prs " ++ text) }
@@ -22,7 +22,7 @@ fn behind_prs(line: &[u8]) -> Option<&[u8]>
     }
 }
 
-/// The text without the end of the line, where it is ended.
+/// The text without the end of the line, if it has one.
 fn bare(text: &[u8]) -> &[u8]
     ensures two { (result.now ≡ text.now) ⊎ (text.now ≡ result.now ++ codes "\n") }
     ensures ended { (t : List ℕ) → text.now ≡ t ++ codes "\n" → result.now ≡ t }
@@ -45,7 +45,7 @@ fn are_digits(text: &[u8]) -> bool
     text.iter().all(|byte| is_digit(*byte))
 }
 
-/// The number that these digits are.
+/// The number that these digits spell.
 fn value(digits: &[u8]) -> u32
     requires digits { All (λ b. digit b ≡ true) digits.now }
     requires most { length digits.now ≤ 9 }
@@ -88,7 +88,7 @@ fn first_fault(line: &[u8]) -> NetFault
     }
 }
 
-/// The version of the file, and what stands behind its first three lines.
+/// The version of the file, and the text after its first three lines.
 pub fn read_opening(text: &[u8]) -> Result<(u8, &[u8]), NetReadError>
     ensures taken { IfOk result (λ form. IsTaken text.now (opening form.0) form.1.now) }
     ensures known { IfOk result (λ form. (1 ≤ form.0) × (form.0 ≤ 2)) }

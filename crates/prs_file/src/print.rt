@@ -20,7 +20,7 @@ fn node_name(net: &Net, node: u32) -> &[u8]
     net.names()[node as usize].bytes()
 }
 
-/// Appends a term behind what leads to it.
+/// Appends what leads to a term, and then the term.
 fn term_text(net: &Net, lead: Lead, term: &Term, to: &mut Vec<u8>) -> Result<(), AllocError>
     requires { All (λ (l : Literal). l.node < length net.now.first) term.now }
     ensures { OnOk result (to.new.items ≡ to.old.items ++ (lead_spelling lead ++ term_spelling net.now term.now)) }
@@ -47,7 +47,7 @@ fn guard_text(net: &Net, guard: &Guard, to: &mut Vec<u8>) -> Result<(), AllocErr
     Ok(())
 }
 
-/// Appends the line of a rule, or nothing where its guard has no terms.
+/// Appends the line of a rule, or nothing if its guard has no terms.
 fn rule_line(
     net: &Net,
     guard: &Guard,

@@ -48,8 +48,8 @@ fn read_in_stages(alloc: Global, text: &[u8]) -> Result<Net, NetReadError>
     Ok(made(nodes, channels, rules))
 }
 
-/// The net that the text of a rule file spells, as no other one. A text that spells none is refused at its first line
-/// with a fault, or at its end where a file may not end there.
+/// The one net that the text of a rule file spells. A text that spells none is refused at its first line with a fault,
+/// or at its end if a file may not end there.
 pub fn read_net(alloc: Global, text: &[u8]) -> Result<Net, NetReadError>
     requires { length text.now ≤ 268435456 }
     ensures net { IfOk result IsNet }

@@ -13,7 +13,7 @@ use crate::spelled::is_spelled;
 use chp_base::{Name, node_name_of};
 use std::alloc::{AllocError, Global};
 
-/// The name and the direction in the end of a rule's line, or None where the text is no end.
+/// The name and the direction in the end of a rule's line, or None if the text is no such end.
 pub fn end_form(alloc: Global, text: &[u8]) -> Result<Option<(Name, bool)>, AllocError>
     ensures some { IfOk result (λ o. IfSome o (λ form. text.now ≡ end_spelling form.0 form.1)) }
     ensures name { IfOk result (λ o. IfSome o (λ form. IsNodeName form.0)) }
@@ -34,7 +34,7 @@ pub fn end_form(alloc: Global, text: &[u8]) -> Result<Option<(Name, bool)>, Allo
     Ok(Some((name, up)))
 }
 
-/// The sign that leads to a further literal, and what stands behind it, or None where there is none.
+/// The sign that leads to a further literal, and the text after it, or None if there is none.
 pub fn lead_form(text: &[u8]) -> Option<(Lead, &[u8])>
     ensures some { IfSome result (λ form. text.now ≡ lead_spelling form.0 ++ form.1.now) }
     ensures further { IfSome result (λ form. form.0 ≢ Lead.Rule) }
@@ -56,7 +56,7 @@ pub struct Led {
     pub name: Name,
 }
 
-/// Whether the literal at the front wants its node high, and the text without the sign.
+/// Whether the literal that the text begins with wants its node high, and the text without the sign.
 fn sign_of(text: &[u8]) -> (bool, &[u8])
     ensures sign { result.0 ≡ tells_high text.now }
     ensures text { result.1.now ≡ unsigned text.now }
@@ -67,7 +67,7 @@ fn sign_of(text: &[u8]) -> (bool, &[u8])
     }
 }
 
-/// The literal at the front of the text and what stands behind it, or None where its word is no node's name.
+/// The literal that the text begins with and the text after it, or None if its word can't be a node's name.
 fn led_form(alloc: Global, lead: Lead, text: &[u8]) -> Result<Option<(Led, &[u8])>, AllocError>
     ensures lead { IfOk result (λ o. IfSome o (λ form. form.0.lead ≡ lead)) }
     ensures high { IfOk result (λ o. IfSome o (λ form. form.0.high ≡ tells_high text.now)) }
@@ -92,7 +92,7 @@ pub struct RuleForm {
     pub up: bool,
 }
 
-/// What stands behind the word that begins a rule, or None where the line doesn't begin with it.
+/// What follows the word that begins a rule, or None if the line doesn't begin with it.
 fn behind_rule(line: &[u8]) -> Option<&[u8]>
     ensures some { IfSome result (λ rest. line.now ≡ codes "rule " ++ rest.now) }
     ensures none { IfNone result ((rest : List ℕ) → line.now ≢ codes "rule " ++ rest) }
@@ -103,7 +103,7 @@ fn behind_rule(line: &[u8]) -> Option<&[u8]>
     }
 }
 
-/// The rule in a rule's line, or None where the line is none.
+/// The rule in a rule's line, or None if the line is none.
 pub fn rule_form(alloc: Global, line: &[u8]) -> Result<Option<RuleForm>, AllocError>
     ensures some { IfOk result
         (λ o. IfSome o (λ form. line.now ≡ rule_line_of form.leds.items form.node form.up)) }

@@ -1,4 +1,4 @@
-//! Lines of a text, and what they are spelled of.
+//! Lines of a text, and the pieces that they consist of.
 
 ghost use Rattle.std.specs.Prelude.{◌≡◌, ◌≤◌, ◌==◌, length, position, bytes_eq};
 ghost use Rattle.std.specs.List.{flat_map};
@@ -22,7 +22,7 @@ fn line_len(text: &[u8]) -> usize
     }
 }
 
-/// The first line with its end, and what stands behind it.
+/// The first line with its end, and the text after it.
 pub fn cut_line(text: &[u8]) -> (&[u8], &[u8])
     ensures line { result.0.now ≡ first_line text.now }
     ensures rest { result.1.now ≡ behind_line text.now }

@@ -20,7 +20,7 @@ use crate::turns::{Progress, Turn, next_rule, place_of, turn_of};
 use prs_core::{Rules, Wires};
 use std::alloc::Global;
 
-/// Puts the guard of a rule to its node.
+/// Sets the guard of a rule at its node.
 fn set_guard(rules: &mut Rules, up: bool, turn: Turn)
     requires node { turn.node < length rules.old.up }
     requires within { IsBelow (length rules.old.up) turn.guard }
@@ -33,7 +33,7 @@ fn set_guard(rules: &mut Rules, up: bool, turn: Turn)
     }
 }
 
-/// The rules of a file behind its channels, up to the end of the text.
+/// The rules of a file, read after its channels, up to the end of the text.
 pub fn read_rules(
     alloc: Global,
     nodes: &Nodes,

@@ -21,7 +21,7 @@ use crate::spelled::cut_line;
 use prs_core::Guard;
 use std::alloc::{AllocError, Global};
 
-/// The rule in the first line, and what stands behind the line, or None where the line is no rule's.
+/// The rule in the first line, and the text after the line, or None if the line is no rule's.
 pub fn next_rule(alloc: Global, text: &[u8]) -> Result<Option<(RuleForm, &[u8])>, AllocError>
     ensures line { IfOk result
         (λ o. IfSome o
@@ -43,7 +43,7 @@ pub fn next_rule(alloc: Global, text: &[u8]) -> Result<Option<(RuleForm, &[u8])>
     Ok(Some((form, behind)))
 }
 
-/// The place of a rule in the order of rules: by its node, up before down.
+/// The position of a rule in the order of rules: by its node, up before down.
 pub fn place_of(node: u32, up: bool) -> u32
     requires { node < 65537 }
     ensures { result ≡ place_at node up }
@@ -51,7 +51,7 @@ pub fn place_of(node: u32, up: bool) -> u32
     if up { 2 * node } else { 2 * node + 1 }
 }
 
-/// Why a rule may not stand at its place behind one at the last place, or None where it may.
+/// Why a rule at this position may not follow one at the last position, or None if it may.
 fn order_fault(last: Option<u32>, place: u32) -> Option<NetFault>
     ensures { result ≡ order_fault_of last place }
 {
@@ -70,14 +70,14 @@ fn most_literals(version: u8) -> usize
     if version == 2 { 8_454_144 } else { 4_194_304 }
 }
 
-/// How far the rules are read: the place of the last one, and the literals so far.
+/// How far the rules are read: the position of the last one, and the number of literals so far.
 #[derive(Clone, Copy, Debug)]
 pub struct Progress {
     pub place: Option<u32>,
     pub literals: usize,
 }
 
-/// Why a rule of this place and with so many literals is refused, where its nodes are known, or None where it
+/// Why a rule at this position and with so many literals is refused, given that its nodes are known, or None if it
 /// isn't.
 fn known_fault(
     version: u8,

@@ -19,7 +19,7 @@ use Rattle.command_steps.specs.Steps.{FromFile}
 abbrev pub most_of_values : ℕ
 most_of_values = 1048576
 
--- After n rounds too many values have passed; or no step is left, or one is, and the report is written.
+-- After n rounds too many values have passed, which is refused; or the report says whether a further step is enabled.
 pub data ReportsRounds (p : TypedProgram) (script : List OfferValue) (n : ℕ) : Answer → Type 0 where
   too_full : most_of_values < held_in (rounds p script n) → ReportsRounds p script n (refuses TooLarge values_line)
   at_rest : held_in (rounds p script n) ≤ most_of_values → ¬ CanStep (rounds p script n) →

@@ -89,7 +89,7 @@ pub fn rounds<'a, S: Shelf>(
 {
     let program = buffered_program_in(alloc, shelf, asked.file, asked.buffer)?;
     let program = program.typed();
-    // what its type keeps is told of its channels
+    // brings the invariant of the program's type into scope, for its channels
     let _kept = program.body();
     let script = script_in(alloc, shelf, asked.script, program.channels())?;
     report_rounds(alloc, program, &script, asked.rounds)

@@ -1,4 +1,4 @@
--- What the tables of a statement tell of it.
+-- What the tables of a statement say about it.
 use Rattle.std.specs.Prelude.{◌≡◌, ◌⊎◌, ℕ, nat_eq, List, Contains, Option, Some}
 use Rattle.std.specs.HashMap.{get}
 use Rattle.chp_base.specs.declared.span.Span.{Span}
@@ -13,33 +13,33 @@ use Rattle.sharing_check.specs.declared.deeds.Deeds.{Deeds}
 use Rattle.sharing_check.specs.Leasts.{IsLeast, IsEither, IsNoLaterPair}
 use Rattle.sharing_check.specs.Places.{Joins, Meeting}
 
--- what clashes with each other such deed on the same variable or channel
+-- a deed that clashes with all other such deeds on the same variable or channel
 abbrev pub IsExclusive : FaultCode → Deed → ℕ → Type 0
 IsExclusive code.SharedVariable (writes_var y) x = x ≡ y
 IsExclusive code.SharedSend (sends_on y) x = x ≡ y
 IsExclusive code.SharedReceive (receives_on y) x = x ≡ y
 IsExclusive _ _ x = ⊥
 
--- what clashes with the former alone
+-- a deed that clashes only with the former
 abbrev pub IsCommon : FaultCode → Deed → ℕ → Type 0
 IsCommon code.SharedVariable (reads_var y) x = x ≡ y
 IsCommon _ _ x = ⊥
 
--- one of the occurrences is such a deed at this place
+-- one of the occurrences is such a deed at this span
 pub record IsDoneAt (Is : Deed → ℕ → Type 0) (os : List Occurrence) (x : ℕ) (s : Span) : Type 0 where
   pub occurrence : Occurrence
   pub among : Contains os occurrence
   pub kind : Is occurrence.deed x
   pub at : s ≡ occurrence.at
 
--- the tables have the first places of a statement's deeds, and its clash is the pair that is reported
+-- the tables have the first spans of a statement's deeds, and its clash is the pair that is reported
 pub record Tells (cause : FaultCode) (p : Process) (d : Deeds) : Type 0 where
   pub exclusive : (x : ℕ) → IsLeast IsNoLater (IsDoneAt (IsExclusive cause) (occurrences p) x)
       (get nat_eq d.exclusive x)
   pub common : (x : ℕ) → IsLeast IsNoLater (IsDoneAt (IsCommon cause) (occurrences p) x) (get nat_eq d.common x)
   pub clash : IsLeast IsNoLaterPair (λ c. SharedAt p cause c.first c.second) d.clash
 
--- some occurrences come in besides
+-- some occurrences are added
 pub record Adds (cause : FaultCode) (os : List Occurrence) (old new : Deeds) : Type 0 where
   pub exclusive : (x : ℕ)
       → IsLeast IsNoLater (λ s. (get nat_eq old.exclusive x ≡ Some s) ⊎ IsDoneAt (IsExclusive cause) os x s)
@@ -56,7 +56,7 @@ Crosses a b c =
     ⊎ (Meeting (get nat_eq a.exclusive) (get nat_eq b.common) c ⊎ Meeting (get nat_eq a.common) (get nat_eq b.exclusive)
     c)
 
--- both together, and a pair that they have across
+-- both together, with a pair across the two
 pub record Merges (a b : Deeds) (across : Option Clash) (new : Deeds) : Type 0 where
   pub exclusive : Joins (get nat_eq a.exclusive) (get nat_eq b.exclusive) (get nat_eq new.exclusive)
   pub common : Joins (get nat_eq a.common) (get nat_eq b.common) (get nat_eq new.common)

@@ -1,4 +1,4 @@
-//! Pairs of places, and which of them comes first.
+//! Pairs of spans, and which of them comes first.
 
 ghost use Rattle.std.specs.Prelude.{◌≡◌};
 ghost use Rattle.std.specs.Bool.{Decides};
@@ -7,21 +7,21 @@ ghost use Rattle.sharing_check.specs.Leasts.{IsLeast, IsEither, IsNoLaterPair, I
 
 use chp_base::Span;
 
-/// Two places of a program, the first no later than the second.
+/// Two spans of a program, the first no later than the second.
 #[derive(Clone, Copy, Debug)]
 pub(crate) struct Clash {
     pub first: Span,
     pub second: Span,
 }
 
-/// Whether a place begins before another one, or at the same byte and ends no earlier.
+/// Whether a span begins before another one, or at the same byte and ends no earlier.
 pub(crate) fn is_no_later(one: Span, other: Span) -> bool
     ensures { Decides result (IsNoLater one other) }
 {
     one.from < other.from || (one.from == other.from && other.to <= one.to)
 }
 
-/// The pair of two places, the first one first.
+/// The pair of two spans, the earlier one first.
 pub(crate) fn in_order(one: Span, other: Span) -> Clash
     ensures { IsInOrder one other result }
 {
@@ -38,7 +38,7 @@ pub(crate) fn in_order(one: Span, other: Span) -> Clash
     }
 }
 
-/// Pairs are compared by their second places, and those with one second place by their first.
+/// Pairs are compared by their second spans, and those with the same second span by their first.
 fn is_no_later_pair(one: Clash, other: Clash) -> bool
     ensures { Decides result (IsNoLaterPair one other) }
 {

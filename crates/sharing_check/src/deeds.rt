@@ -1,4 +1,4 @@
-//! What statements do that one cause of refusal speaks of, collected from the parts upwards.
+//! The deeds of statements that one cause of refusal concerns, collected bottom-up.
 
 ghost use Rattle.std.specs.Prelude.{◌≡◌, [], ◌∷◌, IfOk, OnOk};
 ghost use Rattle.chp_base.specs.declared.fault.FaultCode.{FaultCode};
@@ -15,8 +15,8 @@ use std::alloc::{AllocError, Global};
 use std::collections::HashMap;
 use width_check::{TExpr, TStmt};
 
-/// Of each variable or channel the first place of the deeds that clash with one another, which are writes, sends or
-/// receives, and of those that clash with these alone, which are reads; and the pair of places that is reported.
+/// For each variable or channel the first span of the deeds that clash with one another, which are writes, sends or
+/// receives, and of those that clash only with these, which are reads; and the pair of spans that is reported.
 #[derive(Debug, Drop)]
 struct Deeds {
     exclusive: Table,
@@ -208,7 +208,7 @@ fn deeds_of(alloc: Global, cause: FaultCode, s: &TStmt) -> Result<Deeds, AllocEr
     }
 }
 
-/// The pair of places that is reported for the cause, or None where nothing of the kind is shared.
+/// The pair of spans that is reported for the cause, or None if nothing of the kind is shared.
 pub(crate) fn first_clash(
     alloc: Global,
     cause: FaultCode,

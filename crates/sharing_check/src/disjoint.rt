@@ -12,8 +12,8 @@ use std::alloc::Global;
 use std::marker::Model;
 use width_check::{TStmt, Typed};
 
-/// A program that meets the sharing rule: no two parallel branches use one variable where one of them writes it, send
-/// on one channel, or receive on one channel. Contracts see the program.
+/// A program that meets the sharing rule: no two parallel branches use one variable that one of them writes, send
+/// on one channel, or receive on one channel. Its view in contracts is the program.
 #[derive(Debug, Drop)]
 pub struct Disjoint {
     typed: Typed,
@@ -45,7 +45,7 @@ impl Disjoint {
     }
 }
 
-/// Refuses a program where the cause holds at a pair of parallel places.
+/// Refuses a program if the cause holds at a pair of parallel spans.
 fn refuse_shared(alloc: Global, cause: FaultCode, body: &TStmt) -> Result<(), TextError>
     ensures unshared { OnOk result (IsUnshared (process_of body.now) cause) }
     ensures cause { IfErr result (IfRefused (λ f. f.code ≡ cause)) }
@@ -61,13 +61,13 @@ fn refuse_shared(alloc: Global, cause: FaultCode, body: &TStmt) -> Result<(), Te
     }
 }
 
-/// The program, where it meets the sharing rule.
+/// The program, if it meets the sharing rule.
 ///
 /// Else it is refused for a variable that one parallel branch writes and another one uses (30), or for a channel on
-/// which two parallel branches send (31) or receive (32), tested in this order. Of the pairs of places for the first of
-/// these causes the one with the least second place is told, and of those the one with the least first place: `at` is
-/// the name at the first place, `other` that at the second. The rule, its order and its places are our profile's. A
-/// program that is refused is dropped.
+/// which two parallel branches send (31) or receive (32), tested in this order. Of the pairs of spans for the first of
+/// these causes the one with the least second span is reported, and of those the one with the least first span: `at` is
+/// the span of the first name, `other` that of the second. The rule, the order of its causes and the spans are our
+/// profile's. A program that is refused is dropped.
 pub fn share(alloc: Global, typed: Typed) -> Result<Disjoint, TextError>
     ensures program { IfOk result (λ d. d ≡ typed) }
     ensures meets { OnOk result (MeetsSharing (process_of typed.body)) }

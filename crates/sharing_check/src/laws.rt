@@ -6,8 +6,8 @@ ghost use Rattle.chp_base.specs.declared.fault.FaultCode.{FaultCode};
 ghost use Rattle.width_check.specs.Processes.{Process};
 ghost use Rattle.width_check.specs.Sharing.{MeetsSharing, IsFirstSharedFault, sharing_faults};
 
-/// A program breaks the sharing rule for at most one cause that is told, at one pair of places, and not where it meets
-/// the rule.
+/// At most one breach of the sharing rule is reported of a program, for one cause and at one pair of spans, and none if
+/// it meets the rule.
 pub fn one_shared_fault()
     ensures cause { (body : Process) (c d : FaultCode) (s t u v : Span)
         → IsFirstSharedFault body sharing_faults c s t → IsFirstSharedFault body sharing_faults d u v → c ≡ d }

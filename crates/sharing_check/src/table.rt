@@ -1,4 +1,4 @@
-//! Tables from the numbers of variables or channels to the first of some places at which they stand.
+//! Tables from the numbers of variables or channels to the first of the spans at which some of them occur.
 
 ghost use Rattle.std.specs.Prelude.{◌≡◌, ◌<◌, ℕ, nat_eq, Some, None, IfOk, OnOk};
 ghost use Rattle.std.specs.Bool.{Decides};
@@ -13,10 +13,10 @@ use chp_base::Span;
 use std::alloc::AllocError;
 use std::collections::HashMap;
 
-/// A place for each number that it has.
+/// A span for each number in the table.
 pub(crate) type Table = HashMap<u32, Span>;
 
-/// Whether the table has a place of the name that is no later.
+/// Whether the table has a span of the name that is no later.
 fn is_noted(table: &Table, name: u32, at: Span) -> bool
     ensures { Decides result ((s : Span) × (get nat_eq table.now name ≡ Some s) × IsNoLater s at) }
 {
@@ -26,7 +26,7 @@ fn is_noted(table: &Table, name: u32, at: Span) -> bool
     }
 }
 
-/// Adds a place of a name.
+/// Adds a span of a name; the table keeps the earlier one.
 pub(crate) fn note(table: &mut Table, name: u32, at: Span) -> Result<(), AllocError>
     ensures { OnOk result (Notes (get nat_eq table.old) name at (get nat_eq table.new)) }
 {
@@ -45,7 +45,8 @@ fn with_noted(mut table: Table, other: &Table) -> Result<Table, AllocError>
     Ok(table)
 }
 
-/// Both tables in one. The smaller one goes into the other, so joining many takes little more time than their names.
+/// Both tables in one, with the earlier span of each name. The smaller table is inserted into the other, so joining
+/// many takes little more time than their names.
 pub(crate) fn joined(one: Table, other: Table) -> Result<Table, AllocError>
     ensures { IfOk result (λ new. Joins (get nat_eq one) (get nat_eq other) (get nat_eq new)) }
 {
@@ -75,7 +76,7 @@ fn first_among(few: &Table, many: &Table) -> Option<Clash>
     first
 }
 
-/// The first pair of places that two tables have for one name. The smaller table is gone through.
+/// The first pair of spans that two tables have for one name, if there is one. The smaller table is iterated.
 pub(crate) fn first_meeting(one: &Table, other: &Table) -> Option<Clash>
     ensures { IsLeast IsNoLaterPair (Meeting (get nat_eq one.now) (get nat_eq other.now)) result }
 {

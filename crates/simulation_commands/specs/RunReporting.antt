@@ -24,8 +24,8 @@ abbrev pub ending_against : Against → Ending
 ending_against Agrees = Done
 ending_against _ = Differs
 
--- The report of the run is written, with its time where it has one; and behind it how the run stands against the rounds
--- of a program, where there is one and the run has no hazard.
+-- The report of the run is written, with its time where it has one; and after it the comparison of the run with the
+-- rounds of a program, where there is one and the run has no hazard.
 pub data IsReported (script : List OfferValue) (time : Option ℕ) (ran : RanValue) : Option TypedProgram → Answer →
     Type 0 where
   alone : IsReported script time ran None (writes (ending_for ran.end) (report_of ran time))

@@ -27,15 +27,15 @@ abbrev pub simulation_for : NetValue → List OfferValue → (steps : ℕ) → (
 simulation_for net script steps power =
     record { net = net; script = script; steps = steps; high = power_or_low power }
 
--- An order was given this seed, and then led to a run of the simulation that ended so: what its log has grown by are
--- places in the lists of enabled moves, one for each move.
+-- An order was given this seed, and then led to a run of the simulation that ended so: each new entry of its log
+-- indexes the list of enabled moves, one for each move.
 pub record IsPlayed (s : SimValue) (seed : ℕ) (was is : OrderState) (end : End) : Type 0 where
   pub seeded : is.seeded ≡ Some (seed, length was.log)
   pub grown : is.log ≡ was.log ++ growth was.log is.log
   pub picks : ArePicks s.net s.script (start_at s) (growth was.log is.log)
   pub ends : EndsSo s.net s.script s.steps (start_at s) (picked_moves s was.log is.log) end
 
--- what is reported of the run to which the growth of a log leads
+-- what is reported of the run that the new entries of a log lead to
 abbrev pub ran_value : SimValue → (before now : List ℕ) → End → RanValue
 ran_value s before now end = record {
   net = s.net;
@@ -45,11 +45,11 @@ ran_value s before now end = record {
   passed = passed_in s.net (start_at s) (picked_moves s before now);
 }
 
--- each order but the one at the place that is asked for, if any is, is the very object that it was
+-- every order except the one at the index that is asked for, if any is, is the very object that it was
 abbrev pub OthersStay : {Order : Type 0} → (asked : Option ℕ) → (before after : List Order) → Type 0
 OthersStay asked before after = (place : ℕ) → asked ≢ Some place → slice_get after place ≡ slice_get before place
 
--- the order at this place led to this run of the simulation
+-- the order at this index led to this run of the simulation
 pub record HasPlayed (played : Played) (place seed : ℕ) (s : SimValue) (ran : RanValue) : Type 0 where
   pub was : OrderState
   pub is : OrderState
@@ -58,14 +58,14 @@ pub record HasPlayed (played : Played) (place seed : ℕ) (s : SimValue) (ran : 
   pub run : IsPlayed s seed was is ran.end
   pub led : ran ≡ ran_value s was.log is.log ran.end
 
--- an order led to a run of the simulation, and goes on with what comes of it
+-- an order led to a run of the simulation, and it continues with the result
 pub record PlaysOut (s : SimValue) (seed : ℕ) (was is : OrderState) (Next : RanValue → Answer → Type 0)
     (answer : Answer) : Type 0 where
   pub end : End
   pub run : IsPlayed s seed was is end
   pub written : Next (ran_value s was.log is.log end) answer
 
--- the order at this place did
+-- the order at this index did
 pub record SimulatesNet (played : Played) (place seed : ℕ) (s : SimValue) (Next : RanValue → Answer → Type 0)
     (answer : Answer) : Type 0 where
   pub was : OrderState
@@ -74,7 +74,7 @@ pub record SimulatesNet (played : Played) (place seed : ℕ) (s : SimValue) (Nex
   pub after : slice_get played.after place ≡ Some is
   pub plays : PlaysOut s seed was is Next answer
 
--- the net may have the power that is asked for; the script is read behind it, and then what the run is compared with
+-- the net may have the power that is asked for; the script is read after it, and then what the run is compared with
 abbrev pub SimulatesFile : AskedRun → Given → Played → (place : ℕ) → NetValue → Answer → Type 0
 SimulatesFile s given played place net =
     FromPower net s.power
@@ -83,7 +83,7 @@ SimulatesFile s given played place net =
     SimulatesNet played place s.seed (simulation_for net script s.steps s.power)
     (λ ran. IsReported script None ran program)))))
 
--- the order at this place is wanted, and the rule file is read
+-- the order at this index is asked for, and the rule file is read
 abbrev pub SimulatesAt : AskedRun → Given → Played → (place : ℕ) → Answer → Type 0
 SimulatesAt s given played place =
     FromFile given s.net most_of_net (λ text. FromNet text (SimulatesFile s given played place))

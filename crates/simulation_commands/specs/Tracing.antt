@@ -18,8 +18,8 @@ use Rattle.command_steps.specs.Steps.{FromFile, FromNet, most_of_net}
 use Rattle.command_words.specs.WavesWords.{AskedWaves}
 use Rattle.command_steps.specs.DelaySteps.{FromDelayFile}
 
--- the text tells these moves of a net that wasn't given a power: all of them as a wave, which is read back from it, or
--- the causes of the last one
+-- the text reports these moves of a net that wasn't given a power: all of them as a wave, from which they are read
+-- back, or the causes of the last one
 abbrev pub IsTraceText : NetValue → DelayTable → List NotedMove → (causes : Bool) → (text : List ℕ) → Type 0
 IsTraceText net delays moves false text = IsWaveText text (wave_of_run net moves)
 IsTraceText net delays moves true text =
@@ -39,7 +39,7 @@ pub record TracesNet (t : TimedValue) (causes : Bool) (answer : Answer) : Type 0
 abbrev pub trace_for : AskedWaves → NetValue → List OfferValue → DelayTable → TimedValue
 trace_for w net script delays = timed_value net script w.steps delays false
 
--- behind the rule file come the script and the delays
+-- after the rule file come the script and the delays
 abbrev pub TracesFile : AskedWaves → Given → NetValue → Answer → Type 0
 TracesFile w given net =
     FromFile given w.script most_of_script (λ text. FromScript (net_channels net) text (λ script.

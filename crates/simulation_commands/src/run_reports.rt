@@ -37,7 +37,7 @@ pub fn ending_for(end: End) -> Ending
     }
 }
 
-/// How a command ends that reports how a run stands against a program.
+/// How a command ends that reports a run's comparison with a program.
 fn ending_against(against: Against) -> Ending
     ensures { result ≡ ending_against against }
 {
@@ -71,8 +71,8 @@ pub fn copied_script(alloc: Global, script: &Script) -> Result<Script, AllocErro
     Ok(Script::new(offers))
 }
 
-/// The report of a run, and behind it how the run stands against the program's rounds under this script, if it has no
-/// hazard.
+/// The report of a run, and after it, if the run has no hazard, its comparison with the program's rounds under this
+/// script.
 fn compared(
     alloc: Global,
     ran: &Ran,
@@ -112,8 +112,8 @@ fn uncompared(alloc: Global, ran: &Ran, time: Option<u64>) -> Result<Output, All
     })
 }
 
-/// What is reported of a run under this script, with its time if it has one, and of how it stands against the program,
-/// if there is one.
+/// The report of a run under this script, with its time if it has one, and of its comparison with the program, if there
+/// is one.
 pub fn reported(
     alloc: Global,
     ran: &Ran,

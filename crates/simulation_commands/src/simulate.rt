@@ -50,7 +50,7 @@ fn simulation(
     }
 }
 
-/// The room that a run takes: for so many picks, from lists of nodes below this number.
+/// The room that a run takes: for so many choices, from lists of nodes below this number.
 #[derive(Clone, Copy)]
 pub struct Room {
     pub picks: u32,
@@ -83,7 +83,7 @@ fn play(picker: &mut Box<dyn Picker>, sim: Sim, seed: u64, room: Room) -> Result
     Ok(sim.run(picker))
 }
 
-/// Lets the order at this place choose the moves of a run.
+/// Lets the order at this index choose the moves of a run.
 pub fn play_at(
     orders: &mut Vec<Box<dyn Picker>>,
     place: usize,
@@ -106,7 +106,7 @@ pub fn play_at(
     play(&mut orders[place], sim, seed, room)
 }
 
-/// Lets the order at this place choose the moves of the run of the net under the script, and reports it.
+/// Lets the order at this index choose the moves of the run of the net under the script, and reports it.
 fn report_at(
     alloc: Global,
     orders: &mut Vec<Box<dyn Picker>>,
@@ -140,7 +140,7 @@ fn report_at(
     reported(alloc, &ran, None, &told, program)
 }
 
-/// What `simulate` answers, where the order at this place is wanted.
+/// What `simulate` answers, where the order at this index is asked for.
 fn simulate_at<'a, S: Shelf>(
     alloc: Global,
     shelf: &mut S,

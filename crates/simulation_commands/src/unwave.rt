@@ -1,4 +1,4 @@
-//! `unwave FILE`: from a wave file to the changes that it tells.
+//! `unwave FILE`: from a wave file to the changes that it reports.
 
 ghost use Rattle.std.specs.Prelude.{◌≡◌, ◌≤◌, ◌∷◌, [], length, IfOk, IfErr};
 ghost use Rattle.wave_file.specs.WaveTold.{kept_wave};

@@ -41,7 +41,7 @@ fn wave_text(alloc: Global, ran: &NotedRan) -> Result<Vec<u8>, AllocError>
     write_wave(alloc, &wave)
 }
 
-/// What is told of the moves of the run: the causes of the last one, or all of them.
+/// What is reported of the moves of the run: the causes of the last one, or all of them.
 fn trace_text(
     alloc: Global,
     ran: &NotedRan,
@@ -65,7 +65,7 @@ fn trace_text(
     }
 }
 
-/// Makes the timed run of the net under the script by these delays, and tells its moves.
+/// Makes the timed run of the net under the script by these delays, and reports its moves.
 fn trace(
     alloc: Global,
     net: Net,

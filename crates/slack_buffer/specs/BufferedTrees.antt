@@ -25,12 +25,12 @@ declared_names decls = map (λ (d : Decl). d.name.name) decls
 abbrev pub IsTakenNumber : List Decl → ℕ → Type 0
 IsTakenNumber decls k = Contains (declared_names decls) (copy_name k) ⊎ Contains (declared_names decls) (slot_name k)
 
--- the least number of which neither name is declared
+-- the least number for which neither name is declared
 pub record IsFreeNumber (decls : List Decl) (k : ℕ) : Type 0 where
   pub free : ¬ IsTakenNumber decls k
   pub least : (j : ℕ) → j < k → IsTakenNumber decls j
 
--- a name that stands in no text
+-- a name that is in no text
 abbrev pub made_name : List ℕ → Ident
 made_name name = record { name = name; at = nowhere }
 

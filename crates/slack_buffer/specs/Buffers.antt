@@ -60,12 +60,12 @@ buffered p chan k = record {
 abbrev pub with_nothing : List OfferValue → List OfferValue
 with_nothing script = script ++ nothing ∷ []
 
--- the second list goes on from the first
+-- the first list is a prefix of the second
 abbrev pub GoesOn : List ℕ → List ℕ → Type 0
 GoesOn xs ys = (rest : List ℕ) × (ys ≡ xs ++ rest)
 
--- what passes in a run of m steps passes in 3m rounds with the buffer, and what passes on the channel then passes on
--- its copy too
+-- what passes in a run of m steps is a prefix of what passes in 3m rounds with the buffer, and what passes on the
+-- channel then is a prefix of what passes on its copy
 abbrev pub KeepsPassing : TypedProgram → (chan k : ℕ) → Type 0
 KeepsPassing p chan k = (script : List OfferValue) (m : ℕ) (c : Configuration) → IsScript p.channels script →
     Leads (start_of p script) m c →

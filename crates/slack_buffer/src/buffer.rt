@@ -14,7 +14,7 @@ use chp_base::{Name, Span};
 use chp_syntax::{Decl, DeclKind, Expr, Ident, Program, Stmt};
 use std::alloc::{AllocError, Global};
 
-/// What is made stands in no text.
+/// The span of what is generated: it is in no text.
 const NOWHERE: Span = Span { from: 0, to: 0 };
 
 fn made_name(name: &Name) -> Result<Ident, AllocError>
@@ -97,10 +97,10 @@ pub fn is_inner_channel(program: &Program, chan: &Name) -> bool
 /// The program with a one-place buffer on a channel inside of it, so that a sender there need not wait for its
 /// receiver.
 ///
-/// The channel `Bk` and the variable `bk` are declared last, with the channel's width, where k is the least number of
-/// which neither name is declared. Each receive on the channel becomes one on `Bk`, and beside the body so changed
-/// stands `*[X?bk; Bk!bk]`. (The names and their numbers are our profile's.) What a run of the program of m steps
-/// passes is a front of what 3m rounds with the buffer pass, and `Bk` is behind the channel by its last value at most.
+/// The channel `Bk` and the variable `bk` are declared last, with the channel's width, where k is the least number for
+/// which neither name is declared. Each receive on the channel becomes one on `Bk`, and `*[X?bk; Bk!bk]` is put in
+/// parallel with the body so changed. (The names and their numbers are our profile's.) Each history after a run of m
+/// steps is a prefix of that after 3m rounds with the buffer, and `Bk` lags the channel by its last value at most.
 pub fn with_buffer(alloc: Global, program: &Program, chan: &Name) -> Result<Program, AllocError>
     requires shaped { IsShaped (tree_of program.now) }
     requires accepted { IsAccepted (tree_of program.now) }

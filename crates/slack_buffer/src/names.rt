@@ -15,13 +15,13 @@ use std::alloc::{AllocError, Global};
 /// The names that a buffer adds to a program.
 #[derive(Drop)]
 pub(crate) struct BufferNames {
-    /// Of the channel behind the buffer.
+    /// Of the channel after the buffer.
     pub copy: Name,
     /// Of its variable.
     pub slot: Name,
 }
 
-/// The name of a letter and a number.
+/// The name made of a letter and a number.
 fn numbered(alloc: Global, first: u8, number: u64) -> Result<Name, AllocError>
     requires { letter first ≡ true }
     ensures { IfOk result (λ name. name ≡ first ∷ decimal number) }
@@ -50,7 +50,7 @@ fn is_taken(decls: &[Decl], names: &BufferNames) -> bool
     decls.iter().any(|decl| decl.name.name == names.copy || decl.name.name == names.slot)
 }
 
-/// The names with the least number of which neither is declared.
+/// The names with the least number for which neither is declared.
 pub(crate) fn free_names(alloc: Global, decls: &[Decl]) -> Result<(u64, BufferNames), AllocError>
     ensures free { IfOk result (λ found. IsFreeNumber decls.now found.0) }
     ensures small { IfOk result (λ found. found.0 < 2 ^ 64) }

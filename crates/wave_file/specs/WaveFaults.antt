@@ -12,7 +12,7 @@ wave_fault_number TimeBack = 72
 wave_fault_number NoChange = 73
 wave_fault_number TooMany = 74
 
--- a fact of the cause and the line for which a wave file is refused; want of memory is no refusal
+-- a fact of the cause and the line for which a wave file is refused; out of memory is no refusal
 abbrev pub OfWaveRefusal : (WaveFault → ℕ → Type 0) → WaveError → Type 0
 OfWaveRefusal P (Refused fault line) = P fault line
 OfWaveRefusal P (NoMemory e) = Unit {0}

@@ -1,10 +1,10 @@
--- Identifiers, changes and names as they stand in a text.
+-- Identifiers, changes and names as they are spelled in a text.
 use Rattle.std.specs.Prelude.{◌≡◌, ℕ, ◌+◌, ◌-◌, ◌*◌, Bool, not, ◌&&◌, ◌||◌, ◌==◌, List, [], ◌∷◌, ◌++◌, length, slice_index_or, true}
 use Rattle.std.specs.List.{list_all, count_by}
 use Rattle.chp_base.specs.Names.{between}
 use Rattle.wave_file.specs.Waves.{value_spelling_of}
 
--- an identifier: digits in base 94, the highest of them no zero, or only one
+-- an identifier: digits in base 94, the highest of them not zero, or only one digit
 abbrev pub id_part : ℕ → Bool
 id_part b = between 33 126 b
 

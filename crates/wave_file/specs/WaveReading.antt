@@ -1,4 +1,4 @@
--- Reading a wave: what a text has told before each of its lines, what may stand there, and why a text is refused.
+-- Reading a wave: what a text has said before each of its lines, what may come there, and why a text is refused.
 use Rattle.std.specs.Prelude.{◌≡◌, ◌⊎◌, ℕ, ◌+◌, ◌^◌, ◌<◌, ◌≤◌, Bool, true, not, ◌==◌, nat_lt, nat_le, List, [], ◌∷◌, ◌++◌, length, All, codes, Option, Some, None, if◌then◌else◌}
 use Rattle.chp_base.specs.Names.{IsNodeName}
 use Rattle.prs_core.specs.Moves.{high, fired}
@@ -13,7 +13,7 @@ pub record IsWaveText (text : List ℕ) (w : WaveValue) : Type 0 where
   pub kept : IsKeptWave w
   pub spelled : text ≡ wave_spelling w
 
--- where a line stands, and what was told before it: the nodes' names, first values, and the wave so far with the time
+-- a line's position, and what was said before it: the nodes' names, first values, and the wave so far with the time
 -- of the last mark
 pub data WavePlace : Type 0 where
   at_timescale : WavePlace
@@ -39,7 +39,7 @@ definitions_line = codes "$enddefinitions $end\n"
 abbrev pub start_line : List ℕ
 start_line = codes "#0\n"
 
--- the text before a place
+-- the text before a position
 
 abbrev pub front_of_names : List (List ℕ) → List ℕ
 front_of_names names = timescale_line ++ (scope_line ++ naming_lines 0 names)
@@ -69,7 +69,7 @@ pub record AreWaveNodes (names : List (List ℕ)) : Type 0 where
   pub most : length names ≤ 65537
   pub named : All IsNodeName names
 
--- a text may come to a place, before this rest of it: behind a mark of a time it goes on with a change
+-- a text may come to a position, before this rest of it: after a mark of a time it goes on with a change
 abbrev pub IsPlaceBefore : List ℕ → WavePlace → Type 0
 IsPlaceBefore rest at_timescale = Unit {0}
 IsPlaceBefore rest at_scope = Unit {0}
@@ -80,7 +80,7 @@ IsPlaceBefore rest (at_values names first) = AreWaveNodes names × (length first
 IsPlaceBefore rest (at_changes w now) = IsWave w × IsKeptWave w × ((now ≡ last_time 0 w.changes)
     ⊎ ((last_time 0 w.changes < now) × (now < 2 ^ 64) × GoesOnWithChange rest))
 
--- what a line says: no more than that it is the one that stands here, or the name of the next node, its first value, a
+-- what a line says: only that it is the fixed line of its position, or the name of the next node, its first value, a
 -- time, or a change to a value by the identifier
 pub data WaveLine : Type 0 where
   stock : WaveLine
@@ -89,7 +89,7 @@ pub data WaveLine : Type 0 where
   timed : ℕ → WaveLine
   turned : Bool → List ℕ → WaveLine
 
--- the text has this line at a place, and goes on so behind it
+-- the text has this line at a position, and this is what follows it
 pub data BeginsWith (text behind : List ℕ) : WavePlace → WaveLine → Type 0 where
   begins_timescale : text ≡ timescale_line ++ behind → BeginsWith text behind at_timescale stock
   begins_scope : text ≡ scope_line ++ behind → BeginsWith text behind at_scope stock
@@ -109,7 +109,7 @@ pub data BeginsWith (text behind : List ℕ) : WavePlace → WaveLine → Type 0
   begins_turn : {w : WaveValue} {now : ℕ} {value : Bool} {id : List ℕ} → is_id id ≡ true →
       text ≡ value_spelling_of value id ++ behind → BeginsWith text behind (at_changes w now) (turned value id)
 
--- the values of the nodes behind some changes
+-- the values of the nodes after some changes
 abbrev pub values_behind : List Bool → List (ℕ × ℕ) → List Bool
 values_behind values [] = values
 values_behind values (c ∷ cs) = values_behind (fired values c.1) cs
@@ -118,7 +118,7 @@ values_behind values (c ∷ cs) = values_behind (fired values c.1) cs
 abbrev pub has_value : List Bool → ℕ → Bool → Bool
 has_value values node value = if value then high values node else not (high values node)
 
--- of a line that may stand at a place: the first cause that holds
+-- of a line that is allowed at a position: the first cause that holds
 abbrev pub wave_line_fault : WavePlace → WaveLine → Option WaveFault
 wave_line_fault (at_names names) (named name) = if nat_lt (length names) 65537 then None else Some TooMany
 wave_line_fault (at_changes w now) (timed time) = if nat_lt now time then None else Some TimeBack
@@ -132,14 +132,14 @@ abbrev pub MayEndAt : WavePlace → List ℕ → Type 0
 MayEndAt (at_changes w now) rest = rest ≡ []
 MayEndAt place rest = ⊥
 
--- why a text is refused at a place where this is left of it
+-- why a text is refused at a position where this is left of it
 pub data IsFaultAt (place : WavePlace) (rest : List ℕ) : WaveFault → Type 0 where
   no_line : (MayEndAt place rest → ⊥) → ((l : WaveLine) (behind : List ℕ) → ¬ BeginsWith rest behind place l) →
       IsFaultAt place rest BadLine
   bad_line : {l : WaveLine} {behind : List ℕ} {fault : WaveFault} → BeginsWith rest behind place l →
       wave_line_fault place l ≡ Some fault → IsFaultAt place rest fault
 
--- so many lines of the text come to a place without a fault, and this is left of it
+-- so many lines of the text come to a position without a fault, and this is left of it
 pub record IsToldTo (text : List ℕ) (lines : ℕ) (place : WavePlace) (rest : List ℕ) : Type 0 where
   pub told : text ≡ front_at place ++ rest
   pub number : lines ≡ line_ends (front_at place)
@@ -154,7 +154,7 @@ pub record IsWaveRefused (text : List ℕ) (fault : WaveFault) (line : ℕ) : Ty
   pub here : IsFaultAt place rest fault
   pub number : line ≡ lines + 1
 
--- the place behind a line without a fault: the changes begin behind the last first value
+-- the position after a line without a fault: the changes begin after the last first value
 abbrev pub place_behind : WavePlace → WaveLine → WavePlace
 place_behind at_timescale l = at_scope
 place_behind at_scope l = at_names []

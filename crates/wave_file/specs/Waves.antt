@@ -13,12 +13,12 @@ pub record WaveValue : Type 0 where
 abbrev pub wave_of : List (List ℕ) → List Bool → List (ℕ × ℕ) → WaveValue
 wave_of names first changes = record { names = names; first = first; changes = changes }
 
--- no time is before the one before it
+-- times never decrease, from this one on
 abbrev pub NeverFall : ℕ → List (ℕ × ℕ) → Type 0
 NeverFall now [] = Unit {0}
 NeverFall now (c ∷ cs) = (now ≤ c.0) × NeverFall c.0 cs
 
--- a wave that a text can hold
+-- a wave that a text can spell
 pub record IsWave (w : WaveValue) : Type 0 where
   pub some : 2 ≤ length w.names
   pub most : length w.names ≤ 65537
@@ -26,7 +26,7 @@ pub record IsWave (w : WaveValue) : Type 0 where
   pub nodes : All (λ (c : ℕ × ℕ). c.1 < length w.names) w.changes
   pub times : NeverFall 0 w.changes
 
--- what the types of its parts keep
+-- the type invariants of its parts
 pub record IsKeptWave (w : WaveValue) : Type 0 where
   pub named : All IsNodeName w.names
   pub small : All (λ (c : ℕ × ℕ). c.0 < 2 ^ 64) w.changes
@@ -64,7 +64,7 @@ first_lines node (value ∷ values) = value_spelling_of value (id_of node) ++ fi
 abbrev pub time_mark : ℕ → List ℕ
 time_mark time = concat (codes "#" ∷ decimal time ∷ codes "\n" ∷ [])
 
--- a mark stands before the first change of each time but 0
+-- a mark comes before the first change of each time but 0
 abbrev pub mark_before : ℕ → ℕ → List ℕ
 mark_before now time = if now == time then [] else time_mark time
 

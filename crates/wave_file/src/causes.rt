@@ -34,7 +34,7 @@ fn values_given(
     Ok(given)
 }
 
-/// The places of the moves by which the last one came, the last one first.
+/// The indexes of the moves by which the last one came, the last one first.
 fn cause_chain(alloc: Global, moves: &[NotedMove]) -> Result<Vec<usize>, AllocError>
     requires { (place : ℕ) → place < length moves.now → cause_at moves.now place ≤ place }
     ensures { IfOk result (λ v. IsCauseChain moves.now (length moves.now) v.items) }
@@ -89,7 +89,7 @@ fn end_line(time: u64, to: &mut Vec<u8>) -> Result<(), AllocError>
     append(to, &[b"time ", buffer.format(time).as_bytes(), b"\n"])
 }
 
-/// Appends the line of the move at this place, where the moves give these values.
+/// Appends the line of the move at this index, where the moves give these values.
 fn line_at(
     names: &[Name],
     delays: &Delays,
@@ -111,7 +111,7 @@ fn line_at(
     cause_line(time, names[node as usize].bytes(), value, delay, to)
 }
 
-/// Appends the lines of the moves at these places, the last of them first.
+/// Appends the lines of the moves at these indexes, the last of them first.
 fn lines_back(
     names: &[Name],
     delays: &Delays,
@@ -133,8 +133,8 @@ fn lines_back(
     Ok(())
 }
 
-/// The moves by which the last move of a run came: for each, the earliest one first, a line of its time, its node, the
-/// value that this takes and the delay; and then a line of the time of the last move, to which the delays add up. They
+/// The moves by which the last move of a run came. For each, the earliest one first, a line of its time, its node, the
+/// value that the node takes and the delay; then a line of the time of the last move, the sum of the delays. They
 /// are the last move, the one since which it was enabled, the one since which that was, and so on back to the start.
 pub fn causes_text(
     alloc: Global,

@@ -9,10 +9,10 @@ use thiserror::Error;
 /// The causes for which a wave file is refused. Each has a number that is never given to another.
 #[derive(Clone, Copy, Debug, PartialEq, Eq)]
 pub enum WaveFault {
-    /// A line that isn't of a form that may stand at its place, or isn't ended; a mark of a time with no change behind
-    /// it; or a text that ends too early.
+    /// A line that isn't of a form allowed at its position, or isn't ended; a mark of a time with no change after it;
+    /// or a text that ends too early.
     BadLine,
-    /// A change whose identifier is that of no node.
+    /// A change whose identifier is not that of a node.
     UnknownId,
     /// A time that isn't above the one before.
     TimeBack,

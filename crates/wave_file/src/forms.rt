@@ -1,4 +1,4 @@
-//! The lines of a wave file, each put at the end of a text.
+//! The lines of a wave file, each appended to a text.
 
 ghost use Rattle.std.specs.Prelude.{◌≡◌, ◌<◌, ◌++◌, OnOk};
 ghost use Rattle.std.specs.List.{flat_map};

@@ -46,7 +46,7 @@ fn are_id_parts(text: &[u8]) -> bool
     text.iter().all(|byte| is_id_part(*byte))
 }
 
-/// Whether the highest digit is no zero.
+/// Whether the highest digit is not zero.
 fn has_high_digit(text: &[u8]) -> bool
     ensures { result ≡ has_high_digit text.now }
 {
@@ -60,7 +60,7 @@ pub fn is_id(text: &[u8]) -> bool
     are_id_parts(text) && (text.len() == 1 || has_high_digit(text))
 }
 
-/// The node of the identifier, or None where it is that of none of so many nodes.
+/// The node of the identifier, or None where it is not that of one of so many nodes.
 pub fn node_of(id: &[u8], nodes: usize) -> Option<u32>
     requires id { is_id id.now ≡ true }
     requires nodes { nodes ≤ 65537 }

@@ -35,7 +35,7 @@ pub fn timed_runs_are_waves()
         → AreCaused t.delays (values_given (power_of t.net t.high) ms) ms }
 {}
 
-/// Law: the causes of some moves are told by one text.
+/// Law: at most one text prints the causes of some moves.
 pub fn one_causes_text()
     ensures { (names : List (List ℕ)) (d : DelayTable) (given : List Bool) (ms : List NotedMove) (a b : List ℕ)
         → TellsCauses names d given ms a

@@ -12,7 +12,7 @@ use chp_base::{Name, node_name_of};
 use itoa::Buffer;
 use std::alloc::{AllocError, Global};
 
-/// What stands behind the front, or None where the text doesn't begin so.
+/// What follows the prefix, or None where the text does not begin with it.
 pub fn behind<'a>(text: &'a [u8], front: &[u8]) -> Option<&'a [u8]>
     ensures some { IfSome result (λ rest. text.now ≡ front.now ++ rest.now) }
     ensures none { IfNone result ((rest : List ℕ) → text.now ≢ front.now ++ rest) }
@@ -20,14 +20,14 @@ pub fn behind<'a>(text: &'a [u8], front: &[u8]) -> Option<&'a [u8]>
     text.strip_prefix(front)
 }
 
-/// Where such a byte stands first.
+/// The index of the first such byte, or None where there is none.
 fn place_of(text: &[u8], end: u8) -> Option<usize>
     ensures { result ≡ position (λ b. b == end) text.now }
 {
     text.iter().position(|byte| *byte == end)
 }
 
-/// What stands before the first such byte and what stands behind it, or None where there is none.
+/// What comes before the first such byte and what comes after it, or None where there is none.
 fn cut(text: &[u8], end: u8) -> Option<(&[u8], &[u8])>
     ensures some { IfSome result (λ r. text.now ≡ r.0.now ++ end ∷ r.1.now) }
     ensures free { IfSome result (λ r. is_free_of end r.0.now ≡ true) }
@@ -37,8 +37,8 @@ fn cut(text: &[u8], end: u8) -> Option<(&[u8], &[u8])>
     Some((&text[..at], &text[at + 1..]))
 }
 
-/// The name that the first line gives to the node of the identifier, and what stands behind the line, or None where
-/// it gives it none.
+/// The name that the first line gives to the node of the identifier, and what follows the line, or None where
+/// it gives none.
 fn naming_in<'a>(id: &[u8], text: &'a [u8]) -> Option<(&'a [u8], &'a [u8])>
     ensures some { IfSome result (λ r. text.now ≡ naming id.now r.0.now ++ r.1.now) }
     ensures free { IfSome result (λ r. is_free_of 32 r.0.now ≡ true) }
@@ -53,7 +53,7 @@ fn naming_in<'a>(id: &[u8], text: &'a [u8]) -> Option<(&'a [u8], &'a [u8])>
     Some((name, text))
 }
 
-/// The name that the first line gives to the node, and what stands behind the line, or None where it gives it none.
+/// The name that the first line gives to the node, and what follows the line, or None where it gives none.
 pub fn named_in(alloc: Global, node: u32, text: &[u8]) -> Result<Option<(Name, &[u8])>, AllocError>
     requires { node < 830584 }
     ensures some { IfOk result (λ o. IfSome o (λ r. text.now ≡ var_spelling node r.0 ++ r.1.now)) }
@@ -72,7 +72,7 @@ pub fn named_in(alloc: Global, node: u32, text: &[u8]) -> Result<Option<(Name, &
     }
 }
 
-/// What stands behind the line in which the node takes the value, or None where the first line is another one.
+/// What follows the line in which the node takes the value, or None where the first line is another one.
 fn behind_value(
     alloc: Global,
     value: bool,
@@ -90,7 +90,7 @@ fn behind_value(
     Ok(behind(text, &line))
 }
 
-/// The value that the node takes in the first line, and what stands behind the line, or None where it takes none.
+/// The value that the node takes in the first line, and what follows the line, or None where it takes none.
 pub fn valued_in(alloc: Global, node: u32, text: &[u8]) -> Result<Option<(bool, &[u8])>, AllocError>
     requires { node < 830584 }
     ensures some { IfOk result
@@ -107,8 +107,8 @@ pub fn valued_in(alloc: Global, node: u32, text: &[u8]) -> Result<Option<(bool, 
     }
 }
 
-/// The identifier at the front of the text up to the end of the line, and what stands behind the line, or None where
-/// none stands there.
+/// The identifier at the start of the text up to the end of the line, and what follows the line, or None where
+/// there is none.
 fn id_in(text: &[u8]) -> Option<(&[u8], &[u8])>
     ensures some { IfSome result (λ r. text.now ≡ (r.0.now ++ 10 ∷ []) ++ r.1.now) }
     ensures id { IfSome result (λ r. is_id r.0.now ≡ true) }
@@ -118,8 +118,8 @@ fn id_in(text: &[u8]) -> Option<(&[u8], &[u8])>
     if is_id(id) { Some((id, rest)) } else { None }
 }
 
-/// The value and the identifier of a change in the first line, and what stands behind the line, or None where it is
-/// none.
+/// The value and the identifier of a change in the first line, and what follows the line, or None where it is not a
+/// change.
 pub fn turned_in(text: &[u8]) -> Option<(bool, &[u8], &[u8])>
     ensures some { IfSome result (λ r. text.now ≡ value_spelling_of r.0 r.1.now ++ r.2.now) }
     ensures id { IfSome result (λ r. is_id r.1.now ≡ true) }
@@ -149,7 +149,7 @@ fn is_digit(byte: u8) -> bool
     matches!(byte, b'0'..=b'9')
 }
 
-/// The number that the digits write, or None where they are those of no number below 2^64.
+/// The number that the digits write, or None where they write no number below 2^64.
 fn number_in(digits: &[u8]) -> Option<u64>
     ensures some { IfSome result (λ n. n ≡ digits_value 10 digits.now) }
     ensures none { IfNone result ((n : ℕ) → n < 2 ^ 64 → digits.now ≢ decimal n) }
@@ -165,7 +165,7 @@ fn number_in(digits: &[u8]) -> Option<u64>
     Some(number)
 }
 
-/// Whether the number is written so.
+/// Whether this is the decimal spelling of the number.
 fn is_decimal(digits: &[u8], number: u64) -> bool
     ensures { result ≡ bytes_eq digits.now (decimal number) }
 {
@@ -173,7 +173,7 @@ fn is_decimal(digits: &[u8], number: u64) -> bool
     digits == buffer.format(number).as_bytes()
 }
 
-/// The number that these bytes write as it is written, or None where they aren't so.
+/// Parses a canonical decimal number below 2^64, or returns None.
 fn decimal_in(digits: &[u8]) -> Option<u64>
     ensures some { IfSome result (λ n. digits.now ≡ decimal n) }
     ensures none { IfNone result ((n : ℕ) → n < 2 ^ 64 → digits.now ≢ decimal n) }
@@ -186,7 +186,7 @@ fn decimal_in(digits: &[u8]) -> Option<u64>
     }
 }
 
-/// The time of a mark in the first line, and what stands behind the line, or None where it is none.
+/// The time of a mark in the first line, and what follows the line, or None where it is not a mark.
 fn timed_in(text: &[u8]) -> Option<(u64, &[u8])>
     ensures some { IfSome result (λ r. text.now ≡ time_mark r.0 ++ r.1.now) }
     ensures small { IfSome result (λ r. r.0 < 2 ^ 64) }
@@ -198,8 +198,8 @@ fn timed_in(text: &[u8]) -> Option<(u64, &[u8])>
     Some((time, rest))
 }
 
-/// The time of a mark in the first line behind which a change stands, and what stands behind the line, or None where
-/// it is none.
+/// The time of a mark in the first line that is followed by a change, and what follows the line, or None where
+/// it is not such a mark.
 pub fn mark_in(text: &[u8]) -> Option<(u64, &[u8])>
     ensures some { IfSome result (λ r. text.now ≡ time_mark r.0 ++ r.1.now) }
     ensures small { IfSome result (λ r. r.0 < 2 ^ 64) }

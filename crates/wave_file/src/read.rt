@@ -18,7 +18,7 @@ use std::alloc::{AllocError, Global};
 
 const MOST_NODES: usize = 65537;
 
-/// What stands behind the line of this number, which is to be this one.
+/// What follows the line of this number, which is to be this one.
 fn behind_line<'a>(text: &'a [u8], line: &[u8], number: u32) -> Result<&'a [u8], WaveError>
     ensures told { IfOk result (λ rest. text.now ≡ line.now ++ rest.now) }
     ensures refused { IfErr result (OfWaveRefusal (λ fault n. (fault ≡ BadLine) × (n ≡ number)
@@ -36,7 +36,7 @@ fn behind_line<'a>(text: &'a [u8], line: &[u8], number: u32) -> Result<&'a [u8],
     }
 }
 
-/// What stands behind the first two lines.
+/// What follows the first two lines.
 fn read_head(text: &[u8]) -> Result<&[u8], WaveError>
     ensures told { IfOk result (λ rest. IsToldTo text.now 2 (at_names []) rest.now) }
     ensures refused { IfErr result (OfWaveRefusal (IsWaveRefused text.now)) }
@@ -45,7 +45,7 @@ fn read_head(text: &[u8]) -> Result<&[u8], WaveError>
     behind_line(rest, b"$scope module top $end\n", 2)
 }
 
-/// The names of the nodes, and what stands behind the line that ends them.
+/// The names of the nodes, and what follows the line that ends them.
 fn read_names(alloc: Global, text: &[u8]) -> Result<(Vec<Name>, &[u8]), WaveError>
     ensures told { IfOk result (λ r. ComesOn 2 (at_names []) text.now
         (length r.0.items + 3) (at_definitions r.0.items) r.1.now) }
@@ -73,7 +73,7 @@ fn read_names(alloc: Global, text: &[u8]) -> Result<(Vec<Name>, &[u8]), WaveErro
     Ok((names, after))
 }
 
-/// What stands behind the definitions of these nodes and the mark of the start.
+/// What follows the definitions of these nodes and the mark of the start.
 fn read_start<'a>(names: &[Name], text: &'a [u8]) -> Result<&'a [u8], WaveError>
     requires { length names.now ≤ 65537 }
     ensures told { IfOk result (λ rest. ComesOn (length names.now + 3) (at_definitions names.now) text.now
@@ -86,7 +86,7 @@ fn read_start<'a>(names: &[Name], text: &'a [u8]) -> Result<&'a [u8], WaveError>
     behind_line(rest, b"#0\n", line + 1)
 }
 
-/// The first values of these nodes, and what stands behind them.
+/// The first values of these nodes, and what follows them.
 fn read_values<'a>(
     alloc: Global,
     names: &[Name],
@@ -117,7 +117,7 @@ fn read_values<'a>(
 #[derive(Drop)]
 struct Told {
     wave: Wave,
-    /// The values of the nodes behind the changes.
+    /// The values of the nodes after the changes.
     values: Vec<bool>,
     /// The time of the last mark.
     now: u64,
@@ -131,7 +131,7 @@ fn has_value(values: &[bool], node: u32, value: bool) -> bool
     values[node as usize] == value
 }
 
-/// Takes a change, or tells why it is refused.
+/// Applies a change, or returns why it is refused.
 fn turn(told: &mut Told, value: bool, id: &[u8]) -> Result<Option<WaveFault>, AllocError>
     requires id { is_id id.now ≡ true }
     requires few { length told.old.wave.names.items ≤ 65537 }
@@ -158,7 +158,7 @@ fn turn(told: &mut Told, value: bool, id: &[u8]) -> Result<Option<WaveFault>, Al
     Ok(None)
 }
 
-/// Goes on to the time of a mark, or tells why it is refused.
+/// Goes on to the time of a mark, or returns why it is refused.
 fn go_on(told: &mut Told, time: u64) -> Option<WaveFault>
     ensures wave { told.new.wave ≡ told.old.wave }
     ensures values { told.new.values ≡ told.old.values }
@@ -184,7 +184,7 @@ fn unless(fault: Option<WaveFault>, rest: &[u8]) -> Result<&[u8], WaveFault>
     }
 }
 
-/// Takes a line, and tells what stands behind it, or why it is refused.
+/// Applies a line, and returns what follows it, or why it is refused.
 fn change_line<'a>(
     told: &mut Told,
     text: &'a [u8],
@@ -215,7 +215,7 @@ fn change_line<'a>(
     Ok(unless(fault, rest))
 }
 
-/// The wave whose changes the text tells, behind so many lines.
+/// The wave whose changes the text lists, after so many lines.
 fn read_changes(told: Told, text: &[u8], lines: u32) -> Result<Wave, WaveError>
     requires few { length told.wave.names.items ≤ 65537 }
     requires count { length told.values.items ≡ length told.wave.names.items }
@@ -238,7 +238,7 @@ fn read_changes(told: Told, text: &[u8], lines: u32) -> Result<Wave, WaveError>
     Ok(told.wave)
 }
 
-/// The wave that the text is, read part by part.
+/// The wave that the text spells, read part by part.
 fn read_in_parts(alloc: Global, text: &[u8]) -> Result<Wave, WaveError>
     requires { length text.now ≤ 268435456 }
     ensures read { IfOk result (λ w. IsWaveText text.now (kept_wave w)) }
@@ -264,9 +264,9 @@ fn read_in_parts(alloc: Global, text: &[u8]) -> Result<Wave, WaveError>
     read_changes(told, rest, lines)
 }
 
-/// The wave that the text is, as of no other one. A text that is none is refused at its first line with a fault,
-/// counted from 1, for the first of these causes: the line isn't of a form that may stand there, or no change stands
-/// behind its mark of a time, or the text ends too early; a change is of no node; a time isn't above the one before; a
+/// The wave that the text spells, and it spells no other. A text that spells none is refused at its first line with a
+/// fault, counted from 1, for the first of these causes: the line isn't of a form allowed there, or no change follows
+/// its mark of a time, or the text ends too early; a change is of no node; a time isn't above the one before; a
 /// node has the value already; or there are more than 65,537 nodes.
 pub fn read_wave(alloc: Global, text: &[u8]) -> Result<Wave, WaveError>
     requires { length text.now ≤ 268435456 }

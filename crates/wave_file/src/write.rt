@@ -12,7 +12,7 @@ use crate::wave::Wave;
 use chp_base::Name;
 use std::alloc::{AllocError, Global};
 
-/// Turns the node over, and tells its new value.
+/// Turns the node over, and returns its new value.
 pub(crate) fn turn(values: &mut [bool], node: u32) -> bool
     requires { node < length values.old }
     ensures values { values.new ≡ fired values.old node }
@@ -55,7 +55,7 @@ fn first_lines(first: &[bool], to: &mut Vec<u8>) -> Result<(), AllocError>
     Ok(())
 }
 
-/// Appends the mark of the time, where it is another one than now.
+/// Appends the mark of the time, where it differs from the current time.
 fn mark_before(now: u64, time: u64, to: &mut Vec<u8>) -> Result<(), AllocError>
     ensures { OnOk result (to.new.items ≡ to.old.items ++ mark_before now time) }
 {
@@ -65,7 +65,7 @@ fn mark_before(now: u64, time: u64, to: &mut Vec<u8>) -> Result<(), AllocError>
     time_line(time, to)
 }
 
-/// Appends a change to the value, behind the mark of its time where that is another one than now.
+/// Appends a change to the value, after the mark of its time where that differs from the current time.
 fn change_line(
     now: u64,
     time: u64,
@@ -113,7 +113,7 @@ fn changes_of(wave: &Wave, to: &mut Vec<u8>) -> Result<(), AllocError>
     change_lines(&mut values, &wave.changes, to)
 }
 
-/// The wave as a value change dump: the nodes with their names in order, the first values, and the changes behind the
+/// The wave as a value change dump: the nodes with their names in order, the first values, and the changes after the
 /// marks of their times. One unit of time is written as a nanosecond. (The format is a profile of that of IEEE 1364,
 /// with wires of one bit alone.) What is written is read as this wave.
 pub fn write_wave(alloc: Global, wave: &Wave) -> Result<Vec<u8>, AllocError>

@@ -2,7 +2,7 @@
 use Rattle.std.specs.Prelude.{◌≡◌, ◌||◌, Bool, true, false, []}
 use Rattle.chp_syntax.specs.Trees.{Statement, follows, besides, selects, repeats, calls, Statements, no_members, and_member, Arms, no_arms, and_arm, ProgramTree}
 
--- whether a call stands in a statement
+-- whether a statement contains a call
 abbrev mutual
   pub has_call : Statement → Bool
   has_call (follows members) = some_has_call members

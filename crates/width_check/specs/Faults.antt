@@ -1,4 +1,4 @@
--- For which names, kinds and widths a program is refused, and at which places.
+-- For which names, kinds and widths a program is refused, and at which spans.
 use Rattle.std.specs.List.{flat_map}
 use Rattle.std.specs.Prelude.{◌≡◌, ◌≢◌, ℕ, ◌<◌, ◌≤◌, ◌^◌, ◌⊎◌, Bool, true, false, List, [], ◌∷◌, slice_get, Contains, Some, None}
 use Rattle.chp_base.specs.declared.span.Span.{Span}
@@ -36,7 +36,7 @@ pub record IsUndeclared (p : ProgramTree) (s : Span) : Type 0 where
   pub missing : declaration p.decls usage.name ≡ None
   pub at : s ≡ usage.at
 
--- the name of a channel stands before `!` and `?`, that of a variable anywhere else
+-- before `!` and `?` a name must be a channel's, anywhere else a variable's
 abbrev pub wants_var : Role → Bool
 wants_var sent_on = false
 wants_var received_on = false
@@ -59,7 +59,7 @@ pub record IsMisdirected (p : ProgramTree) (s : Span) : Type 0 where
   pub wrong : ((usage.role ≡ sent_on) × (decl.kind ≡ In)) ⊎ ((usage.role ≡ received_on) × (decl.kind ≡ Out))
   pub at : s ≡ usage.at
 
--- the expressions of the body with all that they are made of
+-- the expressions of the body with all of their subexpressions
 abbrev pub all_expressions : ProgramTree → List Expression
 all_expressions p = flat_map (λ (e : Expected). inside e.expression) (expressions_in p.decls p.body)
 
@@ -111,7 +111,7 @@ pub record IsMisfitLeaf (p : ProgramTree) (s : Span) : Type 0 where
   pub misfit : IsMisfit p.decls leaf
   pub at : s ≡ span_of leaf.expression
 
--- a receive into a variable that hasn't the channel's width
+-- a receive into a variable whose width isn't the channel's
 pub record IsMisfitReceive (p : ProgramTree) (s : Span) : Type 0 where
   pub receive : Reception
   pub among : Contains (receptions_in p.body) receive
@@ -132,7 +132,7 @@ pub record IsWideFirst (p : ProgramTree) (s : Span) : Type 0 where
   pub wide : 2 ^ decl.width ≤ decl.first
   pub at : s ≡ decl.first_at
 
--- the cause holds at the place
+-- the cause holds at the span
 abbrev pub FaultAt : ProgramTree → FaultCode → Span → Type 0
 FaultAt p code.DoubleName s = IsDouble p s
 FaultAt p code.WidthRange s = IsOutOfRange p s
@@ -155,7 +155,7 @@ abbrev pub HasNone : ProgramTree → List FaultCode → Type 0
 HasNone p [] = Unit {0}
 HasNone p (c ∷ cs) = ((s : Span) → ¬ FaultAt p c s) × HasNone p cs
 
--- the first of the causes that holds anywhere, at its first place
+-- the first of the causes that holds anywhere, at its first span
 abbrev pub IsFirstFault : ProgramTree → List FaultCode → FaultCode → Span → Type 0
 IsFirstFault p [] c s = ⊥
 IsFirstFault p (d ∷ ds) c s = ((c ≡ d) × IsFirst (FaultAt p d) s) ⊎ (((t : Span) → ¬ FaultAt p d t)

@@ -47,7 +47,7 @@ abbrev pub compared_with : Formula → Operations → Formula
 compared_with e no_operations = e
 compared_with e (and_operation op f more) = compared op e f
 
--- an expression of which this width is expected
+-- an expression with this expected width
 abbrev mutual
   pub formula_form : List Decl → ℕ → Expression → Formula
   formula_form decls w (number n at) = constant w n

@@ -1,4 +1,4 @@
--- How the members of a chain come to the width that is wanted of them.
+-- How the members of a chain get their expected width.
 use Rattle.std.specs.Prelude.{◌≡◌, ◌⊎◌, ℕ, Bool, true, false, List, Option, Some, None, is_none, option_map}
 use Rattle.chp_syntax.specs.declared.tree.Decl.{Decl}
 use Rattle.chp_syntax.specs.Trees.{Expression, Links}
@@ -13,7 +13,7 @@ IsLead decls e more First = is_none (own_width decls e) ≡ false
 IsLead decls e more (Later w) = (own_width decls e ≡ None) × (Some w ≡ option_map capped_width (first_width decls more))
 IsLead decls e more Nothing = side_width decls e more ≡ None
 
--- so where no width is wanted of the chain, or where it compares; else the one that is wanted is that of all members
+-- the same if no width is expected of the chain, or if it compares; else the chain's expected width is all members'
 abbrev pub IsLeadTo : List Decl → Option ℕ → Expression → Links → Lead → Type 0
 IsLeadTo decls wanted e more lead =
     ((w : ℕ) × (compares more ≡ false) × (wanted ≡ Some w) × (lead ≡ Later w)) ⊎

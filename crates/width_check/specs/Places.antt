@@ -1,4 +1,4 @@
--- Where names, expressions and widths stand in a program.
+-- Where the names, expressions and widths of a program are.
 use Rattle.std.specs.Prelude.{ℕ, ◌+◌, ◌-◌, Bool, true, false, if◌then◌else◌, List, [], ◌∷◌, ◌++◌, find, unwrap_or, option_map, Option, Some, None}
 use Rattle.std.specs.Str.{bytes_eq}
 use Rattle.chp_base.specs.declared.span.Span.{Span}
@@ -32,7 +32,7 @@ pub record Use : Type 0 where
 abbrev pub use_of : Ident → Role → Use
 use_of i role = record { name = i.name; at = i.at; role = role }
 
--- the names of a program's body, with their places and uses
+-- the names of a program's body, with their spans and uses
 abbrev mutual
   pub reads_in : Expression → List Use
   reads_in (number n at) = []
@@ -91,7 +91,7 @@ abbrev mutual
   own_width decls (chain e more at) =
       if compares more then Some 1 else or_width (own_width decls e) (first_width decls more)
 
-  -- of the parts together, where a part that has none counts 0
+  -- of the parts together; a part without one counts as 0
   pub own_widths : List Decl → Expressions → ℕ
   own_widths decls no_parts = 0
   own_widths decls (and_part e more) = unwrap_or (own_width decls e) 0 + own_widths decls more
@@ -161,7 +161,7 @@ abbrev mutual
   expressions_in_arms decls no_arms = []
   expressions_in_arms decls (and_arm g s more) = expect g 1 ∷ (expressions_in decls s ++ expressions_in_arms decls more)
 
--- an expression with all that it is made of
+-- an expression with all of its subexpressions
 abbrev mutual
   pub inside : Expression → List Expression
   inside (join parts at) = join parts at ∷ inside_parts parts

@@ -1,4 +1,4 @@
--- Typed programs as plain trees: what a program says, without where it lies in memory.
+-- Typed programs as plain trees: what a program says, without its position in memory.
 use Rattle.std.specs.Prelude.{ℕ, suc, Bool, List}
 use Rattle.chp_base.specs.declared.span.Span.{Span}
 use Rattle.chp_base.specs.declared.channel.Channel.{Channel}

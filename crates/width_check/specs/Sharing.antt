@@ -93,7 +93,7 @@ Clashes code.SharedSend (sends_on x) (sends_on y) = x ≡ y
 Clashes code.SharedReceive (receives_on x) (receives_on y) = x ≡ y
 Clashes _ _ _ = ⊥
 
--- two parallel occurrences that clash, the first place no later than the second
+-- two parallel occurrences that clash, the first span no later than the second
 pub record SharedAt (body : Process) (c : FaultCode) (first second : Span) : Type 0 where
   pub a : Occurrence
   pub b : Occurrence
@@ -107,7 +107,7 @@ pub record SharedAt (body : Process) (c : FaultCode) (first second : Span) : Typ
 abbrev pub IsUnshared : Process → FaultCode → Type 0
 IsUnshared body c = (a b : Occurrence) → Parallel body a b → ¬ Clashes c a.deed b.deed
 
--- the pair that is reported: the one with the least second place, and among those the least first place
+-- the pair that is reported: the one with the least second span, and among those the least first span
 pub record IsFirstShared (body : Process) (c : FaultCode) (first second : Span) : Type 0 where
   pub shared : SharedAt body c first second
   pub least_second : (s t : Span) → SharedAt body c s t → IsNoLater second t

@@ -15,7 +15,7 @@ use Rattle.width_check.specs.Walk.{Met, is_misdirected, is_bad_part, lacking, is
 abbrev pub AreRanged : List Decl → Type 0
 AreRanged ds = (d : Decl) → Contains ds d → is_out_of_range d ≡ false
 
--- whether a name stands for a variable, where it is declared
+-- whether a name is a variable's; None if it isn't declared
 abbrev pub is_var_in : List Decl → List ℕ → Option Bool
 is_var_in ds name = option_map (λ (d : Decl). is_var d.kind) (declaration ds name)
 

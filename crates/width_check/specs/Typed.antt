@@ -1,4 +1,4 @@
--- What a contract sees of a typed program.
+-- The view of a typed program in contracts.
 use Rattle.std.specs.Prelude.{List}
 use Rattle.chp_base.specs.declared.channel.Channel.{Channel}
 use Rattle.width_check.specs.declared.typed.Var.{Var}

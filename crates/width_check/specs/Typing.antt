@@ -1,4 +1,4 @@
--- What a typed program keeps.
+-- The invariant of a typed program.
 use Rattle.std.specs.Prelude.{◌≡◌, ◌≢◌, ℕ, zero, suc, ◌<◌, ◌≤◌, ◌^◌, List, [], ◌∷◌, ◌++◌, length, map, All, AllPairs}
 use Rattle.chp_base.specs.Names.{IsName}
 use Rattle.chp_base.specs.declared.channel.Channel.{Channel}

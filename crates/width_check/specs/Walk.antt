@@ -1,4 +1,4 @@
--- What a walk over a program meets, and the first places at which something is wrong with what it has met.
+-- What a walk over a program meets, and the first spans at which something is wrong with what it has met.
 use Rattle.std.specs.Prelude.{ℕ, ◌^◌, min, Bool, true, false, not, ◌&&◌, ◌||◌, ◌==◌, nat_lt, nat_le, if◌then◌else◌, List, [], ◌∷◌, ◌++◌, map, flat_map, Option, Some, None, is_none, unwrap_or}
 use Rattle.std.specs.List.{list_any}
 use Rattle.std.specs.Str.{bytes_eq}
@@ -29,11 +29,11 @@ statements_in ss = onto and_member (map statement_of ss) no_members
 abbrev pub arms_in : List Arm → Arms
 arms_in xs = onto and_guarded (map guarded_of xs) no_arms
 
--- the order of places as a test
+-- the order of spans as a test
 abbrev pub is_earlier : Span → Span → Bool
 is_earlier s t = nat_lt s.from t.from || (s.from == t.from && nat_lt t.to s.to)
 
--- the earlier of two places, of which the first may be missing
+-- the earlier of two spans, of which the first may be missing
 abbrev pub earlier : Option Span → Span → Option Span
 earlier None s = Some s
 earlier (Some t) s = if is_earlier s t then Some s else Some t
@@ -42,7 +42,7 @@ abbrev pub earlier_of : Option Span → Option Span → Option Span
 earlier_of o None = o
 earlier_of o (Some s) = earlier o s
 
--- the first of a place and those of the items that pass a test
+-- the first of a span and those of the items that pass a test
 abbrev pub first_of : {X : Type 0} → (X → Bool) → (X → Span) → Option Span → List X → Option Span
 first_of test at o [] = o
 first_of test at o (x ∷ xs) = first_of test at (if test x then earlier o (at x) else o) xs
@@ -180,7 +180,7 @@ lacking_parts decls (and_part e more) = if is_none (own_width decls e) then span
 abbrev pub side_width : List Decl → Expression → Links → Option ℕ
 side_width decls e more = or_width (own_width decls e) (first_width decls more)
 
--- the width that is wanted, where one is, and else the expression's own; 0 where it has none
+-- the expected width, if there is one, and else the expression's own; 0 if it has none
 abbrev pub own_or : List Decl → Option ℕ → Expression → ℕ
 own_or decls None e = unwrap_or (own_width decls e) 0
 own_or decls (Some w) e = w
@@ -227,11 +227,11 @@ noted decls f m = record {
   number = first_of is_wide_number (λ (l : Expected). span_of l.expression) f.number m.leaves;
 }
 
--- findings, and what an expression is made of, of which this width is wanted, or else its own one
+-- findings after an expression and its subexpressions, with this expected width, or else its own one
 abbrev pub surveyed : List Decl → Findings → Option ℕ → Expression → Findings
 surveyed decls f wanted e = noted decls f (met_in decls (own_or decls wanted e) e)
 
--- findings, and a part or a comparison that may lack a width, or a leaf of a width where another one is wanted
+-- findings, and a part or a comparison that may lack a width, or a leaf whose width may not be the expected one
 abbrev pub with_part : Findings → Bool → Span → Findings
 with_part f lacks s = record f { widthless = (if lacks then earlier f.widthless s else f.widthless) }
 
@@ -262,7 +262,7 @@ is_out_of_range d = nat_lt d.width 1 || nat_lt 64 d.width
 abbrev pub is_wide_first : Decl → Bool
 is_wide_first d = nat_le (2 ^ capped_width d.width) d.first
 
--- the first of a place and those at which one of some names, or one declared before, is declared again
+-- the first of a span and those at which one of some names, or one declared before, is declared again
 abbrev pub first_double : List (List ℕ) → Option Span → List Decl → Option Span
 first_double names o [] = o
 first_double names o (d ∷ ds) =

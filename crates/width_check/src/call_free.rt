@@ -7,7 +7,7 @@ ghost use Rattle.width_check.specs.Calls.{has_call, IsCallFree};
 
 use chp_syntax::{Program, Stmt};
 
-/// Whether a call stands in a statement.
+/// Whether a statement contains a call.
 fn has_call(s: &Stmt) -> bool
     ensures { result ≡ has_call (statement_of s.now) }
 {
@@ -42,7 +42,7 @@ fn has_call(s: &Stmt) -> bool
     }
 }
 
-/// Whether a program has neither procedures nor calls, as `resolve` asks for.
+/// Whether a program has neither procedures nor calls, as `resolve` requires.
 pub fn is_call_free(program: &Program) -> bool
     ensures { Decides result (IsCallFree (program_tree program.now)) }
 {

@@ -8,14 +8,14 @@ ghost use Rattle.width_check.specs.Walk as walk;
 use crate::findings::earlier;
 use chp_base::{Fault, FaultCode, Span, TextError};
 
-/// A cause, and the first place at which it holds, where there is one.
+/// A cause, and the first span at which it holds, if there is one.
 #[derive(Clone, Copy, Debug)]
 pub struct Cause {
     pub code: FaultCode,
     pub place: Option<Span>,
 }
 
-/// The earlier of two places, where there are any.
+/// The earlier of two spans, either of which may be missing.
 pub fn earlier_of(first: Option<Span>, second: Option<Span>) -> Option<Span>
     ensures { result ≡ walk.earlier_of first second }
 {
@@ -25,7 +25,7 @@ pub fn earlier_of(first: Option<Span>, second: Option<Span>) -> Option<Span>
     }
 }
 
-/// A refusal by the first of the causes that has a place.
+/// Refuses for the first of the causes that has a span, if there is one.
 pub fn refuse(causes: &[Cause]) -> Result<(), TextError>
     ensures none { IfOk result (λ done. AreNone causes.now) }
     ensures first { IfErr result (IfRefused (λ f. IsFirstCause causes.now f.code f.at)) }

@@ -20,7 +20,7 @@ fn low_bits(width: u8, number: u64) -> u64
     }
 }
 
-/// A number with another one of the width behind it.
+/// The bits of `front` followed by those of `back`, a number of the width.
 fn appended(front: u64, width: u8, back: u64) -> u64
     requires width { width ≤ 64 }
     requires back { back < 2 ^ width }
@@ -43,8 +43,8 @@ fn stored(store: &[u64], var: u32) -> u64
     }
 }
 
-/// The value of a well-formed expression, where the store has a number for each variable; a variable that it hasn't
-/// counts 0.
+/// The value of a well-formed expression, given a store with a number for each variable; a variable that the store
+/// doesn't have counts as 0.
 #[tactic(auto, using(crate::proofs::Fit::value_fits, crate::proofs::Fit::width_some, crate::proofs::Fit::width_most))]
 pub fn value(e: &TExpr, store: &[u64]) -> u64
     requires { IsWellFormed (formula_of e.now) }

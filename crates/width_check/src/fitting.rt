@@ -28,7 +28,7 @@ fn has_bits(vars: &[Var], var: u32, high: u8, low: u8) -> bool
     }
 }
 
-/// The number of bits of an expression over these variables, or None where it isn't well formed or reads bits that the
+/// The number of bits of an expression over these variables, or None if it isn't well formed or reads bits that the
 /// variables don't have.
 fn width_over(vars: &[Var], e: &TExpr) -> Option<u8>
     ensures some { IfSome result (λ width. IsOfWidth vars.now width (formula_of e.now)) }

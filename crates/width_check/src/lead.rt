@@ -1,10 +1,10 @@
-//! How the members of a chain come to their width.
+//! How the members of a chain get their width.
 
 ghost use Rattle.std.specs.Prelude.{◌≡◌};
 ghost use Rattle.width_check.specs.Leading as leading;
 
-/// Which member of a chain gives the width that is wanted of all: the first one, or a later one, whose width is this,
-/// or none, since no member has a width.
+/// Which member of a chain gives the expected width of all: the first one, or a later one, with this width, or none,
+/// since no member has a width.
 #[derive(Clone, Copy, Debug)]
 pub enum Lead {
     First,
@@ -13,7 +13,7 @@ pub enum Lead {
 }
 
 impl Lead {
-    /// The width that is wanted of the first member, where it is another one's: 0 where there is none.
+    /// The width expected of the first member: None if the first member itself gives it, and 0 if none does.
     pub fn known(self) -> Option<u8>
         ensures { result ≡ leading.known self }
     {
@@ -24,7 +24,7 @@ impl Lead {
         }
     }
 
-    /// The width that is wanted of all members, where the first one has this width.
+    /// The width expected of all members, given that of the first one; None if no member has a width.
     pub fn width(self, first: Option<u8>) -> Option<u8>
         ensures { result ≡ leading.width self first }
     {

@@ -51,7 +51,7 @@ fn read_whole(scope: &Scope, of: &Ident) -> TExpr
     read(scope, of, scope.bits(&of.name) - 1, 0)
 }
 
-/// The typed form of an expression of which this width is wanted.
+/// The typed form of an expression with this expected width.
 fn make_expression(alloc: Global, scope: &Scope, e: &Expr, width: u8) -> Result<TExpr, AllocError>
     requires some { 1 ≤ width }
     requires most { width ≤ 64 }

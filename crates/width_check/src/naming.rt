@@ -12,14 +12,14 @@ use chp_base::{Added, Channel, Kind, Span, Symbols};
 use chp_syntax::{Decl, DeclKind};
 use std::alloc::{AllocError, Global};
 
-/// The names of some declarations, and the first place at which one is declared again.
+/// The names of some declarations, and the first span at which one is declared again.
 #[derive(Drop)]
 pub struct Naming {
     pub names: Symbols,
     pub double: Option<Span>,
 }
 
-/// The names of the declarations, in their order, each once.
+/// The names of the declarations, in the order of these, each once.
 pub fn name_all(alloc: Global, decls: &[Decl]) -> Result<Naming, AllocError>
     requires { length decls.now ≤ 300000 }
     ensures double { IfOk result (λ naming. naming.double ≡ walk.first_double [] None decls.now) }
@@ -37,7 +37,7 @@ pub fn name_all(alloc: Global, decls: &[Decl]) -> Result<Naming, AllocError>
     Ok(Naming { names, double })
 }
 
-/// The first place of a declared width that isn't in 1 to 64.
+/// The first span of a declared width that isn't in 1 to 64.
 pub fn first_out_of_range(decls: &[Decl]) -> Option<Span>
     ensures { result ≡ walk.first_of walk.is_out_of_range (λ d. d.width_at) None decls.now }
 {
@@ -48,7 +48,7 @@ pub fn first_out_of_range(decls: &[Decl]) -> Option<Span>
     first
 }
 
-/// The first place of a first value that doesn't fit the declared width.
+/// The first span of a first value that doesn't fit the declared width.
 pub fn first_wide(decls: &[Decl]) -> Option<Span>
     ensures { result ≡ walk.first_of walk.is_wide_first (λ d. d.first_at) None decls.now }
 {
@@ -63,7 +63,7 @@ pub fn first_wide(decls: &[Decl]) -> Option<Span>
     first
 }
 
-/// The number of each declaration: channels are counted apart from variables.
+/// The number of each declaration; channels and variables are counted separately.
 pub fn number_all(alloc: Global, decls: &[Decl]) -> Result<Vec<u32>, AllocError>
     requires { length decls.now ≤ 300000 }
     ensures { IfOk result (λ numbers. numbers.items ≡ numbers_of 0 0 decls.now) }
@@ -93,7 +93,7 @@ fn kind_of(kind: DeclKind) -> Kind
     }
 }
 
-/// The channels that are declared, in their order.
+/// The declared channels, in order of declaration.
 pub fn channels_of(alloc: Global, decls: &[Decl]) -> Result<Vec<Channel>, AllocError>
     requires { AreRanged decls.now }
     ensures { IfOk result (λ channels. channels.items ≡ form.channels_of decls.now) }
@@ -113,7 +113,7 @@ pub fn channels_of(alloc: Global, decls: &[Decl]) -> Result<Vec<Channel>, AllocE
     Ok(channels)
 }
 
-/// The variables that are declared, in their order.
+/// The declared variables, in order of declaration.
 pub fn vars_of(alloc: Global, decls: &[Decl]) -> Result<Vec<Var>, AllocError>
     requires { AreRanged decls.now }
     ensures { IfOk result (λ vars. vars.items ≡ form.vars_of decls.now) }

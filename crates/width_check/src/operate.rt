@@ -55,8 +55,8 @@ fn one_if(holds: bool) -> u64
     u64::from(holds)
 }
 
-/// What an operator makes of two unsigned numbers of the width: of each pair of bits, modulo 2 to the width for sum and
-/// difference, and 1 for a comparison that holds. (Our profile.)
+/// The result of an operator on two unsigned numbers of the width: bit by bit, modulo 2 to the width for sum and
+/// difference, and 1 or 0 for a comparison. (Our profile.)
 pub fn operated(op: Op, width: u8, left: u64, right: u64) -> u64
     requires some { 1 ≤ width }
     requires most { width ≤ 64 }

@@ -1,4 +1,4 @@
-//! From a program as it is read to the same program with its names and widths resolved.
+//! From a program as parsed to the same program with its names and widths resolved.
 
 ghost use Rattle.std.specs.Prelude.{◌≡◌, ◌≤◌, length, IfOk, IfErr};
 ghost use Rattle.chp_syntax.specs.Shape.{IsShaped};
@@ -23,12 +23,12 @@ use std::alloc::Global;
 /// nor calls.
 ///
 /// A program is refused at a declaration of a name that an earlier one declares (20), else at a declared width that
-/// isn't in 1 to 64 (28), at a name that isn't declared (21), at a variable where a channel is wanted or a channel
+/// isn't in 1 to 64 (28), at a name that isn't declared (21), at a variable where a channel is expected or a channel
 /// where a variable is (22), at the name of a channel that is used at the environment's end (23), at bits that the
 /// variable doesn't have (27), at a part of `{..}` or a comparison without a width (26), at an expression or the
-/// variable of a receive whose width isn't the one wanted there or a `{..}` that is wider than 64 (24), and at a number
+/// variable of a receive whose width isn't the expected one or a `{..}` that is wider than 64 (24), and at a number
 /// that doesn't fit its width (25). The causes are tested in this order, each over the whole program, and reported at
-/// the first place in the text; of two places that begin together the longer one is first. Both places of the fault are
+/// the first span in the text; of two spans that begin together the longer one is first. Both spans of the fault are
 /// this one. (Our profile.)
 pub fn resolve(alloc: Global, program: &Program) -> Result<Typed, TextError>
     requires few { length program.now.decls.items ≤ 300000 }

@@ -25,7 +25,7 @@ pub struct Scope<'a> {
     ghost numbered: { numbers.items ≡ numbers_of 0 0 decls.now },
 }
 
-/// A number of bits, where more than 64 count as 65.
+/// A number of bits; more than 64 count as 65.
 pub fn capped(width: u64) -> u8
     ensures { result ≡ capped_width width }
 {
@@ -110,7 +110,7 @@ impl<'a> Scope<'a> {
         Some(&self.decls[place as usize])
     }
 
-    /// The width that is declared for a name, and 0 where none is.
+    /// The declared width of a name, or 0 if it isn't declared.
     pub fn width(&self, name: &Name) -> u64
         ensures { result ≡ plain.declared_width self.now.decls.now name.now }
     {
@@ -194,7 +194,7 @@ impl<'a> Scope<'a> {
         None
     }
 
-    /// The width of the two sides of a comparison, which the first member of it gives that has one.
+    /// The width of the two sides of a comparison, which is that of its first member that has one.
     pub fn side_width(&self, first: &Expr, links: &[Link]) -> Option<u8>
         ensures { result ≡ option_map capped_width
             (side_width self.now.decls.now (expression_of first.now) (links_in links.now)) }
@@ -218,8 +218,8 @@ impl<'a> Scope<'a> {
         }
     }
 
-    /// Which member gives the width that is wanted of all members of a chain, or that width, where it is wanted of the
-    /// chain itself.
+    /// Which member gives the width expected of all members of a chain, or that width, if it is expected of the chain
+    /// itself.
     pub fn lead_to(&self, wanted: Option<u8>, first: &Expr, links: &[Link]) -> Lead
         ensures { IsLeadTo self.now.decls.now wanted (expression_of first.now) (links_in links.now) result }
     {

@@ -1,4 +1,4 @@
-//! The walk over a program that finds the first place of each cause.
+//! The walk over a program that finds the first span of each cause.
 
 ghost use Rattle.std.specs.Prelude.{◌≡◌, Some, None, is_none, option_map, unwrap_or, if◌then◌else◌};
 ghost use Rattle.chp_syntax.specs.Trees as tree;
@@ -13,7 +13,7 @@ use crate::scope::{Scope, capped, compares, slice_width, sum};
 use chp_base::Span;
 use chp_syntax::{DeclKind, Expr, Ident, Stmt};
 
-/// A name that stands for a variable.
+/// A name used as a variable.
 fn with_var(scope: &Scope, mut findings: Findings, of: &Ident) -> Findings
     ensures { result ≡ walk.noted scope.now.decls.now findings (walk.met_use (plain.use_of of.now plain.read)) }
 {
@@ -104,7 +104,7 @@ fn with_whole(scope: &Scope, findings: Findings, of: &Ident, own: u8, width: u8)
     findings.with_leaf(own, width, of.at)
 }
 
-/// The place of an expression.
+/// The span of an expression.
 fn span(e: &Expr) -> Span
     ensures { result ≡ plain.span_of (expression_of e.now) }
 {
@@ -119,7 +119,7 @@ fn span(e: &Expr) -> Span
     }
 }
 
-/// What was found, after a part of a join: it is to have a width.
+/// The findings after a part of a join, which must have a width.
 fn with_part(mut findings: Findings, own: Option<u8>, place: Span) -> Findings
     ensures { result ≡ walk.with_part findings (is_none own) place }
 {
@@ -127,7 +127,7 @@ fn with_part(mut findings: Findings, own: Option<u8>, place: Span) -> Findings
     findings
 }
 
-/// What was found, after a chain: where it compares, one of its sides is to have a width, and it has one bit itself.
+/// The findings after a chain: if it compares, one of its sides must have a width, and it has one bit itself.
 fn with_chain(
     mut findings: Findings,
     comparing: bool,
@@ -154,14 +154,14 @@ fn chain_width(comparing: bool, members: Option<u8>) -> Option<u8>
     if comparing { Some(1) } else { members }
 }
 
-/// What was found of an expression, and its own width, where that was asked for.
+/// The findings after an expression, and its own width, which counts only if no width was expected.
 #[derive(Clone, Copy)]
 struct Surveyed {
     findings: Findings,
     own: Option<u8>,
 }
 
-/// An expression of which a width is wanted, or else its own one, which is then told.
+/// An expression with its expected width; if there is none, its own width takes its place and is returned.
 fn with_expression(scope: &Scope, findings: Findings, e: &Expr, wanted: Option<u8>) -> Surveyed
     ensures findings { result.findings ≡ walk.surveyed scope.now.decls.now findings wanted (expression_of e.now) }
     ensures own { wanted ≡ None → result.own ≡
@@ -288,7 +288,7 @@ fn with_statement(scope: &Scope, findings: Findings, s: &Stmt) -> Findings
     }
 }
 
-/// For each cause that names, kinds and widths of a program's body can have the first of its places.
+/// For each cause that concerns names, kinds and widths of a program's body, its first span.
 pub fn survey(scope: &Scope, body: &Stmt) -> Findings
     ensures { result ≡ walk.noted scope.now.decls.now walk.no_findings
         (walk.met_of scope.now.decls.now (statement_of body.now)) }

@@ -1,5 +1,5 @@
 //! The typed form of a program: numbers in order of declaration for names, and the width on each number. Each `at`
-//! is the place of a name alone.
+//! is the span of a name alone.
 
 ghost use Rattle.std.specs.Prelude.{◌≡◌};
 
@@ -61,7 +61,7 @@ pub enum TStmt {
     },
 }
 
-/// A guard and what is done where it is true.
+/// A guard and the statement that runs if it is true.
 #[cycle(typed_statements)]
 #[derive(Debug, Drop)]
 pub struct TArm {
@@ -113,9 +113,9 @@ pub struct TLink {
     pub right: TExpr,
 }
 
-/// A program whose names are numbers: what it declares, channels and variables apart and in the text's order, and
-/// what it does. Its type keeps what the checks have found: no name twice, no number without its declaration, ends of
-/// channels on the right side, widths that fit, well-formed expressions, and groups of the grammar's sizes.
+/// A program whose names are numbers: its channels and its variables, each in text order, and its statement. The
+/// type's invariant is what the checks establish: no name twice, no number without its declaration, ends of channels
+/// on the right side, widths that fit, well-formed expressions, and groups of the grammar's sizes.
 #[derive(Debug, Drop)]
 pub struct Typed {
     channels: Vec<Channel>,
@@ -145,8 +145,8 @@ impl Typed {
     ghost use Rattle.width_check.specs.View.{process_of};
     ghost use Rattle.width_check.specs.Typing.{IsTyped};
 
-    /// The program of these parts, or None where they don't meet what the type keeps. So a program can be made without
-    /// a text, as by a tool that writes programs, or by a test. Each name is compared with each other one.
+    /// The program of these parts, or None if they don't meet the type's invariant. So a program can be made without
+    /// a text, for example by a generator or a test. Each name is compared with all others.
     pub fn new(channels: Vec<Channel>, vars: Vec<Var>, body: TStmt) -> Option<Typed>
         ensures some { IfSome result (λ t. t ≡ typed_value channels.items vars.items body) }
         ensures none { IfNone result (¬ IsTyped channels.items vars.items (process_of body)) }
@@ -165,7 +165,7 @@ impl Typed {
         }
     }
 
-    /// The program of these parts, which meet what the type keeps.
+    /// The program of these parts, which meet the type's invariant.
     pub(crate) fn made(channels: Vec<Channel>, vars: Vec<Var>, body: TStmt) -> Typed
         requires { IsTyped channels.items vars.items (process_of body) }
         ensures { result ≡ typed_value channels.items vars.items body }
@@ -191,7 +191,7 @@ impl Typed {
         &self.vars
     }
 
-    /// What the program does.
+    /// The statement that the program runs.
     pub fn body(&self) -> &TStmt
         ensures body { result.now ≡ self.now.body }
         ensures typed { IsTyped self.now.channels self.now.vars (process_of self.now.body) }

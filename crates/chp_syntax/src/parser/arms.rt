@@ -10,7 +10,7 @@ use std::alloc::{AllocError, Global};
 /// How many signs `[]` a selection may have.
 const MOST_CHOICES: u32 = 15;
 
-/// What a token does to the numbers of signs `[]` in the open brackets, and whether it stands before a seventeenth arm.
+/// Updates the numbers of signs `[]` in the open brackets by a token; true if it comes before a seventeenth arm.
 fn count(choices: &mut Vec<u32>, kind: &TokenKind) -> Result<bool, AllocError>
     ensures seventeenth { IfOk result (λ b. b ≡ is_seventeenth (reverse choices.old.items) kind.now) }
     ensures after { IfOk result (λ b. b ≡ false →
@@ -55,7 +55,7 @@ fn choose(choices: &mut Vec<u32>) -> Result<bool, AllocError>
     Ok(false)
 }
 
-/// The place of the first sign `[]` that stands before a seventeenth arm; our profile has at most 16.
+/// The span of the first sign `[]` before a seventeenth arm, if there is one; our profile has at most 16.
 pub fn seventeenth_arm(alloc: Global, tokens: &[Token]) -> Result<Option<Span>, AllocError>
     ensures some { IfOk result (λ o. IfSome o (IsSeventeenth tokens.now)) }
     ensures none { IfOk result (λ o. IfNone o (is_narrow [] tokens.now ≡ true)) }

@@ -15,7 +15,7 @@ use crate::tree::{Expr, Link};
 use chp_base::Span;
 use std::alloc::Global;
 
-/// An expression and the tokens that it stands on, parentheses round it included.
+/// An expression and the span of its tokens, including parentheses around it.
 #[derive(Drop)]
 pub struct Covered {
     pub value: Expr,
@@ -31,7 +31,7 @@ fn from_to(first: Span, last: Span) -> Span
     }
 }
 
-/// The chain of these links behind a first member, up to the end of the last one.
+/// The chain of a first member and these links, up to the end of the last one.
 fn chain(alloc: Global, first: Covered, links: Vec<Link>, last: Span) -> Result<Covered, Stop>
     ensures done { IfOk result (λ c. covered_of c ≡ chained_to (covered_of first) (map link_of links.items) last) }
     ensures no_fault { IfErr result (λ e. WhenFault e ⊥) }

@@ -22,7 +22,7 @@ pub enum Item {
     Procedure(Proc),
 }
 
-/// What some declarations declare, in order of the text.
+/// What some declarations declare, in text order.
 #[derive(Drop)]
 pub struct Declared {
     pub decls: Vec<Decl>,
@@ -185,7 +185,7 @@ fn declarations(alloc: Global, tokens: &[Token], at: &mut usize) -> Result<Decla
     Ok(declared)
 }
 
-/// { decl } "begin" par "end", and nothing behind it
+/// { decl } "begin" par "end", and nothing after it
 pub fn program(alloc: Global, tokens: &[Token], at: &mut usize) -> Result<Program, Stop>
     requires { at.old ≤ length tokens.now }
     ensures within { at.new ≤ length tokens.now }

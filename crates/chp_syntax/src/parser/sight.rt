@@ -1,4 +1,4 @@
-//! What stands at a place of the tokens, and the reading of single tokens.
+//! Which token is at an index of the list, and the reading of single tokens.
 
 ghost use Rattle.std.specs.Prelude.{◌≡◌, ℕ, ◌≤◌, ◌<◌, ◌+◌, List, length, drop, IfOk, IfErr, OnOk, IsTrue, ◌↔◌, Some, None};
 ghost use Rattle.chp_syntax.specs.Parts.{sees, here, IsKind, kind_read, name_of, numeral_value, WhenFault, primary_front, atom_front, action_front, decl_front, acts, begins_par, Good, Bad, Exactly, AName, ANumber, Anything};
@@ -10,7 +10,7 @@ use crate::tree::{DeclKind, Ident, Op};
 use chp_base::Span;
 use std::alloc::{AllocError, AllocFailed};
 
-/// Why reading stopped: at a fault, which is where the cursor stands, or for want of memory.
+/// Why reading stopped: a fault, at the cursor's position, or out of memory.
 #[derive(Drop)]
 pub enum Stop {
     Fault,
@@ -38,7 +38,7 @@ impl<T: Drop> From<AllocFailed<T>> for Stop {
     }
 }
 
-/// A number where it stands in the text.
+/// A number and its span in the text.
 #[derive(Clone, Copy)]
 pub struct Numeral {
     pub value: u64,
@@ -67,7 +67,7 @@ pub enum AtomFront {
     Other,
 }
 
-/// What stands behind the name that a statement begins with.
+/// What follows the name that a statement begins with.
 #[derive(Clone, Copy)]
 pub enum ActionFront {
     Assign,
@@ -85,7 +85,7 @@ pub enum DeclFront {
     Other,
 }
 
-/// The tokens from a place on.
+/// The tokens from an index on.
 fn behind(tokens: &[Token], at: usize) -> &[Token]
     requires { at ≤ length tokens.now }
     ensures { result.now ≡ drop at tokens.now }
@@ -437,7 +437,7 @@ fn acts(tokens: &[Token], at: usize) -> bool
     }
 }
 
-/// Whether what stands here can only be the beginning of a statement, and not that of an arm.
+/// Whether the tokens from here on can only begin a statement, and not an arm.
 pub fn begins_statement(tokens: &[Token], at: usize) -> bool
     requires { at ≤ length tokens.now }
     ensures { result ≡ begins_par (drop at tokens.now) }

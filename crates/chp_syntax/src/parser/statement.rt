@@ -98,7 +98,7 @@ pub fn atom(alloc: Global, tokens: &[Token], at: &mut usize) -> Result<Stmt, Sto
     }
 }
 
-/// What stands between the brackets of a repetition: par | arms
+/// What is between the brackets of a repetition: par | arms
 #[cycle(statement_parts)]
 fn inside(alloc: Global, tokens: &[Token], at: &mut usize) -> Result<Stmt, Stop>
     requires { at.old ≤ length tokens.now }

@@ -5,7 +5,7 @@ use Rattle.prs_core.specs.Writing.{others_alone}
 use Rattle.width_check.specs.View.{formula_of}
 use Rattle.function_blocks.specs.Expressions.{formula_rules}
 use Rattle.function_blocks.specs.Blocks.{bits_in_blocks, AreBelow, HasBit}
-use Rattle.function_blocks.proofs.Emission.{counted, first_made, blocks_keep}
+use Rattle.function_blocks.proofs.Emission.{counted, first_made, blocks_keep, blocks_neutral, blocks_valid, blocks_wait}
 use Rattle.function_blocks.proofs.Within.{each_within, rules_within}
 use Rattle.function_blocks.proofs.emit.emit_expr.Goals as goal
 
@@ -48,13 +48,62 @@ pub returns-in_err-bits-clause-keeps : goal.returns-in_err-bits-clause-keeps
 returns-in_err-bits-clause-keeps c =
     blocks_keep c.args.vars.now (formula_of c.args.e.now) c.args.request c.args.from c.requires.formed c.requires.apart c.requires.unasked
 
+pub returns-in_err-bits-clause-valid : goal.returns-in_err-bits-clause-valid
+returns-in_err-bits-clause-valid c =
+    blocks_valid c.args.vars.now (formula_of c.args.e.now) c.args.request c.args.from c.requires.formed c.requires.apart c.requires.unasked
+
+pub returns-in_err-bits-clause-neutral : goal.returns-in_err-bits-clause-neutral
+returns-in_err-bits-clause-neutral c =
+    blocks_neutral c.args.vars.now (formula_of c.args.e.now) c.args.request c.args.from c.requires.formed c.requires.apart c.requires.unasked
+
+pub returns-in_err-bits-clause-waits : goal.returns-in_err-bits-clause-waits
+returns-in_err-bits-clause-waits c =
+    blocks_wait c.args.vars.now (formula_of c.args.e.now) c.args.request c.args.from c.requires.formed c.requires.apart c.requires.unasked
+
 pub returns-in_err-rails-clause-keeps : goal.returns-in_err-rails-clause-keeps
 returns-in_err-rails-clause-keeps c =
     blocks_keep c.args.vars.now (formula_of c.args.e.now) c.args.request c.args.from c.requires.formed c.requires.apart c.requires.unasked
+
+pub returns-in_err-rails-clause-valid : goal.returns-in_err-rails-clause-valid
+returns-in_err-rails-clause-valid c =
+    blocks_valid c.args.vars.now (formula_of c.args.e.now) c.args.request c.args.from c.requires.formed c.requires.apart c.requires.unasked
+
+pub returns-in_err-rails-clause-neutral : goal.returns-in_err-rails-clause-neutral
+returns-in_err-rails-clause-neutral c =
+    blocks_neutral c.args.vars.now (formula_of c.args.e.now) c.args.request c.args.from c.requires.formed c.requires.apart c.requires.unasked
+
+pub returns-in_err-rails-clause-waits : goal.returns-in_err-rails-clause-waits
+returns-in_err-rails-clause-waits c =
+    blocks_wait c.args.vars.now (formula_of c.args.e.now) c.args.request c.args.from c.requires.formed c.requires.apart c.requires.unasked
 
 pub returns-in_err-guards-clause-keeps : goal.returns-in_err-guards-clause-keeps
 returns-in_err-guards-clause-keeps c =
     blocks_keep c.args.vars.now (formula_of c.args.e.now) c.args.request c.args.from c.requires.formed c.requires.apart c.requires.unasked
 
+pub returns-in_err-guards-clause-valid : goal.returns-in_err-guards-clause-valid
+returns-in_err-guards-clause-valid c =
+    blocks_valid c.args.vars.now (formula_of c.args.e.now) c.args.request c.args.from c.requires.formed c.requires.apart c.requires.unasked
+
+pub returns-in_err-guards-clause-neutral : goal.returns-in_err-guards-clause-neutral
+returns-in_err-guards-clause-neutral c =
+    blocks_neutral c.args.vars.now (formula_of c.args.e.now) c.args.request c.args.from c.requires.formed c.requires.apart c.requires.unasked
+
+pub returns-in_err-guards-clause-waits : goal.returns-in_err-guards-clause-waits
+returns-in_err-guards-clause-waits c =
+    blocks_wait c.args.vars.now (formula_of c.args.e.now) c.args.request c.args.from c.requires.formed c.requires.apart c.requires.unasked
+
 pub returns-clause-keeps : goal.returns-clause-keeps
-returns-clause-keeps c = blocks_keep c.args.vars.now (formula_of c.args.e.now) c.args.request c.args.from c.requires.formed c.requires.apart c.requires.unasked
+returns-clause-keeps c =
+    blocks_keep c.args.vars.now (formula_of c.args.e.now) c.args.request c.args.from c.requires.formed c.requires.apart c.requires.unasked
+
+pub returns-clause-valid : goal.returns-clause-valid
+returns-clause-valid c =
+    blocks_valid c.args.vars.now (formula_of c.args.e.now) c.args.request c.args.from c.requires.formed c.requires.apart c.requires.unasked
+
+pub returns-clause-neutral : goal.returns-clause-neutral
+returns-clause-neutral c =
+    blocks_neutral c.args.vars.now (formula_of c.args.e.now) c.args.request c.args.from c.requires.formed c.requires.apart c.requires.unasked
+
+pub returns-clause-waits : goal.returns-clause-waits
+returns-clause-waits c =
+    blocks_wait c.args.vars.now (formula_of c.args.e.now) c.args.request c.args.from c.requires.formed c.requires.apart c.requires.unasked
