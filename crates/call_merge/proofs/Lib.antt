@@ -8,6 +8,7 @@ pub mod OnlySends
 pub mod FirstCalls
 pub mod FormSteps
 pub mod SplitSteps
+pub mod OwnHalves
 pub mod Flats
 pub mod OwnNames
 pub mod OwnVars
@@ -15,3 +16,7 @@ pub mod Whole
 pub mod NamedBodies
 pub mod CallEndings
 pub mod NamesAdded
+pub mod Shapes
+pub mod CallsGone
+pub mod OwnCounts
+pub mod FirstFound

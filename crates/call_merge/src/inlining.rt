@@ -13,6 +13,7 @@ ghost use Rattle.call_merge.specs.Inlining.{inlined_statement, IsInlined, HasToo
 use crate::causes::refuse_calls;
 use crate::copies::{copied, copied_decls, copied_expression, copied_name};
 use crate::error::CallError;
+use crate::firsts::FirstDecls;
 use crate::forms::inlined_forms;
 use crate::own_vars::own_vars;
 use crate::bodies::Procedures;
@@ -116,9 +117,10 @@ pub fn inline(alloc: Global, program: &Program) -> Result<Program, CallError>
     ensures counted { IfErr result (IfTooManyForms (λ _. MeetsCalling (tree_of program.now))) }
 {
     refuse_calls(alloc, program)?;
-    let mut vars = own_vars(alloc, program)?;
+    let firsts = FirstDecls::new(alloc, &program.decls)?;
+    let mut vars = own_vars(alloc, &firsts, program)?;
     let names = names_of(alloc, &program.procs)?;
-    let bodies = split_procedures(alloc, program, &vars)?;
+    let bodies = split_procedures(alloc, &firsts, program, &vars)?;
     let procs = Procedures { names, bodies };
     let forms = inlined_forms(&procs, &program.body);
     if forms > MOST_FORMS {

@@ -6,6 +6,7 @@ mod causes;
 mod channels;
 mod copies;
 mod error;
+mod firsts;
 mod forms;
 mod inlining;
 mod own_vars;

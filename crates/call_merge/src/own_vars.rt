@@ -10,6 +10,7 @@ ghost use Rattle.width_check.specs.Places.{is_var, uses_in, declared_width};
 ghost use Rattle.call_merge.specs.CallSplits.{names_read, is_var_name, reads_itself, own_readers, all_own_readers, program_names, all_uses, all_names, own_name, width_place, own_var, AreOwnVars};
 
 use crate::copies::copied_name;
+use crate::firsts::FirstDecls;
 use crate::sites::{all_calls, note_names, table_of};
 use chp_base::{Name, Span, name_of};
 use chp_syntax::{Decl, DeclKind, Expr, Ident, Proc, Program, Stmt};
@@ -92,13 +93,13 @@ fn is_var(kind: DeclKind) -> bool
 }
 
 /// Whether the first declaration of the name is a variable's.
-fn is_var_name(decls: &[Decl], name: &Name) -> bool
+fn is_var_name(decls: &FirstDecls, name: &Name) -> bool
     ensures { result ≡ is_var_name decls.now name.now }
 {
-    decls
-        .iter()
-        .find(|decl| decl.name.name == *name)
-        .map_or(false, |decl| is_var(decl.kind))
+    match decls.find(name) {
+        Some(decl) => is_var(decl.kind),
+        None => false,
+    }
 }
 
 fn has_name(names: &[Name], name: &Name) -> bool
@@ -110,7 +111,7 @@ fn has_name(names: &[Name], name: &Name) -> bool
 /// Whether an assignment reads its own target, which is a variable.
 pub(crate) fn reads_itself(
     alloc: Global,
-    decls: &[Decl],
+    decls: &FirstDecls,
     target: &Ident,
     value: &Expr,
 ) -> Result<bool, AllocError>
@@ -127,7 +128,7 @@ pub(crate) fn reads_itself(
 /// Adds the targets of the assignments that read their own target.
 fn note_own_readers(
     alloc: Global,
-    decls: &[Decl],
+    decls: &FirstDecls,
     found: &mut Vec<Ident>,
     s: &Stmt,
 ) -> Result<(), AllocError>
@@ -164,12 +165,17 @@ fn note_own_readers(
 }
 
 /// The targets of such assignments in the bodies of procedures.
-fn all_own_readers(alloc: Global, program: &Program) -> Result<Vec<Ident>, AllocError>
+fn all_own_readers(
+    alloc: Global,
+    decls: &FirstDecls,
+    program: &Program,
+) -> Result<Vec<Ident>, AllocError>
+    requires { decls.now ≡ program.now.decls.items }
     ensures { IfOk result (λ found. found.items ≡ all_own_readers (tree_of program.now)) }
 {
     let mut found = Vec::new(alloc);
     for procedure in &program.procs {
-        note_own_readers(alloc, &program.decls, &mut found, &procedure.body)?;
+        note_own_readers(alloc, decls, &mut found, &procedure.body)?;
     }
     Ok(found)
 }
@@ -252,25 +258,25 @@ fn free_name(alloc: Global, taken: &HashSet<Name>, from: u64) -> Result<FreeName
     numbered(alloc, most)
 }
 
-fn declared_width(decls: &[Decl], name: &Name) -> u64
+fn declared_width(decls: &FirstDecls, name: &Name) -> u64
     ensures { result ≡ declared_width decls.now name.now }
 {
-    decls
-        .iter()
-        .find(|decl| decl.name.name == *name)
-        .map_or(0, |decl| decl.width)
+    match decls.find(name) {
+        Some(decl) => decl.width,
+        None => 0,
+    }
 }
 
-fn width_place(decls: &[Decl], name: &Name) -> Span
+fn width_place(decls: &FirstDecls, name: &Name) -> Span
     ensures { result ≡ width_place decls.now name.now }
 {
-    decls
-        .iter()
-        .find(|decl| decl.name.name == *name)
-        .map_or(NOWHERE, |decl| decl.width_at)
+    match decls.find(name) {
+        Some(decl) => decl.width_at,
+        None => NOWHERE,
+    }
 }
 
-fn own_var(decls: &[Decl], name: Name, target: &Ident) -> Decl
+fn own_var(decls: &FirstDecls, name: Name, target: &Ident) -> Decl
     ensures { result ≡ own_var decls.now name target.now }
 {
     let place = width_place(decls, &target.name);
@@ -290,7 +296,7 @@ fn own_var(decls: &[Decl], name: Name, target: &Ident) -> Decl
 /// For each target a variable, with a name that is neither among these nor that of a variable before it.
 fn vars_for(
     alloc: Global,
-    decls: &[Decl],
+    decls: &FirstDecls,
     names: Vec<Name>,
     targets: &[Ident],
 ) -> Result<Vec<Decl>, AllocError>
@@ -309,11 +315,16 @@ fn vars_for(
 }
 
 /// The variables of the assignments in procedures that read their own target.
-pub(crate) fn own_vars(alloc: Global, program: &Program) -> Result<Vec<Decl>, AllocError>
+pub(crate) fn own_vars(
+    alloc: Global,
+    decls: &FirstDecls,
+    program: &Program,
+) -> Result<Vec<Decl>, AllocError>
+    requires { decls.now ≡ program.now.decls.items }
     ensures { IfOk result (λ vars. AreOwnVars program.now.decls.items (all_names (tree_of program.now))
         (all_own_readers (tree_of program.now)) vars.items) }
 {
-    let targets = all_own_readers(alloc, program)?;
+    let targets = all_own_readers(alloc, decls, program)?;
     let names = all_names(alloc, program)?;
-    vars_for(alloc, &program.decls, names, &targets)
+    vars_for(alloc, decls, names, &targets)
 }

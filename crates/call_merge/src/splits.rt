@@ -7,6 +7,7 @@ ghost use Rattle.call_merge.specs.CallSplits.{reads_itself, own_readers, all_own
 
 use crate::bodies::Body;
 use crate::copies::{copied, copied_expression, copied_name};
+use crate::firsts::FirstDecls;
 use crate::forms::statement_forms;
 use crate::own_vars::reads_itself;
 use chp_base::Name;
@@ -47,7 +48,7 @@ fn through_own(alloc: Global, name: &Name, target: &Ident, value: &Expr) -> Resu
 /// moves behind those that are used.
 fn split(
     alloc: Global,
-    decls: &[Decl],
+    decls: &FirstDecls,
     vars: &[Decl],
     place: &mut usize,
     s: &Stmt,
@@ -119,10 +120,12 @@ fn body_of(alloc: Global, name: Ident, body: Stmt) -> Body
 /// The procedures, each with its body split.
 pub(crate) fn split_procedures(
     alloc: Global,
+    decls: &FirstDecls,
     program: &Program,
     vars: &[Decl],
 ) -> Result<Vec<Body>, AllocError>
-    requires { length (all_own_readers (tree_of program.now)) ≤ length vars.now }
+    requires same { decls.now ≡ program.now.decls.items }
+    requires room { length (all_own_readers (tree_of program.now)) ≤ length vars.now }
     ensures { IfOk result (λ made. procedures_of made.items ≡
         split_procedures program.now.decls.items (own_names vars.now) 0 (tree_of program.now).procs) }
 {
@@ -130,7 +133,7 @@ pub(crate) fn split_procedures(
     let mut place = 0;
     for procedure in &program.procs {
         let name = copied_name(&procedure.name)?;
-        let body = split(alloc, &program.decls, vars, &mut place, &procedure.body)?;
+        let body = split(alloc, decls, vars, &mut place, &procedure.body)?;
         made.push(body_of(alloc, name, body))?;
     }
     Ok(made)

@@ -1,6 +1,10 @@
-use Rattle.std.proofs.Common.{◌≡◌, List, ℕ, sym, ap, ◌∙◌}
+use Rattle.std.proofs.Common.{◌≡◌, length, List, ℕ, sym, ap, ◌∙◌, rules}
+use Rattle.std.proofs.lemmas.List.{get_or_read}
+use Rattle.chp_syntax.specs.declared.tree.Stmt.{the_lemmas}
+use Rattle.chp_syntax.specs.View.{statement_of}
 use Rattle.call_merge.specs.CallSplits.{own_names}
 use Rattle.call_merge.proofs.SplitSteps.{member_split, member_placed, member_fits, then_placed, beside_placed, then_split, beside_split, arm_split, arm_placed, arm_fits, select_placed, select_split, then_room, beside_room, select_room}
+use Rattle.call_merge.proofs.OwnHalves.{assign_split}
 use Rattle.call_merge.proofs.splits.+split.Goals as goal
 
 pub loop-part-preserved : goal.loop-part-preserved
@@ -54,3 +58,35 @@ returns-after-loop-arm-clause-made t c = select_split c.args.decls.now (own_name
 pub returns-after-loop-arm-clause-place : goal.returns-after-loop-arm-clause-place
 returns-after-loop-arm-clause-place t c = select_placed c.args.decls.now c.args.s.now c.in-Select.again c.in-Select.arms c.deref-arm-items.result.now
     c.loop-arm.arm-index c.args.place.now c.loop-arm.place c.in-Select.is c.deref-arm-items.ensures.value c.loop-arm-test.false c.loop-arm.invariant.place
+
+pub split-requires : goal.split-requires
+split-requires t c = (
+  search (rules, the_lemmas, get_or_read),
+  member_fits c.args.decls.now c.deref-part-items.result.now c.loop-part.part-index c.part-item.result c.loop-part.place _ (length c.args.vars.now)
+      c.loop-part-test.true c.part-item.is c.loop-part.invariant.place
+      (then_room c.args.decls.now c.args.s.now c.in-Then.parts c.deref-part-items.result.now c.args.place.now (length c.args.vars.now) c.in-Then.is
+      c.deref-part-items.ensures.value c.requires),
+)
+
+pub split-requires-in-loop-branch : goal.split-requires-in-loop-branch
+split-requires-in-loop-branch t c = (
+  search (rules, the_lemmas, get_or_read),
+  member_fits c.args.decls.now c.deref-branch-items.result.now c.loop-branch.branch-index c.branch-item.result c.loop-branch.place _
+      (length c.args.vars.now) c.loop-branch-test.true c.branch-item.is c.loop-branch.invariant.place
+      (beside_room c.args.decls.now c.args.s.now c.in-Beside.parts c.deref-branch-items.result.now c.args.place.now (length c.args.vars.now)
+      c.in-Beside.is c.deref-branch-items.ensures.value c.requires),
+)
+
+pub split-requires-in-loop-arm : goal.split-requires-in-loop-arm
+split-requires-in-loop-arm t c = (
+  search (rules, the_lemmas, get_or_read),
+  arm_fits c.args.decls.now c.deref-arm-items.result.now c.loop-arm.arm-index c.arm-item.result c.loop-arm.place _ (length c.args.vars.now)
+      c.loop-arm-test.true c.arm-item.is c.loop-arm.invariant.place
+      (select_room c.args.decls.now c.args.s.now c.in-Select.again c.in-Select.arms c.deref-arm-items.result.now c.args.place.now
+      (length c.args.vars.now) c.in-Select.is c.deref-arm-items.ensures.value c.requires),
+)
+
+pub returns-in_ok-made-in-Assign-clause-made : goal.returns-in_ok-made-in-Assign-clause-made
+returns-in_ok-made-in-Assign-clause-made t c = assign_split c.args.decls.now c.args.vars.now c.args.place.now c.args.s.now c.in-Assign.target
+    c.in-Assign.value c.index-vars-place.result (statement_of c.in_ok-made-in-Assign.made) c.in-Assign.is
+    (sym c.in_ok-reads_itself-in-Assign.ensures ∙ c.if-not-branch.false) c.requires c.index-vars-place.is c.in_ok-made-in-Assign.ensures
