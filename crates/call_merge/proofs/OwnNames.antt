@@ -105,6 +105,7 @@ apart_below k (suc j) le small = (
 )
 
 names_distinct : (k : ℕ) → k ≤ 2 ^ 64 → IsDistinct bytes_eq (names_below k)
+unfolding IsDistinct
 names_distinct zero small = tt
 names_distinct (suc k) small = (apart_below k k (omega arith) (omega (arith, small)), names_distinct k (omega (arith, small)))
 

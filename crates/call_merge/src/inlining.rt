@@ -102,14 +102,18 @@ fn inlined(alloc: Global, procs: &Procedures, s: &Stmt) -> Result<Stmt, AllocErr
 /// of its own, and from there. These variables are declared last, in the order of the assignments. Each is named `h` with
 /// the least number of which neither a name of the program nor a variable before it is named so, has the width that is
 /// declared first for the target, and begins with 0. So no node of a body's circuit but those of declared variables
-/// keeps a value between two calls. A program with neither procedures nor calls is answered as it is. (All of this is our
-/// profile's.)
+/// keeps a value between two calls. A program with neither procedures nor calls is answered as it is. What is answered
+/// has the shape of the grammar and neither procedures nor calls. For each of its variables it has five statements or
+/// expressions at least, so there are at most 209,715. (All of this is our profile's.)
 pub fn inline(alloc: Global, program: &Program) -> Result<Program, CallError>
     requires few { length program.now.procs.items ≤ 300000 }
     requires shaped { IsShaped (tree_of program.now) }
     ensures inlined { IfOk result (λ made. IsInlined (tree_of program.now) (tree_of made)) }
     ensures meets { OnOk result (MeetsCalling (tree_of program.now)) }
     ensures few { IfOk result (λ made. statement_forms (tree_of made).body ≤ most_forms) }
+    ensures shaped { IfOk result (λ made. IsShaped (tree_of made)) }
+    ensures call_free { IfOk result (λ made. IsCallFree (tree_of made)) }
+    ensures decls { IfOk result (λ made. length made.decls.items ≤ length program.now.decls.items + 209715) }
     ensures same { IsCallFree (tree_of program.now) → IfOk result (λ made. tree_of made ≡ tree_of program.now) }
     ensures refused { IfErr result (IfRefusedCall (λ f.
         IsFirstCallFault (tree_of program.now) call_faults f.code f.at f.other)) }

@@ -1,11 +1,11 @@
 //! The variables of assignments that read their own target.
 
-ghost use Rattle.std.specs.Prelude.{◌≡◌, ◌<◌, ◌≤◌, ◌^◌, ◌++◌, ◌∷◌, ◌↔◌, ℕ, List, map, false, true, decimal, Contains, IfOk, OnOk, IsTrue, flat_map};
+ghost use Rattle.std.specs.Prelude.{◌≡◌, ◌<◌, ◌≤◌, ◌^◌, ◌++◌, ◌∷◌, ◌↔◌, ℕ, List, map, false, true, decimal, All, IfOk, OnOk};
 ghost use Rattle.std.specs.HashSet.{contains};
 ghost use Rattle.std.specs.List.{list_any};
 ghost use Rattle.std.specs.Str.{bytes_eq};
-ghost use Rattle.chp_syntax.specs.declared.tree.Ident.{Ident};
-ghost use Rattle.chp_syntax.specs.View.{program_tree as tree_of, expression_of, statement_of, procedure_of};
+ghost use Rattle.chp_base.specs.Names.{IsName};
+ghost use Rattle.chp_syntax.specs.View.{program_tree as tree_of, expression_of, statement_of};
 ghost use Rattle.width_check.specs.Places.{is_var, uses_in, declared_width};
 ghost use Rattle.call_merge.specs.CallSplits.{names_read, is_var_name, reads_itself, own_readers, all_own_readers, program_names, all_uses, all_names, own_name, width_place, own_var, AreOwnVars};
 
@@ -230,6 +230,7 @@ struct FreeName {
     name: Name,
     number: u64,
     ghost numbered: { name ≡ own_name number },
+    ghost is_name: { IsName name },
 }
 
 fn numbered(alloc: Global, number: u64) -> Result<FreeName, AllocError>
@@ -300,7 +301,8 @@ fn vars_for(
     names: Vec<Name>,
     targets: &[Ident],
 ) -> Result<Vec<Decl>, AllocError>
-    ensures { IfOk result (λ vars. AreOwnVars decls.now names.items targets.now vars.items) }
+    ensures own { IfOk result (λ vars. AreOwnVars decls.now names.items targets.now vars.items) }
+    ensures names { IfOk result (λ vars. All (λ d. IsName d.name.name) vars.items) }
 {
     let mut taken = table_of(alloc, names)?;
     let mut vars = Vec::new(alloc);
@@ -321,8 +323,9 @@ pub(crate) fn own_vars(
     program: &Program,
 ) -> Result<Vec<Decl>, AllocError>
     requires { decls.now ≡ program.now.decls.items }
-    ensures { IfOk result (λ vars. AreOwnVars program.now.decls.items (all_names (tree_of program.now))
+    ensures own { IfOk result (λ vars. AreOwnVars program.now.decls.items (all_names (tree_of program.now))
         (all_own_readers (tree_of program.now)) vars.items) }
+    ensures names { IfOk result (λ vars. All (λ d. IsName d.name.name) vars.items) }
 {
     let targets = all_own_readers(alloc, decls, program)?;
     let names = all_names(alloc, program)?;
