@@ -106,7 +106,7 @@ none_nested p flat = nothing_there (nested_calls p.procs) (λ of c. flat of.at (
 -- each call is of a procedure
 
 abbrev pub AreNamed : List Procedure → List Ident → Type 0
-AreNamed qs calls = AllByRecursion (λ (of : Ident). procedure_named qs of.name ≢ None) calls
+AreNamed qs of = AllByRecursion (λ (i : Ident). procedure_named qs i.name ≢ None) of
 
 all_left : {A : Type 0} (P : A → Type 0) (xs ys : List A) → AllByRecursion P (xs ++ ys) → AllByRecursion P xs
 all_left P [] ys all = tt
@@ -144,7 +144,7 @@ none_named (r ∷ qs) name none q c = by_test (bytes_eq r.name.name name) refl (
         (λ k. rest (rw so at none) k same) (front_or_rest r q qs c)
 
 pub calls_named : (p : ProgramTree) (ns : List (List ℕ)) → ((s : Span) → ¬ IsUnknownCall p s) → AreNamed (split_procedures p.decls ns 0 p.procs) (calls_in p.body)
-calls_named p ns known = all_among _ (calls_in p.body) (λ of c none. known of.at (record {
+calls_named p ns known = all_among (λ (i : Ident). procedure_named (split_procedures p.decls ns 0 p.procs) i.name ≢ None) (calls_in p.body) (λ of c none. known of.at (record {
   call = of;
   among = Contains-append_right (nested_calls p.procs) (calls_in p.body) of c;
   unknown = λ q k. none_named p.procs of.name (named_before p.decls ns 0 p.procs of.name none) q k;
@@ -170,21 +170,21 @@ mutual
   calls_gone_each qs all no_members named = refl
   calls_gone_each qs all (and_member s more) named =
       neither (has_call (inlined_statement qs s)) (some_has_call (inlined_members qs more))
-      (calls_gone qs all s (all_left _ (calls_in s) (calls_in_each more) named))
-      (calls_gone_each qs all more (all_right _ (calls_in s) (calls_in_each more) named))
+      (calls_gone qs all s (all_left (λ (i : Ident). procedure_named qs i.name ≢ None) (calls_in s) (calls_in_each more) named))
+      (calls_gone_each qs all more (all_right (λ (i : Ident). procedure_named qs i.name ≢ None) (calls_in s) (calls_in_each more) named))
 
   calls_gone_arms : (qs : List Procedure) → AreCallless qs → (xs : Arms) → AreNamed qs (calls_in_arms xs)
       → arm_has_call (inlined_arms qs xs) ≡ false
   calls_gone_arms qs all no_arms named = refl
   calls_gone_arms qs all (and_arm g s more) named =
       neither (has_call (inlined_statement qs s)) (arm_has_call (inlined_arms qs more))
-      (calls_gone qs all s (all_left _ (calls_in s) (calls_in_arms more) named))
-      (calls_gone_arms qs all more (all_right _ (calls_in s) (calls_in_arms more) named))
+      (calls_gone qs all s (all_left (λ (i : Ident). procedure_named qs i.name ≢ None) (calls_in s) (calls_in_arms more) named))
+      (calls_gone_arms qs all more (all_right (λ (i : Ident). procedure_named qs i.name ≢ None) (calls_in s) (calls_in_arms more) named))
 
 pub program_call_free : (p r : ProgramTree) → IsInlined p r → MeetsCalling p → IsCallFree r
 program_call_free p r h meets =
     subst (λ (t : ProgramTree). IsCallFree t) (sym h.tree) (record {
       procs = refl;
       body = calls_gone (split_procedures p.decls (own_names h.vars) 0 p.procs)
-          (bodies_callless p.decls (own_names h.vars) 0 p.procs (none_nested p meets.named.1)) p.body (calls_named p (own_names h.vars) meets.named.2);
+          (bodies_callless p.decls (own_names h.vars) 0 p.procs (none_nested p meets.named.1.0)) p.body (calls_named p (own_names h.vars) meets.named.1.1.0);
     })

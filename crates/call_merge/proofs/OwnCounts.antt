@@ -295,8 +295,8 @@ each_there : (ms : List (List ℕ)) (us : List Procedure) → ((q : Procedure) �
 each_there ms [] each = tt
 each_there ms (u ∷ us) each = (each u (0, omega arith, refl), each_there ms us (λ q c. each q (in_rest u q us c)))
 
-call_there : (calls : List Ident) (of : Ident) → Contains calls of → list_any (bytes_eq of.name) (called calls) ≡ true
-call_there calls of c = any_there of.name (called calls) (in_map (λ (i : Ident). i.name) calls of c)
+call_there : (xs : List Ident) (of : Ident) → Contains xs of → list_any (bytes_eq of.name) (called xs) ≡ true
+call_there xs of c = any_there of.name (called xs) (in_map (λ (i : Ident). i.name) xs of c)
 
 all_called : (p : ProgramTree) → nested_calls p.procs ≡ [] → ((s : Span) → ¬ IsUnusedProcedure p s) → AreThere (called (calls_in p.body)) (names_in p.procs)
 all_called p flat used = each_there (called (calls_in p.body)) p.procs (λ q c. by_test q c (list_any (bytes_eq q.name.name) (called (calls_in p.body))) refl)
@@ -333,7 +333,7 @@ few_vars p r h meets =
     let among = bodies_among bodies p.body
         (subst (λ (ns : List (List ℕ)). IsDistinct bytes_eq ns) (sym names) (procedures_distinct p meets.named.0))
         (subst (λ (ns : List (List ℕ)). AreThere (called (calls_in p.body)) ns) (sym names)
-        (all_called p (none_nested p meets.named.1) meets.named.3)) in
+        (all_called p (none_nested p meets.named.1.0) meets.named.1.1.1.0)) in
     let whole : statement_forms (inlined_statement bodies p.body) ≡ statement_forms r.body = ap (λ (t : ProgramTree). statement_forms t.body) (sym h.tree) in
     omega (arith, vars, readers, split, among, whole)
 

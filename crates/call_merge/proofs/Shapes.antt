@@ -1,5 +1,5 @@
 -- The inlined program has the shape of the grammar.
-use Rattle.std.proofs.Common.{◌≡◌, ◌≢◌, ℕ, ◌+◌, ◌≤◌, Bool, true, false, List, [], ◌∷◌, ◌++◌, length, Option, Some, None, cond, refl, sym, ap, ◌∙◌, subst, arith}
+use Rattle.std.proofs.Common.{◌≡◌, ◌≢◌, ℕ, suc, ◌+◌, ◌≤◌, Bool, true, false, List, [], ◌∷◌, ◌++◌, length, Option, Some, None, cond, refl, sym, ap, ◌∙◌, subst, arith}
 use Rattle.std.specs.Prelude.{All, slice_get}
 use Rattle.std.specs.List.{AllByRecursion}
 use Rattle.std.specs.Str.{bytes_eq}
@@ -11,7 +11,7 @@ use Rattle.chp_syntax.specs.Reading.{arm_count}
 use Rattle.chp_syntax.specs.Shape.{statement_count, IsShapedExpression, IsShapedStatement, AreShapedMembers, AreShapedArms, IsShapedDecl, IsShapedProcedure, IsShaped}
 use Rattle.chp_syntax.specs.Trees.{Expression, Statement, skips, assigns, sends, receives, follows, besides, selects, repeats, calls, Statements, no_members, and_member, Arms, no_arms, and_arm, Procedure, ProgramTree}
 use Rattle.call_merge.specs.CallSplits.{reads_itself, own_readers, assigns_by, split_statement, split_members, split_arms, split_procedures, own_names, AreOwnVars, all_names, all_own_readers}
-use Rattle.call_merge.specs.Inlining.{procedure_named, body_or_call, inlined_statement, inlined_members, inlined_arms, inlined_with, IsInlined}
+use Rattle.call_merge.specs.Inlining.{procedure_named, body_or_call, inlined_statement, inlined_members, inlined_arms, inlined_with}
 
 -- what holds of the body of each procedure holds of what a call is replaced by
 
@@ -30,7 +30,7 @@ named_holds P (q ∷ qs) name of all none =
 
 by_shaped : (o : Option (List ℕ)) (target : Ident) (e : Expression) → IsShapedExpression e → IsShapedStatement (assigns_by o target e)
 by_shaped None target e h = h
-by_shaped (Some name) target e h = (omega arith, h, tt, tt)
+by_shaped (Some name) target e h = (omega arith, (h, (tt, tt)))
 
 chosen_shaped : (b : Bool) (s t : Statement) → IsShapedStatement s → IsShapedStatement t → IsShapedStatement (cond b s t)
 chosen_shaped true s t p q = p
@@ -130,12 +130,13 @@ vars_shaped ds names (x ∷ xs) (v ∷ vs) own named = (
   vars_shaped ds (names ++ v.name.name ∷ []) xs vs own.2 named.1,
 )
 
-pub program_shaped : (p r : ProgramTree) (h : IsInlined p r) → IsShaped p → All (λ (d : Decl). IsName d.name.name) h.vars → IsShaped r
-program_shaped p r h shaped named =
-    subst (λ (t : ProgramTree). IsShaped t) (sym h.tree) (record {
-      decls = All-append IsShapedDecl p.decls h.vars shaped.decls (All-from_recursion IsShapedDecl h.vars
-          (vars_shaped p.decls (all_names p) (all_own_readers p) h.vars h.own (recursion_from_All (λ (d : Decl). IsName d.name.name) h.vars named)));
+pub program_shaped : (p r : ProgramTree) (vars : List Decl) → AreOwnVars p.decls (all_names p) (all_own_readers p) vars → r ≡ inlined_with p vars
+    → IsShaped p → All (λ (d : Decl). IsName d.name.name) vars → IsShaped r
+program_shaped p r vars own is shaped named =
+    subst (λ (t : ProgramTree). IsShaped t) (sym is) (record {
+      decls = All-append IsShapedDecl p.decls vars shaped.decls (All-from_recursion IsShapedDecl vars
+          (vars_shaped p.decls (all_names p) (all_own_readers p) vars own (recursion_from_All (λ (d : Decl). IsName d.name.name) vars named)));
       procs = All-nil IsShapedProcedure;
-      body = inlined_shaped (split_procedures p.decls (own_names h.vars) 0 p.procs)
-          (procedures_shaped p.decls (own_names h.vars) 0 p.procs (recursion_from_All IsShapedProcedure p.procs shaped.procs)) p.body shaped.body;
+      body = inlined_shaped (split_procedures p.decls (own_names vars) 0 p.procs)
+          (procedures_shaped p.decls (own_names vars) 0 p.procs (recursion_from_All IsShapedProcedure p.procs shaped.procs)) p.body shaped.body;
     })

@@ -72,18 +72,13 @@ own_counted ds names (x ∷ xs) (v ∷ vs) own = ap suc (own_counted ds (names +
 
 -- the program
 
-pub is_inlined : (p : ProgramTree) (vars decls : List Decl) (procs : List Procedure) (body : Statement) (bodies : List Procedure) →
-    AreOwnVars p.decls (all_names p) (all_own_readers p) vars → bodies ≡ split_procedures p.decls (own_names vars) 0 p.procs
-    → decls ≡ p.decls ++ vars → procs ≡ [] → body ≡ inlined_statement bodies p.body
-    → IsInlined p (record { decls = decls; procs = procs; body = body })
-is_inlined p vars decls procs body bodies own split declared none made =
+pub whole_tree : (p : ProgramTree) (vars decls : List Decl) (procs : List Procedure) (body : Statement) (bodies : List Procedure)
+    → bodies ≡ split_procedures p.decls (own_names vars) 0 p.procs → decls ≡ p.decls ++ vars → procs ≡ [] → body ≡ inlined_statement bodies p.body
+    → (record { decls = decls; procs = procs; body = body }) ≡ inlined_with p vars
+whole_tree p vars decls procs body bodies split declared none made =
     let make : List Decl → List Procedure → Statement → ProgramTree = λ x y z. record { decls = x; procs = y; body = z } in
-    record {
-      vars = vars;
-      own = own;
-      tree = ap (λ x. make x procs body) declared
-          ∙ (ap (λ x. make (p.decls ++ vars) x body) none ∙ ap (λ x. make (p.decls ++ vars) [] x) (made ∙ ap (λ x. inlined_statement x p.body) split));
-    }
+    ap (λ x. make x procs body) declared
+    ∙ (ap (λ x. make (p.decls ++ vars) x body) none ∙ ap (λ x. make (p.decls ++ vars) [] x) (made ∙ ap (λ x. inlined_statement x p.body) split))
 
 pub too_many : (p : ProgramTree) (vars : List Decl) (bodies : List Procedure) (n : ℕ) → AreOwnVars p.decls (all_names p) (all_own_readers p) vars
     → bodies ≡ split_procedures p.decls (own_names vars) 0 p.procs → n ≡ capped_forms (statement_forms (inlined_statement bodies p.body)) → most_forms < n
