@@ -259,7 +259,8 @@ right_way p s h =
     let ds = map call_channel p.procs in
     let q = of_map call_channel p.procs h.decl (found_there ds h.usage.name h.decl h.declared) in
     let kind : Chan ≡ h.decl.kind = ap (λ (d : Decl). d.kind) q.2 in
-    ⊎_elim (λ sending. let no : Chan ≡ In = kind ∙ sending.1 in absurd (cc no)) (λ receiving. let no : Chan ≡ Out = kind ∙ receiving.1 in absurd (cc no)) h.wrong
+    ⊎_elim (λ sending. let no : Chan ≡ In = kind ∙ sending.1 in absurd (cc no)) (λ receiving. let no : Chan ≡ Out = kind ∙ receiving.1 in absurd (cc no))
+    h.wrong
 
 pub no_slice : (p : ProgramTree) (s : Span) → ¬ IsBadSlice (calls_program p) s
 no_slice p s h =

@@ -143,13 +143,15 @@ none_named (r ∷ qs) name none q c = by_test (bytes_eq r.name.name name) refl (
         (λ (e : r ≡ q). let t : true ≡ false = sym ((bytes_eq-Decides r.name.name name).1 (ap (λ (x : Procedure). x.name.name) e ∙ same)) ∙ so in cc t)
         (λ k. rest (rw so at none) k same) (front_or_rest r q qs c)
 
-pub calls_named : (p : ProgramTree) (ns : List (List ℕ)) → ((s : Span) → ¬ IsUnknownCall p s) → AreNamed (split_procedures p.decls ns 0 p.procs) (calls_in p.body)
-calls_named p ns known = all_among (λ (i : Ident). procedure_named (split_procedures p.decls ns 0 p.procs) i.name ≢ None) (calls_in p.body) (λ of c none. known of.at (record {
-  call = of;
-  among = Contains-append_right (nested_calls p.procs) (calls_in p.body) of c;
-  unknown = λ q k. none_named p.procs of.name (named_before p.decls ns 0 p.procs of.name none) q k;
-  at = refl;
-}))
+pub calls_named : (p : ProgramTree) (ns : List (List ℕ)) → ((s : Span) → ¬ IsUnknownCall p s)
+    → AreNamed (split_procedures p.decls ns 0 p.procs) (calls_in p.body)
+calls_named p ns known = all_among (λ (i : Ident). procedure_named (split_procedures p.decls ns 0 p.procs) i.name ≢ None) (calls_in p.body)
+    (λ of c none. known of.at (record {
+      call = of;
+      among = Contains-append_right (nested_calls p.procs) (calls_in p.body) of c;
+      unknown = λ q k. none_named p.procs of.name (named_before p.decls ns 0 p.procs of.name none) q k;
+      at = refl;
+    }))
 
 -- so each call is gone
 

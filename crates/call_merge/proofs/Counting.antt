@@ -3,7 +3,8 @@ use Rattle.std.proofs.Common.{◌≡◌, ℕ, ◌+◌, ◌<◌, ◌≤◌, ◌^�
 use Rattle.std.specs.Prelude.{min}
 use Rattle.call_merge.specs.CallForms.{capped_forms}
 
-pub counted_more : (old add new here rest whole : ℕ) → capped_forms (old + (here + rest)) ≡ whole → add ≡ capped_forms here → new ≡ capped_forms (old + add) → capped_forms (new + rest) ≡ whole
+pub counted_more : (old add new here rest whole : ℕ) → capped_forms (old + (here + rest)) ≡ whole → add ≡ capped_forms here → new ≡ capped_forms (old + add)
+    → capped_forms (new + rest) ≡ whole
 counted_more old add new here rest whole so_far is next = omega (arith, so_far, is, next)
 
 pub counted_one : (add new here : ℕ) → add ≡ capped_forms here → new ≡ capped_forms (add + 1) → new ≡ capped_forms (1 + here)

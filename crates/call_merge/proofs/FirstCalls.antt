@@ -66,7 +66,8 @@ unused_least program procs test o is called found =
       among = in_map procedure_of program.procs.items h.item (subst (λ (qs : List Proc). Contains qs h.item) is h.among);
       unused = λ call c same.
           let there : Contains (names_in (all_calls p)) call.name = in_map (λ (i : Ident). i.name) (all_calls p) call c in
-          let yes : test h.item.name.name ≡ true = subst (λ (n : List ℕ). test n ≡ true) same (called call.name ∙ any_there call.name (names_in (all_calls p)) there) in
+          let yes : test h.item.name.name ≡ true = subst (λ (n : List ℕ). test n ≡ true) same
+          (called call.name ∙ any_there call.name (names_in (all_calls p)) there) in
           let no : test h.item.name.name ≡ false = false_of (test h.item.name.name) h.passed in
           let clash : true ≡ false = sym yes ∙ no in
           cc clash;
@@ -81,7 +82,8 @@ unused_least program procs test o is called found =
           item = q.0;
           among = subst (λ (qs : List Proc). Contains qs q.0) (sym is) q.1;
           passed = not_false (test q.0.name.name) (λ yes.
-              let c = of_map (λ (i : Ident). i.name) (all_calls p) q.0.name.name (there_any q.0.name.name (names_in (all_calls p)) (sym (called q.0.name.name) ∙ yes)) in
+              let c = of_map (λ (i : Ident). i.name) (all_calls p) q.0.name.name
+              (there_any q.0.name.name (names_in (all_calls p)) (sym (called q.0.name.name) ∙ yes)) in
               h.unused c.0 c.1 (c.2 ∙ name));
           place = h.at ∙ sym (ap (λ (x : Procedure). x.name.at) q.2);
         }

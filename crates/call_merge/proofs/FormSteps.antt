@@ -17,14 +17,16 @@ use Rattle.call_merge.specs.Inlining.{inlined_statement, inlined_members, inline
 use Rattle.call_merge.proofs.Counting.{counted_more, counted_none}
 
 pub part_counted : (es : List Expr) (i : ℕ) (e : Expr) (old add new whole : ℕ) → i < length es → e ≡ get_or es i e
-    → capped_forms (old + forms_of_parts (join_parts (drop i es))) ≡ whole → add ≡ capped_forms (expression_forms (expression_of e)) → new ≡ capped_forms (old + add)
+    → capped_forms (old + forms_of_parts (join_parts (drop i es))) ≡ whole → add ≡ capped_forms (expression_forms (expression_of e))
+    → new ≡ capped_forms (old + add)
     → capped_forms (new + forms_of_parts (join_parts (drop (i + 1) es))) ≡ whole
 part_counted es i e old add new whole within is so_far here next =
     counted_more old add new (expression_forms (expression_of e)) (forms_of_parts (join_parts (drop (i + 1) es))) whole
     (ap (λ (us : Expressions). capped_forms (old + forms_of_parts us)) (sym (parts_more es i e within is)) ∙ so_far) here next
 
 pub link_counted : (ls : List Link) (i : ℕ) (l : Link) (old add new whole : ℕ) → i < length ls → l ≡ get_or ls i l
-    → capped_forms (old + forms_of_links (links_in (drop i ls))) ≡ whole → add ≡ capped_forms (expression_forms (expression_of l.right)) → new ≡ capped_forms (old + add)
+    → capped_forms (old + forms_of_links (links_in (drop i ls))) ≡ whole → add ≡ capped_forms (expression_forms (expression_of l.right))
+    → new ≡ capped_forms (old + add)
     → capped_forms (new + forms_of_links (links_in (drop (i + 1) ls))) ≡ whole
 link_counted ls i l old add new whole within is so_far here next =
     counted_more old add new (expression_forms (expression_of l.right)) (forms_of_links (links_in (drop (i + 1) ls))) whole
@@ -78,7 +80,8 @@ arm_counted procs xs i a old first mid add new whole within is so_far guard with
     let rest = inlined_arm_forms procs (arms_in (drop (i + 1) xs)) in
     let begun : capped_forms (old + (g + b + rest)) ≡ whole =
     ap (λ (us : Arms). capped_forms (old + inlined_arm_forms procs us)) (sym (arms_more xs i a within is)) ∙ so_far in
-    let grouped : capped_forms (old + (g + (b + rest))) ≡ whole = (let e : old + (g + (b + rest)) ≡ old + (g + b + rest) = omega arith in ap capped_forms e ∙ begun) in
+    let grouped : capped_forms (old + (g + (b + rest))) ≡ whole =
+    (let e : old + (g + (b + rest)) ≡ old + (g + b + rest) = omega arith in ap capped_forms e ∙ begun) in
     counted_more mid add new b rest whole (counted_more old first mid g (b + rest) whole grouped guard with_guard) here next
 
 pub then_counted : (procs : List Procedure) (s : Stmt) (v : Vec Stmt Global) (ss : List Stmt) (i : ℕ) (new : ℕ) → s ≡ Then v → ss ≡ v.items → length ss ≤ i

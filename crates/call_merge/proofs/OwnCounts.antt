@@ -12,7 +12,7 @@ use Rattle.chp_syntax.specs.Trees.{Expression, number, whole, slice, bit, join, 
 use Rattle.width_check.proofs.Doubles.{any_there, there_any, any_nowhere}
 use Rattle.width_check.proofs.Least.{in_rest}
 use Rattle.call_merge.specs.CallFaults.{IsDoubleProcedure, IsUnusedProcedure, MeetsCalling}
-use Rattle.call_merge.specs.CallForms.{expression_forms, statement_forms, forms_of_members, forms_of_arms, most_forms}
+use Rattle.call_merge.specs.CallForms.{expression_forms, statement_forms, forms_of_members, forms_of_arms, most_forms, most_own_vars}
 use Rattle.call_merge.specs.CallSites.{calls_in, calls_in_each, calls_in_arms, nested_calls, all_calls}
 use Rattle.call_merge.specs.CallSplits.{reads_itself, own_readers, own_readers_each, own_readers_arms, all_own_readers, assigns_by, split_statement, split_members, split_arms, split_procedures, own_names, all_names}
 use Rattle.call_merge.specs.Inlining.{procedure_named, body_or_call, inlined_statement, inlined_members, inlined_arms, inlined_with, IsInlined}
@@ -225,7 +225,8 @@ calls_weighed qs (x ∷ xs) = ap (λ k. forms_for qs x.name + k) (calls_weighed 
 abbrev AreFound : List Procedure → List Procedure → Type 0
 AreFound qs us = AllByRecursion (λ (q : Procedure). procedure_named qs q.name.name ≡ Some q) us
 
-found_behind : (q : Procedure) (qs us : List Procedure) → AllByRecursion (λ n. bytes_eq q.name.name n ≡ false) (names_in us) → AreFound qs us → AreFound (q ∷ qs) us
+found_behind : (q : Procedure) (qs us : List Procedure) → AllByRecursion (λ n. bytes_eq q.name.name n ≡ false) (names_in us) → AreFound qs us
+    → AreFound (q ∷ qs) us
 found_behind q qs [] apart found = tt
 found_behind q qs (u ∷ us) apart found = (rw apart.0 found.0, found_behind q qs us apart.1 found.1)
 
@@ -291,7 +292,8 @@ procedures_distinct p none = distinct_names (names_in p.procs) (λ k j name less
       at = refl;
     }))
 
-each_there : (ms : List (List ℕ)) (us : List Procedure) → ((q : Procedure) → Contains us q → list_any (bytes_eq q.name.name) ms ≡ true) → AreThere ms (names_in us)
+each_there : (ms : List (List ℕ)) (us : List Procedure) → ((q : Procedure) → Contains us q → list_any (bytes_eq q.name.name) ms ≡ true)
+    → AreThere ms (names_in us)
 each_there ms [] each = tt
 each_there ms (u ∷ us) each = (each u (0, omega arith, refl), each_there ms us (λ q c. each q (in_rest u q us c)))
 
@@ -331,13 +333,13 @@ few_vars p r h meets =
     let named : length (own_names h.vars) ≡ length h.vars = length-map h.vars (λ (d : Decl). d.name.name) in
     let split = bodies_counted p.decls (own_names h.vars) 0 p.procs (omega (arith, vars, readers, named)) in
     let among = bodies_among bodies p.body
-        (subst (λ (ns : List (List ℕ)). IsDistinct bytes_eq ns) (sym names) (procedures_distinct p meets.named.0))
-        (subst (λ (ns : List (List ℕ)). AreThere (called (calls_in p.body)) ns) (sym names)
-        (all_called p (none_nested p meets.named.1.0) meets.named.1.1.1.0)) in
+    (subst (λ (ns : List (List ℕ)). IsDistinct bytes_eq ns) (sym names) (procedures_distinct p meets.named.0))
+    (subst (λ (ns : List (List ℕ)). AreThere (called (calls_in p.body)) ns) (sym names)
+    (all_called p (none_nested p meets.named.1.0) meets.named.1.1.1.0)) in
     let whole : statement_forms (inlined_statement bodies p.body) ≡ statement_forms r.body = ap (λ (t : ProgramTree). statement_forms t.body) (sym h.tree) in
     omega (arith, vars, readers, split, among, whole)
 
-pub few_decls : (p r : ProgramTree) → IsInlined p r → MeetsCalling p → statement_forms r.body ≤ most_forms → length r.decls ≤ length p.decls + 209715
+pub few_decls : (p r : ProgramTree) → IsInlined p r → MeetsCalling p → statement_forms r.body ≤ most_forms → length r.decls ≤ length p.decls + most_own_vars
 few_decls p r h meets few =
     let vars = few_vars p r h meets in
     let decls : length r.decls ≡ length p.decls + length h.vars = ap (λ (t : ProgramTree). length t.decls) h.tree ∙ length-append p.decls h.vars in

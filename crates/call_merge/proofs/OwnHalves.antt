@@ -28,7 +28,8 @@ pub halves : (h : List ℕ) (target first second third : Ident) (e value : Expre
     → second ≡ target → third ≡ record { name = h; at = target.at }
     → follows (and_member (assigns first e) (and_member (assigns second (whole third)) no_members)) ≡ through_own h target value
 halves h target first second third e value p q r s =
-    let keeps : assigns first e ≡ assigns (record { name = h; at = target.at }) value = ap (λ (x : Ident). assigns x e) p ∙ ap (λ x. assigns (record { name = h; at = target.at }) x) q in
+    let keeps : assigns first e ≡ assigns (record { name = h; at = target.at }) value = ap (λ (x : Ident). assigns x e) p
+    ∙ ap (λ x. assigns (record { name = h; at = target.at }) x) q in
     let moves : assigns second (whole third) ≡ assigns target (whole (record { name = h; at = target.at })) =
     ap (λ (x : Ident). assigns x (whole third)) r ∙ ap (λ (x : Ident). assigns target (whole x)) s in
     ap (λ x. follows (and_member x (and_member (assigns second (whole third)) no_members))) keeps

@@ -54,7 +54,8 @@ member_fits ds ss i s n whole most within is so_far fits =
     let more : n + length (xs ++ ys) ≡ whole = ap (λ us. n + length (own_readers_each ds us)) (sym (members_more ss i s within is)) ∙ so_far in
     omega (arith, more, fits, length-append xs ys)
 
-members_placed : (ds : List Decl) (ss : List Stmt) (i n whole : ℕ) → length ss ≤ i → n + length (own_readers_each ds (statements_in (drop i ss))) ≡ whole → n ≡ whole
+members_placed : (ds : List Decl) (ss : List Stmt) (i n whole : ℕ) → length ss ≤ i → n + length (own_readers_each ds (statements_in (drop i ss))) ≡ whole
+    → n ≡ whole
 members_placed ds ss i n whole over so_far =
     let none : n + 0 ≡ whole = ap (λ us. n + length (own_readers_each ds us)) (sym (members_end ss i over)) ∙ so_far in omega (arith, none)
 

@@ -84,7 +84,8 @@ pub too_many : (p : ProgramTree) (vars : List Decl) (bodies : List Procedure) (n
     → bodies ≡ split_procedures p.decls (own_names vars) 0 p.procs → n ≡ capped_forms (statement_forms (inlined_statement bodies p.body)) → most_forms < n
     → HasTooManyForms p n
 too_many p vars bodies n own split number more =
-    let here : n ≡ capped_forms (statement_forms (inlined_with p vars).body) = number ∙ ap (λ x. capped_forms (statement_forms (inlined_statement x p.body))) split in
+    let here : n ≡ capped_forms (statement_forms (inlined_with p vars).body) = number
+    ∙ ap (λ x. capped_forms (statement_forms (inlined_statement x p.body))) split in
     record {
       program = inlined_with p vars;
       is = record { vars = vars; own = own; tree = refl };

@@ -41,3 +41,7 @@ capped_forms n = min n (2 ^ 64 - 1)
 
 abbrev pub most_forms : ℕ
 most_forms = 1048576
+
+-- so many variables at most are declared for the assignments that are split: each of these has five forms
+abbrev pub most_own_vars : ℕ
+most_own_vars = 209715

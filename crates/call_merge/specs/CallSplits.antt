@@ -120,7 +120,8 @@ own_var decls h target = record {
 abbrev pub AreOwnVars : List Decl → List (List ℕ) → List Ident → List Decl → Type 0
 AreOwnVars decls taken [] [] = Unit {0}
 AreOwnVars decls taken (x ∷ xs) (v ∷ vs) =
-    IsLeastFree taken v.name.name × (v ≡ own_var decls v.name.name x) × AreOwnVars decls (taken ++ v.name.name ∷ []) xs vs
+    IsLeastFree taken v.name.name × (v ≡ own_var decls v.name.name x)
+    × AreOwnVars decls (taken ++ v.name.name ∷ []) xs vs
 AreOwnVars decls taken _ _ = ⊥
 
 -- the names of declarations

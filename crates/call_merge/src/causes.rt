@@ -120,7 +120,10 @@ fn refuse_unused(alloc: Global, program: &Program) -> Result<(), CallError>
     ensures fault { IfErr result IsNoCount }
 {
     let called = called_names(alloc, program)?;
-    refuse(FaultCode::UnusedProcedure, first_unused(&program.procs, &called))
+    refuse(
+        FaultCode::UnusedProcedure,
+        first_unused(&program.procs, &called),
+    )
 }
 
 /// Refuses a program of calls in which two of one procedure are parallel.

@@ -7,7 +7,7 @@ use std::alloc::{AllocError, AllocFailed};
 use thiserror::Error;
 
 /// Why no program without procedures was made: the calls are refused, or it would have too many forms, of which this is
-/// the number, where 2 to 64 and more count as 2 to 64 less 1; or memory ran out.
+/// the number, where 2^64 and more count as 2^64 - 1; or memory ran out.
 #[derive(Debug, Drop, Error)]
 pub enum CallError {
     #[error("the program is refused")]

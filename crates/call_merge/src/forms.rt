@@ -36,7 +36,8 @@ fn expression_forms(e: &Expr) -> u64
 
 /// The number of forms of a statement in which each call is its procedure's body.
 pub(crate) fn inlined_forms(procs: &Procedures, s: &Stmt) -> u64
-    ensures { result ≡ capped_forms (statement_forms (inlined_statement (procedures_in procs.now) (statement_of s.now))) }
+    ensures { result
+        ≡ capped_forms (statement_forms (inlined_statement (procedures_in procs.now) (statement_of s.now))) }
 {
     match s {
         Stmt::Skip { .. } | Stmt::Receive { .. } => 1,

@@ -6,17 +6,17 @@ ghost use Rattle.chp_syntax.specs.View.{program_tree as tree_of, statement_of};
 ghost use Rattle.width_check.specs.Calls.{IsCallFree};
 ghost use Rattle.call_merge.specs.CallFaults.{call_faults, IsFirstCallFault, MeetsCalling};
 ghost use Rattle.call_merge.specs.CallEnds.{IfRefusedCall, IfTooManyForms};
-ghost use Rattle.call_merge.specs.CallForms.{statement_forms, most_forms};
+ghost use Rattle.call_merge.specs.CallForms.{statement_forms, most_forms, most_own_vars};
 ghost use Rattle.call_merge.specs.Bodies.{procedures_in};
 ghost use Rattle.call_merge.specs.Inlining.{inlined_statement, IsInlined, HasTooManyForms};
 
+use crate::bodies::Procedures;
 use crate::causes::refuse_calls;
 use crate::copies::{copied, copied_decls, copied_expression, copied_name};
 use crate::error::CallError;
 use crate::firsts::FirstDecls;
 use crate::forms::inlined_forms;
 use crate::own_vars::own_vars;
-use crate::bodies::Procedures;
 use crate::splits::split_procedures;
 use chp_base::Symbols;
 use chp_syntax::{Arm, Proc, Program, Stmt};
@@ -91,20 +91,20 @@ fn inlined(alloc: Global, procs: &Procedures, s: &Stmt) -> Result<Stmt, AllocErr
 
 /// The program with each call replaced by its procedure's body, and without procedures.
 ///
-/// It is refused at a procedure with the name of an earlier one (34), else at a call in the body of a procedure (37), at
-/// a call of a name that no procedure has (35), at a procedure that no call names (36), and where two calls of one
+/// It is refused at a procedure with the name of an earlier one (34), else at a call in the body of a procedure (37),
+/// at a call of a name that no procedure has (35), at a procedure that no call names (36), and where two calls of one
 /// procedure are parallel (33). The causes are tested in this order, each over the whole program, and reported at the
 /// first place in the text. For the last one `at` and `other` are the called names of the pair with the least second
 /// place, and among those with the least first; for all others they are the same. Then a program is refused that would
 /// have more than 1,048,576 statements and expressions. It takes no memory for that program before.
 ///
 /// In the body of a procedure an assignment to a variable that stands in its own value is first made two: to a variable
-/// of its own, and from there. These variables are declared last, in the order of the assignments. Each is named `h` with
-/// the least number of which neither a name of the program nor a variable before it is named so, has the width that is
-/// declared first for the target, and begins with 0. So no node of a body's circuit but those of declared variables
-/// keeps a value between two calls. A program with neither procedures nor calls is answered as it is. What is answered
-/// has the shape of the grammar and neither procedures nor calls. For each of its variables it has five statements or
-/// expressions at least, so there are at most 209,715. (All of this is our profile's.)
+/// of its own, and from there. These variables are declared last, in the order of the assignments. Each is named `h`
+/// with a number, the least for which no name of the program and no variable before it has that name; it has the width
+/// that is declared first for the target, and begins with 0. So no node of a body's circuit but those of declared
+/// variables keeps a value between two calls. A program with neither procedures nor calls is answered as it is. What is
+/// answered has the shape of the grammar and neither procedures nor calls. Each of these variables comes with five
+/// statements and expressions at least, so there are at most 209,715. (All of this is our profile's.)
 pub fn inline(alloc: Global, program: &Program) -> Result<Program, CallError>
     requires few { length program.now.procs.items ≤ 300000 }
     requires shaped { IsShaped (tree_of program.now) }
@@ -113,7 +113,7 @@ pub fn inline(alloc: Global, program: &Program) -> Result<Program, CallError>
     ensures few { IfOk result (λ made. statement_forms (tree_of made).body ≤ most_forms) }
     ensures shaped { IfOk result (λ made. IsShaped (tree_of made)) }
     ensures call_free { IfOk result (λ made. IsCallFree (tree_of made)) }
-    ensures decls { IfOk result (λ made. length made.decls.items ≤ length program.now.decls.items + 209715) }
+    ensures decls { IfOk result (λ made. length made.decls.items ≤ length program.now.decls.items + most_own_vars) }
     ensures same { IsCallFree (tree_of program.now) → IfOk result (λ made. tree_of made ≡ tree_of program.now) }
     ensures refused { IfErr result (IfRefusedCall (λ f.
         IsFirstCallFault (tree_of program.now) call_faults f.code f.at f.other)) }

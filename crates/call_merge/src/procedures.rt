@@ -34,8 +34,8 @@ impl Procedures {
 
     /// The number of forms of what a call of this name is replaced by.
     pub(crate) fn forms_of(&self, name: &Name) -> u64
-        ensures { (of : Ident) → of.name ≡ name.now →
-            result ≡ capped_forms (statement_forms (body_or_call (procedure_named (procedures_in self.now) of.name) of)) }
+        ensures { (of : Ident) → of.name ≡ name.now → result
+            ≡ capped_forms (statement_forms (body_or_call (procedure_named (procedures_in self.now) of.name) of)) }
     {
         match self.find(name) {
             Some(body) => body.forms,

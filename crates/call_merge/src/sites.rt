@@ -18,7 +18,9 @@ pub(crate) fn note_calls(found: &mut Vec<Ident>, s: &Stmt) -> Result<(), AllocEr
     ensures { OnOk result (found.new.items ≡ found.old.items ++ calls_in (statement_of s.now)) }
 {
     match s {
-        Stmt::Skip { .. } | Stmt::Assign { .. } | Stmt::Send { .. } | Stmt::Receive { .. } => Ok(()),
+        Stmt::Skip { .. } | Stmt::Assign { .. } | Stmt::Send { .. } | Stmt::Receive { .. } => Ok(
+            (),
+        ),
         Stmt::Then { parts } => {
             for part in parts {
                 note_calls(found, part)?;

@@ -16,7 +16,8 @@ least c = nested_least (program_tree c.args.program.now) c.deref-2.result.now c.
     ∙ ap (λ (qs : List Proc). nested_calls (map procedure_of qs)) c.deref.ensures.value)) c.first_place.ensures
 
 pub returns-clause-none : goal.returns-clause-none
-returns-clause-none c = on_ok_weaker c.refuse.result (λ none. nowhere (λ s. IsNestedCall (program_tree c.args.program.now) s) c.first_place.result (least c) none) c.refuse.ensures.none
+returns-clause-none c = on_ok_weaker c.refuse.result (λ none. nowhere (λ s. IsNestedCall (program_tree c.args.program.now) s) c.first_place.result (least c)
+    none) c.refuse.ensures.none
 
 pub returns-clause-first : goal.returns-clause-first
 returns-clause-first c = IfErr-weaker c.refuse.result (IsRefusedAt code.NestedCall c.first_place.result)

@@ -16,7 +16,8 @@ least c = unused_least c.args.program.now c.deref.result.now (λ n. contains byt
     c.in_ok-called.ensures c.first_unused.ensures
 
 pub returns-clause-none : goal.returns-clause-none
-returns-clause-none c = on_ok_weaker c.refuse.result (λ none. nowhere (λ s. IsUnusedProcedure (program_tree c.args.program.now) s) c.first_unused.result (least c) none) c.refuse.ensures.none
+returns-clause-none c = on_ok_weaker c.refuse.result (λ none. nowhere (λ s. IsUnusedProcedure (program_tree c.args.program.now) s) c.first_unused.result
+    (least c) none) c.refuse.ensures.none
 
 pub returns-clause-first : goal.returns-clause-first
 returns-clause-first c = IfErr-weaker c.refuse.result (IsRefusedAt code.UnusedProcedure c.first_unused.result)

@@ -11,6 +11,7 @@ invariant-loop-part l = record {
 
 abbrev pub invariant-loop-link : goal.invariant-loop-link
 invariant-loop-link l = record {
-  sum : capped_forms (l.forms + forms_of_links (links_in (drop l.link-index l.link-items))) ≡ capped_forms (l.initial.forms + forms_of_links (links_in l.link-items));
+  sum : capped_forms (l.forms + forms_of_links (links_in (drop l.link-index l.link-items)))
+      ≡ capped_forms (l.initial.forms + forms_of_links (links_in l.link-items));
   small : l.forms < 2 ^ 64;
 }

@@ -13,4 +13,5 @@ returns-after-loop-branch t c = beside_counted (procedures_in c.args.procs.now) 
 
 pub returns-after-loop-arm : goal.returns-after-loop-arm
 returns-after-loop-arm t c = select_counted (procedures_in c.args.procs.now) c.args.s.now c.in-Select.again c.in-Select.arms c.deref-arm-items.result.now
-    c.loop-arm.arm-index c.loop-arm.forms c.in-Select.is c.deref-arm-items.ensures.value c.loop-arm-test.false c.loop-arm.invariant.small c.loop-arm.invariant.sum
+    c.loop-arm.arm-index c.loop-arm.forms c.in-Select.is c.deref-arm-items.ensures.value c.loop-arm-test.false c.loop-arm.invariant.small
+    c.loop-arm.invariant.sum

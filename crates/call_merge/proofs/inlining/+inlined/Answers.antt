@@ -4,7 +4,8 @@ use Rattle.call_merge.proofs.Mapping.{goes_inlined}
 use Rattle.call_merge.proofs.inlining.+inlined.Goals as goal
 
 pub returns-after-loop-part : goal.returns-after-loop-part
-returns-after-loop-part t c = then_mapped (goes_inlined (procedures_in c.args.procs.now)) c.args.s.now c.in-Then.parts c.loop-part.made c.deref-part-items.result.now
+returns-after-loop-part t c = then_mapped (goes_inlined (procedures_in c.args.procs.now)) c.args.s.now c.in-Then.parts c.loop-part.made
+    c.deref-part-items.result.now
     c.loop-part.part-index c.in-Then.is c.deref-part-items.ensures.value c.loop-part-test.false c.loop-part.invariant
 
 pub returns-after-loop-branch : goal.returns-after-loop-branch

@@ -10,7 +10,7 @@ loop-place-init c = no_places (get bytes_eq c.new-places.result) (λ q. rw c.new
 
 pub loop-place-preserved : goal.loop-place-preserved
 loop-place-preserved c = elim c.if-not-contains_key.branch [
-  then-not-contains_key+in_ok-copy+in_ok-insert w ↦ place_more c.args.decls.now c.loop-place.place c.index-decls-place.result
+  | then-not-contains_key+in_ok-copy+in_ok-insert w ↦ place_more c.args.decls.now c.loop-place.place c.index-decls-place.result
       (get bytes_eq c.loop-place.places) (get bytes_eq c.if-not-contains_key.places) c.loop-place-test.true c.index-decls-place.is c.loop-place.invariant
       (sym c.contains_key.ensures ∙ w.if-not-contains_key.true)
       (λ q. rw w.places-is (w.in_ok-insert.ensures.updates.0 q
