@@ -1,23 +1,22 @@
 -- The first fault of procedures and calls, from the first fault of the program of calls alone.
-use Rattle.std.proofs.Common.{◌≡◌, ◌≢◌, ◌⊎◌, ℕ, zero, suc, ◌+◌, ◌<◌, ◌≤◌, Bool, true, false, List, [], ◌∷◌, ◌++◌, length, map, get_or, Option, Some, None, refl, sym, ap, ◌∙◌, subst, inl, inr, ⊎_elim, arith}
-use Rattle.std.specs.Prelude.{Contains, slice_get, MatchOption}
+use Rattle.std.proofs.Common.{◌≡◌, ◌≢◌, ◌⊎◌, ℕ, zero, suc, Bool, true, false, List, [], ◌∷◌, map, Some, None, refl, sym, ap, ◌∙◌, subst, inl, inr, ⊎_elim, arith}
+use Rattle.std.specs.Prelude.{Contains, slice_get}
 use Rattle.std.specs.Str.{bytes_eq}
-use Rattle.std.proofs.lemmas.List.Elements.{Contains-append_left, Contains-append_right, Contains-append_cases}
+use Rattle.std.proofs.lemmas.List.Elements.{Contains-append_right, Contains-append_cases}
 use Rattle.std.proofs.lemmas.Slice.Eq.{bytes_eq-Decides}
 use Rattle.chp_base.specs.declared.span.Span.{Span}
 use Rattle.chp_base.specs.declared.fault.FaultCode.{FaultCode}
 use Rattle.chp_base.specs.declared.fault.FaultCode.TheVariants as code
-use Rattle.chp_syntax.specs.declared.tree.Ident.{Ident}
 use Rattle.chp_syntax.specs.declared.tree.Decl.{Decl}
 use Rattle.chp_syntax.specs.Trees.{Procedure, ProgramTree}
-use Rattle.width_check.specs.Faults.{IsDouble, IsUndeclared, FaultAt, naming_faults, HasNone, IsFirstFault}
-use Rattle.width_check.specs.Order.{IsNoLater, IsFirst}
-use Rattle.width_check.specs.Places.{declaration, Use, uses_in}
+use Rattle.width_check.specs.Faults.{IsDouble, IsUndeclared, naming_faults, HasNone, IsFirstFault}
+use Rattle.width_check.specs.Order.{IsFirst}
+use Rattle.width_check.specs.Places.{declaration, Use}
 use Rattle.width_check.specs.Sharing.{IsUnshared}
 use Rattle.width_check.proofs.Least.{in_rest, front_or_rest, no_item}
-use Rattle.call_merge.specs.CallSites.{calls_in, nested_calls, all_calls, call_channel, calls_program, calls_process}
-use Rattle.call_merge.specs.CallFaults.{IsDoubleProcedure, IsNestedCall, IsUnknownCall, IsUnusedProcedure, CallFaultAt, call_faults, LacksCallFaults, IsFirstCallFault, MeetsCalling}
-use Rattle.call_merge.proofs.CallsAlone.{sent, uses_are_calls, of_map, in_map, in_range, first_fits, right_kind, right_way, no_slice, no_width_lacks, no_misfit, no_wide}
+use Rattle.call_merge.specs.CallSites.{calls_in, nested_calls, call_channel, calls_program, calls_process}
+use Rattle.call_merge.specs.CallFaults.{IsDoubleProcedure, IsNestedCall, IsUnknownCall, IsUnusedProcedure, call_faults, IsFirstCallFault, MeetsCalling}
+use Rattle.call_merge.proofs.CallsAlone.{sent, uses_are_calls, of_map, in_map, in_range, right_kind, right_way, no_slice, no_width_lacks, no_misfit, no_wide}
 
 first_same : (P Q : Span → Type 0) (s : Span) → ((t : Span) → P t → Q t) → ((t : Span) → Q t → P t) → IsFirst P s → IsFirst Q s
 first_same P Q s to from h = record { there = to s h.there; first = λ t q. h.first t (from t q) }

@@ -1,9 +1,9 @@
 -- No call is left in the inlined program.
-use Rattle.std.proofs.Common.{◌≡◌, ◌≢◌, ◌⊎◌, ℕ, suc, ◌+◌, ◌<◌, ◌≤◌, Bool, true, false, List, [], ◌∷◌, ◌++◌, length, map, Option, Some, None, cond, refl, sym, ap, ◌∙◌, subst, ⊎_elim, arith}
+use Rattle.std.proofs.Common.{◌≡◌, ◌≢◌, ℕ, ◌+◌, Bool, true, false, List, [], ◌∷◌, ◌++◌, length, Option, Some, None, cond, refl, sym, ap, ◌∙◌, subst, ⊎_elim, arith}
 use Rattle.std.specs.Prelude.{◌||◌, Contains, slice_get}
 use Rattle.std.specs.List.{AllByRecursion}
 use Rattle.std.specs.Str.{bytes_eq}
-use Rattle.std.proofs.lemmas.List.Elements.{Contains-append_left, Contains-append_right}
+use Rattle.std.proofs.lemmas.List.Elements.{Contains-append_right}
 use Rattle.std.proofs.lemmas.Slice.Eq.{bytes_eq-Decides}
 use Rattle.chp_base.specs.declared.span.Span.{Span}
 use Rattle.chp_syntax.specs.declared.tree.Ident.{Ident}
@@ -12,9 +12,9 @@ use Rattle.chp_syntax.specs.Trees.{Expression, Statement, skips, assigns, sends,
 use Rattle.width_check.specs.Calls.{has_call, some_has_call, arm_has_call, IsCallFree}
 use Rattle.width_check.proofs.Least.{in_rest, front_or_rest, no_item}
 use Rattle.call_merge.specs.CallFaults.{IsNestedCall, IsUnknownCall, MeetsCalling}
-use Rattle.call_merge.specs.CallSites.{calls_in, calls_in_each, calls_in_arms, nested_calls, all_calls}
+use Rattle.call_merge.specs.CallSites.{calls_in, calls_in_each, calls_in_arms, nested_calls}
 use Rattle.call_merge.specs.CallSplits.{reads_itself, own_readers, assigns_by, split_statement, split_members, split_arms, split_procedures, own_names}
-use Rattle.call_merge.specs.Inlining.{procedure_named, body_or_call, inlined_statement, inlined_members, inlined_arms, inlined_with, IsInlined}
+use Rattle.call_merge.specs.Inlining.{procedure_named, inlined_statement, inlined_members, inlined_arms, IsInlined}
 use Rattle.call_merge.proofs.Shapes.{named_holds}
 
 -- statements that call nothing

@@ -1,6 +1,5 @@
 -- Sums that stop at the greatest number of 64 bits, one summand after the other.
-use Rattle.std.proofs.Common.{◌≡◌, ℕ, ◌+◌, ◌<◌, ◌≤◌, ◌^◌, ◌-◌, arith}
-use Rattle.std.specs.Prelude.{min}
+use Rattle.std.proofs.Common.{◌≡◌, ℕ, ◌+◌, ◌<◌, ◌^◌, arith}
 use Rattle.call_merge.specs.CallForms.{capped_forms}
 
 pub counted_more : (old add new here rest whole : ℕ) → capped_forms (old + (here + rest)) ≡ whole → add ≡ capped_forms here → new ≡ capped_forms (old + add)

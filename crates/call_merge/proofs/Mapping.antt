@@ -1,8 +1,8 @@
 -- The maps of statements that are made here go into all their parts.
-use Rattle.std.proofs.Common.{ℕ, List, [], ◌∷◌, ◌++◌, map, refl, ap, ◌∙◌, append_assoc}
+use Rattle.std.proofs.Common.{ℕ, List, [], ◌++◌, map, refl, ap, ◌∙◌}
 use Rattle.std.proofs.lemmas.List.{map-append}
 use Rattle.chp_syntax.specs.declared.tree.Decl.{Decl}
-use Rattle.chp_syntax.specs.Trees.{Expression, Expressions, Links, Statement, Statements, Arms, Procedure}
+use Rattle.chp_syntax.specs.Trees.{Expressions, Links, Statement, Statements, Arms, Procedure}
 use Rattle.width_check.specs.Places.{Use, reads_in, reads_in_join, reads_in_links, uses_in, uses_in_each, uses_in_arms}
 use Rattle.call_merge.specs.CallSites.{calls_in, calls_in_each, calls_in_arms, zero_expression, call_sends, call_sends_each, call_sends_arms}
 use Rattle.call_merge.specs.CallSplits.{names_read, own_readers, own_readers_each, own_readers_arms}

@@ -1,5 +1,5 @@
 -- The program of calls alone does nothing but send.
-use Rattle.std.proofs.Common.{◌≡◌, ◌⊎◌, ℕ, List, [], ◌∷◌, ◌++◌, inl, inr, ⊎_elim, subst, sym, ap, ◌∙◌}
+use Rattle.std.proofs.Common.{◌≡◌, List, [], ◌∷◌, ◌++◌, inl, inr, ⊎_elim, subst, ap, ◌∙◌}
 use Rattle.std.specs.Prelude.{Contains}
 use Rattle.std.proofs.lemmas.List.Elements.{Contains-append_cases}
 use Rattle.chp_base.specs.declared.fault.FaultCode.{FaultCode}
@@ -13,7 +13,7 @@ use Rattle.width_check.specs.Sharing.{Deed, reads_var, writes_var, sends_on, rec
 use Rattle.width_check.specs.Typed.{TypedValue, program_of}
 use Rattle.width_check.specs.View.{process_of}
 use Rattle.width_check.proofs.Least.{front_or_rest, no_item}
-use Rattle.call_merge.specs.CallSites.{call_sends, call_sends_each, call_sends_arms, call_channel, calls_program, calls_process}
+use Rattle.call_merge.specs.CallSites.{call_sends, call_sends_each, call_sends_arms, calls_program, calls_process}
 
 abbrev pub IsSending : Deed → Type 0
 IsSending (sends_on k) = Unit {0}

@@ -1,5 +1,5 @@
 -- How many variables are declared: five forms of the inlined program at least come with each.
-use Rattle.std.proofs.Common.{◌≡◌, ◌≢◌, ℕ, zero, suc, ◌+◌, ◌*◌, ◌<◌, ◌≤◌, Bool, true, false, List, [], ◌∷◌, ◌++◌, length, map, Option, Some, None, cond, refl, sym, ap, ◌∙◌, subst, arith, length-append}
+use Rattle.std.proofs.Common.{◌≡◌, ℕ, zero, suc, ◌+◌, ◌*◌, ◌<◌, ◌≤◌, Bool, true, false, List, [], ◌∷◌, ◌++◌, length, map, Option, Some, None, cond, refl, sym, ap, ◌∙◌, subst, arith, length-append}
 use Rattle.std.specs.Prelude.{◌||◌, Contains, slice_get}
 use Rattle.std.specs.List.{list_any, AllByRecursion, IsDistinct}
 use Rattle.std.specs.Str.{bytes_eq}
@@ -9,13 +9,13 @@ use Rattle.chp_base.specs.declared.span.Span.{Span}
 use Rattle.chp_syntax.specs.declared.tree.Ident.{Ident}
 use Rattle.chp_syntax.specs.declared.tree.Decl.{Decl}
 use Rattle.chp_syntax.specs.Trees.{Expression, number, whole, slice, bit, join, negation, chain, Statement, skips, assigns, sends, receives, follows, besides, selects, repeats, calls, Statements, no_members, and_member, Arms, no_arms, and_arm, Procedure, ProgramTree}
-use Rattle.width_check.proofs.Doubles.{any_there, there_any, any_nowhere}
+use Rattle.width_check.proofs.Doubles.{any_there}
 use Rattle.width_check.proofs.Least.{in_rest}
 use Rattle.call_merge.specs.CallFaults.{IsDoubleProcedure, IsUnusedProcedure, MeetsCalling}
 use Rattle.call_merge.specs.CallForms.{expression_forms, statement_forms, forms_of_members, forms_of_arms, most_forms, most_own_vars}
-use Rattle.call_merge.specs.CallSites.{calls_in, calls_in_each, calls_in_arms, nested_calls, all_calls}
+use Rattle.call_merge.specs.CallSites.{calls_in, calls_in_each, calls_in_arms, nested_calls}
 use Rattle.call_merge.specs.CallSplits.{reads_itself, own_readers, own_readers_each, own_readers_arms, all_own_readers, assigns_by, split_statement, split_members, split_arms, split_procedures, own_names, all_names}
-use Rattle.call_merge.specs.Inlining.{procedure_named, body_or_call, inlined_statement, inlined_members, inlined_arms, inlined_with, IsInlined}
+use Rattle.call_merge.specs.Inlining.{procedure_named, body_or_call, inlined_statement, inlined_members, inlined_arms, IsInlined}
 use Rattle.call_merge.proofs.CallsAlone.{in_map}
 use Rattle.call_merge.proofs.CallsGone.{none_nested}
 use Rattle.call_merge.proofs.SplitSteps.{readers_of, names_kept}

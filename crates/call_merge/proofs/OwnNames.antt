@@ -1,6 +1,6 @@
 -- Names of the letter h and a number: they are names, and not all of them are taken.
-use Rattle.std.proofs.Common.{◌≡◌, ◌≢◌, ◌⊎◌, ℕ, zero, suc, ◌+◌, ◌<◌, ◌≤◌, ◌^◌, Bool, true, false, List, [], ◌∷◌, ◌++◌, length, map, get_or, drop, Option, Some, None, cond, refl, sym, ap, ◌∙◌, subst, inl, inr, ⊎_elim, arith}
-use Rattle.std.specs.Prelude.{◌||◌, ◌==◌, nat_lt, decimal, Contains, IfNone, IsSome}
+use Rattle.std.proofs.Common.{◌≡◌, ◌≢◌, ℕ, zero, suc, ◌+◌, ◌<◌, ◌≤◌, ◌^◌, Bool, true, false, List, [], ◌∷◌, length, get_or, drop, Option, Some, None, refl, sym, ap, ◌∙◌, subst, ⊎_elim, arith}
+use Rattle.std.specs.Prelude.{◌||◌, ◌==◌, nat_lt, decimal, IfNone, IsSome}
 use Rattle.std.specs.Int.{IsInRange}
 use Rattle.std.specs.List.{list_all, list_any, IsDistinct, AllByRecursion}
 use Rattle.std.specs.Set.{is_member}

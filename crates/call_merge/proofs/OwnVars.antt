@@ -1,13 +1,13 @@
 -- One variable more for an assignment that reads its own target.
-use Rattle.std.proofs.Common.{◌≡◌, ◌≢◌, ◌⊎◌, ℕ, ◌+◌, ◌<◌, ◌≤◌, Bool, true, false, List, [], ◌∷◌, ◌++◌, length, map, get_or, take, cond, refl, sym, ap, ◌∙◌, subst, ⊎_elim, arith, append-nil, append_assoc}
-use Rattle.std.specs.Prelude.{◌||◌, Contains}
+use Rattle.std.proofs.Common.{◌≡◌, ℕ, ◌+◌, ◌<◌, ◌≤◌, Bool, true, false, List, [], ◌∷◌, ◌++◌, length, get_or, take, cond, refl, sym, ap, ◌∙◌, subst, arith, append-nil, append_assoc}
+use Rattle.std.specs.Prelude.{◌||◌}
 use Rattle.std.specs.List.{list_any}
 use Rattle.std.specs.Str.{bytes_eq}
 use Rattle.std.proofs.lemmas.List.{take_more, take_all, map-append}
 use Rattle.std.proofs.lemmas.Slice.Eq.{bytes_eq-Decides}
 use Rattle.chp_syntax.specs.declared.tree.Decl.{Decl}
 use Rattle.chp_syntax.specs.declared.tree.Ident.{Ident}
-use Rattle.width_check.proofs.Doubles.{any_there, there_any, any_nowhere}
+use Rattle.width_check.proofs.Doubles.{any_there, there_any}
 use Rattle.call_merge.specs.CallSplits.{own_name, IsLeastFree, own_var, own_names, AreOwnVars}
 
 -- what is known where variables of some targets are made: what the table of taken names has, and which numbers are taken

@@ -9,8 +9,7 @@ use Rattle.chp_syntax.specs.declared.tree.Decl.{Decl}
 use Rattle.chp_syntax.specs.declared.tree.Ident.{Ident}
 use Rattle.chp_syntax.specs.declared.tree.Proc.{Proc}
 use Rattle.chp_syntax.specs.declared.tree.Stmt.{Stmt, Then, Beside, Select}
-use Rattle.chp_syntax.specs.Trees.{Statement, follows, besides, selects, Statements, no_members, and_member, Arms, no_arms, and_arm, Procedure}
-use Rattle.chp_syntax.specs.Grammar.{Guarded}
+use Rattle.chp_syntax.specs.Trees.{Statement, follows, besides, selects, Statements, and_member, Arms, and_arm, Procedure}
 use Rattle.chp_syntax.specs.View.{expression_of, statement_of, procedure_of, guarded_of, and_guarded, onto}
 use Rattle.chp_syntax.proofs.Rows.{then_tree, beside_tree, select_tree}
 use Rattle.width_check.specs.Walk.{statements_in, arms_in}

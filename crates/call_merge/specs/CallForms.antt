@@ -1,5 +1,5 @@
 -- How many statements and expressions a tree is made of.
-use Rattle.std.specs.Prelude.{ℕ, suc, ◌+◌, ◌-◌, ◌^◌, min}
+use Rattle.std.specs.Prelude.{ℕ, ◌+◌, ◌-◌, ◌^◌, min}
 use Rattle.chp_syntax.specs.Trees.{Expression, join, negation, chain, Expressions, no_parts, and_part, Links, no_links, and_link, Statement, assigns, sends, follows, besides, selects, repeats, Statements, no_members, and_member, Arms, no_arms, and_arm}
 
 abbrev mutual

@@ -1,5 +1,5 @@
 -- The program in which each call is its procedure's body.
-use Rattle.std.specs.Prelude.{◌≡◌, ◌<◌, ℕ, List, [], ◌++◌, map, find, Option, Some, None}
+use Rattle.std.specs.Prelude.{◌≡◌, ◌<◌, ℕ, List, [], ◌++◌, find, Option, Some, None}
 use Rattle.std.specs.Str.{bytes_eq}
 use Rattle.chp_syntax.specs.declared.tree.Ident.{Ident}
 use Rattle.chp_syntax.specs.declared.tree.Decl.{Decl}

@@ -1,19 +1,15 @@
-use Rattle.std.proofs.Common.{rules, ◌≡◌, sym, subst}
-use Rattle.std.proofs.lemmas.Result.{IfErr-weaker, on_ok_weaker}
-use Rattle.chp_base.specs.declared.fault.FaultCode.{FaultCode}
+use Rattle.std.proofs.Common.{rules, sym, subst}
 use Rattle.chp_base.specs.declared.fault.FaultCode.TheVariants as code
 use Rattle.chp_syntax.specs.Shape.{IsShaped}
 use Rattle.chp_syntax.specs.Trees.{ProgramTree}
 use Rattle.chp_syntax.specs.View.{program_tree}
 use Rattle.width_check.specs.Calls.{IsCallFree}
-use Rattle.width_check.specs.Faults.{naming_faults, HasNone, IsFirstFault}
+use Rattle.width_check.specs.Faults.{naming_faults, HasNone}
 use Rattle.width_check.specs.Processes.{Process}
-use Rattle.width_check.specs.Sharing.{IsUnshared, IsFirstShared}
+use Rattle.width_check.specs.Sharing.{IsUnshared}
 use Rattle.width_check.specs.View.{process_of}
 use Rattle.call_merge.specs.CallEnds.{IfRefusedCall}
-use Rattle.call_merge.specs.CallSites.{calls_process}
 use Rattle.call_merge.proofs.CallEndings.{IsFirstOf, refused_names, nested_first, unused_first, shared_ends, shared_met}
-use Rattle.call_merge.proofs.CallRefusals.{meets_calling}
 use Rattle.call_merge.proofs.CallsAlone.{calls_shaped, calls_call_free, few_channels}
 use Rattle.call_merge.proofs.OnlySends.{variables_unshared, receives_unshared, typed_calls}
 use Rattle.call_merge.proofs.causes.refuse_calls.Goals as goal

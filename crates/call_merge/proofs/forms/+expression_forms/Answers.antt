@@ -1,4 +1,4 @@
-use Rattle.std.proofs.Common.{◌≡◌, ap, ◌∙◌}
+use Rattle.std.proofs.Common.{ap, ◌∙◌}
 use Rattle.chp_syntax.specs.declared.tree.Expr.{Expr}
 use Rattle.chp_syntax.specs.View.{expression_of}
 use Rattle.call_merge.specs.CallForms.{capped_forms, expression_forms}

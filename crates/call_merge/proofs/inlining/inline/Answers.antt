@@ -1,10 +1,10 @@
-use Rattle.std.proofs.Common.{rules, ◌≡◌, ◌≤◌, ◌++◌, List, [], length, map, sym, ap, ◌∙◌, subst, arith}
+use Rattle.std.proofs.Common.{rules, ◌≡◌, ◌≤◌, ◌++◌, List, length, map, sym, ap, ◌∙◌, arith}
 use Rattle.chp_syntax.specs.declared.tree.Decl.{Decl}
 use Rattle.chp_syntax.specs.declared.tree.Proc.{Proc}
-use Rattle.chp_syntax.specs.Trees.{Procedure, ProgramTree}
+use Rattle.chp_syntax.specs.Trees.{ProgramTree}
 use Rattle.chp_syntax.specs.View.{program_tree, procedure_of, statement_of}
 use Rattle.call_merge.specs.Bodies.{procedures_of}
-use Rattle.call_merge.specs.CallEnds.{IfRefusedCall, IfTooManyForms}
+use Rattle.call_merge.specs.CallEnds.{IfTooManyForms}
 use Rattle.call_merge.specs.CallFaults.{MeetsCalling}
 use Rattle.call_merge.specs.CallSplits.{all_own_readers, all_names, own_names, split_procedures}
 use Rattle.call_merge.specs.CallForms.{capped_forms, statement_forms, most_forms}

@@ -1,4 +1,3 @@
-use Rattle.std.proofs.Common.{◌≡◌}
 use Rattle.call_merge.proofs.NamesAdded.{name_added}
 use Rattle.call_merge.proofs.inlining.names_of.Goals as goal
 

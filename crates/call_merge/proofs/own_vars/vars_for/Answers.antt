@@ -1,5 +1,3 @@
-use Rattle.std.proofs.Common.{List, ℕ, sym, ap, ◌∙◌, subst}
-use Rattle.std.specs.Prelude.{All}
 use Rattle.std.specs.HashSet.{contains}
 use Rattle.std.specs.Str.{bytes_eq}
 use Rattle.std.proofs.lemmas.List.Elements.{All-nil, All-push}

@@ -1,4 +1,4 @@
-use Rattle.std.proofs.Common.{◌≡◌, length, List, ℕ, sym, ap, ◌∙◌, rules}
+use Rattle.std.proofs.Common.{length, sym, ◌∙◌, rules}
 use Rattle.std.proofs.lemmas.List.{get_or_read}
 use Rattle.chp_syntax.specs.declared.tree.Stmt.{the_lemmas}
 use Rattle.chp_syntax.specs.View.{statement_of}

@@ -1,8 +1,7 @@
-use Rattle.std.proofs.Common.{◌≡◌, List, [], map, ap, ◌∙◌}
-use Rattle.chp_syntax.specs.declared.tree.Ident.{Ident}
+use Rattle.std.proofs.Common.{List, map, ap, ◌∙◌}
 use Rattle.chp_syntax.specs.declared.tree.Stmt.{Stmt}
-use Rattle.chp_syntax.specs.Trees.{Expression, whole, assigns, follows, no_members, and_member}
-use Rattle.chp_syntax.specs.View.{statement_of, expression_of, onto}
+use Rattle.chp_syntax.specs.Trees.{follows, no_members, and_member}
+use Rattle.chp_syntax.specs.View.{statement_of, onto}
 use Rattle.chp_syntax.proofs.Rows.{then_tree}
 use Rattle.call_merge.proofs.OwnHalves.{halves}
 use Rattle.call_merge.proofs.splits.through_own.Goals as goal
