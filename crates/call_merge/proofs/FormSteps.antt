@@ -1,4 +1,4 @@
--- Forms of members capped_forms one after the other.
+-- The forms of members, when all of them were counted.
 use Rattle.std.proofs.Common.{◌≡◌, ℕ, ◌+◌, ◌<◌, ◌≤◌, ◌^◌, Bool, List, length, get_or, drop, sym, ap, ◌∙◌, arith}
 use Rattle.std.specs.declared.alloc.Global.{Global}
 use Rattle.std.specs.declared.boxed.Box.{Box}
@@ -14,23 +14,7 @@ use Rattle.width_check.specs.Walk.{join_parts, links_in, statements_in, arms_in}
 use Rattle.width_check.proofs.Lists.{join_is, chain_is, then_is, beside_is, select_is, parts_more, parts_end, links_more, links_end, members_more, members_end, arms_more, arms_end}
 use Rattle.call_merge.specs.CallForms.{capped_forms, expression_forms, forms_of_parts, forms_of_links, statement_forms, forms_of_members, forms_of_arms}
 use Rattle.call_merge.specs.Inlining.{inlined_statement, inlined_members, inlined_arms}
-use Rattle.call_merge.proofs.Counting.{counted_more, counted_none}
-
-pub part_counted : (es : List Expr) (i : ℕ) (e : Expr) (old add new whole : ℕ) → i < length es → e ≡ get_or es i e
-    → capped_forms (old + forms_of_parts (join_parts (drop i es))) ≡ whole → add ≡ capped_forms (expression_forms (expression_of e))
-    → new ≡ capped_forms (old + add)
-    → capped_forms (new + forms_of_parts (join_parts (drop (i + 1) es))) ≡ whole
-part_counted es i e old add new whole within is so_far here next =
-    counted_more old add new (expression_forms (expression_of e)) (forms_of_parts (join_parts (drop (i + 1) es))) whole
-    (ap (λ (us : Expressions). capped_forms (old + forms_of_parts us)) (sym (parts_more es i e within is)) ∙ so_far) here next
-
-pub link_counted : (ls : List Link) (i : ℕ) (l : Link) (old add new whole : ℕ) → i < length ls → l ≡ get_or ls i l
-    → capped_forms (old + forms_of_links (links_in (drop i ls))) ≡ whole → add ≡ capped_forms (expression_forms (expression_of l.right))
-    → new ≡ capped_forms (old + add)
-    → capped_forms (new + forms_of_links (links_in (drop (i + 1) ls))) ≡ whole
-link_counted ls i l old add new whole within is so_far here next =
-    counted_more old add new (expression_forms (expression_of l.right)) (forms_of_links (links_in (drop (i + 1) ls))) whole
-    (ap (λ (us : Links). capped_forms (old + forms_of_links us)) (sym (links_more ls i l within is)) ∙ so_far) here next
+use Rattle.call_merge.proofs.Counting.{counted_none}
 
 pub join_counted : (e : Expr) (v : Vec Expr Global) (at : Span) (es : List Expr) (i : ℕ) (new : ℕ) → e ≡ Join v at → es ≡ v.items → length es ≤ i
     → new < 2 ^ 64 → capped_forms (new + forms_of_parts (join_parts (drop i es))) ≡ capped_forms (1 + forms_of_parts (join_parts es))
@@ -60,29 +44,6 @@ inlined_forms procs us = forms_of_members (inlined_members procs us)
 
 abbrev pub inlined_arm_forms : List Procedure → Arms → ℕ
 inlined_arm_forms procs xs = forms_of_arms (inlined_arms procs xs)
-
-pub member_counted : (procs : List Procedure) (ss : List Stmt) (i : ℕ) (s : Stmt) (old add new whole : ℕ) → i < length ss → s ≡ get_or ss i s
-    → capped_forms (old + inlined_forms procs (statements_in (drop i ss))) ≡ whole
-    → add ≡ capped_forms (statement_forms (inlined_statement procs (statement_of s))) → new ≡ capped_forms (old + add)
-    → capped_forms (new + inlined_forms procs (statements_in (drop (i + 1) ss))) ≡ whole
-member_counted procs ss i s old add new whole within is so_far here next =
-    counted_more old add new (statement_forms (inlined_statement procs (statement_of s))) (inlined_forms procs (statements_in (drop (i + 1) ss))) whole
-    (ap (λ (us : Statements). capped_forms (old + inlined_forms procs us)) (sym (members_more ss i s within is)) ∙ so_far) here next
-
-pub arm_counted : (procs : List Procedure) (xs : List Arm) (i : ℕ) (a : Arm) (old first mid add new whole : ℕ) → i < length xs → a ≡ get_or xs i a
-    → capped_forms (old + inlined_arm_forms procs (arms_in (drop i xs))) ≡ whole
-    → first ≡ capped_forms (expression_forms (expression_of a.guard)) → mid ≡ capped_forms (old + first)
-    → add ≡ capped_forms (statement_forms (inlined_statement procs (statement_of a.body))) → new ≡ capped_forms (mid + add)
-    → capped_forms (new + inlined_arm_forms procs (arms_in (drop (i + 1) xs))) ≡ whole
-arm_counted procs xs i a old first mid add new whole within is so_far guard with_guard here next =
-    let g = expression_forms (expression_of a.guard) in
-    let b = statement_forms (inlined_statement procs (statement_of a.body)) in
-    let rest = inlined_arm_forms procs (arms_in (drop (i + 1) xs)) in
-    let begun : capped_forms (old + (g + b + rest)) ≡ whole =
-    ap (λ (us : Arms). capped_forms (old + inlined_arm_forms procs us)) (sym (arms_more xs i a within is)) ∙ so_far in
-    let grouped : capped_forms (old + (g + (b + rest))) ≡ whole =
-    (let e : old + (g + (b + rest)) ≡ old + (g + b + rest) = omega arith in ap capped_forms e ∙ begun) in
-    counted_more mid add new b rest whole (counted_more old first mid g (b + rest) whole grouped guard with_guard) here next
 
 pub then_counted : (procs : List Procedure) (s : Stmt) (v : Vec Stmt Global) (ss : List Stmt) (i : ℕ) (new : ℕ) → s ≡ Then v → ss ≡ v.items → length ss ≤ i
     → new < 2 ^ 64 → capped_forms (new + inlined_forms procs (statements_in (drop i ss))) ≡ capped_forms (1 + inlined_forms procs (statements_in ss))

@@ -20,3 +20,4 @@ pub mod Shapes
 pub mod CallsGone
 pub mod OwnCounts
 pub mod FirstFound
+pub mod InlineExamples

@@ -48,15 +48,3 @@ pub no_body : (bs : List Body) (name : List ℕ) → ¬ Contains (body_names bs)
 no_body [] name none = refl
 no_body (b ∷ bs) name none = not_here b bs name (bytes_eq b.procedure.name.name name) refl none
     (no_body bs name (λ c. none (in_rest b.procedure.name.name name (body_names bs) c)))
-
--- the forms of what a call is replaced by
-
-pub forms_found : (procs : List Procedure) (name : List ℕ) (b : Body) (n : ℕ) → procedure_named procs name ≡ Some (procedure_of b.procedure) → n ≡ b.forms
-    → b.forms ≡ capped_forms (statement_forms (statement_of b.procedure.body)) → (of : Ident) → of.name ≡ name
-    → n ≡ capped_forms (statement_forms (body_or_call (procedure_named procs of.name) of))
-forms_found procs name b n found is counts of same =
-    is ∙ (counts ∙ sym (ap (λ o. capped_forms (statement_forms (body_or_call o of))) (ap (procedure_named procs) same ∙ found)))
-
-pub forms_lacking : (procs : List Procedure) (name : List ℕ) → procedure_named procs name ≡ None → (of : Ident) → of.name ≡ name
-    → 1 ≡ capped_forms (statement_forms (body_or_call (procedure_named procs of.name) of))
-forms_lacking procs name none of same = sym (ap (λ o. capped_forms (statement_forms (body_or_call o of))) (ap (procedure_named procs) same ∙ none))

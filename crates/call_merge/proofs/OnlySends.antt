@@ -101,18 +101,6 @@ variables_unshared p a b h = no_variable a.deed b.deed (parallel_sends _ p.body 
 pub receives_unshared : (p : ProgramTree) → IsUnshared (calls_process p) code.SharedReceive
 receives_unshared p a b h = no_receive a.deed b.deed (parallel_sends _ p.body a b h)
 
--- a fault of sharing there is of sends
-
-unshared_at : (body : Process) (c : FaultCode) (s t : Span) → IsUnshared body c → ¬ IsFirstShared body c s t
-unshared_at body c s t none h = none h.shared.a h.shared.b h.shared.parallel h.shared.clash
-
-pub sends_alone : (body : Process) (c : FaultCode) (s t : Span) → IsUnshared body code.SharedVariable → IsUnshared body code.SharedReceive
-    → IsFirstSharedFault body sharing_faults c s t → IsFirstShared body code.SharedSend s t
-sends_alone body c s t vars takes (inl h) = absurd (unshared_at body code.SharedVariable s t vars h.1)
-sends_alone body c s t vars takes (inr (k, inl h)) = h.1
-sends_alone body c s t vars takes (inr (k, inr (l, inl h))) = absurd (unshared_at body code.SharedReceive s t takes h.1)
-sends_alone body c s t vars takes (inr (k, inr (l, inr h))) = absurd h.1
-
 -- the typed program of calls alone
 
 pub typed_calls : (p : ProgramTree) (tree : ProgramTree) (typed : TypedValue) → tree ≡ calls_program p → program_of typed ≡ typed_form tree →
