@@ -1,5 +1,5 @@
 -- The forms of members, when all of them were counted.
-use Rattle.std.proofs.Common.{◌≡◌, ℕ, ◌+◌, ◌<◌, ◌≤◌, ◌^◌, Bool, List, length, get_or, drop, sym, ap, ◌∙◌, arith}
+use Rattle.std.proofs.Common.{◌≡◌, ℕ, ◌+◌, ◌<◌, ◌≤◌, ◌^◌, Bool, List, length, drop, sym, ap, ◌∙◌, arith}
 use Rattle.std.specs.declared.alloc.Global.{Global}
 use Rattle.std.specs.declared.boxed.Box.{Box}
 use Rattle.std.specs.declared.vec.Vec.{Vec}
@@ -11,7 +11,7 @@ use Rattle.chp_syntax.specs.declared.tree.Stmt.{Stmt, Then, Beside, Select}
 use Rattle.chp_syntax.specs.Trees.{Procedure, Expressions, Links, Statements, Arms}
 use Rattle.chp_syntax.specs.View.{expression_of, statement_of}
 use Rattle.width_check.specs.Walk.{join_parts, links_in, statements_in, arms_in}
-use Rattle.width_check.proofs.Lists.{join_is, chain_is, then_is, beside_is, select_is, parts_more, parts_end, links_more, links_end, members_more, members_end, arms_more, arms_end}
+use Rattle.width_check.proofs.Lists.{join_is, chain_is, then_is, beside_is, select_is, parts_end, links_end, members_end, arms_end}
 use Rattle.call_merge.specs.CallForms.{capped_forms, expression_forms, forms_of_parts, forms_of_links, statement_forms, forms_of_members, forms_of_arms}
 use Rattle.call_merge.specs.Inlining.{inlined_statement, inlined_members, inlined_arms}
 use Rattle.call_merge.proofs.Counting.{counted_none}

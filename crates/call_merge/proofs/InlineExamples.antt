@@ -1,6 +1,6 @@
 -- A small program by hand: a procedure whose assignment reads its own target, called twice, without its procedure.
-use Rattle.std.proofs.Common.{◌≡◌, ℕ, ◌+◌, ◌<◌, true, false, List, [], ◌∷◌, ◌++◌, refl, sym, ap, ◌∙◌, arith}
-use Rattle.std.specs.Prelude.{codes, decimal, Contains}
+use Rattle.std.proofs.Common.{◌≡◌, ℕ, ◌+◌, true, false, List, [], ◌∷◌, ◌++◌, refl, sym, ap, ◌∙◌, arith}
+use Rattle.std.specs.Prelude.{codes}
 use Rattle.std.specs.List.{list_any}
 use Rattle.std.specs.Str.{bytes_eq}
 use Rattle.std.proofs.lemmas.Fmt.{decimal_digit}
@@ -12,8 +12,8 @@ use Rattle.chp_syntax.specs.declared.tree.Op.TheVariants.{Add}
 use Rattle.chp_syntax.specs.Trees.{Expression, number, whole, chain, no_links, and_link, Statement, assigns, sends, follows, calls, no_members, and_member, ProgramTree}
 use Rattle.width_check.proofs.Doubles.{any_there}
 use Rattle.call_merge.specs.CallForms.{statement_forms}
-use Rattle.call_merge.specs.CallSplits.{all_names, own_name, IsLeastFree}
-use Rattle.call_merge.specs.Inlining.{inlined_with, IsInlined}
+use Rattle.call_merge.specs.CallSplits.{all_names, IsLeastFree}
+use Rattle.call_merge.specs.Inlining.{IsInlined}
 
 abbrev place : ℕ → Span
 place n = record { from = n; to = n + 1 }

@@ -1,18 +1,15 @@
 -- Procedures that are found in a table of their names.
-use Rattle.std.proofs.Common.{◌≡◌, ℕ, zero, suc, ◌<◌, Bool, true, false, List, [], ◌∷◌, length, map, get_or, Some, None, refl, sym, ap, ◌∙◌, subst, arith}
+use Rattle.std.proofs.Common.{◌≡◌, ℕ, zero, suc, ◌<◌, Bool, true, false, List, [], ◌∷◌, length, map, get_or, Some, None, refl, subst, arith}
 use Rattle.std.specs.Prelude.{Contains, slice_get}
 use Rattle.std.specs.List.{IsDistinct, AllByRecursion}
 use Rattle.std.specs.Str.{bytes_eq}
 use Rattle.std.proofs.lemmas.Map.Keys.{IsDistinct-head, IsDistinct-tail}
 use Rattle.std.proofs.lemmas.Slice.Eq.{bytes_eq-Decides}
-use Rattle.chp_syntax.specs.declared.tree.Ident.{Ident}
-use Rattle.chp_syntax.specs.Trees.{Procedure}
-use Rattle.chp_syntax.specs.View.{procedure_of, statement_of}
+use Rattle.chp_syntax.specs.View.{procedure_of}
 use Rattle.width_check.proofs.Least.{in_rest}
 use Rattle.call_merge.specs.declared.bodies.Body.{Body}
 use Rattle.call_merge.specs.Bodies.{procedures_of}
-use Rattle.call_merge.specs.CallForms.{capped_forms, statement_forms}
-use Rattle.call_merge.specs.Inlining.{procedure_named, body_or_call}
+use Rattle.call_merge.specs.Inlining.{procedure_named}
 
 abbrev pub body_names : List Body → List (List ℕ)
 body_names bs = map (λ (b : Body). b.procedure.name.name) bs
