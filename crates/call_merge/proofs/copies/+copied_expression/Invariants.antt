@@ -1,0 +1,12 @@
+use Rattle.std.proofs.Common.{◌≡◌, map, take}
+use Rattle.chp_syntax.specs.View.{expression_of, link_of}
+use Rattle.call_merge.proofs.copies.+copied_expression.Given as goal
+
+abbrev pub invariant-loop-part : goal.invariant-loop-part
+invariant-loop-part l = map expression_of l.made.items ≡ map expression_of (take l.part-index l.part-items)
+
+abbrev pub invariant-loop-link : goal.invariant-loop-link
+invariant-loop-link l = record {
+  made : map link_of l.made.items ≡ map link_of (take l.link-index l.link-items);
+  front : l.front ≡ l.initial.front;
+}

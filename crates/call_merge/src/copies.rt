@@ -1,0 +1,147 @@
+//! Copies of the parts of a program.
+
+ghost use Rattle.std.specs.Prelude.{◌≡◌, IfOk};
+ghost use Rattle.chp_syntax.specs.View.{expression_of, statement_of};
+
+use chp_syntax::{Arm, Decl, Expr, Ident, Link, Stmt};
+use std::alloc::{AllocError, Global};
+
+/// Copies a name with its place.
+pub(crate) fn copied_name(of: &Ident) -> Result<Ident, AllocError>
+    ensures { IfOk result (λ made. made ≡ of.now) }
+{
+    Ok(Ident {
+        name: of.name.copy()?,
+        at: of.at,
+    })
+}
+
+/// Copies the declarations.
+pub(crate) fn copied_decls(alloc: Global, decls: &[Decl]) -> Result<Vec<Decl>, AllocError>
+    ensures { IfOk result (λ made. made.items ≡ decls.now) }
+{
+    let mut made = Vec::new(alloc);
+    for decl in decls {
+        made.push(Decl {
+            kind: decl.kind,
+            name: copied_name(&decl.name)?,
+            width: decl.width,
+            width_at: decl.width_at,
+            first: decl.first,
+            first_at: decl.first_at,
+        })?;
+    }
+    Ok(made)
+}
+
+/// Copies an expression.
+pub(crate) fn copied_expression(alloc: Global, e: &Expr) -> Result<Expr, AllocError>
+    ensures { IfOk result (λ made. expression_of made ≡ expression_of e.now) }
+{
+    match e {
+        Expr::Number { value, at } => Ok(Expr::Number {
+            value: *value,
+            at: *at,
+        }),
+        Expr::Whole { of } => Ok(Expr::Whole {
+            of: copied_name(of)?,
+        }),
+        Expr::Slice { of, high, low, at } => Ok(Expr::Slice {
+            of: copied_name(of)?,
+            high: *high,
+            low: *low,
+            at: *at,
+        }),
+        Expr::Bit { of, place, at } => Ok(Expr::Bit {
+            of: copied_name(of)?,
+            place: *place,
+            at: *at,
+        }),
+        Expr::Join { parts, at } => {
+            let mut made = Vec::new(alloc);
+            for part in parts {
+                made.push(copied_expression(alloc, part)?)?;
+            }
+            Ok(Expr::Join {
+                parts: made,
+                at: *at,
+            })
+        }
+        Expr::Not { inner, at } => {
+            let made = copied_expression(alloc, inner)?;
+            Ok(Expr::Not {
+                inner: Box::new(alloc, made)?,
+                at: *at,
+            })
+        }
+        Expr::Chain { first, rest, at } => {
+            let front = copied_expression(alloc, first)?;
+            let mut made = Vec::new(alloc);
+            for link in rest {
+                let right = copied_expression(alloc, &link.right)?;
+                made.push(Link { op: link.op, right })?;
+            }
+            Ok(Expr::Chain {
+                first: Box::new(alloc, front)?,
+                rest: made,
+                at: *at,
+            })
+        }
+    }
+}
+
+/// Copies a statement.
+pub(crate) fn copied(alloc: Global, s: &Stmt) -> Result<Stmt, AllocError>
+    ensures { IfOk result (λ made. statement_of made ≡ statement_of s.now) }
+{
+    match s {
+        Stmt::Skip { at } => Ok(Stmt::Skip { at: *at }),
+        Stmt::Assign { target, value } => Ok(Stmt::Assign {
+            target: copied_name(target)?,
+            value: copied_expression(alloc, value)?,
+        }),
+        Stmt::Send { chan, value } => Ok(Stmt::Send {
+            chan: copied_name(chan)?,
+            value: copied_expression(alloc, value)?,
+        }),
+        Stmt::Receive { chan, target } => Ok(Stmt::Receive {
+            chan: copied_name(chan)?,
+            target: copied_name(target)?,
+        }),
+        Stmt::Then { parts } => {
+            let mut made = Vec::new(alloc);
+            for part in parts {
+                made.push(copied(alloc, part)?)?;
+            }
+            Ok(Stmt::Then { parts: made })
+        }
+        Stmt::Beside { parts } => {
+            let mut made = Vec::new(alloc);
+            for branch in parts {
+                made.push(copied(alloc, branch)?)?;
+            }
+            Ok(Stmt::Beside { parts: made })
+        }
+        Stmt::Select { again, arms } => {
+            let mut made = Vec::new(alloc);
+            for arm in arms {
+                let guard = copied_expression(alloc, &arm.guard)?;
+                let body = copied(alloc, &arm.body)?;
+                made.push(Arm { guard, body })?;
+            }
+            Ok(Stmt::Select {
+                again: *again,
+                arms: made,
+            })
+        }
+        Stmt::Repeat { body } => {
+            let made = copied(alloc, body)?;
+            Ok(Stmt::Repeat {
+                body: Box::new(alloc, made)?,
+            })
+        }
+        Stmt::Call { of } => Ok(Stmt::Call {
+            of: copied_name(of)?,
+        }),
+    }
+}
