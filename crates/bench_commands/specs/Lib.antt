@@ -1,3 +1,4 @@
+pub mod Boxes
 pub mod Peers
 pub mod HandedIn
 pub mod OnBench

@@ -3,11 +3,11 @@
 ghost use Rattle.std.specs.Prelude.{◌≡◌, ◌+◌, ◌*◌, ◌<◌, ◌≤◌, ◌∷◌, [], length, map, slice_get, IfOk, IfErr, IfSome, OnOk, Some};
 ghost use Rattle.command_answers.specs.Answers.{given_by};
 ghost use Rattle.command_answers.specs.Replies.{Stops, stop_status, told_answer};
-ghost use Rattle.command_steps.specs.Orders.{order_state, place_named};
+ghost use Rattle.command_steps.specs.Orders.{place_named};
 ghost use Rattle.command_words.specs.BenchWords.{bench_asked};
 ghost use Rattle.event_sim.specs.Simulating.{growth};
-ghost use Rattle.peer_bench.specs.Asking.{PeerValue, peer_value};
 ghost use Rattle.peer_bench.specs.Benches.{external_channels};
+ghost use Rattle.bench_commands.specs.Boxes.{order_seen, peer_seen};
 ghost use Rattle.bench_commands.specs.HandedIn.{StayHandedIn, handed_over};
 ghost use Rattle.bench_commands.specs.OnBench.{AgainstPeer, Benches, BenchesAt, BenchesNet, setup_for};
 ghost use Rattle.bench_commands.specs.Peers.{KeepsPeers, peer_named, peered_over};
@@ -46,8 +46,8 @@ fn make_ready(peer: &mut Box<dyn Peer>, notes: u32) -> Result<(), AllocError>
     peer.make_room(notes)
 }
 
-/// Runs the net against the device at this place, by the order's choices, and reports the run. Both have room for it. The
-/// devices are taken for the run, and given back after it.
+/// Runs the net against the device at this place, by the order's choices, and reports the run. Both have room for it.
+/// The devices are taken for the run, and given back after it.
 fn report_on(
     alloc: Global,
     picker: &mut Box<dyn Picker>,
@@ -63,21 +63,13 @@ fn report_on(
     requires room { IfSome (slice_get peers.old.items which) (λ p. 2 * steps + 1 + external_channels net ≤
         (⟦<dyn Peer as Peer>⟧ p.vtable).spare p.value) }
     ensures answered { IfOk result (λ output. RunsAgainst (setup_for net steps)
-        ((⟦<dyn Picker as Picker>⟧ picker.old.vtable).log picker.old.value)
-        ((⟦<dyn Picker as Picker>⟧ picker.new.vtable).log picker.new.value) (peered_over
-        (λ peer. peer_value ((⟦<dyn Peer as Peer>⟧ peer.vtable).name peer.value)
-        ((⟦<dyn Peer as Peer>⟧ peer.vtable).log peer.value) ((⟦<dyn Peer as Peer>⟧ peer.vtable).spare peer.value)
-        (due peer) (willing peer))
-        peers.old.items peers.new.items)
+        (order_seen Picker-box picker.old).log
+        (order_seen Picker-box picker.new).log (peered_over (peer_seen Peer-box) peers.old.items peers.new.items)
         which (told_answer output)) }
-    ensures name { (⟦<dyn Picker as Picker>⟧ picker.new.vtable).name picker.new.value ≡
-        (⟦<dyn Picker as Picker>⟧ picker.old.vtable).name picker.old.value }
+    ensures name { (order_seen Picker-box picker.new).name ≡
+        (order_seen Picker-box picker.old).name }
     ensures seeded { seeded picker.new ≡ seeded picker.old }
-    ensures peers { KeepsPeers (Some which) (peered_over
-        (λ peer. peer_value ((⟦<dyn Peer as Peer>⟧ peer.vtable).name peer.value)
-        ((⟦<dyn Peer as Peer>⟧ peer.vtable).log peer.value) ((⟦<dyn Peer as Peer>⟧ peer.vtable).spare peer.value)
-        (due peer) (willing peer))
-        peers.old.items peers.new.items) }
+    ensures peers { KeepsPeers (Some which) (peered_over (peer_seen Peer-box) peers.old.items peers.new.items) }
     ensures peers_others { OthersStay (Some which) peers.old.items peers.new.items }
 {
     let taken = mem::replace(peers, Vec::new(alloc));
@@ -106,22 +98,12 @@ fn bench_with(
     requires which { which < length peers.old.items }
     requires steps { asked.now.steps ≤ 1000000 }
     ensures answered { IfOk result (λ output. AgainstPeer (setup_for net asked.now.steps) asked.now.seed
-        (order_state ((⟦<dyn Picker as Picker>⟧ picker.old.vtable).name picker.old.value)
-        ((⟦<dyn Picker as Picker>⟧ picker.old.vtable).log picker.old.value) (seeded picker.old))
-        (order_state ((⟦<dyn Picker as Picker>⟧ picker.new.vtable).name picker.new.value)
-        ((⟦<dyn Picker as Picker>⟧ picker.new.vtable).log picker.new.value) (seeded picker.new)) (peered_over
-        (λ peer. peer_value ((⟦<dyn Peer as Peer>⟧ peer.vtable).name peer.value)
-        ((⟦<dyn Peer as Peer>⟧ peer.vtable).log peer.value) ((⟦<dyn Peer as Peer>⟧ peer.vtable).spare peer.value)
-        (due peer) (willing peer))
-        peers.old.items peers.new.items)
+        (order_seen Picker-box picker.old)
+        (order_seen Picker-box picker.new) (peered_over (peer_seen Peer-box) peers.old.items peers.new.items)
         which (told_answer output)) }
-    ensures name { (⟦<dyn Picker as Picker>⟧ picker.new.vtable).name picker.new.value ≡
-        (⟦<dyn Picker as Picker>⟧ picker.old.vtable).name picker.old.value }
-    ensures peers { KeepsPeers (Some which) (peered_over
-        (λ peer. peer_value ((⟦<dyn Peer as Peer>⟧ peer.vtable).name peer.value)
-        ((⟦<dyn Peer as Peer>⟧ peer.vtable).log peer.value) ((⟦<dyn Peer as Peer>⟧ peer.vtable).spare peer.value)
-        (due peer) (willing peer))
-        peers.old.items peers.new.items) }
+    ensures name { (order_seen Picker-box picker.new).name ≡
+        (order_seen Picker-box picker.old).name }
+    ensures peers { KeepsPeers (Some which) (peered_over (peer_seen Peer-box) peers.old.items peers.new.items) }
     ensures peers_others { OthersStay (Some which) peers.old.items peers.new.items }
 {
     let room = Room {
@@ -147,20 +129,10 @@ fn bench_net(
     requires place { place < length orders.old.items }
     requires which { which < length peers.old.items }
     requires steps { asked.now.steps ≤ 1000000 }
-    ensures answered { IfOk result (λ output. BenchesNet (handed_over
-        (λ order. order_state ((⟦<dyn Picker as Picker>⟧ order.vtable).name order.value)
-        ((⟦<dyn Picker as Picker>⟧ order.vtable).log order.value) (seeded order))
-        (λ peer. peer_value ((⟦<dyn Peer as Peer>⟧ peer.vtable).name peer.value)
-        ((⟦<dyn Peer as Peer>⟧ peer.vtable).log peer.value) ((⟦<dyn Peer as Peer>⟧ peer.vtable).spare peer.value)
-        (due peer) (willing peer))
+    ensures answered { IfOk result (λ output. BenchesNet (handed_over (order_seen Picker-box) (peer_seen Peer-box)
         orders.old.items orders.new.items peers.old.items peers.new.items)
         place which asked.now.seed (setup_for net asked.now.steps) (told_answer output)) }
-    ensures stay { StayHandedIn
-        (λ order. order_state ((⟦<dyn Picker as Picker>⟧ order.vtable).name order.value)
-        ((⟦<dyn Picker as Picker>⟧ order.vtable).log order.value) (seeded order))
-        (λ peer. peer_value ((⟦<dyn Peer as Peer>⟧ peer.vtable).name peer.value)
-        ((⟦<dyn Peer as Peer>⟧ peer.vtable).log peer.value) ((⟦<dyn Peer as Peer>⟧ peer.vtable).spare peer.value)
-        (due peer) (willing peer))
+    ensures stay { StayHandedIn (order_seen Picker-box) (peer_seen Peer-box)
         (Some place) (Some which)
         orders.old.items orders.new.items peers.old.items peers.new.items }
 {
@@ -181,30 +153,15 @@ fn bench_at<'a, S: Shelf>(
     requires which { which < length peers.old.items }
     requires steps { asked.now.steps ≤ 1000000 }
     ensures answered { IfOk result (λ output. BenchesAt (bench_asked asked.now)
-        (given_by (S.tells shelf.old) (S.holds shelf.old)) (handed_over
-        (λ order. order_state ((⟦<dyn Picker as Picker>⟧ order.vtable).name order.value)
-        ((⟦<dyn Picker as Picker>⟧ order.vtable).log order.value) (seeded order))
-        (λ peer. peer_value ((⟦<dyn Peer as Peer>⟧ peer.vtable).name peer.value)
-        ((⟦<dyn Peer as Peer>⟧ peer.vtable).log peer.value) ((⟦<dyn Peer as Peer>⟧ peer.vtable).spare peer.value)
-        (due peer) (willing peer))
+        (given_by (S.tells shelf.old) (S.holds shelf.old)) (handed_over (order_seen Picker-box) (peer_seen Peer-box)
         orders.old.items orders.new.items peers.old.items peers.new.items)
         place which (told_answer output)) }
     ensures stopped { IfErr result (Stops (BenchesAt (bench_asked asked.now)
-        (given_by (S.tells shelf.old) (S.holds shelf.old)) (handed_over
-        (λ order. order_state ((⟦<dyn Picker as Picker>⟧ order.vtable).name order.value)
-        ((⟦<dyn Picker as Picker>⟧ order.vtable).log order.value) (seeded order))
-        (λ peer. peer_value ((⟦<dyn Peer as Peer>⟧ peer.vtable).name peer.value)
-        ((⟦<dyn Peer as Peer>⟧ peer.vtable).log peer.value) ((⟦<dyn Peer as Peer>⟧ peer.vtable).spare peer.value)
-        (due peer) (willing peer))
+        (given_by (S.tells shelf.old) (S.holds shelf.old)) (handed_over (order_seen Picker-box) (peer_seen Peer-box)
         orders.old.items orders.new.items peers.old.items peers.new.items) place which)
         (asked.now.net.now ∷ []) (given_by (S.tells shelf.old) (S.holds shelf.old))
         (S.faults shelf.old) (S.faults shelf.new)) }
-    ensures stay { StayHandedIn
-        (λ order. order_state ((⟦<dyn Picker as Picker>⟧ order.vtable).name order.value)
-        ((⟦<dyn Picker as Picker>⟧ order.vtable).log order.value) (seeded order))
-        (λ peer. peer_value ((⟦<dyn Peer as Peer>⟧ peer.vtable).name peer.value)
-        ((⟦<dyn Peer as Peer>⟧ peer.vtable).log peer.value) ((⟦<dyn Peer as Peer>⟧ peer.vtable).spare peer.value)
-        (due peer) (willing peer))
+    ensures stay { StayHandedIn (order_seen Picker-box) (peer_seen Peer-box)
         (Some place) (Some which)
         orders.old.items orders.new.items peers.old.items peers.new.items }
     ensures unasked { IfErr result (λ stop. StaysUnasked (stop_status stop) orders.old orders.new
@@ -230,35 +187,17 @@ pub fn bench<'a, S: Shelf>(
 ) -> Result<Output, Stop<'a>>
     requires { asked.now.steps ≤ 1000000 }
     ensures answered { IfOk result (λ output. Benches (bench_asked asked.now)
-        (given_by (S.tells shelf.old) (S.holds shelf.old)) (handed_over
-        (λ order. order_state ((⟦<dyn Picker as Picker>⟧ order.vtable).name order.value)
-        ((⟦<dyn Picker as Picker>⟧ order.vtable).log order.value) (seeded order))
-        (λ peer. peer_value ((⟦<dyn Peer as Peer>⟧ peer.vtable).name peer.value)
-        ((⟦<dyn Peer as Peer>⟧ peer.vtable).log peer.value) ((⟦<dyn Peer as Peer>⟧ peer.vtable).spare peer.value)
-        (due peer) (willing peer))
+        (given_by (S.tells shelf.old) (S.holds shelf.old)) (handed_over (order_seen Picker-box) (peer_seen Peer-box)
         orders.old.items orders.new.items peers.old.items peers.new.items) (told_answer output)) }
     ensures stopped { IfErr result (Stops (Benches (bench_asked asked.now)
-        (given_by (S.tells shelf.old) (S.holds shelf.old)) (handed_over
-        (λ order. order_state ((⟦<dyn Picker as Picker>⟧ order.vtable).name order.value)
-        ((⟦<dyn Picker as Picker>⟧ order.vtable).log order.value) (seeded order))
-        (λ peer. peer_value ((⟦<dyn Peer as Peer>⟧ peer.vtable).name peer.value)
-        ((⟦<dyn Peer as Peer>⟧ peer.vtable).log peer.value) ((⟦<dyn Peer as Peer>⟧ peer.vtable).spare peer.value)
-        (due peer) (willing peer))
+        (given_by (S.tells shelf.old) (S.holds shelf.old)) (handed_over (order_seen Picker-box) (peer_seen Peer-box)
         orders.old.items orders.new.items peers.old.items peers.new.items))
         (asked.now.net.now ∷ []) (given_by (S.tells shelf.old) (S.holds shelf.old))
         (S.faults shelf.old) (S.faults shelf.new)) }
-    ensures stay { StayHandedIn
-        (λ order. order_state ((⟦<dyn Picker as Picker>⟧ order.vtable).name order.value)
-        ((⟦<dyn Picker as Picker>⟧ order.vtable).log order.value) (seeded order))
-        (λ peer. peer_value ((⟦<dyn Peer as Peer>⟧ peer.vtable).name peer.value)
-        ((⟦<dyn Peer as Peer>⟧ peer.vtable).log peer.value) ((⟦<dyn Peer as Peer>⟧ peer.vtable).spare peer.value)
-        (due peer) (willing peer))
-        (place_named (map (λ order. order_state ((⟦<dyn Picker as Picker>⟧ order.vtable).name order.value)
-        ((⟦<dyn Picker as Picker>⟧ order.vtable).log order.value) (seeded order))
+    ensures stay { StayHandedIn (order_seen Picker-box) (peer_seen Peer-box)
+        (place_named (map (order_seen Picker-box)
         orders.old.items) asked.now.order.now)
-        (peer_named (map (λ peer. peer_value ((⟦<dyn Peer as Peer>⟧ peer.vtable).name peer.value)
-        ((⟦<dyn Peer as Peer>⟧ peer.vtable).log peer.value) ((⟦<dyn Peer as Peer>⟧ peer.vtable).spare peer.value)
-        (due peer) (willing peer))
+        (peer_named (map (peer_seen Peer-box)
         peers.old.items) asked.now.peer.now)
         orders.old.items orders.new.items peers.old.items peers.new.items }
     ensures unasked { IfErr result (λ stop. StaysUnasked (stop_status stop) orders.old orders.new

@@ -6,11 +6,10 @@ use Rattle.chp_edge.specs.Faults.{Rose}
 use Rattle.chp_edge.specs.declared.shelf.Shelf.{Ghosts as ShelfMembers}
 use Rattle.chp_edge.specs.declared.sink.Sink.{Ghosts as SinkMembers}
 use Rattle.event_sim.specs.declared.picker.Picker.{Ghosts as PickerMembers}
-use Rattle.peer_bench.specs.Asking.{PeerValue, peer_value}
 use Rattle.peer_bench.specs.declared.peer.Peer.{Ghosts as PeerMembers}
 use Rattle.command_answers.specs.Answers.{Given, given_by}
 use Rattle.command_words.specs.CommandWords.{Asked}
-use Rattle.command_steps.specs.Orders.{OrderState, order_state}
+use Rattle.bench_commands.specs.Boxes.{order_seen, peer_seen}
 use Rattle.bench_commands.specs.HandedIn.{HandedIn, StayHandedIn, handed_over}
 use Rattle.chp_cli.specs.Ends.{asked_order, asked_peer}
 use Rattle.chp_cli.specs.declared.players.Players.{Players}
@@ -48,18 +47,6 @@ pub record NothingFails {S : Type 0} (shelf : ShelfMembers S) (before after : S)
   pub written : ¬ Fails sink.faults first last
 
 -- ---- orders and peers, each in a box, whose ghost members its table of methods brings
-
--- what is known of an order
-abbrev pub order_seen : {B : Type 0} {Order : B → Type 0} →
-    ((box : DynBox B Global Order) → PickerMembers (Order box.vtable)) → DynBox B Global Order → OrderState
-order_seen order box = order_state ((order box).name box.value) ((order box).log box.value)
-    ((order box).seeded box.value)
-
--- and of a peer
-abbrev pub peer_seen : {D : Type 0} {Device : D → Type 0} →
-    ((box : DynBox D Global Device) → PeerMembers (Device box.vtable)) → DynBox D Global Device → PeerValue
-peer_seen peer box = peer_value ((peer box).name box.value) ((peer box).log box.value) ((peer box).spare box.value)
-    ((peer box).due box.value) ((peer box).willing box.value)
 
 -- what is known of all of them before the call and after it
 abbrev pub handed_of : {B : Type 0} {Order : B → Type 0} {D : Type 0} {Device : D → Type 0} →

@@ -35,8 +35,8 @@ abbrev pub delays_for : (reset : Bool) → TypedProgram → (n : ℕ) → ℕ
 delays_for false p n = n * (2 * sweeps_for_round p)
 delays_for true p n = suc (suc (n * (2 * sweeps_for_round p)))
 
--- Where no move takes longer than some time, a timed run whose last move comes later than so many of these times, or that
--- comes to rest, has passed all that n rounds of the program pass.
+-- Where no move takes longer than some time, a timed run whose last move comes later than so many of these times, or
+-- that comes to rest, has passed all that n rounds of the program pass.
 abbrev pub KeepsUp : (reset : Bool) → TypedProgram → TimedValue → List NotedMove → End → (time : ℕ) → Type 0
 KeepsUp reset p t moves end time = (longest n : ℕ) → TakesAtMost longest t.delays →
     (delays_for reset p n * longest < time) ⊎ (end ≡ AtRest)

@@ -44,8 +44,8 @@ abbrev pub TimedRunRests : (t : AskedTiming) (given : Given) (p : TypedProgram) 
 TimedRunRests t given p holds f =
     TimedRests holds.reset p (timing_for t f.net f.script f.delays) f.timed.moves f.timed.ran.end f.timed.time
 
--- The report is that of a timed run without a hazard. Where a program comes to rest for which `compile` writes this rule
--- file, so does the run in time, if its limit is high enough; and it keeps up with the rounds of that program.
+-- The report is that of a timed run without a hazard. Where a program comes to rest for which `compile` writes this
+-- rule file, so does the run in time, if its limit is high enough; and it keeps up with the rounds of that program.
 pub record IsCalmTiming (t : AskedTiming) (given : Given) (end : Ending) (report : List ℕ) : Type 0 where
   pub run : IsFileTimed t given (writes end report)
   pub calm : end ≢ Hazard

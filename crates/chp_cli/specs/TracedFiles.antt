@@ -38,9 +38,9 @@ abbrev pub TracedRests : (w : AskedWaves) (given : Given) (p : TypedProgram) →
 TracedRests w given p holds f =
     TimedRests holds.reset p (trace_for w f.net f.script f.delays) f.traced.moves f.traced.ran.end f.traced.time
 
--- The text is the wave of a timed run without a hazard, or the causes of its last move. Where a program comes to rest for
--- which `compile` writes this rule file, so does the run in time, if its limit is high enough; and it keeps up with the
--- rounds of that program.
+-- The text is the wave of a timed run without a hazard, or the causes of its last move. Where a program comes to rest
+-- for which `compile` writes this rule file, so does the run in time, if its limit is high enough; and it keeps up with
+-- the rounds of that program.
 pub record IsCalmTrace (w : AskedWaves) (given : Given) (end : Ending) (text : List ℕ) : Type 0 where
   pub run : IsFileTraced w given (writes end text)
   pub calm : end ≢ Hazard

@@ -65,8 +65,8 @@ fn answer<'a, S: Shelf>(
     ensures carried { IfOk result (λ reply. (c : AskedCompilation) → asked command.now ≡ compiles c →
         S.tells shelf.old ≡ true → IsFaithfulFile c (given_of S.Shelf shelf.old) (reply_bytes reply)) }
     ensures stopped { IfErr result (Stops (IsAnswer (asked command.now) (given_of S.Shelf shelf.old)
-        (handed_of Picker-box Peer-box players.old players.new)) (files_of (asked command.now)) (given_of S.Shelf shelf.old)
-        (S.faults shelf.old) (S.faults shelf.new)) }
+        (handed_of Picker-box Peer-box players.old players.new)) (files_of (asked command.now))
+        (given_of S.Shelf shelf.old) (S.faults shelf.old) (S.faults shelf.new)) }
     ensures stay { StaysBut Picker-box Peer-box (Some (asked command.now)) players.old players.new }
     ensures unasked { IfErr result (λ stop. StaysUnasked (stop_status stop) players.old players.new) }
     ensures shelf { KeepsShelf S.Shelf shelf.old shelf.new }
@@ -106,8 +106,9 @@ fn run<'a, S: Shelf, K: Sink>(
     players: &mut Players,
 ) -> End<'a>
     ensures ended { (appended : List ℕ) × Ends (asked_by words.now) (given_of S.Shelf shelf.old)
-        (handed_of Picker-box Peer-box players.old players.new) (S.faults shelf.old) (S.faults shelf.new) (K.faults out.old)
-        (K.faults out.new) (end_status result) appended (end_line result) × IsAppended K.Sink out.old out.new appended }
+        (handed_of Picker-box Peer-box players.old players.new) (S.faults shelf.old) (S.faults shelf.new)
+        (K.faults out.old) (K.faults out.new) (end_status result) appended (end_line result)
+        × IsAppended K.Sink out.old out.new appended }
     ensures carried { (c : AskedCompilation) → asked_by words.now ≡ Some (compiles c) → S.tells shelf.old ≡ true →
         end_status result ≡ Status.Done → (file : List ℕ) × IsAppended K.Sink out.old out.new file
         × IsFaithfulFile c (given_of S.Shelf shelf.old) file }
@@ -137,23 +138,24 @@ fn run<'a, S: Shelf, K: Sink>(
 /// `say` change neither the status nor the output.
 ///
 /// What is answered, written and said is the command's answer to its files, of which there is at most one where the
-/// shelf tells them. Three things may come between: the shelf fails at a file of the command (`Read`), the output fails
-/// before its end (`Write`), or memory runs out (`NoMemory`), which may be at any point and is merged with no other
-/// answer. Where the files hold what the command is served with, and the order and the device that it asks for are
+/// shelf is observable. Three things may come between: the shelf fails at a file of the command (`Read`), the output
+/// fails before its end (`Write`), or it is out of memory (`NoMemory`), which may come at any point and has a status of
+/// its own. Where the files hold what the command is served with, and the order and the device that it asks for are
 /// there, the answer is to write.
 ///
 /// The rule file that `compile` writes is the one text of a net that carries the file's program and keeps pace with it.
 /// A run of a rule file that `compile` wrote, by an order, by delays or told as a wave, finds no hazard under whatever
 /// script, and where it reports rest no order makes more moves. Where its program comes to rest under the script, so
 /// does the run, if the limit is high enough. With delays of at most some time it does so no later than the most moves
-/// at that time each; and where it goes on for 2 · (2 nodes + 1) of these times for each of n rounds of the program, with
-/// a reset node for two more, it has passed what these rounds pass.
+/// at that time each; and where its last move comes later than 2 · (2 nodes + 1) of these times for each of n rounds of
+/// the program, with a reset node two more, or it rests, it has passed what these rounds pass.
 ///
 /// A run of such a file on a bench finds no hazard against whatever device. What has passed is a prefix of what its
 /// program passes under the script of all that the device offered and took, and all of it where it reports rest.
 ///
 /// Of the handed-in orders and devices only the one order and the one device that the command asks for are used, if it
-/// asks for such: the others are the very objects that they were, and all have their names and their places still.
+/// asks for such, and none where it refuses: the others are the very objects that they were, and all have their names
+/// and their places still.
 pub fn chp_main<S: Shelf, K: Sink, W: Sink>(
     alloc: Global,
     words: &[String],
@@ -163,15 +165,17 @@ pub fn chp_main<S: Shelf, K: Sink, W: Sink>(
     players: &mut Players,
 ) -> Status
     ensures ended { (appended : List ℕ) × (line : List ℕ) × Ends (asked_by words.now) (given_of S.Shelf shelf.old)
-        (handed_of Picker-box Peer-box players.old players.new) (S.faults shelf.old) (S.faults shelf.new) (K.faults out.old)
-        (K.faults out.new) result appended line × IsAppended K.Sink out.old out.new appended
+        (handed_of Picker-box Peer-box players.old players.new) (S.faults shelf.old) (S.faults shelf.new)
+        (K.faults out.old) (K.faults out.new) result appended line × IsAppended K.Sink out.old out.new appended
         × (¬ Fails W.faults say.old say.new → IsAppended W.Sink say.old say.new line) }
     ensures complete { (answer : Answer) → NothingFails S.Shelf shelf.old shelf.new K.Sink out.old out.new →
-        AnswersTo (asked_by words.now) (given_of S.Shelf shelf.old) (handed_of Picker-box Peer-box players.old players.new)
-        answer → (result ≡ status_of answer) ⊎ (result ≡ Status.NoMemory) }
+        AnswersTo (asked_by words.now) (given_of S.Shelf shelf.old)
+        (handed_of Picker-box Peer-box players.old players.new) answer →
+        (result ≡ status_of answer) ⊎ (result ≡ Status.NoMemory) }
     ensures served { (command : Asked) → NothingFails S.Shelf shelf.old shelf.new K.Sink out.old out.new →
         asked_by words.now ≡ Some command → IsServed command (given_of S.Shelf shelf.old)
-        (handed_of Picker-box Peer-box players.old players.new) → EndsServed command result ⊎ (result ≡ Status.NoMemory) }
+        (handed_of Picker-box Peer-box players.old players.new) →
+        EndsServed command result ⊎ (result ≡ Status.NoMemory) }
     ensures usage { result ≡ Status.Usage → asked_by words.now ≡ None }
     ensures read { result ≡ Status.Read → (name : List ℕ) × IsFile (asked_by words.now) name
         × IsReadFault (S.faults shelf.old) (S.faults shelf.new) (S.tells shelf.old) (S.holds shelf.old name) }

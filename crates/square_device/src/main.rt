@@ -75,13 +75,8 @@ impl Peer for Square {
     }
 }
 
-/// Runs the words over one file. What it writes.
-fn call(
-    alloc: Global,
-    words: &[&str],
-    file: &[u8],
-    players: &mut Players,
-) -> Result<Vec<u8>, AllocError> {
+/// Runs the words over one file, with one order and the one device, and returns what is written.
+fn call(alloc: Global, words: &[&str], file: &[u8]) -> Result<Vec<u8>, AllocError> {
     let mut named = Vec::new(alloc);
     for word in words {
         named.push(word.to_string(alloc)?)?;
@@ -91,12 +86,6 @@ fn call(
     let mut shelf = MemShelf::new(files, Vec::new(alloc));
     let mut out = MemSink::new(alloc, ROOM, ROOM, Vec::new(alloc))?;
     let mut say = MemSink::new(alloc, ROOM, ROOM, Vec::new(alloc))?;
-    let _status = chp_main(alloc, &named, &mut shelf, &mut out, &mut say, players);
-    Vec::from_slice(alloc, out.written())
-}
-
-fn main(rt: HostRuntime) -> io::Result<()> {
-    let alloc = rt.alloc();
     let mut orders: Vec<Box<dyn Picker>> = Vec::new(alloc);
     orders.push(Box::new(alloc, Lowest::new(alloc))?)?;
     let mut peers: Vec<Box<dyn Peer>> = Vec::new(alloc);
@@ -106,13 +95,14 @@ fn main(rt: HostRuntime) -> io::Result<()> {
     };
     peers.push(Box::new(alloc, square)?)?;
     let mut players = Players { orders, peers };
-    let rules = call(alloc, &["compile", "file"], PROGRAM, &mut players)?;
-    let report = call(
-        alloc,
-        &["bench", "file", "--peer", "square"],
-        &rules,
-        &mut players,
-    )?;
+    let _status = chp_main(alloc, &named, &mut shelf, &mut out, &mut say, &mut players);
+    Vec::from_slice(alloc, out.written())
+}
+
+fn main(rt: HostRuntime) -> io::Result<()> {
+    let alloc = rt.alloc();
+    let rules = call(alloc, &["compile", "file"], PROGRAM)?;
+    let report = call(alloc, &["bench", "file", "--peer", "square"], &rules)?;
     let mut page = String::new(alloc);
     for byte in report {
         page.push(char::from(byte))?;
