@@ -1,5 +1,5 @@
 //! A device of one's own: it answers each number with its square. A circuit that asks it for some squares is compiled,
-//! and run against it.
+//! and run against it; what passed on the channel `S` is printed.
 #![tactic(auto)]
 
 ghost use Rattle.std.specs.Prelude.{◌≡◌, ◌-◌, ◌%◌, ◌^◌, ◌<◌, ◌≤◌, length, codes, option_map, true, vec_capacity};
@@ -104,8 +104,13 @@ fn main(rt: HostRuntime) -> io::Result<()> {
     let rules = call(alloc, &["compile", "file"], PROGRAM)?;
     let report = call(alloc, &["bench", "file", "--peer", "square"], &rules)?;
     let mut page = String::new(alloc);
-    for byte in report {
-        page.push(char::from(byte))?;
+    for line in report.split(|byte| *byte == b'\n') {
+        if line.first() == Some(&b'S') {
+            for byte in line {
+                page.push(char::from(*byte))?;
+            }
+            page.push('\n')?;
+        }
     }
     rt.print(page)
 }
