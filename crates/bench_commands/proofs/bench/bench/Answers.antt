@@ -5,6 +5,7 @@ use Rattle.command_steps.specs.RunSteps.{an_order, no_order}
 use Rattle.command_steps.proofs.Stopping.{err_in}
 use Rattle.bench_commands.specs.Peers.{no_peer}
 use Rattle.bench_commands.proofs.BenchStopping.{named_answers, named_stops}
+use Rattle.bench_commands.proofs.Staying.{stay_named}
 use Rattle.bench_commands.proofs.bench.bench.Goals as goal
 
 pub returns-in_default-clause-stopped : goal.returns-in_default-clause-stopped
@@ -25,3 +26,8 @@ returns-clause-stopped g c =
     err_in c.bench_at.result _ _
     (λ stop stops. named_stops (bench_asked c.args.asked.now) _ _ _ _ (sym c.place_of.ensures.place ∙ c.in-Some.is)
     (sym c.place_of_peer.ensures.place ∙ c.in-Some-place_of_peer.is) _ _ stop stops) c.bench_at.ensures.stopped
+
+pub returns-clause-stay : goal.returns-clause-stay
+returns-clause-stay g c =
+    stay_named _ _ _ _ c.in-Some.place c.in-Some-place_of_peer.which _ _ _ _ (sym c.place_of.ensures.place ∙ c.in-Some.is)
+    (sym c.place_of_peer.ensures.place ∙ c.in-Some-place_of_peer.is) c.bench_at.ensures.stay
