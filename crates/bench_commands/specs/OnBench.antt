@@ -31,8 +31,8 @@ pub record IsPlayedAgainst (s : SetupValue) (seed : ℕ) (was is : OrderState) (
       (record peer_was { spare = room }) peer_is ran
 
 -- the order and the device at this place led to a run on a bench, whose report is written
-pub record AgainstPeer (s : SetupValue) (seed : ℕ) (was is : OrderState) (peers : Peered) (which : ℕ) (answer : Answer) :
-    Type 0 where
+pub record AgainstPeer (s : SetupValue) (seed : ℕ) (was is : OrderState) (peers : Peered) (which : ℕ)
+    (answer : Answer) : Type 0 where
   pub peer_was : PeerValue
   pub peer_is : PeerValue
   pub before : slice_get peers.before which ≡ Some peer_was

@@ -46,8 +46,8 @@ fn make_ready(peer: &mut Box<dyn Peer>, notes: u32) -> Result<(), AllocError>
     peer.make_room(notes)
 }
 
-/// Runs the net against the device at this place, by the order's choices, and reports the run. Both have room for it. The
-/// devices are taken for the run, and given back after it.
+/// Runs the net against the device at this place, by the order's choices, and reports the run. Both have room for it.
+/// The devices are taken for the run, and given back after it.
 fn report_on(
     alloc: Global,
     picker: &mut Box<dyn Picker>,

@@ -52,8 +52,8 @@ BenchedFollows b given handed p f =
     FollowsRounds p f.net (script_by f.net notes)
     (bench_moves f.net notes (growth f.benched.was.log f.benched.is.log)) against.ran.end
 
--- the report is that of a run on a bench, which passes what the rounds of a program pass for which `compile` writes this
--- rule file
+-- the report is that of a run on a bench, which passes what the rounds of a program pass for which `compile` writes
+-- this rule file
 pub record IsCalmBench (b : AskedBench) (given : Given) (handed : HandedIn) (end : Ending) (report : List ℕ) : Type 0
   where
     pub run : IsFileBenched b given handed (writes end report)

@@ -33,8 +33,8 @@ abbrev pub asked_peer : Option Asked → List PeerValue → Option ℕ
 asked_peer None peers = None
 asked_peer (Some command) peers = peer_of command peers
 
--- All orders and devices have their names and their places still, and each but the order and the device that the command
--- asks for, if it asks for such, is the very object that it was.
+-- All orders and devices have their names and their places still, and each but the order and the device that the
+-- command asks for, if it asks for such, is the very object that it was.
 abbrev pub StaysBut : {O P : Type 0} → Option Asked → (order : O → OrderState) → (peer : P → PeerValue) →
     (orders_before orders_after : List O) → (peers_before peers_after : List P) → Type 0
 StaysBut asked order peer orders_before orders_after peers_before peers_after = StayHandedIn order peer

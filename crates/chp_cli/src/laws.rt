@@ -214,10 +214,10 @@ pub fn traced_runs_are_safe()
     safe_moves_bring_no_hazard();
 }
 
-/// Law: what `bench` writes is the report of one run on a bench of the net that its file holds, to which the order and the
-/// device of the wanted names led: what the order's log has grown by in the call are places in the lists of enabled
-/// moves, one for each move, and what the device's log has grown by are its notes of the run; and the run has ended as is
-/// reported, and no shorter part of it has.
+/// Law: what `bench` writes is the report of one run on a bench of the net that its file holds, to which the order and
+/// the device of the wanted names led: what the order's log has grown by in the call are places in the lists of
+/// enabled moves, one for each move, and what the device's log has grown by are its notes of the run; and the run has
+/// ended as is reported, and no shorter part of it has.
 pub fn benched_right()
     ensures { (b : AskedBench) (given : Given) (handed : HandedIn) → given.tells ≡ true → (end : Ending)
         (text : List ℕ) → Benches b given handed (writes end text) → IsFileBenched b given handed (writes end text) }
@@ -233,8 +233,8 @@ pub fn benched_runs_are_safe()
     bench_runs_are_calm();
 }
 
-/// Law: the run on a bench of a rule file that `compile` wrote for a program passes on each channel a prefix of what the
-/// program passes under the script of all that the device offered and took, and where it reports rest all of it.
+/// Law: the run on a bench of a rule file that `compile` wrote for a program passes on each channel a prefix of what
+/// the program passes under the script of all that the device offered and took, and where it reports rest all of it.
 pub fn benched_runs_follow()
     ensures { (b : AskedBench) (given : Given) (handed : HandedIn) (p : TypedProgram) → HoldsCompiled given b.net p →
         (answer : Answer) (f : IsFileBenched b given handed answer) → BenchedFollows b given handed p f }
