@@ -1,5 +1,5 @@
 //! A device of one's own: it answers each number with its square. A circuit that asks it for some squares is compiled,
-//! and run against it; what passed on the channel `S` is printed.
+//! and run against it.
 #![tactic(auto)]
 
 ghost use Rattle.std.specs.Prelude.{◌≡◌, ◌-◌, ◌%◌, ◌^◌, ◌<◌, ◌≤◌, length, codes, option_map, true, vec_capacity};
@@ -18,7 +18,10 @@ const PROGRAM: &[u8] = b"out A : 3; in B : 6; out S : 6; var x : 3; var y : 6; \
 /// The most bytes that a call writes.
 const ROOM: usize = 1 << 20;
 
-/// Owes the square of the last number that it took, until it has sent it.
+/// The number of the channel on which it is asked, `A`.
+const ASKING: u32 = 0;
+
+/// Owes the square of the last number that it was asked for, until it has sent it.
 #[derive(Drop)]
 struct Square {
     log: Vec<Note>,
@@ -70,7 +73,9 @@ impl Peer for Square {
     }
 
     fn took(&mut self, chan: u32, value: u64, at: u32) {
-        self.owed = Some(value.wrapping_mul(value));
+        if chan == ASKING {
+            self.owed = Some(value.wrapping_mul(value));
+        }
         self.log.push_reserved(Note::Took { at, chan, value });
     }
 }
@@ -99,18 +104,23 @@ fn call(alloc: Global, words: &[&str], file: &[u8]) -> Result<Vec<u8>, AllocErro
     Vec::from_slice(alloc, out.written())
 }
 
-fn main(rt: HostRuntime) -> io::Result<()> {
-    let alloc = rt.alloc();
-    let rules = call(alloc, &["compile", "file"], PROGRAM)?;
-    let report = call(alloc, &["bench", "file", "--peer", "square"], &rules)?;
+/// The lines of a report that say what passed on each channel.
+fn passed(alloc: Global, report: &[u8]) -> Result<String, AllocError> {
     let mut page = String::new(alloc);
     for line in report.split(|byte| *byte == b'\n') {
-        if line.first() == Some(&b'S') {
+        if line.contains(&b':') {
             for byte in line {
                 page.push(char::from(*byte))?;
             }
             page.push('\n')?;
         }
     }
-    rt.print(page)
+    Ok(page)
+}
+
+fn main(rt: HostRuntime) -> io::Result<()> {
+    let alloc = rt.alloc();
+    let rules = call(alloc, &["compile", "file"], PROGRAM)?;
+    let report = call(alloc, &["bench", "file", "--peer", "square"], &rules)?;
+    rt.print(passed(alloc, &report)?)
 }
