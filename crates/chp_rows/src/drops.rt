@@ -12,6 +12,9 @@ use std::cell::Cell;
 use std::fmt::Write;
 use std::rc::Rc;
 
+/// The most bytes of a rule file.
+const MOST_OF_NET: usize = 268_435_456;
+
 /// A list of one device that counts its drops here.
 fn one_device(alloc: Global, drops: &Rc<Cell<u32>>) -> Result<Vec<Box<dyn Peer>>, AllocError> {
     let mut peers: Vec<Box<dyn Peer>> = Vec::new(alloc);
@@ -21,7 +24,11 @@ fn one_device(alloc: Global, drops: &Rc<Cell<u32>>) -> Result<Vec<Box<dyn Peer>>
 
 /// Drops a bench of the last file's net without a run. Whether that file is a rule file.
 fn give_up(alloc: Global, bench: &Bench, drops: &Rc<Cell<u32>>) -> Result<bool, AllocError> {
-    let Ok(net) = read_net(alloc, bench.last()) else {
+    let text = bench.last();
+    if text.len() > MOST_OF_NET {
+        return Ok(false);
+    }
+    let Ok(net) = read_net(alloc, text) else {
         return Ok(false);
     };
     let peers = one_device(alloc, drops)?;
