@@ -177,7 +177,8 @@ fn bench_at<'a, S: Shelf>(
     }
 }
 
-/// What `bench` answers.
+/// What `bench` answers: the report of the run, or why there is none. It stops where there is no order or no device of
+/// the wanted name, where the rule file can't be read or is refused, and where memory runs out.
 pub fn bench<'a, S: Shelf>(
     alloc: Global,
     shelf: &mut S,

@@ -1,4 +1,4 @@
-//! Where a device stands among those that are handed in.
+//! The places of devices among those that are handed in.
 
 ghost use Rattle.std.specs.Prelude.{◌≡◌, ◌<◌, IfSome, bytes_eq, length, map, position};
 ghost use Rattle.peer_bench.specs.Asking.{peer_value};
@@ -22,7 +22,7 @@ fn first_named(peers: &[Box<dyn Peer>], wanted: &str) -> Option<usize>
     )
 }
 
-/// The place of the first device of this name.
+/// The place of the first device of this name, or None where there is none.
 pub fn place_of_peer(peers: &Vec<Box<dyn Peer>>, wanted: &str) -> Option<usize>
     ensures place { result ≡ peer_named
         (map (λ peer. peer_value (name peer) (log peer) (spare peer) (due peer) (willing peer)) peers.now.items)

@@ -1,5 +1,5 @@
 -- Each answer of a command to files and orders that hold what it is served with is to write.
-use Rattle.std.proofs.Common.{◌≡◌, ◌∙◌, ℕ, ◌≤◌, true, false, Bool, List, [], Option, Some, None, refl, ap, arith}
+use Rattle.std.proofs.Common.{◌≡◌, ℕ, ◌≤◌, true, false, Bool, List, [], Option, Some, None, inl, inr, refl, sym, ap, subst, arith}
 use Rattle.chp_base.specs.declared.fault.Fault.{Fault}
 use Rattle.chp_meaning.specs.Ends.{held_in}
 use Rattle.chp_meaning.specs.Rounds.{rounds}
@@ -17,7 +17,7 @@ use Rattle.wave_file.specs.Waves.{WaveValue}
 use Rattle.command_answers.specs.declared.answer.Ending.TheVariants.{Done}
 use Rattle.command_words.specs.declared.grow_words.Growth.{Growth}
 use Rattle.command_answers.specs.declared.status.Status.TheVariants as statuses
-use Rattle.command_answers.specs.Answers.{Given, Answer, writes, status_of}
+use Rattle.command_answers.specs.Answers.{Given, Answer, writes, status_of, status_with}
 use Rattle.command_steps.specs.BufferSteps.{FromBuffer}
 use Rattle.program_commands.specs.Checking.{Checks, AcceptedReport}
 use Rattle.command_words.specs.CommandWords.{Asked, compiles, migrates, checks, expands, simulates, times, benches, traces, unwaves, runs, grows}
@@ -31,7 +31,11 @@ use Rattle.command_words.specs.BenchWords.{AskedBench}
 use Rattle.round_commands.specs.RoundsReporting.{most_of_values, ReportsRounds, RunsProgram, Runs, too_full, at_rest, spent}
 use Rattle.command_words.specs.RoundsWords.{AskedRounds}
 use Rattle.command_steps.specs.RunSteps.{FromScript, most_of_script}
-use Rattle.chp_cli.specs.Serving.{EndsServed, HasDelays, IsServed, IsToBench, IsToCheck, IsToExpand, IsToGrow, IsToRun, IsToTime, IsToTrace, IsToUnwave}
+use Rattle.event_sim.specs.declared.ran.End.{End}
+use Rattle.event_sim.specs.declared.ran.End.TheVariants.{AtRest, Spent, Unstable, BothWays, Protocol}
+use Rattle.event_sim.specs.Simulating.{RanValue}
+use Rattle.simulation_commands.specs.RunReporting.{IsReported, alone, ending_for}
+use Rattle.chp_cli.specs.Serving.{EndsServed, EndsUncompared, HasDelays, IsServed, IsToBench, IsToCheck, IsToExpand, IsToGrow, IsToRun, IsToTime, IsToTrace, IsToUnwave}
 use Rattle.command_answers.specs.Statuses.{is_whole}
 use Rattle.command_steps.specs.Steps.{FromNodes, FromNet, IsFaulty, most_of_net}
 use Rattle.grown_commands.specs.Summing.{SumsUp, summing_order}
@@ -41,7 +45,7 @@ use Rattle.simulation_commands.specs.Timing.{SimulatesTimed, TimesFile, TimesNet
 use Rattle.command_words.specs.WavesWords.{AskedWaves}
 use Rattle.simulation_commands.specs.Tracing.{Traces, TracesFile, TracesNet, trace_for}
 use Rattle.simulation_commands.specs.Unwaving.{FromWave, PrintsChanges, Unwaves, no_wave, a_wave, most_of_wave}
-use Rattle.chp_cli.proofs.RunsWritten.{simulate_writes, whole_end, whole_report}
+use Rattle.chp_cli.proofs.RunsWritten.{simulate_writes, whole_report}
 use Rattle.chp_cli.proofs.StepsPassed.{file_passed, nodes_passed, buffer_passed, net_passed, order_passed, peer_passed, power_passed, script_passed, delays_passed, text_passed, reference_passed}
 use Rattle.chp_cli.proofs.Written.{compile_writes, migrate_writes}
 
@@ -51,6 +55,20 @@ IsDone a = status_of a ≡ statuses.Done
 
 abbrev IsWritten : Answer → Type 0
 IsWritten a = is_whole (status_of a) ≡ true
+
+-- the run is reported, and compared with no program
+abbrev IsRunEnd : Answer → Type 0
+IsRunEnd a = EndsUncompared (status_of a)
+
+run_end : (e : End) → EndsUncompared (status_with (ending_for e))
+run_end AtRest = inl refl
+run_end Spent = inl refl
+run_end (Unstable node) = inr refl
+run_end (BothWays node) = inr refl
+run_end (Protocol chan) = inr refl
+
+alone_ends : {script : List OfferValue} {time : Option ℕ} {ran : RanValue} (a : Answer) → IsReported script time ran None a → IsRunEnd a
+alone_ends {ran = r} a alone = run_end r.end
 
 done : (text : List ℕ) (a : Answer) → a ≡ writes Done text → IsDone a
 done text a e = ap status_of e
@@ -64,8 +82,8 @@ rounds_written p script n few a (spent within can) = refl
 abbrev traced_by : AskedWaves → NetValue → List OfferValue → DelayTable → Answer → Type 0
 traced_by w net script delays = TracesNet (trace_for w net script delays) w.causes
 
-traced_written : (t : TimedValue) (causes : Bool) (a : Answer) → TracesNet t causes a → IsWritten a
-traced_written t causes a is = ap (λ (b : Answer). is_whole (status_of b)) is.written ∙ whole_end is.ran.end
+traced_written : (t : TimedValue) (causes : Bool) (a : Answer) → TracesNet t causes a → IsRunEnd a
+traced_written t causes a is = subst IsRunEnd (sym is.written) (run_end is.ran.end)
 
 summed_written : (growth : Growth) (played : Played) (place : ℕ) (a : Answer) → SumsUp growth played place a → IsDone a
 summed_written growth played place a is = ap status_of is.written
@@ -116,31 +134,31 @@ module _ (no_fault : (program : ProgramTree) (f : Fault) → IsAccepted program 
       reported : (p : Option TypedProgram) (a : Answer) → TimesNet (timing_for t h.net h.script h.delays) p a → IsWritten a
       reported p a is = whole_report h.script (Some is.time) is.ran p a is.written
 
-  bench_written : (b : AskedBench) → IsToBench b given handed → (a : Answer) → Benches b given handed a → IsWritten a
+  bench_written : (b : AskedBench) → IsToBench b given handed → (a : Answer) → Benches b given handed a → IsRunEnd a
   bench_written b h =
-      order_passed IsWritten handed.orders b.order h.place h.named (BenchesBy b given handed)
-      (peer_passed IsWritten handed.peers b.peer h.which h.peer (BenchesAt b given handed h.place)
-      (file_passed IsWritten given told b.net h.rules.text most_of_net h.rules.held
+      order_passed IsRunEnd handed.orders b.order h.place h.named (BenchesBy b given handed)
+      (peer_passed IsRunEnd handed.peers b.peer h.which h.peer (BenchesAt b given handed h.place)
+      (file_passed IsRunEnd given told b.net h.rules.text most_of_net h.rules.held
       (λ text. FromNet text (λ net. BenchesNet handed h.place h.which b.seed (setup_for net b.steps)))
-      (net_passed IsWritten h.rules.text h.net h.rules.kept h.rules.spelled
+      (net_passed IsRunEnd h.rules.text h.net h.rules.kept h.rules.spelled
       (λ net. BenchesNet handed h.place h.which b.seed (setup_for net b.steps))
-      (λ a is. whole_report _ None is.against.ran None a is.against.written))))
+      (λ a is. alone_ends a is.against.written))))
 
-  trace_written : (w : AskedWaves) → IsToTrace w given → (a : Answer) → Traces w given a → IsWritten a
+  trace_written : (w : AskedWaves) → IsToTrace w given → (a : Answer) → Traces w given a → IsRunEnd a
   trace_written w h =
       let n = h.net in
-      file_passed IsWritten given told w.net h.rules.text most_of_net h.rules.held (λ text. FromNet text (TracesFile w given))
-      (net_passed IsWritten h.rules.text n h.rules.kept h.rules.spelled (TracesFile w given)
-      (file_passed IsWritten given told w.script h.offers.text most_of_script h.offers.held _
-      (script_passed IsWritten (net_channels n) h.offers.text h.script h.offers.says _ (slow w.delays h.slow))))
+      file_passed IsRunEnd given told w.net h.rules.text most_of_net h.rules.held (λ text. FromNet text (TracesFile w given))
+      (net_passed IsRunEnd h.rules.text n h.rules.kept h.rules.spelled (TracesFile w given)
+      (file_passed IsRunEnd given told w.script h.offers.text most_of_script h.offers.held _
+      (script_passed IsRunEnd (net_channels n) h.offers.text h.script h.offers.says _ (slow w.delays h.slow))))
     where
       slow : (file : Option (List ℕ)) → HasDelays given file h.net.names h.delays → (a : Answer) → FromDelayFile given file h.net.names
-          (traced_by w h.net h.script) a → IsWritten a
-      slow None says = delays_passed IsWritten h.net.names [] h.delays says (traced_by w h.net h.script)
+          (traced_by w h.net h.script) a → IsRunEnd a
+      slow None says = delays_passed IsRunEnd h.net.names [] h.delays says (traced_by w h.net h.script)
           (traced_written (trace_for w h.net h.script h.delays) w.causes)
       slow (Some file) f =
-          file_passed IsWritten given told file f.text most_of_delays f.held (λ text. FromDelays h.net.names text (traced_by w h.net h.script))
-          (delays_passed IsWritten h.net.names f.text h.delays f.says (traced_by w h.net h.script)
+          file_passed IsRunEnd given told file f.text most_of_delays f.held (λ text. FromDelays h.net.names text (traced_by w h.net h.script))
+          (delays_passed IsRunEnd h.net.names f.text h.delays f.says (traced_by w h.net h.script)
           (traced_written (trace_for w h.net h.script h.delays) w.causes))
 
   unwave_written : (file : List ℕ) → IsToUnwave given file → (a : Answer) → Unwaves given file a → IsDone a

@@ -1,6 +1,6 @@
 -- What a command's files have to hold, and which orders and devices have to be there, for it to be served: then it
 -- doesn't refuse.
-use Rattle.std.specs.Prelude.{◌≡◌, ℕ, ◌≤◌, Bool, true, false, List, [], length, Option, Some, None}
+use Rattle.std.specs.Prelude.{◌≡◌, ◌⊎◌, ℕ, ◌≤◌, Bool, true, false, List, [], length, Option, Some, None}
 use Rattle.chp_base.specs.declared.channel.Channel.{Channel}
 use Rattle.chp_meaning.specs.Ends.{held_in}
 use Rattle.chp_meaning.specs.Rounds.{rounds}
@@ -19,7 +19,7 @@ use Rattle.wave_file.specs.Waves.{WaveValue}
 use Rattle.width_check.specs.Accepted.{IsAccepted}
 use Rattle.width_check.specs.Form.{typed_form}
 use Rattle.command_answers.specs.declared.status.Status.{Status}
-use Rattle.command_answers.specs.declared.status.Status.TheVariants.{Done}
+use Rattle.command_answers.specs.declared.status.Status.TheVariants.{Done, Hazard}
 use Rattle.bench_commands.specs.HandedIn.{HandedIn}
 use Rattle.bench_commands.specs.Peers.{peer_named}
 use Rattle.command_answers.specs.Answers.{Given}
@@ -151,13 +151,17 @@ abbrev pub IsToGrow : (sum : Bool) → Played → Type 0
 IsToGrow false played = Unit {0}
 IsToGrow true played = IsToSum played
 
+-- a run that is compared with no program ends well, or with a hazard
+abbrev pub EndsUncompared : Status → Type 0
+EndsUncompared status = (status ≡ Done) ⊎ (status ≡ Hazard)
+
 -- the statuses with which a command ends that is served: `simulate`, `bench` and `waves` report how the run ended, any
 -- other command ends well
 abbrev pub EndsServed : Asked → Status → Type 0
 EndsServed (simulates run) status = is_whole status ≡ true
 EndsServed (times timing) status = is_whole status ≡ true
-EndsServed (benches b) status = is_whole status ≡ true
-EndsServed (traces w) status = is_whole status ≡ true
+EndsServed (benches b) status = EndsUncompared status
+EndsServed (traces w) status = EndsUncompared status
 EndsServed _ status = status ≡ Done
 
 -- what each command is served with

@@ -34,7 +34,8 @@ use net_compose::laws::{carries, carries_reset, runs_end, runs_end_reset, whole_
 use net_pace::{keeps_timed_pace, keeps_timed_pace_reset};
 use peer_bench::laws::{bench_rests_are_rests, bench_runs_are_calm};
 
-/// Law: to the same files, where the shelf tells them, and by the same orders a command has at most one answer.
+/// Law: to the same files of an observable shelf, and with the same orders and devices before and after, a command has
+/// at most one answer.
 pub fn one_answer()
     ensures { (command : Asked) (given : Given) (handed : HandedIn) → given.tells ≡ true →
         OneAnswer (IsAnswer command given handed) }
@@ -90,8 +91,8 @@ pub fn simulates_all()
     sharing_check::laws::one_shared_fault();
 }
 
-/// Law: where the files and orders hold what a command is served with, its only answers are to write: by a command that
-/// makes a run how that ended, by any other that all went well.
+/// Law: where the files hold what a command is served with, and the order and the device that it asks for are there,
+/// its only answers are to write: `simulate`, `bench` and `waves` how the run ended, any other that all went well.
 pub fn serves_all()
     ensures { (command : Asked) (given : Given) (handed : HandedIn) → given.tells ≡ true →
         IsServed command given handed → (answer : Answer) → IsAnswer command given handed answer →
@@ -248,8 +249,8 @@ pub fn benched_runs_follow()
 /// it ends at rest, if its limit is above the most moves that its net makes till then: by whatever order it is made, or
 /// by whatever delays. It has passed what the program has, and `done` is high exactly where that has ended. Where no
 /// move takes longer than some time, the last one comes no later than the most moves at that time each; and a timed run
-/// that goes on for 2 · (2 nodes + 1) of these times for each of n rounds of the program, with a reset node for two
-/// more, or rests, has passed all that these rounds pass.
+/// whose last move comes later than 2 · (2 nodes + 1) of these times for each of n rounds of the program, with a reset
+/// node two more, or that rests, has passed all that these rounds pass.
 pub fn compiled_runs_rest()
     ensures simulated { (s : AskedRun) (given : Given) (played : Played) (p : TypedProgram)
         (holds : HoldsCompiled given s.net p) (answer : Answer) (f : IsFileSimulated s given played answer) →
