@@ -1,0 +1,5 @@
+pub mod FormsAlike
+pub mod CallsMet
+pub mod Unread
+pub mod CallPrograms
+pub mod Accepting

@@ -1,0 +1,3 @@
+pub mod CalledForm
+pub mod CallsMeant
+pub mod CallsCarried
