@@ -1,5 +1,5 @@
 -- From the checks of the program without procedures to what the laws of shared bodies ask.
-use Rattle.std.proofs.Common.{◌≡◌, ◌≢◌, ◌⊎◌, ℕ, zero, suc, ◌+◌, ◌<◌, ◌≤◌, List, [], ◌∷◌, ◌++◌, length, map, Some, refl, sym, ap, ◌∙◌, subst, inl, inr, arith, length-append}
+use Rattle.std.proofs.Common.{◌≡◌, ◌≢◌, ℕ, zero, suc, ◌+◌, ◌<◌, ◌≤◌, List, [], ◌∷◌, ◌++◌, length, map, Some, refl, sym, ap, ◌∙◌, subst, inl, inr, arith, length-append}
 use Rattle.std.specs.Prelude.{slice_get, slice_index_or, Contains}
 use Rattle.std.specs.List.{AllByRecursion, IsDistinct, flat_map}
 use Rattle.std.specs.Str.{bytes_eq}
@@ -20,21 +20,21 @@ use Rattle.width_check.specs.Processes.{Process, skipping, TypedProgram}
 use Rattle.width_check.specs.Typing.{IsTyped, IsProcess, AreProcesses, AreChoices}
 use Rattle.width_check.proofs.Least.{in_rest}
 use Rattle.chp_meaning.specs.Halves.{ReadsNoTarget}
-use Rattle.net_compose.specs.Carries.{Carries}
+use Rattle.reset_net.specs.Resets.{reset_of}
+use Rattle.net_compose.specs.Carries.{Carries, CarriesReset}
 use Rattle.net_compose.specs.Points.{IsTranslated}
 use Rattle.call_map.specs.Calling.{Called, calling, atom, turned, abreast, chosen, looped, Calleds, no_calleds, and_called, CalledChoices, no_called, or_called, inlined, inlined_each, inlined_choices}
-use Rattle.call_map.specs.CallNet.{CallProgram, IsCallProgram, SharedBodiesCarry, inlined_program, call_net}
+use Rattle.call_map.specs.CallNet.{SharedBodiesCarry, SharedBodiesHold, SharedBodiesCarryReset, inlined_program, call_net, call_names}
 use Rattle.call_map.specs.CallsApart.{Calls, OneCalls, ChoiceCalls}
-use Rattle.call_merge.specs.CallFaults.{MeetsCalling}
-use Rattle.call_merge.specs.CallSplits.{own_readers, split_statement, split_procedures, own_names, all_own_readers, all_uses, all_names, program_names, own_var, AreOwnVars}
+use Rattle.call_merge.specs.CallSplits.{own_readers, split_procedures, own_names, all_own_readers, all_uses, all_names, program_names, AreOwnVars}
 use Rattle.call_merge.specs.CallSites.{all_calls}
-use Rattle.call_merge.specs.Inlining.{inlined_with, IsInlined}
+use Rattle.call_merge.specs.Inlining.{IsInlined}
 use Rattle.call_merge.proofs.CallsAlone.{in_map}
 use Rattle.call_merge.proofs.OwnCounts.{distinct_names}
 use Rattle.call_merge.proofs.SplitSteps.{readers_of}
 use Rattle.call_merge.proofs.Whole.{own_counted}
 use Rattle.call_compose.specs.CalledForm.{body_forms, call_program}
-use Rattle.call_compose.specs.CallsCarried.{CallsAsked, CallsCarried}
+use Rattle.call_compose.specs.CallsCarried.{CallsAsked, CallsCarried, CallsHold, CallsCarriedReset}
 use Rattle.call_compose.proofs.CallPrograms.{calls_meant}
 use Rattle.call_compose.proofs.CallsMet.{front_all, rest_all}
 use Rattle.call_compose.proofs.FormsAlike.{calls_alike}
@@ -166,3 +166,13 @@ pub calls_carried : FormIsTyped → SharedBodiesCarry → CallsCarried
 calls_carried form carry p r h meets shaped accepted names =
     subst (λ (t : TypedProgram). Carries (call_net (call_program p h.vars) names) t) (calls_alike p h.vars ∙ sym (ap typed_form h.tree))
     (carry (call_program p h.vars) (calls_asked form p r h meets shaped accepted) (copies_typed form p r h shaped accepted) names)
+
+pub calls_hold : FormIsTyped → SharedBodiesHold → CallsHold
+calls_hold form hold p r h meets shaped accepted few rules =
+    hold (call_program p h.vars) (calls_asked form p r h meets shaped accepted) (copies_typed form p r h shaped accepted) few rules
+
+pub calls_carried_reset : FormIsTyped → SharedBodiesCarryReset → CallsCarriedReset
+calls_carried_reset form carry p r h meets shaped accepted few rules =
+    subst (λ (t : TypedProgram). CarriesReset (reset_of (call_net (call_program p h.vars) (call_names (call_program p h.vars)))) t)
+    (calls_alike p h.vars ∙ sym (ap typed_form h.tree))
+    (carry (call_program p h.vars) (calls_asked form p r h meets shaped accepted) (copies_typed form p r h shaped accepted) few rules)

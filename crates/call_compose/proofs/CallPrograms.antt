@@ -1,7 +1,7 @@
 -- A program whose calls aren't refused, as the laws of shared bodies want it.
-use Rattle.std.proofs.Common.{◌≡◌, ℕ, zero, suc, ◌+◌, ◌<◌, Bool, true, List, [], ◌∷◌, ◌++◌, length, map, Some, refl, sym, ap, ◌∙◌, subst, arith}
+use Rattle.std.proofs.Common.{◌≡◌, ℕ, zero, suc, ◌<◌, true, List, [], ◌∷◌, ◌++◌, length, map, Some, refl, sym, ap, ◌∙◌, subst, arith}
 use Rattle.std.specs.Prelude.{slice_get}
-use Rattle.std.specs.List.{AllByRecursion, list_any}
+use Rattle.std.specs.List.{list_any}
 use Rattle.std.specs.Str.{bytes_eq}
 use Rattle.std.proofs.lemmas.List.{length-map}
 use Rattle.chp_syntax.specs.declared.tree.Decl.{Decl}
@@ -9,17 +9,16 @@ use Rattle.chp_syntax.specs.declared.tree.Ident.{Ident}
 use Rattle.chp_syntax.specs.Trees.{Procedure, ProgramTree}
 use Rattle.width_check.specs.Form.{process_form}
 use Rattle.width_check.proofs.Doubles.{there_any}
-use Rattle.call_map.specs.CallsApart.{Calls, CallsApart}
+use Rattle.call_map.specs.CallsApart.{Calls}
 use Rattle.call_merge.specs.CallFaults.{MeetsCalling}
 use Rattle.call_merge.specs.CallSites.{calls_in, call_channel}
 use Rattle.call_merge.specs.CallSplits.{split_procedures, own_names}
-use Rattle.call_merge.specs.Inlining.{procedure_named}
 use Rattle.call_merge.proofs.CallsAlone.{of_map}
 use Rattle.call_merge.proofs.CallsGone.{AreNamed, none_nested, calls_named}
 use Rattle.call_merge.proofs.OwnCounts.{AreThere, called, procedures_distinct, all_called}
 use Rattle.call_merge.proofs.SplitSteps.{names_kept}
-use Rattle.call_compose.specs.CalledForm.{procedure_names, procedure_number, called_form, body_forms, call_program}
-use Rattle.call_compose.specs.CallsMeant.{AreCallsMeant, CallsMeant}
+use Rattle.call_compose.specs.CalledForm.{procedure_names, procedure_number, called_form, call_program}
+use Rattle.call_compose.specs.CallsMeant.{CallsMeant}
 use Rattle.call_compose.proofs.CallsMet.{of_atoms, number_below, HaveNumbers, calls_below, calls_there, number_is, channel_alike, calls_apart}
 
 some_name : (names : List (List ℕ)) (n : ℕ) → n < length names → (name : List ℕ) × (slice_get names n ≡ Some name)

@@ -1,7 +1,7 @@
 -- What is refused of calls is what the laws of shared bodies ask for.
-use Rattle.std.proofs.Common.{◌≡◌, ◌≢◌, ◌⊎◌, ℕ, zero, suc, ◌+◌, ◌<◌, ◌≤◌, Bool, true, false, List, [], ◌∷◌, ◌++◌, length, map, Option, Some, None, cond, refl, sym, ap, ◌∙◌, subst, inl, inr, ⊎_elim, arith}
+use Rattle.std.proofs.Common.{◌≡◌, ◌≢◌, ℕ, zero, suc, ◌+◌, ◌<◌, Bool, true, false, List, [], ◌∷◌, ◌++◌, length, map, Option, Some, None, cond, refl, sym, ap, ◌∙◌, subst, inl, inr, ⊎_elim, arith}
 use Rattle.std.specs.Prelude.{Contains, slice_get, not}
-use Rattle.std.specs.List.{AllByRecursion, IsDistinct, list_any}
+use Rattle.std.specs.List.{AllByRecursion, IsDistinct}
 use Rattle.std.specs.Str.{bytes_eq}
 use Rattle.std.proofs.lemmas.List.Elements.{Contains-append_left, Contains-append_right, Contains-append_cases}
 use Rattle.std.proofs.lemmas.Map.Keys.{IsDistinct-head, IsDistinct-tail}
@@ -128,7 +128,8 @@ mutual
   choice_there ds ns (and_arm g s more) i c =
       ⊎_elim (λ k. inl (calls_there ds ns s i k)) (λ k. inr (choice_there ds ns more i k)) (Contains-append_cases (calls_in s) (calls_in_arms more) i c)
 
-other_among : (n name : List ℕ) (ns : List (List ℕ)) (k : ℕ) → AllByRecursion (λ y. bytes_eq n y ≡ false) ns → slice_get ns k ≡ Some name → bytes_eq n name ≡ false
+other_among : (n name : List ℕ) (ns : List (List ℕ)) (k : ℕ) → AllByRecursion (λ y. bytes_eq n y ≡ false) ns → slice_get ns k ≡ Some name → bytes_eq n name
+    ≡ false
 other_among n name [] k none is = absurd (cc is)
 other_among n name (m ∷ ns) zero none is = let same : m ≡ name = cc is in subst (λ (x : List ℕ). bytes_eq n x ≡ false) same none.0
 other_among n name (m ∷ ns) (suc k) none is = other_among n name ns k none.1 is

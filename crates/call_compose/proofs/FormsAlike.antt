@@ -1,19 +1,18 @@
 -- Typing and putting bodies in can be done in either order.
-use Rattle.std.proofs.Common.{◌≡◌, ℕ, suc, ◌+◌, Bool, true, false, List, [], ◌∷◌, ◌++◌, map, Option, Some, None, cond, refl, sym, ap, ◌∙◌, arith}
+use Rattle.std.proofs.Common.{◌≡◌, ℕ, suc, ◌+◌, Bool, true, false, List, [], ◌∷◌, ◌++◌, Option, Some, cond, refl, sym, ap, ◌∙◌, arith}
 use Rattle.std.specs.Prelude.{slice_index_or, not}
 use Rattle.std.specs.Str.{bytes_eq}
 use Rattle.chp_syntax.specs.declared.tree.Decl.{Decl}
 use Rattle.chp_syntax.specs.declared.tree.Ident.{Ident}
 use Rattle.chp_syntax.specs.Trees as plain
 use Rattle.chp_syntax.specs.Trees.{Statement, skips, assigns, sends, receives, follows, besides, selects, repeats, calls, Statements, Arms, no_arms, and_arm, Procedure, ProgramTree}
-use Rattle.width_check.specs.Form.{formula_form, process_form, processes_form, choices_form, channels_of, vars_of, typed_form}
+use Rattle.width_check.specs.Form.{formula_form, process_form, processes_form, choices_form, channels_of, vars_of}
 use Rattle.width_check.specs.Processes.{Process, skipping, in_turn, side_by_side, choosing, repeating, Processes, and_member, Choices, and_choice, TypedProgram}
 use Rattle.call_map.specs.Calling.{inlined, inlined_each, inlined_choices}
-use Rattle.call_map.specs.CallNet.{inlined_program}
 use Rattle.call_merge.specs.CallSplits.{split_procedures, own_names}
-use Rattle.call_merge.specs.Inlining.{procedure_named, body_or_call, inlined_statement, inlined_members, inlined_arms, inlined_with}
+use Rattle.call_merge.specs.Inlining.{procedure_named, body_or_call, inlined_statement, inlined_members, inlined_arms}
 use Rattle.call_merge.proofs.SplitSteps.{names_kept}
-use Rattle.call_compose.specs.CalledForm.{procedure_names, procedure_number, called_form, called_forms, called_arms, body_forms, call_program, CallsTyped}
+use Rattle.call_compose.specs.CalledForm.{procedure_names, procedure_number, called_form, called_forms, called_arms, body_forms, CallsTyped}
 
 one_more : (k : ℕ) → 1 + k ≡ suc k
 one_more k = omega arith

@@ -1,6 +1,6 @@
 -- In a body that was split no assignment reads its own target.
-use Rattle.std.proofs.Common.{◌≡◌, ◌≢◌, ◌⊎◌, ℕ, zero, suc, ◌+◌, ◌<◌, ◌≤◌, Bool, true, false, List, [], ◌∷◌, ◌++◌, length, map, Option, Some, None, cond, refl, sym, ap, ◌∙◌, subst, ⊎_elim, arith, length-append}
-use Rattle.std.specs.Prelude.{◌&&◌, ◌||◌, ◌==◌, not, slice_get, if◌then◌else◌, unwrap_or}
+use Rattle.std.proofs.Common.{◌≡◌, ◌≢◌, ℕ, zero, suc, ◌+◌, ◌<◌, ◌≤◌, Bool, true, false, List, [], ◌∷◌, ◌++◌, length, map, Some, cond, refl, sym, ap, ◌∙◌, subst, arith, length-append}
+use Rattle.std.specs.Prelude.{◌||◌, ◌==◌, not, slice_get, if◌then◌else◌, unwrap_or}
 use Rattle.std.specs.List.{AllByRecursion, IsDistinct, list_any, position_or_len}
 use Rattle.std.specs.Str.{bytes_eq}
 use Rattle.std.proofs.lemmas.Bool.Decides.{nat_tests}
@@ -15,8 +15,8 @@ use Rattle.chp_syntax.specs.Trees as plain
 use Rattle.chp_syntax.specs.Trees.{Expression, number, whole, slice, bit, join, negation, chain, Expressions, Links, no_links, and_link, Statement, skips, assigns, sends, receives, follows, besides, selects, repeats, calls, Statements, Arms, no_arms, and_arm}
 use Rattle.width_check.specs.declared.typed.Var.{Var}
 use Rattle.width_check.specs.Form.{formula_form, parts_form, operations_form, compared_with, process_form, processes_form, choices_form, vars_of, with_var, var_number}
-use Rattle.width_check.specs.Places.{Use, reads_in, reads_in_join, reads_in_links, uses_in, uses_in_each, uses_in_arms, declared_width, compares, or_width, own_width, first_width, declaration, is_var}
-use Rattle.width_check.specs.Processes.{Formula, chained, Operations, no_operations, and_operation, Process, assigning}
+use Rattle.width_check.specs.Places.{Use, reads_in, reads_in_join, reads_in_links, uses_in, uses_in_each, uses_in_arms, declared_width, compares, or_width, own_width, first_width}
+use Rattle.width_check.specs.Processes.{Formula, chained, Operations, no_operations, and_operation}
 use Rattle.width_check.specs.Reads.{reads, reads_in_parts, reads_in_operations}
 use Rattle.width_check.specs.Typing.{IsProcess, AreProcesses, AreChoices}
 use Rattle.chp_meaning.specs.Halves.{ReadsNoTarget, EachReadsNoTarget, ChoicesReadNoTarget}
@@ -78,7 +78,8 @@ mutual
       let one = front_all (λ (u : Use). var_number ds u.name ≢ x) (reads_in e) (reads_in_links more) all in
       let others = rest_all (λ (u : Use). var_number ds u.name ≢ x) (reads_in e) (reads_in_links more) all in
       either_read x (compares more) (compared_with (formula_form ds v e) (operations_form ds v more))
-      (chained (formula_form ds w e) (operations_form ds w more)) (read_compared x (formula_form ds v e) (operations_form ds v more) (not_read ds x v e one) (links_not_read ds x v more others))
+      (chained (formula_form ds w e) (operations_form ds w more))
+      (read_compared x (formula_form ds v e) (operations_form ds v more) (not_read ds x v e one) (links_not_read ds x v more others))
       (neither (reads x (formula_form ds w e)) (reads_in_operations x (operations_form ds w more)) (not_read ds x w e one) (links_not_read ds x w more others))
 
   parts_not_read : (ds : List Decl) (x : ℕ) (es : Expressions) → AreOthers ds x (reads_in_join es) → reads_in_parts x (parts_form ds es) ≡ false
@@ -108,15 +109,8 @@ no_such_var (d ∷ ds) name none = by_kind d.kind (no_such_var ds name none.1)
     by_kind declares.Chan h = h
     by_kind declares.Var h = rw none.0 (omega (arith, h))
 
-left_all : {A : Type 0} (P : A → Type 0) (xs ys : List A) → AllByRecursion P xs → AllByRecursion P ys → AllByRecursion P (xs ++ ys)
-left_all P [] ys all others = others
-left_all P (x ∷ xs) ys all others = (all.0, left_all P xs ys all.1 others)
-
-names_append : (ds vars : List Decl) → own_names (ds ++ vars) ≡ own_names ds ++ own_names vars
-names_append [] vars = refl
-names_append (d ∷ ds) vars = ap (λ z. d.name.name ∷ z) (names_append ds vars)
-
-turned_round : (n : List ℕ) (name : List ℕ) (ns : List (List ℕ)) → n ≡ name → AllByRecursion (λ y. bytes_eq n y ≡ false) ns → AllByRecursion (λ y. bytes_eq y name ≡ false) ns
+turned_round : (n : List ℕ) (name : List ℕ) (ns : List (List ℕ)) → n ≡ name → AllByRecursion (λ y. bytes_eq n y ≡ false) ns
+    → AllByRecursion (λ y. bytes_eq y name ≡ false) ns
 turned_round n name [] same none = tt
 turned_round n name (m ∷ ns) same none = (by_test (bytes_eq m name) refl, turned_round n name ns same none.1)
   where
@@ -132,14 +126,15 @@ pub var_of_number : (ds vars : List Decl) (name : List ℕ) → IsDistinct bytes
     → is_var_name ds name ≡ true
 var_of_number [] vars name distinct none less = let most = no_such_var vars name none in absurd (omega (arith, most, less))
 var_of_number (d ∷ ds) vars name distinct none less =
-    by_test (bytes_eq d.name.name name) refl d.kind refl (λ l. var_of_number ds vars name (IsDistinct-tail bytes_eq d.name.name (own_names (ds ++ vars)) distinct) none l)
+    by_test (bytes_eq d.name.name name) refl d.kind refl (λ l. var_of_number ds vars name
+    (IsDistinct-tail bytes_eq d.name.name (own_names (ds ++ vars)) distinct) none l)
     less
   where
     clash : bytes_eq d.name.name name ≡ true → var_number (ds ++ vars) name < length (vars_of (ds ++ vars)) → is_var_name (d ∷ ds) name ≡ true
     clash so l =
         let same : d.name.name ≡ name = (bytes_eq-Decides d.name.name name).0 so in
         let most = no_such_var (ds ++ vars) name
-            (turned_round d.name.name name (own_names (ds ++ vars)) same (IsDistinct-head bytes_eq d.name.name (own_names (ds ++ vars)) distinct)) in
+        (turned_round d.name.name name (own_names (ds ++ vars)) same (IsDistinct-head bytes_eq d.name.name (own_names (ds ++ vars)) distinct)) in
         absurd (omega (arith, most, l))
 
     by_test : (b : Bool) → bytes_eq d.name.name name ≡ b → (kind : DeclKind) → d.kind ≡ kind
@@ -257,9 +252,12 @@ module _ (decls vars : List Decl) (chs : List Channel) (distinct : IsDistinct by
     each_unread n (plain.and_member s more) room uses typed =
         let xs = own_readers decls s in
         let ys = own_readers_each decls more in
-        let both : length (xs ++ ys) ≡ length xs + length ys = length-append xs ys in
-        (unread n s (omega (arith, room, both)) (front_all (λ (u : Use). AllByRecursion (λ h. h ≢ u.name) (own_names vars)) (uses_in s) (uses_in_each more) uses) typed.0,
-        each_unread (n + length xs) more (omega (arith, room, both)) (rest_all (λ (u : Use). AllByRecursion (λ h. h ≢ u.name) (own_names vars)) (uses_in s) (uses_in_each more) uses) typed.1)
+        let both : length (xs ++ ys) ≡ length xs + length ys = length-append xs ys in (
+          unread n s (omega (arith, room, both)) (front_all (λ (u : Use). AllByRecursion (λ h. h ≢ u.name) (own_names vars)) (uses_in s) (uses_in_each more)
+              uses) typed.0,
+          each_unread (n + length xs) more (omega (arith, room, both))
+              (rest_all (λ (u : Use). AllByRecursion (λ h. h ≢ u.name) (own_names vars)) (uses_in s) (uses_in_each more) uses) typed.1,
+        )
 
     arms_unread : (n : ℕ) (xs : Arms) → n + length (own_readers_arms decls xs) ≤ length (own_names vars) → AreNotOwn (own_names vars) (uses_in_arms xs)
         → AreChoices chs (vars_of (decls ++ vars)) (choices_form (decls ++ vars) (split_arms decls (own_names vars) n xs))
@@ -269,6 +267,9 @@ module _ (decls vars : List Decl) (chs : List Channel) (distinct : IsDistinct by
         let xs = own_readers decls s in
         let ys = own_readers_arms decls more in
         let both : length (xs ++ ys) ≡ length xs + length ys = length-append xs ys in
-        let behind = rest_all (λ (u : Use). AllByRecursion (λ h. h ≢ u.name) (own_names vars)) (reads_in g) (uses_in s ++ uses_in_arms more) uses in
-        (unread n s (omega (arith, room, both)) (front_all (λ (u : Use). AllByRecursion (λ h. h ≢ u.name) (own_names vars)) (uses_in s) (uses_in_arms more) behind) typed.1,
-        arms_unread (n + length xs) more (omega (arith, room, both)) (rest_all (λ (u : Use). AllByRecursion (λ h. h ≢ u.name) (own_names vars)) (uses_in s) (uses_in_arms more) behind) typed.2)
+        let behind = rest_all (λ (u : Use). AllByRecursion (λ h. h ≢ u.name) (own_names vars)) (reads_in g) (uses_in s ++ uses_in_arms more) uses in (
+          unread n s (omega (arith, room, both)) (front_all (λ (u : Use). AllByRecursion (λ h. h ≢ u.name) (own_names vars)) (uses_in s) (uses_in_arms more)
+              behind) typed.1,
+          arms_unread (n + length xs) more (omega (arith, room, both))
+              (rest_all (λ (u : Use). AllByRecursion (λ h. h ≢ u.name) (own_names vars)) (uses_in s) (uses_in_arms more) behind) typed.2,
+        )

@@ -1,5 +1,5 @@
 -- The typed form of a program with procedures: their bodies, and a body that calls them by their numbers.
-use Rattle.std.specs.Prelude.{◌≡◌, ℕ, Bool, List, ◌++◌, map}
+use Rattle.std.specs.Prelude.{◌≡◌, ℕ, List, ◌++◌, map}
 use Rattle.std.specs.List.{position_or_len}
 use Rattle.std.specs.Str.{bytes_eq}
 use Rattle.chp_syntax.specs.declared.tree.Decl.{Decl}
@@ -53,4 +53,5 @@ call_program p vars = record {
 
 -- With a copy of its body in place of each call it is the typed form of the program without its procedures.
 abbrev pub CallsTyped : Type 0
-CallsTyped = (p : ProgramTree) (vars : List Decl) → inlined_program (call_program p vars) ≡ typed_form (inlined_with p vars)
+CallsTyped = (p : ProgramTree) (vars : List Decl)
+    → inlined_program (call_program p vars) ≡ typed_form (inlined_with p vars)

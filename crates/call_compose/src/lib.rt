@@ -3,26 +3,26 @@
 
 ghost use Rattle.call_compose.specs.CalledForm.{CallsTyped};
 ghost use Rattle.call_compose.specs.CallsMeant.{CallsMeant};
-ghost use Rattle.call_compose.specs.CallsCarried.{CallsAsked, CallsCarried};
+ghost use Rattle.call_compose.specs.CallsCarried.{CallsAsked, CallsCarried, CallsHold, CallsCarriedReset};
 
-use call_map::shared_bodies_carry;
+use call_map::{shared_bodies_carry, shared_bodies_carry_reset, shared_bodies_hold};
 use width_check::laws::form_is_typed;
 
-/// Law: the typed form of a program with procedures is, with a copy of its body in place of each call, the typed form of
+/// Law: with a copy of its body in place of each call, the typed form of a program with procedures is the typed form of
 /// the program without its procedures. So what the checks say of that program is what the laws of `call_map` ask of the
 /// program with copies.
 pub fn calls_typed()
     ensures { CallsTyped }
 {}
 
-/// Law: where nothing of procedures and calls is refused, all that a program calls are its own procedures, each is called,
-/// and no two parallel branches call the same one.
+/// Law: where nothing of procedures and calls is refused, all that a program calls are its own procedures, each is
+/// called, and no two parallel branches call the same one.
 pub fn calls_meant()
     ensures { CallsMeant }
 {}
 
-/// Law: where moreover the program without its procedures is accepted, its typed form with procedures is as the laws of
-/// `call_map` ask: in no body an assignment reads its own target.
+/// Law: where moreover the program without its procedures is accepted, no assignment in a body reads its own target. So
+/// the typed form of the program with procedures is as the laws of `call_map` ask.
 pub fn calls_asked()
     ensures { CallsAsked }
 {
@@ -36,4 +36,20 @@ pub fn calls_carried()
 {
     form_is_typed();
     shared_bodies_carry();
+}
+
+/// Law: that net, of at most 65,536 nodes and with guards over its own nodes only, is a net that a rule file can hold.
+pub fn calls_hold()
+    ensures { CallsHold }
+{
+    form_is_typed();
+    shared_bodies_hold();
+}
+
+/// Law: it carries that program with a reset node too, from every power-up state.
+pub fn calls_carried_reset()
+    ensures { CallsCarriedReset }
+{
+    form_is_typed();
+    shared_bodies_carry_reset();
 }
