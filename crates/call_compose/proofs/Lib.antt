@@ -3,3 +3,4 @@ pub mod CallsMet
 pub mod Unread
 pub mod CallPrograms
 pub mod Accepting
+pub mod SizesAlike

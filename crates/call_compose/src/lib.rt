@@ -2,6 +2,7 @@
 #![tactic(auto)]
 
 ghost use Rattle.call_compose.specs.CalledForm.{CallsTyped};
+ghost use Rattle.call_compose.specs.CallsCounted.{CallsCounted};
 ghost use Rattle.call_compose.specs.CallsMeant.{CallsMeant};
 ghost use Rattle.call_compose.specs.CallsCarried.{CallsAsked, CallsCarried, CallsHold, CallsCarriedReset};
 
@@ -13,6 +14,11 @@ use width_check::laws::form_is_typed;
 /// program with copies.
 pub fn calls_typed()
     ensures { CallsTyped }
+{}
+
+/// Law: in the net with shared bodies a call has as many nodes as a skip has, and a procedure its body's and one more.
+pub fn calls_counted()
+    ensures { CallsCounted }
 {}
 
 /// Law: where nothing of procedures and calls is refused, all that a program calls are its own procedures, each is
