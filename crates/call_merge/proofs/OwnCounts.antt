@@ -195,7 +195,7 @@ still_there k n (m ∷ ms) apart there =
     by_tests false true p q h rest = rw q refl
     by_tests false false p q h rest = rw q (rest h)
 
-abbrev AreThere : List (List ℕ) → List (List ℕ) → Type 0
+abbrev pub AreThere : List (List ℕ) → List (List ℕ) → Type 0
 AreThere ms ns = AllByRecursion (λ n. list_any (bytes_eq n) ms ≡ true) ns
 
 all_still_there : (n : List ℕ) (ms ns : List (List ℕ)) → AllByRecursion (λ k. bytes_eq n k ≡ false) ns → AreThere ms ns → AreThere (without n ms) ns
@@ -212,10 +212,10 @@ weighed w (n ∷ ns) ms distinct there =
 
 -- procedures, none of a name twice, each of which is called
 
-abbrev names_in : List Procedure → List (List ℕ)
+abbrev pub names_in : List Procedure → List (List ℕ)
 names_in qs = map (λ (q : Procedure). q.name.name) qs
 
-abbrev called : List Ident → List (List ℕ)
+abbrev pub called : List Ident → List (List ℕ)
 called of = map (λ (i : Ident). i.name) of
 
 calls_weighed : (qs : List Procedure) (of : List Ident) → forms_of_calls qs of ≡ weight (forms_for qs) (called of)
@@ -251,7 +251,7 @@ bodies_among qs s distinct there =
     let most = calls_counted qs s in
     omega (arith, here, others, least, most)
 
-abbrev AreApart : List (List ℕ) → Type 0
+abbrev pub AreApart : List (List ℕ) → Type 0
 AreApart ns = (k j : ℕ) (name : List ℕ) → k < j → slice_get ns k ≡ Some name → ¬ (slice_get ns j ≡ Some name)
 
 apart_here : (n : List ℕ) (ns : List (List ℕ)) → ((j : ℕ) → ¬ (slice_get ns j ≡ Some n)) → AllByRecursion (λ k. bytes_eq n k ≡ false) ns
@@ -262,7 +262,7 @@ apart_here n (k ∷ ks) none = (by_test (bytes_eq n k) refl, apart_here n ks (λ
     by_test false so = so
     by_test true so = absurd (none 0 (ap (λ (m : List ℕ). Some m) (sym ((bytes_eq-Decides n k).0 so))))
 
-distinct_names : (ns : List (List ℕ)) → AreApart ns → IsDistinct bytes_eq ns
+pub distinct_names : (ns : List (List ℕ)) → AreApart ns → IsDistinct bytes_eq ns
 unfolding IsDistinct
 distinct_names [] apart = tt
 distinct_names (n ∷ ns) apart = (
@@ -276,7 +276,7 @@ got_procedure [] k name is = absurd (cc is)
 got_procedure (q ∷ qs) zero name is = (q, refl, let same : q.name.name ≡ name = cc is in same)
 got_procedure (q ∷ qs) (suc k) name is = got_procedure qs k name is
 
-procedures_distinct : (p : ProgramTree) → ((s : Span) → ¬ IsDoubleProcedure p s) → IsDistinct bytes_eq (names_in p.procs)
+pub procedures_distinct : (p : ProgramTree) → ((s : Span) → ¬ IsDoubleProcedure p s) → IsDistinct bytes_eq (names_in p.procs)
 procedures_distinct p none = distinct_names (names_in p.procs) (λ k j name less first second.
     let a = got_procedure p.procs k name first in
     let b = got_procedure p.procs j name second in
@@ -300,7 +300,7 @@ each_there ms (u ∷ us) each = (each u (0, omega arith, refl), each_there ms us
 call_there : (xs : List Ident) (of : Ident) → Contains xs of → list_any (bytes_eq of.name) (called xs) ≡ true
 call_there xs of c = any_there of.name (called xs) (in_map (λ (i : Ident). i.name) xs of c)
 
-all_called : (p : ProgramTree) → nested_calls p.procs ≡ [] → ((s : Span) → ¬ IsUnusedProcedure p s) → AreThere (called (calls_in p.body)) (names_in p.procs)
+pub all_called : (p : ProgramTree) → nested_calls p.procs ≡ [] → ((s : Span) → ¬ IsUnusedProcedure p s) → AreThere (called (calls_in p.body)) (names_in p.procs)
 all_called p flat used = each_there (called (calls_in p.body)) p.procs (λ q c. by_test q c (list_any (bytes_eq q.name.name) (called (calls_in p.body))) refl)
   where
     by_test : (q : Procedure) → Contains p.procs q → (b : Bool) → list_any (bytes_eq q.name.name) (called (calls_in p.body)) ≡ b

@@ -1,0 +1,6 @@
+pub mod FormsAlike
+pub mod CallsMet
+pub mod Unread
+pub mod CallPrograms
+pub mod Accepting
+pub mod SizesAlike

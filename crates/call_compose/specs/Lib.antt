@@ -1,0 +1,4 @@
+pub mod CalledForm
+pub mod CallsMeant
+pub mod CallsCarried
+pub mod CallsCounted
