@@ -15,13 +15,6 @@ use std::rc::Rc;
 /// The most bytes of a rule file.
 const MOST_OF_NET: usize = 268_435_456;
 
-/// A list of one device that counts its drops here.
-fn one_device(alloc: Global, drops: &Rc<Cell<u32>>) -> Result<Vec<Box<dyn Peer>>, AllocError> {
-    let mut peers: Vec<Box<dyn Peer>> = Vec::new(alloc);
-    peers.push(Box::new(alloc, Dropped::new(alloc, drops.clone()?))?)?;
-    Ok(peers)
-}
-
 /// Drops a bench of the last file's net without a run. Whether that file is a rule file.
 fn give_up(alloc: Global, bench: &Bench, drops: &Rc<Cell<u32>>) -> Result<bool, AllocError> {
     let text = bench.last();
@@ -31,7 +24,8 @@ fn give_up(alloc: Global, bench: &Bench, drops: &Rc<Cell<u32>>) -> Result<bool, 
     let Ok(net) = read_net(alloc, text) else {
         return Ok(false);
     };
-    let peers = one_device(alloc, drops)?;
+    let mut peers: Vec<Box<dyn Peer>> = Vec::new(alloc);
+    peers.push(Box::new(alloc, Dropped::new(alloc, drops.clone()?))?)?;
     if peers.is_empty() {
         return Ok(false);
     }
@@ -60,7 +54,8 @@ pub fn count_drops(
     let mut orders: Vec<Box<dyn Picker>> = Vec::new(alloc);
     orders.push(Box::new(alloc, Lowest::new(alloc))?)?;
     drops.set(0);
-    let peers = one_device(alloc, &drops)?;
+    let mut peers: Vec<Box<dyn Peer>> = Vec::new(alloc);
+    peers.push(Box::new(alloc, Dropped::new(alloc, drops.clone()?))?)?;
     let mut players = Players { orders, peers };
     let status = chp_main(alloc, &words, &mut shelf, &mut out, &mut say, &mut players);
     writeln!(
