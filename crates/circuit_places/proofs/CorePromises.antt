@@ -1,5 +1,5 @@
 -- Where a core comes to rest.
-use Rattle.std.proofs.Common.{◌≡◌, ℕ, Bool, true, false, refl, ◌∙◌}
+use Rattle.std.proofs.Common.{◌≡◌, ℕ, Bool, true, false, refl}
 use Rattle.std.specs.Prelude.{◌&&◌}
 use Rattle.circuit_places.specs.Heads.{Index, bit_of, hot, all_neutral, all_valid, alone, over}
 use Rattle.circuit_places.specs.Cores.{of_joined, of_ask, of_any, of_latch, of_start, RoundSpot, of_answer, of_leave}

@@ -5,6 +5,7 @@ use Rattle.width_check.specs.Processes.{Process, Processes, TypedProgram, Choice
 use Rattle.circuit_places.specs.Lines.{of_channel, Seen}
 use Rattle.circuit_places.specs.Circuit.{GuardedSpot, Spot, TurnSpot, BranchSpot, child, latch, next, inner, of_send, of_receive, in_members, of_branch, in_this, in_others, ask, in_body, in_last, in_member, in_later, ChoiceSpot, this_choice, other_choice, of_core, of_choice, of_round}
 use Rattle.circuit_places.proofs.Places.{Mode, idle, running, answered, returning, GuardedAt, At, TurnAt, BranchesAt, g_rests, g_in, g_past, g_back, rests, at_skip, at_assign, at_send, at_receive, at_turn, at_side, at_body, no_more, and_at, turn_rests, at_last, at_member, at_later, Shown, guarded_shown, shown, turn_shown, branches_shown, GuardedFits, Fits, TurnFits, BranchesFit, guarded_moves, moves, turn_moves, branch_moves, at_choice, at_turning, at_closing, control_at, inside_at, ChosenAt, this_one, another, chosen_shown, ChosenFits, chosen_moves, chosen_index}
+use Rattle.circuit_places.proofs.Links.{link_way, later_by, never_true}
 use Rattle.circuit_places.proofs.Meets.{Meets, TurnMeets, EachMeets, ChoiceMeets}
 use Rattle.circuit_places.proofs.Talks.{beside}
 use Rattle.circuit_places.proofs.Begin.{idle_is}
@@ -19,23 +20,23 @@ module _ (P : TypedProgram) (env : Seen) (c : ℕ) (high : env.ack (of_channel c
     guarded_lets g_rests meets f n = none_held P env c high
     guarded_lets g_past meets f n = none_held P env c high
     guarded_lets (g_back u) meets f n = none_held P env c high
-    guarded_lets (g_in {m = idle} false a h) meets f n = absurd (cc (n child refl))
+    guarded_lets (g_in {m = idle} false a h) meets f n = absurd (never_true (n child refl))
     guarded_lets (g_in {m = running} false a h) meets f n = lets a (λ e. cc e) meets f (λ s. n (inner s))
-    guarded_lets (g_in {m = answered} false a h) meets f n = absurd (cc (n latch refl))
-    guarded_lets (g_in {m = returning} false a h) meets f n = absurd (cc h)
-    guarded_lets (g_in {m = idle} true a h) meets f n = absurd (cc (n next refl))
-    guarded_lets (g_in {m = running} true a h) meets f n = absurd (cc h)
-    guarded_lets (g_in {m = answered} true a h) meets f n = absurd (cc (n child refl))
+    guarded_lets (g_in {m = answered} false a h) meets f n = absurd (never_true (n latch refl))
+    guarded_lets (g_in {m = returning} false a h) meets f n = absurd (never_true h)
+    guarded_lets (g_in {m = idle} true a h) meets f n = absurd (never_true (n next refl))
+    guarded_lets (g_in {m = running} true a h) meets f n = absurd (never_true h)
+    guarded_lets (g_in {m = answered} true a h) meets f n = absurd (never_true (n child refl))
     guarded_lets (g_in {m = returning} true a h) meets f n = lets a (λ e. cc e) meets f (λ s. n (inner s))
 
     lets : {p : Process} {m : Mode} (a : At p m) → (m ≡ answered → ⊥) → Meets P p → Fits a env → ((s : Spot p) → moves env a s ≡ true → steps a s ≡ true)
         → Held P c env (shown a)
     lets rests ne meets f n = none_held P env c high
     lets (at_skip m h) ne meets f n = none_held P env c high
-    lets (at_assign m u h) ne meets f n = record { gone = λ i one. refl; lets_go = λ z. absurd (cc z) }
+    lets (at_assign m u h) ne meets f n = record { gone = λ i one. refl; lets_go = λ z. absurd (never_true z) }
     lets (at_send {c = d} {e = e} m u h) ne meets f n = record {
       gone = send_gone P env c high d e m u h f (λ s. off _ (n (of_send s))) ne;
-      lets_go = λ z. absurd (cc z);
+      lets_go = λ z. absurd (never_true z);
     }
     lets (at_receive {c = d} {x = x} m l q h) ne meets f n = record {
       gone = λ i one. refl;
@@ -45,12 +46,12 @@ module _ (P : TypedProgram) (env : Seen) (c : ℕ) (high : env.ack (of_channel c
     lets (at_side m t b h) ne meets f n = branches_lets b meets.2 f (λ s. n (of_branch s))
     lets (at_body {m = idle} a) ne meets f n = subst (λ (x : Shown). Held P c env x) (sym (idle_is a).1) (none_held P env c high)
     lets (at_body {m = running} a) ne meets f n = lets a (λ e. cc e) meets f (λ s. n (in_body s))
-    lets (at_body {m = answered} a) ne meets f n = absurd (cc (n ask refl))
+    lets (at_body {m = answered} a) ne meets f n = absurd (never_true (n ask refl))
     lets (at_body {m = returning} a) ne meets f n = lets a (λ e. cc e) meets f (λ s. n (in_body s))
-    lets (at_choice {choices = choices} (control_at z)) ne meets f n = record { gone = λ i one. refl; lets_go = λ h. absurd (cc h) }
+    lets (at_choice {choices = choices} (control_at z)) ne meets f n = record { gone = λ i one. refl; lets_go = λ h. absurd (never_true h) }
     lets (at_choice (inside_at a w)) ne meets f n = chosen_lets a (over P env c high w (chosen_index a) (λ s. off _ (n (of_core s))) (λ e z. ne e))
         meets.2 f (λ s. n (of_choice s))
-    lets (at_turning {choices = choices} (control_at z)) ne meets f n = record { gone = λ i one. refl; lets_go = λ h. absurd (cc h) }
+    lets (at_turning {choices = choices} (control_at z)) ne meets f n = record { gone = λ i one. refl; lets_go = λ h. absurd (never_true h) }
     lets (at_turning (inside_at a w)) ne meets f n = chosen_lets a (over P env c high w (chosen_index a) (λ s. off _ (n (of_core s)))
         (λ e z. turns_on P env c high w e z (λ t. off _ (n (of_round t)))))
         meets.2 f (λ s. n (of_choice s))
@@ -72,9 +73,5 @@ module _ (P : TypedProgram) (env : Seen) (c : ℕ) (high : env.ack (of_channel c
     turn_lets turn_rests ne meets f n = none_held P env c high
     turn_lets (at_last a) ne meets f n = lets a ne meets f (λ s. n (in_last s))
     turn_lets (at_member g) ne meets f n = guarded_lets g meets.0 f (λ s. n (in_member s))
-    turn_lets (at_later {k = answered} {n = running} {m = running} g t h) ne meets f n = turn_lets t (λ e. cc e) meets.1 f (λ s. n (in_later s))
-    turn_lets (at_later {m = answered} g t h) ne meets f n = absurd (ne refl)
-    turn_lets (at_later {k = returning} {n = answered} {m = returning} (g_back true) t h) ne meets f n = absurd (cc (n (in_member latch) refl))
-    turn_lets (at_later {k = returning} {n = answered} {m = returning} (g_back false) t h) ne meets f n = absurd (cc (n (in_member next) refl))
-    turn_lets (at_later {k = idle} {n = returning} {m = returning} g t h) ne meets f n = turn_lets t (λ e. cc e) meets.1 f (λ s. n (in_later s))
-    turn_lets (at_later {k = k} {n = n} {m = m} g t h) ne meets f still = absurd (cc h)
+    turn_lets (at_later {k = k} {n = l} {m = m} g t h) ne meets f n = later_by env (link_way m k l h) g ne (λ s e. never_true (n (in_member s) e))
+        (λ z. turn_lets t z meets.1 f (λ s. n (in_later s)))

@@ -10,6 +10,7 @@ pub mod InternalExamples
 pub mod RailLemmas
 pub mod Trees
 pub mod Places
+mod Links
 pub mod LineNames
 pub mod Meets
 pub mod GuardWaves

@@ -12,6 +12,7 @@ use Rattle.circuit_places.specs.Circuit.{Bits, cell_bit, joint_count, same_bit, 
 use Rattle.circuit_places.proofs.HeadFacts.{hot_up}
 use Rattle.circuit_places.proofs.RailLemmas.{snd_true}
 use Rattle.circuit_places.proofs.Places.{Mode, idle, running, answered, returning, asks, all_ask, link, GuardedAt, At, TurnAt, BranchesAt, g_rests, g_in, g_past, g_back, rests, at_skip, at_assign, at_send, at_receive, at_turn, at_side, at_body, no_more, and_at, turn_rests, at_last, at_member, at_later, at_choice, at_turning, at_closing, control_at, inside_at, ChosenAt, this_one, another, chosen_index, guarded_cells, cells, chosen_cells, branch_cells, turn_cells, turn_of, guarded_shown, shown, chosen_shown, branches_shown, turn_shown, guards_shown, GuardedFits, Fits, ChosenFits, BranchesFit, TurnFits, guarded_moves, moves, chosen_moves, branch_moves, turn_moves, answer_is, next_is, low_turn_answer}
+use Rattle.circuit_places.proofs.Links.{never_true}
 use Rattle.circuit_places.proofs.CoreControl.{uncalled, called, evaluating, latched, leaving, works, worked, reported, letting, backs, isnt_running}
 use Rattle.circuit_places.proofs.Meets.{Meets, TurnMeets, EachMeets, ChoiceMeets, GuardsMeet, sends, turn_sends, receives, each_receives, choice_sends, choice_receives}
 use Rattle.circuit_places.proofs.Stepping.{steps, guarded_steps, chosen_steps, branch_steps, turn_steps}
@@ -157,6 +158,16 @@ mutual
   turn_none (at_later g t h) ne (in_member s) = refl
   turn_none (at_later {k = k} {n = n} {m = m} g t h) ne (in_later s) = turn_none t (link_none m k n ne h) s
 
+-- what doesn't run
+idle_apart : idle ≡ running → ⊥
+idle_apart e = cc e
+
+answered_apart : answered ≡ running → ⊥
+answered_apart e = cc e
+
+returning_apart : returning ≡ running → ⊥
+returning_apart e = cc e
+
 never : {A : Type 0} (b : Bool) → b ≡ false → b ≡ true → A
 never b e h = absurd (cc (e, h))
 
@@ -240,22 +251,22 @@ module _ (P : TypedProgram) (env : Seen) (clean : Clean P env) where
         → SilentAt (ToldBy env (guarded_shown g).read) (guarded_still p env.ack (guarded_cells g))
         (guarded_still p env.ack (turned_guarded p (guarded_cells g) s)) (guarded_place s)
     guarded_step (g_in {m = running} false a h) meets f back (inner s) e z = step a meets f record { send = back.send; receive = back.receive } s e z
-    guarded_step (g_in {m = idle} u a h) meets f back (inner s) e z = never _ (none a (λ i. cc i) s) z
-    guarded_step (g_in {m = answered} u a h) meets f back (inner s) e z = never _ (none a (λ i. cc i) s) z
-    guarded_step (g_in {m = returning} u a h) meets f back (inner s) e z = never _ (none a (λ i. cc i) s) z
-    guarded_step (g_in {m = running} true a h) meets f back (inner s) e z = absurd (cc h)
-    guarded_step (g_in u a h) meets f back child e z = absurd (cc z)
-    guarded_step (g_in u a h) meets f back latch e z = absurd (cc z)
-    guarded_step (g_in u a h) meets f back next e z = absurd (cc z)
+    guarded_step (g_in {m = idle} u a h) meets f back (inner s) e z = never _ (none a idle_apart s) z
+    guarded_step (g_in {m = answered} u a h) meets f back (inner s) e z = never _ (none a answered_apart s) z
+    guarded_step (g_in {m = returning} u a h) meets f back (inner s) e z = never _ (none a returning_apart s) z
+    guarded_step (g_in {m = running} true a h) meets f back (inner s) e z = absurd (never_true h)
+    guarded_step (g_in u a h) meets f back child e z = absurd (never_true z)
+    guarded_step (g_in u a h) meets f back latch e z = absurd (never_true z)
+    guarded_step (g_in u a h) meets f back next e z = absurd (never_true z)
 
     step : {p : Process} (a : At p running) → Meets P p → Fits a env → Backed p (shown a) env → (s : Spot p) → moves env a s ≡ true → steps a s ≡ true
         → SilentAt (ToldBy env (shown a).read) (part_left p env.ack (cells a)) (part_left p env.ack (flipped p (cells a) s)) (place_of s)
     step (at_skip _ h) meets f back of_skip e z = record { statement = skipping; rest = finished; goes = skips; stands = refl; then_is = refl }
-    step (at_assign m u h) meets f back (of_assign s) e z = absurd (cc z)
-    step (at_send m u h) meets f back (of_send s) e z = absurd (cc z)
-    step (at_receive m k q h) meets f back (of_receive s) e z = absurd (cc z)
+    step (at_assign m u h) meets f back (of_assign s) e z = absurd (never_true z)
+    step (at_send m u h) meets f back (of_send s) e z = absurd (never_true z)
+    step (at_receive m k q h) meets f back (of_receive s) e z = absurd (never_true z)
     step (at_turn t) meets f back (in_members s) e z = turn_step t meets f record { send = back.send; receive = back.receive } s e z
-    step (at_side _ t b h) meets f back (joint k) e z = absurd (cc z)
+    step (at_side _ t b h) meets f back (joint k) e z = absurd (never_true z)
     step (at_side {members = members} {ks = ks} _ t b h) meets f back (of_branch s) e z =
         let n = member_count members in
         let before : answer (side_by_side members) (cells (at_side running t b h)) ≡ false = answer_is (at_side running t b h) in
@@ -286,69 +297,69 @@ module _ (P : TypedProgram) (env : Seen) (clean : Clean P env) where
           then_is = ap (λ t. followed t (again p)) opens;
         }
     step (at_body {m = running} a) meets f back ask e z = absurd (cc e)
-    step (at_body {m = answered} a) meets f back ask e z = absurd (cc z)
+    step (at_body {m = answered} a) meets f back ask e z = absurd (never_true z)
     step (at_body {m = returning} a) meets f back ask e z = absurd (cc e)
     step (at_body {p = p} {m = running} a) meets f back (in_body s) e z =
         then_step (ToldBy env (shown a).read) (again p) (part_left p env.ack (cells a)) (part_left p env.ack (flipped p (cells a) s)) (place_of s)
         (step a meets f record { send = back.send; receive = back.receive } s e z)
-    step (at_body {m = idle} a) meets f back (in_body s) e z = never _ (none a (λ i. cc i) s) z
-    step (at_body {m = answered} a) meets f back (in_body s) e z = never _ (none a (λ i. cc i) s) z
-    step (at_body {m = returning} a) meets f back (in_body s) e z = never _ (none a (λ i. cc i) s) z
-    step (at_body a) meets f back of_loop e z = absurd (cc z)
-    step (at_choice (control_at called)) meets f back (of_core s) e z = absurd (cc z)
+    step (at_body {m = idle} a) meets f back (in_body s) e z = never _ (none a idle_apart s) z
+    step (at_body {m = answered} a) meets f back (in_body s) e z = never _ (none a answered_apart s) z
+    step (at_body {m = returning} a) meets f back (in_body s) e z = never _ (none a returning_apart s) z
+    step (at_body a) meets f back of_loop e z = absurd (never_true z)
+    step (at_choice (control_at called)) meets f back (of_core s) e z = absurd (never_true z)
     step (at_choice {choices = choices} (control_at (evaluating g))) meets f back (of_core (of_latch j)) e z =
         same_step (ToldBy env (guards_shown true choices).read) (active (choosing false choices)) _ (opened (body_at choices j)) _ here
         (choice_none choices env.ack _ (active (choosing false choices)) (λ t. t)) (latch_up choices j _ (active (choosing false choices)) (λ t. t))
         (latch_step false choices meets.1 g f j e)
-    step (at_choice (control_at (evaluating g))) meets f back (of_core of_joined) e z = absurd (cc z)
-    step (at_choice (control_at (evaluating g))) meets f back (of_core of_ask) e z = absurd (cc z)
-    step (at_choice (control_at (evaluating g))) meets f back (of_core of_any) e z = absurd (cc z)
-    step (at_choice (control_at (evaluating g))) meets f back (of_core (of_start j)) e z = absurd (cc z)
-    step (at_choice (control_at (latched l i g h))) meets f back (of_core s) e z = absurd (cc z)
+    step (at_choice (control_at (evaluating g))) meets f back (of_core of_joined) e z = absurd (never_true z)
+    step (at_choice (control_at (evaluating g))) meets f back (of_core of_ask) e z = absurd (never_true z)
+    step (at_choice (control_at (evaluating g))) meets f back (of_core of_any) e z = absurd (never_true z)
+    step (at_choice (control_at (evaluating g))) meets f back (of_core (of_start j)) e z = absurd (never_true z)
+    step (at_choice (control_at (latched l i g h))) meets f back (of_core s) e z = absurd (never_true z)
     step (at_choice (control_at (leaving y l g h))) meets f back (of_core s) e z = absurd (cc y)
-    step (at_choice (inside_at a w)) meets f back (of_core s) e z = absurd (cc z)
-    step (at_choice x) meets f back (of_guard s) e z = absurd (cc z)
-    step (at_choice (control_at c)) meets f back (of_choice s) e z = absurd (cc z)
+    step (at_choice (inside_at a w)) meets f back (of_core s) e z = absurd (never_true z)
+    step (at_choice x) meets f back (of_guard s) e z = absurd (never_true z)
+    step (at_choice (control_at c)) meets f back (of_choice s) e z = absurd (never_true z)
     step (at_choice {choices = choices} (inside_at a works)) meets f back (of_choice s) e z =
         let r = chosen_step a meets.2 f back.send back.receive true (active (choosing false choices)) (λ t. t) s e z in
         same_step (ToldBy env (chosen_shown a).read) r.x _ r.y _ (choice_place s) r.was r.becomes r.act
-    step (at_choice (inside_at a worked)) meets f back (of_choice s) e z = never _ (chosen_none a (λ i. cc i) s) z
-    step (at_turning (control_at uncalled)) meets f back (of_core s) e z = absurd (cc z)
-    step (at_turning (control_at called)) meets f back (of_core s) e z = absurd (cc z)
+    step (at_choice (inside_at a worked)) meets f back (of_choice s) e z = never _ (chosen_none a answered_apart s) z
+    step (at_turning (control_at uncalled)) meets f back (of_core s) e z = absurd (never_true z)
+    step (at_turning (control_at called)) meets f back (of_core s) e z = absurd (never_true z)
     step (at_turning {choices = choices} (control_at (evaluating g))) meets f back (of_core (of_latch j)) e z =
         same_step (ToldBy env (guards_shown true choices).read) (active (choosing true choices)) _ (branch_term true choices (opened (body_at choices j))) _ here
         (choice_none choices env.ack _ (active (choosing true choices)) (branch_term true choices))
         (latch_up choices j _ (active (choosing true choices)) (branch_term true choices))
         (latch_step true choices meets.1 g f j e)
-    step (at_turning (control_at (evaluating g))) meets f back (of_core of_joined) e z = absurd (cc z)
-    step (at_turning (control_at (evaluating g))) meets f back (of_core of_ask) e z = absurd (cc z)
-    step (at_turning (control_at (evaluating g))) meets f back (of_core of_any) e z = absurd (cc z)
-    step (at_turning (control_at (evaluating g))) meets f back (of_core (of_start j)) e z = absurd (cc z)
-    step (at_turning (control_at (latched l i g h))) meets f back (of_core s) e z = absurd (cc z)
-    step (at_turning (control_at (leaving y l g h))) meets f back (of_core s) e z = absurd (cc z)
-    step (at_turning (inside_at a w)) meets f back (of_core s) e z = absurd (cc z)
-    step (at_turning x) meets f back (of_guard s) e z = absurd (cc z)
-    step (at_turning (control_at c)) meets f back (of_choice s) e z = absurd (cc z)
+    step (at_turning (control_at (evaluating g))) meets f back (of_core of_joined) e z = absurd (never_true z)
+    step (at_turning (control_at (evaluating g))) meets f back (of_core of_ask) e z = absurd (never_true z)
+    step (at_turning (control_at (evaluating g))) meets f back (of_core of_any) e z = absurd (never_true z)
+    step (at_turning (control_at (evaluating g))) meets f back (of_core (of_start j)) e z = absurd (never_true z)
+    step (at_turning (control_at (latched l i g h))) meets f back (of_core s) e z = absurd (never_true z)
+    step (at_turning (control_at (leaving y l g h))) meets f back (of_core s) e z = absurd (never_true z)
+    step (at_turning (inside_at a w)) meets f back (of_core s) e z = absurd (never_true z)
+    step (at_turning x) meets f back (of_guard s) e z = absurd (never_true z)
+    step (at_turning (control_at c)) meets f back (of_choice s) e z = absurd (never_true z)
     step (at_turning {choices = choices} (inside_at a works)) meets f back (of_choice s) e z =
         let r = chosen_step a meets.2 f back.send back.receive true (active (choosing true choices)) (branch_term true choices) s e z in
         same_step (ToldBy env (chosen_shown a).read) (branch_term true choices r.x) _ (branch_term true choices r.y) _ (in_first (choice_place s))
         r.was r.becomes
         (then_step (ToldBy env (chosen_shown a).read) (and_member (choosing true choices) no_members) r.x r.y (choice_place s) r.act)
-    step (at_turning (inside_at a worked)) meets f back (of_choice s) e z = never _ (chosen_none a (λ i. cc i) s) z
-    step (at_turning (inside_at a reported)) meets f back (of_choice s) e z = never _ (chosen_none a (λ i. cc i) s) z
-    step (at_turning (inside_at a letting)) meets f back (of_choice s) e z = never _ (chosen_none a (λ i. cc i) s) z
+    step (at_turning (inside_at a worked)) meets f back (of_choice s) e z = never _ (chosen_none a answered_apart s) z
+    step (at_turning (inside_at a reported)) meets f back (of_choice s) e z = never _ (chosen_none a answered_apart s) z
+    step (at_turning (inside_at a letting)) meets f back (of_choice s) e z = never _ (chosen_none a answered_apart s) z
     step (at_turning (inside_at a (backs any h))) meets f back (of_choice s) e z = never _ (chosen_none a (λ i. cc (h, ap isnt_running i)) s) z
     step (at_turning {choices = choices} (control_at (evaluating g))) meets f back (of_round of_leave) e z =
         same_step (ToldBy env (guards_shown true choices).read) (active (choosing true choices)) _ finished _ here
         (choice_none choices env.ack _ (active (choosing true choices)) (branch_term true choices)) refl
         (end_step choices meets.1 g f e)
-    step (at_turning (control_at (evaluating g))) meets f back (of_round of_answer) e z = absurd (cc z)
-    step (at_turning (control_at (evaluating g))) meets f back (of_round of_turn) e z = absurd (cc z)
-    step (at_turning (control_at uncalled)) meets f back (of_round t) e z = absurd (cc z)
-    step (at_turning (control_at called)) meets f back (of_round t) e z = absurd (cc z)
-    step (at_turning (control_at (latched l i g h))) meets f back (of_round t) e z = absurd (cc z)
-    step (at_turning (control_at (leaving y l g h))) meets f back (of_round t) e z = absurd (cc z)
-    step (at_turning (inside_at a w)) meets f back (of_round t) e z = absurd (cc z)
+    step (at_turning (control_at (evaluating g))) meets f back (of_round of_answer) e z = absurd (never_true z)
+    step (at_turning (control_at (evaluating g))) meets f back (of_round of_turn) e z = absurd (never_true z)
+    step (at_turning (control_at uncalled)) meets f back (of_round t) e z = absurd (never_true z)
+    step (at_turning (control_at called)) meets f back (of_round t) e z = absurd (never_true z)
+    step (at_turning (control_at (latched l i g h))) meets f back (of_round t) e z = absurd (never_true z)
+    step (at_turning (control_at (leaving y l g h))) meets f back (of_round t) e z = absurd (never_true z)
+    step (at_turning (inside_at a w)) meets f back (of_round t) e z = absurd (never_true z)
     step (at_closing c) meets f back s e z = elim c [ ]
 
     chosen_step : {choices : Choices} (a : ChosenAt choices running) → ChoiceMeets P choices → ChosenFits a env
@@ -369,18 +380,18 @@ module _ (P : TypedProgram) (env : Seen) (clean : Clean P env) where
         receive = λ c h. hears c (or_left (receives p c) (choice_receives more c) h);
       } s e z;
     }
-    chosen_step (this_one a) meets f back hears b none wrap (other_choice s) e z = absurd (cc z)
+    chosen_step (this_one a) meets f back hears b none wrap (other_choice s) e z = absurd (never_true z)
     chosen_step (another {p = p} {more = more} a) meets f back hears b none wrap (other_choice s) e z =
         let r = chosen_step a meets.1 f (λ j h. back j (or_right (sends p j) (choice_sends more j) h))
         (λ c h. hears c (or_right (receives p c) (choice_receives more c) h)) b none wrap s e z in
         record { x = r.x; y = r.y; was = r.was; becomes = r.becomes; act = r.act }
-    chosen_step (another a) meets f back hears b none wrap (this_choice s) e z = absurd (cc z)
+    chosen_step (another a) meets f back hears b none wrap (this_choice s) e z = absurd (never_true z)
 
     branches_step : {members : Processes} {ks : List Mode} (b : BranchesAt members ks) → all_ask true ks ≡ true → EachMeets P members → BranchesFit b env
         → Backed (side_by_side members) (branches_shown b) env → (s : BranchSpot members) → branch_moves env b s ≡ true → branch_steps b s ≡ true
         → SilentInsideAt (ToldBy env (branches_shown b).read) (branches_still members env.ack (branch_cells b))
         (branches_still members env.ack (turned_branches members (branch_cells b) s)) (branch_index s) (branch_place s)
-    branches_step no_more h meets f back s e z = absurd (cc z)
+    branches_step no_more h meets f back s e z = absurd (never_true z)
     branches_step (and_at {p = p} {more = more} {k = running} g b) h meets f back (in_this s) e z =
         let low : (guarded_cells g).next ≡ false = next_is g in
         let stays : (turned_guarded p (guarded_cells g) s).next ≡ false = guarded_next g s z ∙ low in
@@ -404,9 +415,9 @@ module _ (P : TypedProgram) (env : Seen) (clean : Clean P env) where
           receive = λ c i y. sym (or_false_right ((guarded_shown g).listen c) ((branches_shown b).listen c) ((beside meets.1 g b).deaf_theirs c i))
               ∙ back.receive c (or_left (receives p c) (each_receives more c) i) y;
         } s e z)))
-    branches_step (and_at {k = idle} g b) h meets f back (in_this s) e z = never _ (guarded_none g (λ i. cc i) s) z
-    branches_step (and_at {k = answered} g b) h meets f back (in_this s) e z = never _ (guarded_none g (λ i. cc i) s) z
-    branches_step (and_at {k = returning} g b) h meets f back (in_this s) e z = never _ (guarded_none g (λ i. cc i) s) z
+    branches_step (and_at {k = idle} g b) h meets f back (in_this s) e z = never _ (guarded_none g idle_apart s) z
+    branches_step (and_at {k = answered} g b) h meets f back (in_this s) e z = never _ (guarded_none g answered_apart s) z
+    branches_step (and_at {k = returning} g b) h meets f back (in_this s) e z = never _ (guarded_none g returning_apart s) z
     branches_step (and_at {p = p} {more = more} {k = k} {ks = ks} g b) h meets f back (in_others s) e z =
         let told : (choices : Choices) (ps : List Process) → ToldBy env (branches_shown b).read choices ps
         → ToldBy env (branches_shown (and_at g b)).read choices ps =
@@ -445,8 +456,8 @@ module _ (P : TypedProgram) (env : Seen) (clean : Clean P env) where
           send = λ k h. back.send k (or_left (sends p k) (turn_sends (and_member q more) k) h);
           receive = λ c h. back.receive c (or_left (receives p c) (each_receives (and_member q more) c) h);
         } s e z))
-    turn_step (at_member g) meets f back (in_later s) e z = absurd (cc z)
-    turn_step (at_later g t h) meets f back (in_member s) e z = absurd (cc z)
+    turn_step (at_member g) meets f back (in_later s) e z = absurd (never_true z)
+    turn_step (at_later g t h) meets f back (in_member s) e z = absurd (never_true z)
     turn_step (at_later {p = p} {q = q} {more = more} {k = answered} {n = running} g t h) meets f back (in_later s) e z =
         same_step (ToldBy env (turn_shown t).read) (part_left (in_turn (and_member q more)) env.ack (turn_cells t)) _
         (part_left (in_turn (and_member q more)) env.ack (turned_turn (and_member q more) (turn_cells t) s)) _ (turn_place s)
@@ -456,4 +467,4 @@ module _ (P : TypedProgram) (env : Seen) (clean : Clean P env) where
           send = λ k i. back.send k (or_right (sends p k) (turn_sends (and_member q more) k) i);
           receive = λ c i. back.receive c (or_right (receives p c) (each_receives (and_member q more) c) i);
         } s e z)
-    turn_step (at_later g t h) meets f back (in_later s) e z = absurd (cc h)
+    turn_step (at_later g t h) meets f back (in_later s) e z = absurd (never_true h)

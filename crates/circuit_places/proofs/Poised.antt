@@ -27,6 +27,7 @@ use Rattle.circuit_places.specs.Heads.{Index, top, under, alone, over}
 use Rattle.circuit_places.specs.Cores.{OwnSpot, RoundSpot, of_joined, of_ask, of_any, of_latch, of_start, of_answer, of_turn, of_leave}
 use Rattle.circuit_places.proofs.RailLemmas.{fst_true, snd_true, same_value, both_true}
 use Rattle.circuit_places.proofs.Places.{Mode, idle, running, answered, returning, asks, acks, SiteMay, all_ask, all_ack, ends, SideMay, GuardedAt, At, TurnAt, BranchesAt, g_rests, g_in, g_past, g_back, rests, at_skip, at_assign, at_send, at_receive, at_turn, at_side, at_body, no_more, and_at, turn_rests, at_last, at_member, at_later, Shown, both_shown, guarded_shown, shown, turn_shown, branches_shown, site_shown, site_moves, SiteFits, port_may, port_shown, port_moves, GuardedFits, Fits, TurnFits, BranchesFit, guarded_moves, moves, turn_moves, branch_moves, at_choice, at_turning, at_closing, control_at, inside_at, ChosenAt, this_one, another, chosen_index, chosen_shown, ChosenFits, chosen_moves, guards_shown}
+use Rattle.circuit_places.proofs.Links.{LinkWay, member_over, whole_over, member_falls, member_rests, link_way, never_true}
 use Rattle.circuit_places.proofs.Meets.{SiteMeets, PortMeets, Meets, TurnMeets, EachMeets, GuardsMeet, ChoiceMeets}
 use Rattle.circuit_places.proofs.Left.{waits, again, guarded_left, left, turn_left, branches_left, left_done, inside_stands, some_stands, branch_term, control_left, chosen_left}
 use Rattle.circuit_places.proofs.Flow.{or_left, or_right, low_of, Clean}
@@ -481,6 +482,16 @@ loop_poised : (P : TypedProgram) (p : Process) (t : Term) (env : Seen) (x : Show
 loop_poised P p t env x R e r =
     poised refl (subst (λ (z : Term). Poised P (followed z (again p)) env x R) (sym e) (only P (repeating p) env x R (inr (refl, r))))
 
+-- in a sequence behind a member
+later_poise : (P : TypedProgram) {p : Process} {k n m : Mode} (env : Seen) → LinkWay m k n → (g : GuardedAt p k) (t : Term) (x : Shown)
+    (R S : Place → Type 0) → ((at : Place) → R at → S at) → ((s : GuardedSpot p) → guarded_moves env g s ≡ true → ⊥) → Poise P n t env x R
+    → Poise P m t env x S
+later_poise P env member_over g t x R S f still r = poise_wider P running t env x R S f r
+later_poise P env whole_over g t x R S f still r = settled refl
+later_poise P env member_falls (g_back true) t x R S f still r = absurd (still latch refl)
+later_poise P env member_falls (g_back false) t x R S f still r = absurd (still next refl)
+later_poise P env member_rests g t x R S f still r = poise_wider P returning t env x R S f r
+
 mutual
   pub guarded_poise : (P : TypedProgram) {p : Process} {m : Mode} (env : Seen) → Clean P env → Valid P env → (g : GuardedAt p m) → Meets P p
       → GuardedFits g env → ((s : GuardedSpot p) → guarded_moves env g s ≡ true → guarded_steps g s ≡ true)
@@ -602,15 +613,6 @@ mutual
       (λ r. poised_then P (and_member q more) (guarded_left env.ack g) env (guarded_shown g) (GuardedReady env g)
       (TurnReady env (at_member {q = q} {more = more} g)) (λ at z. (in_member z.0, z.1, z.2, ap (λ y. in_first y) z.3)) r)
       (guarded_poise P env clean valid g meets.0 f (λ s. n (in_member s)))
-  turn_poise P env clean valid (at_later {k = answered} {n = running} {m = running} g t h) meets f n =
-      poise_wider P running (turn_left env.ack t) env (turn_shown t) (TurnReady env t) (TurnReady env (at_later {m = running} g t h))
-      (λ at r. (in_later r.0, r.1, r.2, r.3)) (turn_poise P env clean valid t meets.1 f (λ s. n (in_later s)))
-  turn_poise P env clean valid (at_later {m = answered} g t h) meets f n = settled refl
-  turn_poise P env clean valid (at_later {k = returning} {n = answered} {m = returning} (g_back true) t h) meets f n =
-      absurd (cc (n (in_member latch) refl))
-  turn_poise P env clean valid (at_later {k = returning} {n = answered} {m = returning} (g_back false) t h) meets f n =
-      absurd (cc (n (in_member next) refl))
-  turn_poise P env clean valid (at_later {k = idle} {n = returning} {m = returning} g t h) meets f n =
-      returning_poise P returning (turn_left env.ack t) (turn_left env.ack t) env (turn_shown t) (TurnReady env t)
-      (TurnReady env (at_later {m = returning} g t h)) (turn_poise P env clean valid t meets.1 f (λ s. n (in_later s)))
-  turn_poise P env clean valid (at_later {k = k} {n = n} {m = m} g t h) meets f still = absurd (cc h)
+  turn_poise P env clean valid (at_later {k = k} {n = l} {m = m} g t h) meets f n =
+      later_poise P env (link_way m k l h) g (turn_left env.ack t) (turn_shown t) (TurnReady env t) (TurnReady env (at_later g t h))
+      (λ at r. (in_later r.0, r.1, r.2, r.3)) (λ s e. never_true (n (in_member s) e)) (turn_poise P env clean valid t meets.1 f (λ s. n (in_later s)))

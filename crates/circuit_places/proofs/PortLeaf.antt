@@ -1,5 +1,5 @@
 -- The own moves of a receive: its answer, the node that says that it has stored, and the rails that it takes over.
-use Rattle.std.proofs.Common.{◌≡◌, ◌≢◌, ℕ, ◌<◌, ◌≤◌, ◌==◌, Bool, true, false, refl, sym, ap, ◌∙◌, subst, inl}
+use Rattle.std.proofs.Common.{◌≡◌, ◌≢◌, ℕ, ◌<◌, ◌==◌, Bool, true, false, refl, sym, ap, ◌∙◌, subst, inl}
 use Rattle.std.specs.Prelude.{not, ◌&&◌, if◌then◌else◌, is_some}
 use Rattle.std.proofs.Math.Path.{fun_ext}
 use Rattle.prs_core.specs.Deciding.{implies, implies_at}

@@ -11,6 +11,7 @@ use Rattle.function_blocks.specs.Waves.{out_rail}
 use Rattle.circuit_places.specs.Whole.{is_merged, value_on}
 use Rattle.circuit_places.proofs.RailLemmas.{fst_true, snd_true, same_value, both_true, never_and, value_same, empty_low}
 use Rattle.circuit_places.proofs.Places.{Mode, idle, running, answered, returning, asks, acks, SiteMay, all_ask, all_ack, ends, SideMay, GuardedAt, At, TurnAt, BranchesAt, g_rests, g_in, g_past, g_back, rests, at_skip, at_assign, at_send, at_receive, at_turn, at_side, at_body, no_more, and_at, turn_rests, at_last, at_member, at_later, Shown, both_shown, guarded_shown, shown, turn_shown, branches_shown, site_shown, site_moves, SiteFits, port_may, port_shown, port_moves, GuardedFits, Fits, TurnFits, BranchesFit, guarded_moves, moves, turn_moves, branch_moves, at_choice, at_turning, at_closing, control_at, inside_at, ChosenAt, this_one, another, chosen_index, chosen_shown, ChosenFits, chosen_moves, guards_shown}
+use Rattle.circuit_places.proofs.Links.{LinkWay, member_over, whole_over, member_falls, member_rests, link_way}
 use Rattle.circuit_places.proofs.Meets.{HasLine, SiteMeets, PortMeets, Meets, TurnMeets, EachMeets, GuardsMeet, ChoiceMeets}
 use Rattle.circuit_places.proofs.Left.{waits, again, guarded_left, left, turn_left, branches_left, guarded_left_past, inside_stands, some_stands, branch_term, control_left, chosen_left, open_by}
 use Rattle.circuit_places.proofs.Flow.{low_of, or_left, or_right, Clean}
@@ -507,6 +508,15 @@ turned_rest P env choices a reported t r = absurd (cc (t of_turn))
 turned_rest P {m = returning} env choices a w t r =
     returning_rest P running (branch_term true choices (chosen_left env.ack a)) (branch_term true choices (chosen_left env.ack a)) env (chosen_shown a) r
 
+-- of a sequence behind a member
+later_rest : (P : TypedProgram) {p : Process} {k n m : Mode} (env : Seen) → LinkWay m k n → (g : GuardedAt p k) (t : Term) (x : Shown)
+    → ((s : GuardedSpot p) → guarded_moves env g s ≡ false) → Rest P n t env x → Rest P m t env x
+later_rest P env member_over g t x still r = r
+later_rest P env whole_over g t x still r = settled refl
+later_rest P env member_falls (g_back true) t x still r = absurd (cc (still latch))
+later_rest P env member_falls (g_back false) t x still r = absurd (cc (still next))
+later_rest P env member_rests g t x still r = r
+
 mutual
   pub guarded_rest : (P : TypedProgram) {p : Process} {m : Mode} (env : Seen) → Clean P env → Valid P env → (g : GuardedAt p m) → Meets P p → GuardedFits g env
       → ((s : GuardedSpot p) → guarded_moves env g s ≡ false) → Rest P m (guarded_left env.ack g) env (guarded_shown g)
@@ -591,11 +601,5 @@ mutual
       running_rest P (guarded_left env.ack g) (followed (guarded_left env.ack g) (and_member q more)) env (guarded_shown g)
       (λ r. waiting_then P (and_member q more) (guarded_left env.ack g) env (guarded_shown g) r)
       (guarded_rest P env clean valid g meets.0 f (λ s. n (in_member s)))
-  turn_rest P env clean valid (at_later {k = answered} {n = running} {m = running} g t h) meets f n =
-      turn_rest P env clean valid t meets.1 f (λ s. n (in_later s))
-  turn_rest P env clean valid (at_later {m = answered} g t h) meets f n = settled refl
-  turn_rest P env clean valid (at_later {k = returning} {n = answered} {m = returning} (g_back true) t h) meets f n = absurd (cc (n (in_member latch)))
-  turn_rest P env clean valid (at_later {k = returning} {n = answered} {m = returning} (g_back false) t h) meets f n = absurd (cc (n (in_member next)))
-  turn_rest P env clean valid (at_later {k = idle} {n = returning} {m = returning} g t h) meets f n = returning_rest P returning (turn_left env.ack t)
-      (turn_left env.ack t) env (turn_shown t) (turn_rest P env clean valid t meets.1 f (λ s. n (in_later s)))
-  turn_rest P env clean valid (at_later {k = k} {n = n} {m = m} g t h) meets f still = absurd (cc h)
+  turn_rest P env clean valid (at_later {k = k} {n = l} {m = m} g t h) meets f n = later_rest P env (link_way m k l h) g (turn_left env.ack t) (turn_shown t)
+      (λ s. n (in_member s)) (turn_rest P env clean valid t meets.1 f (λ s. n (in_later s)))

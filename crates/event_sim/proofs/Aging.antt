@@ -1,145 +1,88 @@
 -- Ages: what one more pick makes of them, and the first of the oldest and of the newest.
-use Rattle.std.proofs.Common.{◌≡◌, ◌≢◌, ℕ, zero, suc, ◌+◌, ◌-◌, ◌<◌, ◌≤◌, Bool, true, false, List, [], ◌∷◌, length, get_or, set, map, take, replicate, refl, sym, ap, subst, ◌∙◌, inl, inr, arith}
-use Rattle.std.specs.Prelude.{◌⊎◌, ◌||◌, ◌==◌, nat_lt, nat_le, if◌then◌else◌, slice_index, All, AllPairs}
-use Rattle.std.specs.List.{list_any, list_all, position_or_len, range_with_len, IsFirstBest}
-use Rattle.std.proofs.lemmas.Bool.{eq-eqb, ne_eqb, or_from, cases_eq, and_right, le-leb, lt-leb, le-ltb, lt-ltb, ltb-true, ltb-false}
-use Rattle.std.proofs.lemmas.List.{get_or-map, get_or-set_same, get_or-set_other, length-set, length-map, length-take, get_or-take, take_all}
-use Rattle.std.proofs.lemmas.List.MinMax.{IsStrictWeakOrder-flip, IsStrictWeakOrder-by_number, IsFirstBest-takes, IsFirstBest-keeps}
-use Rattle.std.specs.Cmp.{IsStrictWeakOrder}
-use Rattle.std.proofs.lemmas.List.Folds.{list_any_more}
-use Rattle.std.proofs.lemmas.List.FromFn.{fill_by_all}
-use Rattle.event_sim.specs.declared.ages.Presence.{Presence}
-use Rattle.event_sim.specs.Ages.{age_at, ages_at, aged, IsPast, renewed, first_greatest, first_least}
+use Rattle.std.proofs.Common.{◌≡◌, ℕ, zero, suc, ◌+◌, ◌-◌, ◌*◌, ◌^◌, ◌<◌, ◌≤◌, Bool, true, false, List, [], ◌∷◌, length, get_or, map, replicate, refl, sym, ap, subst, ◌∙◌, inl, inr, arith}
+use Rattle.std.specs.Prelude.{◌⊎◌, ◌==◌, nat_le, if◌then◌else◌, slice_index, All}
+use Rattle.std.specs.List.{list_any, list_all, position_or_len, range_with_len}
+use Rattle.std.proofs.lemmas.Bool.{and_right, le-leb, lt-leb, eqb-true, cases_eq, cases_lt}
+use Rattle.std.proofs.lemmas.List.{get_or-map, get_or_default}
+use Rattle.std.proofs.lemmas.List.Folds.{Any-from_list_any}
+use Rattle.std.proofs.lemmas.List.FromFn.{fill_by_all, get_or-map-range_with_len, length-map-range_with_len}
+use Rattle.event_sim.specs.Ages.{age_at, ages_at, aged, age_rank, IsByAge, first_greatest, first_least}
+use Rattle.event_sim.specs.Picking.{IsChoiceList}
+use Rattle.event_sim.proofs.Present.{IsAt, IsOnTheWay, any_in}
 
--- the entries of the nodes of the list are renewed, the others stay
-pub record IsNoted (now : ℕ) (list : List ℕ) (old new : List Presence) : Type 0 where
-  pub count : length new ≡ length old
-  pub each : (k : ℕ) (d : Presence) → k < length old → get_or new k d ≡ (if list_any (λ n. n == k) list then renewed now (get_or old k d) else get_or old k d)
+-- where a list has a number
+found : (xs : List ℕ) (n : ℕ) → list_any (λ m. m == n) xs ≡ true → IsAt xs n
+found xs n has =
+    let at = Any-from_list_any (λ m. m == n) xs has in
+    let same : get_or xs at.0 0 ≡ at.1 = get_or_default xs at.0 0 at.1 at.2 ∙ at.3 in
+    (at.0, at.2, same ∙ eqb-true at.1 n at.4)
 
-pub none_noted : (now : ℕ) (old : List Presence) → IsNoted now [] old old
-none_noted now old = record { count = refl; each = λ k d within. refl }
+-- at the end of the way
+module _ (now : ℕ) (was list before since order : List ℕ) (old : IsByAge now before was order) (choice : IsChoiceList (length before) list) where
+  module _ (end : List ℕ) (way : IsOnTheWay now (length was) (length list) was list before since end) where
+    since_of : (k : ℕ) → k < length list → get_or since (get_or list k 0) 0 ≤ now
+    since_of k less =
+        let at = way.whole_list k less in
+        subst (λ n. get_or since n 0 ≤ now) at.2 (way.recent at.0 at.1)
 
-any_default : {A : Type 0} (xs : List A) (k : ℕ) (d e : A) → k < length xs → get_or xs k d ≡ get_or xs k e
-any_default [] k d e within = absurd (omega arith)
-any_default (x ∷ xs) zero d e within = refl
-any_default (x ∷ xs) (suc k) d e within = any_default xs k d e (omega arith)
-
-not_before : (list : List ℕ) (i : ℕ) → AllPairs (λ (a b : ℕ). a < b) list → i < length list → list_any (λ n. n == get_or list i 0) (take i list) ≡ false
-not_before list i ascending within = none (take i list) (get_or list i 0) (λ k less same.
-    let short : k < i = omega (arith, length-take i list) in
-    let there : get_or (take i list) k 0 ≡ get_or list k 0 = get_or-take i list k 0 short in
-    let below = ascending k i 0 short within in
-    omega (arith, there, same))
-  where
-    none : (xs : List ℕ) (m : ℕ) → ((k : ℕ) → k < length xs → get_or xs k 0 ≢ m) → list_any (λ n. n == m) xs ≡ false
-    none [] m apart = refl
-    none (x ∷ xs) m apart = or_from _ _ (ne_eqb x m (apart 0 (omega arith))) (none xs m (λ k less. apart (suc k) (omega arith)))
-
-pub one_noted : (now i node : ℕ) (list : List ℕ) (old table : List Presence) (was : Presence) → AllPairs (λ (a b : ℕ). a < b) list → i < length list →
-    node ≡ get_or list i 0 → node < length old → was ≡ get_or table node was → IsNoted now (take i list) old table →
-    IsNoted now (take (i + 1) list) old (set table node (renewed now was))
-one_noted now i node list old table was ascending within at node_in here noted = record {
-  count = length-set table node (renewed now was) ∙ noted.count;
-  each = λ k d less. by_place k d less (cases_eq node k);
-}
-  where
-    more : (k : ℕ) → list_any (λ n. n == k) (take (i + 1) list) ≡ (list_any (λ n. n == k) (take i list) || (get_or list i 0 == k))
-    more k = list_any_more (λ n. n == k) list i 0 within
-
-    or_true : (a b : Bool) → b ≡ true → (a || b) ≡ true
-    or_true true b on = refl
-    or_true false b on = on
-
-    or_none : (a b : Bool) → b ≡ false → (a || b) ≡ a
-    or_none true b off = refl
-    or_none false b off = off
-
-    pick_true : (b : Bool) (x y : Presence) → b ≡ true → x ≡ (if b then x else y)
-    pick_true true x y on = refl
-    pick_true false x y on = absurd (cc on)
-
-    pick_false : (b : Bool) (x y : Presence) → b ≡ false → (if b then x else y) ≡ y
-    pick_false true x y off = absurd (cc off)
-    pick_false false x y off = refl
-
-    by_place : (k : ℕ) (d : Presence) → k < length old → (node ≡ k) ⊎ (node ≡ k → ⊥) →
-        get_or (set table node (renewed now was)) k d ≡ (if list_any (λ n. n == k) (take (i + 1) list) then renewed now (get_or old k d) else get_or old k d)
-    by_place k d less (inl same) =
-        subst (λ (j : ℕ). get_or (set table node (renewed now was)) j d ≡
-        (if list_any (λ n. n == j) (take (i + 1) list) then renewed now (get_or old j d) else get_or old j d)) same
-        (get_or-set_same table node (renewed now was) d (omega (arith, noted.count)) ∙ ap (renewed now) unchanged
-        ∙ pick_true (list_any (λ n. n == node) (take (i + 1) list)) _ _ (more node ∙ or_true _ _ (eq-eqb (get_or list i 0) node (sym at))))
+    pub kept_by_age : IsByAge (now + 1) since list end
+    kept_by_age = record {
+      few = omega (arith, way.count, old.few);
+      ascending = choice.ascending;
+      below = λ k d less. subst (λ n. get_or list k d < n) (sym way.count) (choice.below k d less);
+      past = λ k d less. subst (λ n. get_or since n 0 < now + 1) (get_or_default list k 0 d less) (omega (arith, since_of k less));
+      ranked = λ p q d less within.
+          rw (get_or_default end p d 0 (omega arith), get_or_default end q d 0 within) (way.ranked p q less within);
+      whole = way.whole_list;
+      only = λ p within. only_list p (way.only p within);
+      count = omega (arith, way.many);
+    }
       where
-        fresh : list_any (λ n. n == node) (take i list) ≡ false
-        fresh = ap (λ (m : ℕ). list_any (λ n. n == m) (take i list)) at ∙ not_before list i ascending within
+        only_list : (p : ℕ) → ((k : ℕ) × (k < length list) × (get_or list k 0 ≡ get_or end p 0))
+            ⊎ ((k : ℕ) × (length was ≤ k) × (k < length was) × (get_or was k 0 ≡ get_or end p 0)) →
+            (k : ℕ) × (k < length list) × (get_or list k 0 ≡ get_or end p 0)
+        only_list p (inl at) = at
+        only_list p (inr at) = absurd (omega (arith, at.1, at.2))
 
-        unchanged : was ≡ get_or old node d
-        unchanged = here ∙ any_default table node was d (omega (arith, noted.count)) ∙ noted.each node d node_in ∙ pick_false _ _ _ fresh
-    by_place k d less (inr apart) =
-        get_or-set_other table node k (renewed now was) d (λ e. apart (sym e)) ∙ noted.each k d less
-        ∙ ap (λ (b : Bool). if b then renewed now (get_or old k d) else get_or old k d)
-        (sym (more k ∙ or_none _ _ (ne_eqb (get_or list i 0) k (λ e. apart (at ∙ e)))))
+    old_age : (k : ℕ) → k < length before → slice_index (ages_at now before was) k ≡ age_at now before was k
+    old_age k less = get_or-map-range_with_len (age_at now before was) 0 (length before) k k 0 less (omega arith)
 
--- one more node of the list
-pub next_noted : (now i : ℕ) (list : List ℕ) (old table : List Presence) (e result : Presence) → AllPairs (λ (a b : ℕ). a < b) list → i < length list →
-    get_or list i 0 < length old → result ≡ renewed now (get_or table (get_or list i 0) e) → IsNoted now (take i list) old table →
-    IsNoted now (take (i + 1) list) old (set table (get_or list i 0) result)
-next_noted now i list old table e result ascending within node_in is noted =
-    let node = get_or list i 0 in
-    let was = get_or table node e in
-    let here : was ≡ get_or table node was = any_default table node e was (omega (arith, noted.count)) in
-    subst (λ (p : Presence). IsNoted now (take (i + 1) list) old (set table node p)) (sym is)
-    (one_noted now i node list old table was ascending within refl node_in here noted)
+    by_was : (k : ℕ) (b : Bool) → list_any (λ n. n == k) was ≡ b → get_or since k 0 ≡ (if b then get_or before k 0 else now) →
+        now + 1 - get_or since k 0 ≡ (if b then now - get_or before k 0 else 0) + 1
+    by_was k true has is =
+        let at = found was k has in
+        let past : get_or before k 0 < now = subst (λ n. get_or before n 0 < now) at.2 (old.past at.0 0 at.1) in
+        omega (arith, is, past)
+    by_was k false has is = omega (arith, is)
 
-pub all_noted : (now i : ℕ) (list : List ℕ) (old table : List Presence) → length list ≤ i → IsNoted now (take i list) old table → IsNoted now list old table
-all_noted now i list old table past noted = subst (λ (xs : List ℕ). IsNoted now xs old table) (take_all i list past) noted
+    by_list : (k : ℕ) (b : Bool) → list_any (λ n. n == k) list ≡ b → k < length before →
+        (if b then now + 1 - get_or since k 0 else 0) ≡ (if b then slice_index (ages_at now before was) k + 1 else 0)
+    by_list k true has less =
+        let at = found list k has in
+        let is : get_or since k 0 ≡ (if list_any (λ n. n == k) was then get_or before k 0 else now) =
+        subst (λ n. get_or since n 0 ≡ (if list_any (λ m. m == n) was then get_or before n 0 else now)) at.2 (way.ages_list at.0 at.1) in
+        by_was k (list_any (λ n. n == k) was) refl is ∙ ap (λ a. a + 1) (sym (old_age k less))
+    by_list k false has less = refl
 
--- the ages after the pick
+    pub ages_are : ages_at (now + 1) since list ≡ aged list (ages_at now before was)
+    ages_are =
+        subst (λ (n : ℕ). ages_at (now + 1) since list ≡ map (λ k. if list_any (λ m. m == k) list then slice_index (ages_at now before was) k + 1 else 0)
+        (range_with_len 0 n)) (sym (length-map-range_with_len (age_at now before was) 0 (length before)))
+        (fill_by_all (λ node. if list_any (λ m. m == node) list then slice_index (ages_at now before was) node + 1 else 0)
+        (ages_at (now + 1) since list) (length before) 0 (length-map-range_with_len (age_at (now + 1) since list) 0 (length since) ∙ way.count) each)
+      where
+        each : (k : ℕ) → k < length before → get_or (ages_at (now + 1) since list) k 0
+            ≡ (if list_any (λ m. m == k) list then slice_index (ages_at now before was) k + 1 else 0)
+        each k less =
+            get_or-map-range_with_len (age_at (now + 1) since list) 0 (length since) k k 0 (omega (arith, way.count)) (omega arith)
+            ∙ by_list k (list_any (λ m. m == k) list) refl less
 
-age_renewed : (now : ℕ) (p : Presence) → IsPast now p → age_at (now + 1) (renewed now p) ≡ age_at now p + 1
-age_renewed now p past = rw (eq-eqb (now + 1) (now + 1) refl) (by_last (p.last == now))
+pub none_aged : (now : ℕ) (since : List ℕ) → ages_at now since [] ≡ replicate (length since) 0
+none_aged now since = all_none (length since) 0
   where
-    by_last : (b : Bool) → now + 1 - (if b then p.since else now) ≡ (if b then now - p.since else 0) + 1
-    by_last true = omega (arith, past.began, past.seen)
-    by_last false = omega arith
-
-age_gone : (now : ℕ) (p : Presence) → IsPast now p → age_at (now + 1) p ≡ 0
-age_gone now p past = rw (ne_eqb p.last (now + 1) (omega (arith, past.seen))) refl
-
-pub ages_are : (now : ℕ) (list : List ℕ) (old new : List Presence) → All (IsPast now) old → IsNoted now list old new →
-    ages_at (now + 1) new ≡ aged list (ages_at now old)
-ages_are now list old new past noted =
-    subst (λ (n : ℕ). ages_at (now + 1) new ≡ map (λ node. if list_any (λ n. n == node) list then slice_index (ages_at now old) node + 1 else 0)
-    (range_with_len 0 n)) (sym (length-map old (age_at now)))
-    (fill_by_all (λ node. if list_any (λ n. n == node) list then slice_index (ages_at now old) node + 1 else 0) (ages_at (now + 1) new) (length old) 0
-    (length-map new (age_at (now + 1)) ∙ noted.count) each)
-  where
-    d : Presence
-    d = record { since = 0; last = 0 }
-
-    by_test : (b : Bool) (k : ℕ) → k < length old →
-        age_at (now + 1) (if b then renewed now (get_or old k d) else get_or old k d) ≡ (if b then age_at now (get_or old k d) + 1 else 0)
-    by_test true k less = age_renewed now (get_or old k d) (past k d less)
-    by_test false k less = age_gone now (get_or old k d) (past k d less)
-
-    each : (k : ℕ) → k < length old → get_or (ages_at (now + 1) new) k 0 ≡ (if list_any (λ n. n == k) list then slice_index (ages_at now old) k + 1 else 0)
-    each k less =
-        get_or-map (age_at (now + 1)) new k d 0 (omega (arith, noted.count)) ∙ ap (age_at (now + 1)) (noted.each k d less)
-        ∙ by_test (list_any (λ n. n == k) list) k less
-        ∙ ap (λ (a : ℕ). if list_any (λ n. n == k) list then a + 1 else 0) (sym (get_or-map (age_at now) old k d 0 less))
-
-pub past_too : (now : ℕ) (list : List ℕ) (old new : List Presence) → All (IsPast now) old → IsNoted now list old new → All (IsPast (now + 1)) new
-past_too now list old new past noted = λ k d less.
-    let within : k < length old = omega (arith, noted.count) in
-    subst (IsPast (now + 1)) (sym (noted.each k d within)) (by_test (list_any (λ n. n == k) list) (get_or old k d) (past k d within))
-  where
-    by_since : (b : Bool) (p : Presence) → IsPast now p → (if b then p.since else now) ≤ now + 1
-    by_since true p past = omega (arith, past.began, past.seen)
-    by_since false p past = omega arith
-
-    by_test : (b : Bool) (p : Presence) → IsPast now p → IsPast (now + 1) (if b then renewed now p else p)
-    by_test true p past = record { began = by_since (p.last == now) p past; seen = omega arith }
-    by_test false p past = record { began = past.began; seen = omega (arith, past.seen) }
+    all_none : (n a : ℕ) → map (age_at now since []) (range_with_len a n) ≡ replicate n 0
+    all_none zero a = refl
+    all_none (suc n) a = ap (λ xs. 0 ∷ xs) (all_none n (a + 1))
 
 -- the first place that passes
 
@@ -161,57 +104,182 @@ one_fails p [] k within fails = absurd (omega arith)
 one_fails p (x ∷ xs) zero within fails = rw fails refl
 one_fails p (x ∷ xs) (suc k) within fails = and_right (p x) _ (one_fails p xs k (omega arith) fails)
 
-le_of : (a b : ℕ) → nat_lt b a ≡ false → nat_le a b ≡ true
-le_of a b not_less = le-leb a b (ltb-false b a not_less)
+greatest_is : (xs : List ℕ) (b : ℕ) → b < length xs → ((k : ℕ) → k < length xs → get_or xs k 0 ≤ get_or xs b 0) →
+    ((k : ℕ) → k < b → get_or xs k 0 < get_or xs b 0) → b ≡ first_greatest xs
+greatest_is xs b within best before =
+    first_place (λ x. list_all (λ y. nat_le y x) xs) xs b within
+    (all_pass (λ y. nat_le y (get_or xs b 0)) xs (λ k less. le-leb (get_or xs k 0) (get_or xs b 0) (best k less)))
+    (λ k less. one_fails (λ y. nat_le y (get_or xs k 0)) xs b within (lt-leb (get_or xs b 0) (get_or xs k 0) (before k less)))
 
-lt_of : (a b : ℕ) → nat_lt b a ≡ true → nat_le a b ≡ false
-lt_of a b less = lt-leb a b (ltb-true b a less)
+least_is : (xs : List ℕ) (b : ℕ) → b < length xs → ((k : ℕ) → k < length xs → get_or xs b 0 ≤ get_or xs k 0) →
+    ((k : ℕ) → k < b → get_or xs b 0 < get_or xs k 0) → b ≡ first_least xs
+least_is xs b within best before =
+    first_place (λ x. list_all (λ y. nat_le x y) xs) xs b within
+    (all_pass (λ y. nat_le (get_or xs b 0) y) xs (λ k less. le-leb (get_or xs b 0) (get_or xs k 0) (best k less)))
+    (λ k less. one_fails (λ y. nat_le (get_or xs k 0) y) xs b within (lt-leb (get_or xs k 0) (get_or xs b 0) (before k less)))
 
-pub greatest_is : (xs : List ℕ) (b : ℕ) → IsFirstBest (λ x y. nat_lt y x) xs (length xs) b → b ≡ first_greatest xs
-greatest_is xs b best =
-    first_place (λ x. list_all (λ y. nat_le y x) xs) xs b best.0
-    (all_pass (λ y. nat_le y (get_or xs b 0)) xs (λ k less. le_of (get_or xs k 0) (get_or xs b 0) (best.1 k 0 less)))
-    (λ k less. one_fails (λ y. nat_le y (get_or xs k 0)) xs b best.0 (lt_of (get_or xs b 0) (get_or xs k 0) (best.2 k 0 less)))
+-- the oldest and the newest of an order by age
+module _ (now : ℕ) (since list order : List ℕ) (kept : IsByAge now since list order) (place : ℕ) (place_in : place < length list) where
+  abbrev ages : List ℕ
+  ages = map (slice_index (ages_at now since list)) list
 
-pub least_is : (xs : List ℕ) (b : ℕ) → IsFirstBest nat_lt xs (length xs) b → b ≡ first_least xs
-least_is xs b best =
-    first_place (λ x. list_all (λ y. nat_le x y) xs) xs b best.0
-    (all_pass (λ y. nat_le (get_or xs b 0) y) xs (λ k less. le_of (get_or xs b 0) (get_or xs k 0) (best.1 k 0 less)))
-    (λ k less. one_fails (λ y. nat_le (get_or xs k 0) y) xs b best.0 (lt_of (get_or xs k 0) (get_or xs b 0) (best.2 k 0 less)))
+  age_is : (k : ℕ) → k < length list → get_or ages k 0 ≡ now - get_or since (get_or list k 0) 0
+  age_is k less =
+      get_or-map (slice_index (ages_at now since list)) list k 0 0 less
+      ∙ get_or-map-range_with_len (age_at now since list) 0 (length since) (get_or list k 0) (get_or list k 0) 0 (kept.below k 0 less) (omega arith)
+      ∙ ap (λ b. if b then now - get_or since (get_or list k 0) 0 else 0) (any_in list (get_or list k 0) k less refl)
 
-at_place : (f : ℕ → ℕ) (list : List ℕ) (i x : ℕ) → i < length list → x ≡ f (get_or list i 0) → x ≡ get_or (map f list) i x
-at_place f list i x within is = is ∙ sym (get_or-map f list i 0 x within)
+  low : (k : ℕ) → k < length list → get_or list k 0 < 2 ^ 32
+  low k less = omega (arith, kept.below k 0 less, kept.few)
 
-older : IsStrictWeakOrder (λ (x y : ℕ). nat_lt y x)
-older = IsStrictWeakOrder-flip nat_lt (IsStrictWeakOrder-by_number (λ x. x))
+  past : (k : ℕ) → k < length list → get_or since (get_or list k 0) 0 < now
+  past k less = kept.past k 0 less
 
-newer : IsStrictWeakOrder nat_lt
-newer = IsStrictWeakOrder-by_number (λ x. x)
+  long : length ages ≡ length list
+  long = length-map-list list (slice_index (ages_at now since list))
+    where
+      length-map-list : (xs : List ℕ) (f : ℕ → ℕ) → length (map f xs) ≡ length xs
+      length-map-list [] f = refl
+      length-map-list (x ∷ xs) f = ap suc (length-map-list xs f)
 
-pub older_takes : (f : ℕ → ℕ) (list : List ℕ) (i b x y : ℕ) → i < length list → x ≡ f (get_or list i 0) → y ≡ f (get_or list b 0) →
-    IsFirstBest (λ x y. nat_lt y x) (map f list) i b → y < x → IsFirstBest (λ x y. nat_lt y x) (map f list) (i + 1) i
-older_takes f list i b x y within is is_b best less =
-    IsFirstBest-takes older (map f list) i b x y best (omega (arith, length-map list f)) (at_place f list i x within is)
-    (at_place f list b y (omega (arith, best.0)) is_b) (lt-ltb y x less)
+  rank_at : (p k : ℕ) → get_or order p 0 ≡ get_or list k 0 → age_rank since (get_or order p 0) ≡ age_rank since (get_or list k 0)
+  rank_at p k same = ap (age_rank since) same
 
-pub older_keeps : (f : ℕ → ℕ) (list : List ℕ) (i b x y : ℕ) → i < length list → x ≡ f (get_or list i 0) → y ≡ f (get_or list b 0) →
-    IsFirstBest (λ x y. nat_lt y x) (map f list) i b → x ≤ y → IsFirstBest (λ x y. nat_lt y x) (map f list) (i + 1) b
-older_keeps f list i b x y within is is_b best less =
-    IsFirstBest-keeps older (map f list) i b x y best (omega (arith, length-map list f)) (at_place f list i x within is)
-    (at_place f list b y (omega (arith, best.0)) is_b) (le-ltb y x less)
+  module _ (here : get_or list place 0 ≡ get_or order 0 0) where
+    none_older : (k : ℕ) → k < length list → age_rank since (get_or list place 0) ≤ age_rank since (get_or list k 0)
+    none_older k less = let at = kept.whole k less in by_place at.0 at.1 at.2 (cases_eq at.0 0)
+      where
+        by_place : (p : ℕ) → p < length order → get_or order p 0 ≡ get_or list k 0 → (p ≡ 0) ⊎ (p ≡ 0 → ⊥) →
+            age_rank since (get_or list place 0) ≤ age_rank since (get_or list k 0)
+        by_place p within at (inl same) =
+            let equal : get_or list place 0 ≡ get_or list k 0 = here ∙ (ap (λ q. get_or order q 0) (sym same) ∙ at) in
+            omega (arith, ap (age_rank since) equal)
+        by_place p within at (inr other) =
+            let less_than = kept.ranked 0 p 0 (omega arith) within in
+            omega (arith, ap (age_rank since) here, ap (age_rank since) at, less_than)
 
-pub newer_takes : (f : ℕ → ℕ) (list : List ℕ) (i b x y : ℕ) → i < length list → x ≡ f (get_or list i 0) → y ≡ f (get_or list b 0) →
-    IsFirstBest nat_lt (map f list) i b → x < y → IsFirstBest nat_lt (map f list) (i + 1) i
-newer_takes f list i b x y within is is_b best less =
-    IsFirstBest-takes newer (map f list) i b x y best (omega (arith, length-map list f)) (at_place f list i x within is)
-    (at_place f list b y (omega (arith, best.0)) is_b) (lt-ltb x y less)
+    pub oldest_is : place ≡ first_greatest ages
+    oldest_is = greatest_is ages place (omega (arith, long))
+        (λ k less.
+        let in_list : k < length list = omega (arith, long) in
+        omega (arith, age_is k in_list, age_is place place_in, none_older k in_list, low k in_list, low place place_in))
+        (λ k less.
+        let in_list : k < length list = omega arith in
+        omega (
+          arith,
+          age_is k in_list,
+          age_is place place_in,
+          none_older k in_list,
+          low k in_list,
+          low place place_in,
+          past place place_in,
+          kept.ascending k place 0 less place_in,
+        ))
 
-pub newer_keeps : (f : ℕ → ℕ) (list : List ℕ) (i b x y : ℕ) → i < length list → x ≡ f (get_or list i 0) → y ≡ f (get_or list b 0) →
-    IsFirstBest nat_lt (map f list) i b → y ≤ x → IsFirstBest nat_lt (map f list) (i + 1) b
-newer_keeps f list i b x y within is is_b best less =
-    IsFirstBest-keeps newer (map f list) i b x y best (omega (arith, length-map list f)) (at_place f list i x within is)
-    (at_place f list b y (omega (arith, best.0)) is_b) (le-ltb x y less)
+  module _ (first : ℕ) (older : (p : ℕ) → p < first → age_rank since (get_or order p 0) < 2 ^ 32 * get_or since (get_or order (length order - 1) 0) 0 + 0)
+      (others : (p : ℕ) → first ≤ p → p < length order → 2 ^ 32 * get_or since (get_or order (length order - 1) 0) 0 + 0 ≤ age_rank since (get_or order p 0))
+      (first_in : first < length order) (here : get_or list place 0 ≡ get_or order first 0) where
+    abbrev latest : ℕ
+    latest = get_or since (get_or order (length order - 1) 0) 0
 
-pub all_fresh : (now count : ℕ) → ages_at now (replicate count (record { since = now; last = now })) ≡ replicate count 0
-all_fresh now zero = refl
-all_fresh now (suc count) = rw (eq-eqb now now refl, all_fresh now count) (ap (λ (a : ℕ). a ∷ replicate count 0) (omega arith))
+    low_at : (p : ℕ) → p < length order → get_or order p 0 < 2 ^ 32
+    low_at p within = let at = kept.only p within in subst (λ n. n < 2 ^ 32) at.2 (low at.0 at.1)
+
+    none_later : (p : ℕ) → p < length order → get_or since (get_or order p 0) 0 ≤ latest
+    none_later p within = by_place (cases_eq p (length order - 1))
+      where
+        by_place : (p ≡ length order - 1) ⊎ (p ≡ length order - 1 → ⊥) → get_or since (get_or order p 0) 0 ≤ latest
+        by_place (inl same) = subst (λ q. get_or since (get_or order p 0) 0 ≤ get_or since (get_or order q 0) 0) same (omega arith)
+        by_place (inr other) = omega (
+          arith,
+          kept.ranked p (length order - 1) 0 (omega arith) (omega arith),
+          low_at p within,
+          low_at (length order - 1) (omega arith),
+        )
+
+    its_since : get_or since (get_or list place 0) 0 ≡ latest
+    its_since =
+        let least : latest ≤ get_or since (get_or order first 0) 0 = omega (arith, others first (omega arith) first_in, low_at first first_in) in
+        ap (λ n. get_or since n 0) here ∙ omega (arith, least, none_later first first_in)
+
+    since_in : (k : ℕ) → k < length list → get_or since (get_or list k 0) 0 ≤ latest
+    since_in k less = let at = kept.whole k less in subst (λ n. get_or since n 0 ≤ latest) at.2 (none_later at.0 at.1)
+
+    earlier : (k : ℕ) → k < length list → get_or list k 0 < get_or list place 0 → get_or since (get_or list k 0) 0 < latest
+    earlier k less before = let at = kept.whole k less in by_place at.0 at.1 at.2 (cases_lt at.0 first) (cases_eq first at.0)
+      where
+        by_place : (p : ℕ) → p < length order → get_or order p 0 ≡ get_or list k 0 → (p < first) ⊎ (first ≤ p) → (first ≡ p) ⊎ (first ≡ p → ⊥) →
+            get_or since (get_or list k 0) 0 < latest
+        by_place p within at (inl old) which = omega (arith, older p old, ap (age_rank since) at)
+        by_place p within at (inr new) (inl same) =
+            let equal : get_or order first 0 ≡ get_or order p 0 = ap (λ q. get_or order q 0) same in
+            absurd (omega (arith, before, here, equal, at))
+        by_place p within at (inr new) (inr other) =
+            let less_than : age_rank since (get_or order first 0) < age_rank since (get_or order p 0) = kept.ranked first p 0 (omega arith) within in
+            omega (arith, less_than, ap (age_rank since) at, ap (age_rank since) here, its_since, before, since_in k less)
+
+    pub newest_is : place ≡ first_least ages
+    newest_is = least_is ages place (omega (arith, long))
+        (λ k less.
+        let in_list : k < length list = omega (arith, long) in
+        omega (arith, age_is k in_list, age_is place place_in, its_since, since_in k in_list))
+        (λ k less.
+        let in_list : k < length list = omega arith in
+        omega (
+          arith,
+          age_is k in_list,
+          age_is place place_in,
+          its_since,
+          past place place_in,
+          earlier k in_list (kept.ascending k place 0 less place_in),
+        ))
+
+pub order_below : (now : ℕ) (since list order : List ℕ) → IsByAge now since list order → All (λ n. n < length since) order
+order_below now since list order kept = λ p d within.
+    let at = kept.only p within in
+    subst (λ n. n < length since) (at.2 ∙ get_or_default order p 0 d within) (kept.below at.0 0 at.1)
+
+pub first_within : (since order : List ℕ) (first last pick : ℕ) → first ≤ length order → 0 < length order → last ≡ get_or order (length order - 1) 0 →
+    pick ≡ get_or since last 0 → ((k : ℕ) → k < first → age_rank since (get_or order k 0) < 2 ^ 32 * pick + 0) → first < length order
+first_within since order first last pick within some is_last is_pick older = by_place (cases_lt first (length order))
+  where
+    pick_of : pick ≡ get_or since (get_or order (length order - 1) 0) 0
+    pick_of = is_pick ∙ ap (λ n. get_or since n 0) is_last
+
+    by_place : (first < length order) ⊎ (length order ≤ first) → first < length order
+    by_place (inl less) = less
+    by_place (inr all) = absurd (omega (arith, older (length order - 1) (omega arith), pick_of))
+
+pub none_by_age : (now : ℕ) (since : List ℕ) → length since < 2 ^ 32 → IsByAge now since [] []
+none_by_age now since few = record {
+  few = few;
+  ascending = λ i j d less within. absurd (omega arith);
+  below = λ k d within. absurd (omega arith);
+  past = λ k d within. absurd (omega arith);
+  ranked = λ i j d less within. absurd (omega arith);
+  whole = λ k within. absurd (omega arith);
+  only = λ p within. absurd (omega arith);
+  count = refl;
+}
+
+pub ages_long : (now : ℕ) (since list : List ℕ) → length (ages_at now since list) ≡ length since
+ages_long now since list = length-map-range_with_len (age_at now since list) 0 (length since)
+
+-- what is best of the ages after a pick
+pub choice_is : (best : List ℕ → ℕ) (r : ℕ) (after before list given : List ℕ) → r ≡ best (map (slice_index after) list) → list ≡ given →
+    after ≡ aged given before → r ≡ best (map (slice_index (aged given before)) given)
+choice_is best r after before list given is same aging =
+    is ∙ ap (λ (xs : List ℕ). best (map (slice_index after) xs)) same ∙ ap (λ (ages : List ℕ). best (map (slice_index ages) given)) aging
+
+pub newest_at : (now : ℕ) (since list order : List ℕ) (kept : IsByAge now since list order) (place : ℕ) → place < length list → (first last pick : ℕ) →
+    last ≡ get_or order (length order - 1) 0 → pick ≡ get_or since last 0 →
+    ((p : ℕ) → p < first → age_rank since (get_or order p 0) < 2 ^ 32 * pick + 0) →
+    ((p : ℕ) → first ≤ p → p < length order → 2 ^ 32 * pick + 0 ≤ age_rank since (get_or order p 0)) →
+    first < length order → get_or list place 0 ≡ get_or order first 0 → place ≡ first_least (map (slice_index (ages_at now since list)) list)
+newest_at now since list order kept place place_in first last pick is_last is_pick older others first_in here =
+    newest_is now since list order kept place place_in first
+    (subst (λ (n : ℕ). (p : ℕ) → p < first → age_rank since (get_or order p 0) < 2 ^ 32 * n + 0) same older)
+    (subst (λ (n : ℕ). (p : ℕ) → first ≤ p → p < length order → 2 ^ 32 * n + 0 ≤ age_rank since (get_or order p 0)) same others) first_in here
+  where
+    same : pick ≡ get_or since (get_or order (length order - 1) 0) 0
+    same = is_pick ∙ ap (λ (n : ℕ). get_or since n 0) is_last

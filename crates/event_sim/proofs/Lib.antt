@@ -9,6 +9,7 @@ pub mod Ranges
 pub mod Finishing
 pub mod Asking
 pub mod Wholes
+pub mod Present
 pub mod Aging
 pub mod Near
 pub mod HomeLemmas

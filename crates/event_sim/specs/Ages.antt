@@ -1,15 +1,15 @@
 -- How long nodes have been in the lists of a scheduler, and which of them is the oldest or the newest.
-use Rattle.std.specs.Prelude.{ℕ, ◌+◌, ◌-◌, ◌≤◌, nat_le, ◌==◌, if◌then◌else◌, List, length, map, slice_index, Option}
+use Rattle.std.specs.Prelude.{◌≡◌, ℕ, ◌+◌, ◌-◌, ◌*◌, ◌^◌, ◌<◌, ◌≤◌, nat_le, ◌==◌, if◌then◌else◌, List, length, map, slice_index, All, AllPairs, Option, vec_capacity}
 use Rattle.std.specs.List.{list_any, list_all, position_or_len, range_with_len}
 use Rattle.event_sim.specs.declared.ages.Presence.{Presence}
 
--- the age of a node, where so many picks were made: how many picks ago its presence in the lists began, if it was
--- present at the last one
-abbrev pub age_at : ℕ → Presence → ℕ
-age_at now p = if p.last == now then now - p.since else 0
+-- the age of a node, where so many picks were made: how many picks ago its presence in the lists began, if it is in the
+-- last one
+abbrev pub age_at : (now : ℕ) → (since list : List ℕ) → ℕ → ℕ
+age_at now since list node = if list_any (λ n. n == node) list then now - slice_index since node else 0
 
-abbrev pub ages_at : ℕ → List Presence → List ℕ
-ages_at now table = map (age_at now) table
+abbrev pub ages_at : (now : ℕ) → (since list : List ℕ) → List ℕ
+ages_at now since list = map (age_at now since list) (range_with_len 0 (length since))
 
 -- a pick from a list makes each node in it older by one, and every other age 0
 abbrev pub aged : List ℕ → List ℕ → List ℕ
@@ -28,14 +28,38 @@ pub record AgedValue : Type 0 where
 abbrev pub ages_in : List ℕ → List ℕ → List ℕ
 ages_in list ages = map (slice_index (aged list ages)) list
 
--- its presence began and was last seen at picks that were made
-pub record IsPast (now : ℕ) (p : Presence) : Type 0 where
-  pub began : p.since ≤ p.last
-  pub seen : p.last ≤ now
+-- lower for an older node, and of equally old ones for a lesser node
+abbrev pub age_rank : List ℕ → ℕ → ℕ
+age_rank since node = 2 ^ 32 * slice_index since node + node
 
--- present at one more pick
-abbrev pub renewed : ℕ → Presence → Presence
-renewed now p = record { since = if p.last == now then p.since else now; last = now + 1 }
+-- the order has the nodes of the ascending list, each by its rank; their presence began before so many picks were made
+pub record IsByAge (now : ℕ) (since list order : List ℕ) : Type 0 where
+  pub few : length since < 2 ^ 32
+  pub ascending : AllPairs (λ (a b : ℕ). a < b) list
+  pub below : All (λ n. n < length since) list
+  pub past : All (λ n. slice_index since n < now) list
+  pub ranked : AllPairs (λ (a b : ℕ). age_rank since a < age_rank since b) order
+  pub whole : (k : ℕ) → k < length list → (p : ℕ) × (p < length order) × (slice_index order p ≡ slice_index list k)
+  pub only : (p : ℕ) → p < length order → (k : ℕ) × (k < length list) × (slice_index list k ≡ slice_index order p)
+  pub count : length order ≡ length list
+
+-- so it is kept, with room for any list
+pub record IsPresence (now : ℕ) (p : Presence) : Type 0 where
+  pub by_age : IsByAge now p.since.items p.list.items p.order.items
+  pub list_room : length p.since.items ≤ vec_capacity p.list
+  pub order_room : 2 * length p.since.items ≤ vec_capacity p.order
+
+-- room for lists of so many nodes
+pub record HasRoom (count : ℕ) (p : Presence) : Type 0 where
+  pub since : count ≤ vec_capacity p.since
+  pub list : count ≤ vec_capacity p.list
+  pub order : 2 * count ≤ vec_capacity p.order
+
+-- so many nodes from these places on are equal in two lists
+pub record IsRun (was : List ℕ) (left : ℕ) (list : List ℕ) (done : ℕ) (run : ℕ) : Type 0 where
+  pub left_in : left + run ≤ length was
+  pub done_in : done + run ≤ length list
+  pub same : (a b : ℕ) → left ≤ a → a < left + run → a + done ≡ b + left → slice_index was a ≡ slice_index list b
 
 -- the first index of a greatest number of the list, and of a least one
 abbrev pub first_greatest : List ℕ → ℕ

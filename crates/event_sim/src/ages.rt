@@ -1,105 +1,249 @@
 //! How long the nodes of a scheduler's lists have been in them.
 
-ghost use Rattle.std.specs.Prelude.{◌≡◌, ◌+◌, ◌<◌, ◌≤◌, ◌^◌, ℕ, All, length, replicate, slice_index, map, vec_capacity};
-ghost use Rattle.event_sim.specs.Ages.{ages_at, aged, IsPast, renewed, first_greatest, first_least};
+ghost use Rattle.std.specs.Prelude.{◌≡◌, ◌≢◌, ◌↔◌, ◌⊎◌, ◌+◌, ◌*◌, ◌^◌, ◌<◌, ◌≤◌, ◌∷◌, ◌++◌, ℕ, [], IsTrue, OnOk, All, AllPairs, length, replicate, slice_index, slice_set, map, vec_len, vec_capacity};
+ghost use Rattle.std.specs.List.{remove};
+ghost use Rattle.event_sim.specs.Ages.{ages_at, aged, age_rank, IsByAge, HasRoom, IsPresence, IsRun, first_greatest, first_least};
 ghost use Rattle.event_sim.specs.Picking.{IsChoiceList};
 
-/// How a node was present in the lists of a scheduler: the pick at which its presence began, and the pick at which it
-/// was last present, where picks are counted from 1.
-#[derive(Clone, Copy, Debug, PartialEq, Eq)]
-pub struct Presence {
-    pub since: u64,
-    pub last: u64,
+use std::alloc::{AllocError, Global};
+
+/// How many nodes are compared at once.
+const GROUP: usize = 32;
+
+/// The last list of a scheduler, and its nodes once more, the oldest first, of equally old ones the least first. For
+/// each of them it also has the number of picks that were made before its presence in the lists began. So the time of
+/// a pick goes into the comparison of its list with the last one, and into what changed.
+#[derive(Debug, Drop)]
+pub(crate) struct Presence {
+    since: Vec<u64>,
+    list: Vec<u32>,
+    order: Vec<u32>,
 }
 
-fn renewed(presence: Presence, now: u64) -> Presence
-    requires { now < 2 ^ 63 }
-    ensures { result ≡ renewed now presence }
+/// Whether the first node is older, of equally old ones the lesser.
+fn is_older(since: u64, node: u32, other_since: u64, other: u32) -> bool
+    ensures { IsTrue result ↔ 2 ^ 32 * since + node < 2 ^ 32 * other_since + other }
 {
-    let since = if presence.last == now {
-        presence.since
-    } else {
-        now
-    };
-    Presence {
-        since,
-        last: now + 1,
-    }
+    since < other_since || (since == other_since && node < other)
 }
 
-/// Records one more pick from the list, after so many.
-pub(crate) fn note(table: &mut [Presence], list: &[u32], now: u64)
-    requires list { IsChoiceList (length table.old) list.now }
-    requires past { All (IsPast now) table.old }
-    requires few { now < 2 ^ 63 }
-    ensures ages { ages_at (now + 1) table.new ≡ aged list.now (ages_at now table.old) }
-    ensures past { All (IsPast (now + 1)) table.new }
-    ensures count { length table.new ≡ length table.old }
+/// How many nodes of the order are older than a node that is present since this pick.
+fn count_older(since: &[u64], order: &[u32], pick: u64, node: u32) -> usize
+    requires below { All (λ n. n < length since.now) order.now }
+    requires ranked { AllPairs (λ (a b : ℕ). age_rank since.now a < age_rank since.now b) order.now }
+    ensures within { result ≤ length order.now }
+    ensures older { (k : ℕ) → k < result → age_rank since.now (slice_index order.now k) < 2 ^ 32 * pick + node }
+    ensures others { (k : ℕ) → result ≤ k → k < length order.now
+        → 2 ^ 32 * pick + node ≤ age_rank since.now (slice_index order.now k) }
 {
-    for node in list {
-        let place = *node as usize;
-        table[place] = renewed(table[place], now);
-    }
-}
-
-/// The node's age.
-fn age(table: &[Presence], node: u32, now: u64) -> u64
-    requires node { node < length table.now }
-    requires past { All (IsPast now) table.now }
-    ensures { result ≡ slice_index (ages_at now table.now) node }
-{
-    let presence = table[node as usize];
-    if presence.last == now {
-        now - presence.since
-    } else {
-        0
-    }
-}
-
-/// The first index of the list's oldest node.
-pub(crate) fn oldest(table: &[Presence], list: &[u32], now: u64) -> usize
-    requires list { IsChoiceList (length table.now) list.now }
-    requires past { All (IsPast now) table.now }
-    ensures best { result ≡ first_greatest (map (slice_index (ages_at now table.now)) list.now) }
-    ensures within { result < length list.now }
-{
-    let mut best = 0;
-    for place in 1..list.len() {
-        if age(table, list[best], now) < age(table, list[place], now) {
-            best = place;
+    let mut low = 0;
+    let mut high = order.len();
+    while low < high {
+        let middle = low + (high - low) / 2;
+        let other = order[middle];
+        if is_older(since[other as usize], other, pick, node) {
+            low = middle + 1;
+        } else {
+            high = middle;
         }
     }
-    best
+    low
 }
 
-/// The first index of the list's newest node.
-pub(crate) fn newest(table: &[Presence], list: &[u32], now: u64) -> usize
-    requires list { IsChoiceList (length table.now) list.now }
-    requires past { All (IsPast now) table.now }
-    ensures best { result ≡ first_least (map (slice_index (ages_at now table.now)) list.now) }
-    ensures within { result < length list.now }
+/// The presence of a node ends.
+fn leave(since: &[u64], order: &mut Vec<u32>, node: u32)
+    requires below { All (λ n. n < length since.now) order.old.items }
+    requires ranked { AllPairs (λ (a b : ℕ). age_rank since.now a < age_rank since.now b) order.old.items }
+    requires there { (p : ℕ) × (p < length order.old.items) × (slice_index order.old.items p ≡ node) }
+    ensures left { (p : ℕ) × (p < length order.old.items) × (slice_index order.old.items p ≡ node)
+        × (order.new.items ≡ remove order.old.items p) }
+    ensures room { vec_capacity order.new ≡ vec_capacity order.old }
 {
-    let mut best = 0;
-    for place in 1..list.len() {
-        if age(table, list[place], now) < age(table, list[best], now) {
-            best = place;
+    let place = count_older(since, order, since[node as usize], node);
+    order.remove(place);
+}
+
+/// The presence of a node begins.
+fn arrive(since: &mut [u64], order: &mut Vec<u32>, node: u32, now: u64)
+    requires node { node < length since.old }
+    requires room { vec_len order.old < vec_capacity order.old }
+    ensures since { since.new ≡ slice_set since.old node now }
+    ensures order { order.new.items ≡ order.old.items ++ node ∷ [] }
+    ensures room { vec_capacity order.new ≡ vec_capacity order.old }
+{
+    since[node as usize] = now;
+    order.push_reserved(node);
+}
+
+/// How many nodes are equal from these places on, in whole groups.
+fn group_run(was: &[u32], left: usize, list: &[u32], done: usize) -> usize
+    requires left { left ≤ length was.now }
+    requires done { done ≤ length list.now }
+    ensures { IsRun was.now left list.now done result }
+{
+    let mut run = 0;
+    while was.len() - left - run >= GROUP
+        && list.len() - done - run >= GROUP
+        && was[left + run..left + run + GROUP] == list[done + run..done + run + GROUP]
+    {
+        run += GROUP;
+    }
+    run
+}
+
+/// How many nodes are equal from these places on.
+fn equal_run(was: &[u32], left: usize, list: &[u32], done: usize) -> usize
+    requires left { left ≤ length was.now }
+    requires done { done ≤ length list.now }
+    ensures run { IsRun was.now left list.now done result }
+    ensures apart { left + result < length was.now → done + result < length list.now
+        → slice_index was.now (left + result) ≢ slice_index list.now (done + result) }
+{
+    let mut run = group_run(was, left, list, done);
+    while left + run < was.len() && done + run < list.len() && was[left + run] == list[done + run] {
+        run += 1;
+    }
+    run
+}
+
+/// Whether the next node of the list comes before the next of the last list.
+fn is_first(was: &[u32], left: usize, list: &[u32], done: usize) -> bool
+    requires left { left ≤ length was.now }
+    requires done { done ≤ length list.now }
+    ensures { IsTrue result ↔ (done < length list.now) ×
+        ((left ≡ length was.now) ⊎ (slice_index list.now done < slice_index was.now left)) }
+{
+    done < list.len() && (left == was.len() || list[done] < was[left])
+}
+
+/// Makes an order of the nodes of the last list one of the nodes of this list.
+fn follow(since: &mut [u64], order: &mut Vec<u32>, was: &[u32], list: &[u32], now: u64)
+    requires list { IsChoiceList (length since.old) list.now }
+    requires by_age { IsByAge now since.old was.now order.old.items }
+    requires room { 2 * length since.old ≤ vec_capacity order.old }
+    ensures by_age { IsByAge (now + 1) since.new list.now order.new.items }
+    ensures ages { ages_at (now + 1) since.new list.now ≡ aged list.now (ages_at now since.old was.now) }
+    ensures room { vec_capacity order.new ≡ vec_capacity order.old }
+{
+    let mut left = 0;
+    let mut done = 0;
+    while left < was.len() || done < list.len() {
+        let run = equal_run(was, left, list, done);
+        left += run;
+        done += run;
+        if is_first(was, left, list, done) {
+            arrive(since, order, list[done], now);
+            done += 1;
+        } else if left < was.len() {
+            leave(since, order, was[left]);
+            left += 1;
         }
     }
-    best
 }
 
-/// Makes a table of so many nodes, for which there is room, all of age 0 after so many picks.
-pub(crate) fn fresh(table: &mut Vec<Presence>, count: u32, now: u64)
-    requires room { count ≤ vec_capacity table.old }
-    ensures ages { ages_at now table.new.items ≡ replicate count 0 }
-    ensures past { All (IsPast now) table.new.items }
-    ensures count { length table.new.items ≡ count }
+/// The index of the node in an ascending list.
+fn place_of(list: &[u32], node: u32) -> usize
+    requires ascending { AllPairs (λ (a b : ℕ). a < b) list.now }
+    requires there { (k : ℕ) × (k < length list.now) × (slice_index list.now k ≡ node) }
+    ensures within { result < length list.now }
+    ensures place { slice_index list.now result ≡ node }
 {
-    table.clear();
-    for _node in 0..count {
-        table.push_reserved(Presence {
-            since: now,
-            last: now,
-        });
+    match list.binary_search(&node) {
+        Ok(place) => place,
+        Err(place) => place,
+    }
+}
+
+/// Replaces the list by another one, for which there is room.
+fn copy_into(to: &mut Vec<u32>, list: &[u32])
+    requires room { length list.now ≤ vec_capacity to.old }
+    ensures items { to.new.items ≡ list.now }
+    ensures room { vec_capacity to.old ≤ vec_capacity to.new }
+{
+    to.clear();
+    // there is room, so this succeeds
+    let _ = to.extend_from_slice(list);
+}
+
+impl Presence {
+    /// Of no nodes.
+    pub(crate) fn new(alloc: Global) -> Presence
+        ensures presence { IsPresence 0 result }
+        ensures since { result.since.items ≡ [] }
+        ensures list { result.list.items ≡ [] }
+    {
+        Presence {
+            since: Vec::new(alloc),
+            list: Vec::new(alloc),
+            order: Vec::new(alloc),
+        }
+    }
+
+    /// Makes room for lists of so many nodes.
+    pub(crate) fn reserve(&mut self, count: u32) -> Result<(), AllocError>
+        ensures since { self.new.since.items ≡ self.old.since.items }
+        ensures list { self.new.list.items ≡ self.old.list.items }
+        ensures presence { (now : ℕ) → IsPresence now self.old → IsPresence now self.new }
+        ensures room { OnOk result (HasRoom count self.new) }
+    {
+        self.since.reserve_exact(count as usize)?;
+        self.list.reserve_exact(count as usize)?;
+        self.order.reserve_exact(2 * count as usize)
+    }
+
+    /// Begins again for lists of so many nodes, of which none is present.
+    pub(crate) fn reset(&mut self, count: u32)
+        requires room { HasRoom count self.old }
+        ensures presence { (now : ℕ) → IsPresence now self.new }
+        ensures ages { (now : ℕ) → ages_at now self.new.since.items self.new.list.items ≡ replicate count 0 }
+    {
+        self.list.clear();
+        self.order.clear();
+        self.since.clear();
+        for _node in 0..count {
+            self.since.push_reserved(0);
+        }
+    }
+
+    /// Records one more pick, from this list, after so many.
+    pub(crate) fn note(&mut self, list: &[u32], now: u64)
+        requires list { IsChoiceList (length self.old.since.items) list.now }
+        requires presence { IsPresence now self.old }
+        ensures presence { IsPresence (now + 1) self.new }
+        ensures list { self.new.list.items ≡ list.now }
+        ensures ages { ages_at (now + 1) self.new.since.items self.new.list.items ≡
+            aged list.now (ages_at now self.old.since.items self.old.list.items) }
+        ensures count { length self.new.since.items ≡ length self.old.since.items }
+    {
+        follow(&mut self.since, &mut self.order, &self.list, list, now);
+        copy_into(&mut self.list, list);
+    }
+
+    /// The index of the list's oldest node, the least of equally old ones.
+    pub(crate) fn oldest(&self) -> usize
+        requires some { 0 < length self.now.list.items }
+        requires by_age { (now : ℕ) × IsByAge now self.now.since.items self.now.list.items self.now.order.items }
+        ensures best { (now : ℕ)
+            → IsByAge now self.now.since.items self.now.list.items self.now.order.items
+            → result ≡ first_greatest
+            (map (slice_index (ages_at now self.now.since.items self.now.list.items)) self.now.list.items) }
+        ensures within { result < length self.now.list.items }
+    {
+        place_of(&self.list, self.order[0])
+    }
+
+    /// The index of the list's newest node, the least of equally new ones.
+    pub(crate) fn newest(&self) -> usize
+        requires some { 0 < length self.now.list.items }
+        requires by_age { (now : ℕ) × IsByAge now self.now.since.items self.now.list.items self.now.order.items }
+        ensures best { (now : ℕ)
+            → IsByAge now self.now.since.items self.now.list.items self.now.order.items
+            → result ≡ first_least
+            (map (slice_index (ages_at now self.now.since.items self.now.list.items)) self.now.list.items) }
+        ensures within { result < length self.now.list.items }
+    {
+        let last = self.order[self.order.len() - 1];
+        let first = count_older(&self.since, &self.order, self.since[last as usize], 0);
+        place_of(&self.list, self.order[first])
     }
 }

@@ -4,7 +4,7 @@ ghost use Rattle.std.specs.Prelude.{◌≡◌, ◌+◌, ◌<◌, ◌≤◌, [], 
 ghost use Rattle.event_sim.specs.Ages.{aged, ages_in, first_greatest};
 ghost use Rattle.event_sim.specs.Picking.{IsChoiceList};
 
-use crate::ages::{Presence, fresh, note, oldest};
+use crate::ages::Presence;
 use crate::picker::Picker;
 use std::alloc::{AllocError, Global};
 use std::marker::Model;
@@ -14,12 +14,12 @@ use std::marker::Model;
 pub struct Oldest {
     log: Vec<usize>,
     seeded: Option<(u64, usize)>,
-    ages: Vec<Presence>,
+    presence: Presence,
 }
 
 impl Model for Oldest {
-    ghost use Rattle.std.specs.Prelude.{◌-◌, All, length, vec_capacity};
-    ghost use Rattle.event_sim.specs.Ages.{AgedValue, ages_at, IsPast};
+    ghost use Rattle.std.specs.Prelude.{◌-◌, length, vec_capacity};
+    ghost use Rattle.event_sim.specs.Ages.{AgedValue, ages_at, IsPresence};
 
     ghost Value = { AgedValue };
 
@@ -27,10 +27,10 @@ impl Model for Oldest {
       log = p.log.items;
       spare = vec_capacity p.log - length p.log.items;
       seeded = p.seeded;
-      ages = ages_at (length p.log.items) p.ages.items;
+      ages = ages_at (length p.log.items) p.presence.since.items p.presence.list.items;
     } };
 
-    ghost invariant = { λ p. All (IsPast (length p.log.items)) p.ages.items };
+    ghost invariant = { λ p. IsPresence (length p.log.items) p.presence };
 }
 
 impl Oldest {
@@ -43,7 +43,7 @@ impl Oldest {
         Oldest {
             log: Vec::new(alloc),
             seeded: None,
-            ages: Vec::new(alloc),
+            presence: Presence::new(alloc),
         }
     }
 }
@@ -78,9 +78,9 @@ impl Picker for Oldest {
         ensures ages { OnOk result (self.new.ages ≡ replicate node_count 0) }
         ensures kept { OnErr result (self.new ≡ self.old) }
     {
-        self.ages.reserve_exact(node_count as usize)?;
+        self.presence.reserve(node_count)?;
         self.log.reserve_exact(picks as usize)?;
-        fresh(&mut self.ages, node_count, self.log.len() as u64);
+        self.presence.reset(node_count);
         Ok(())
     }
 
@@ -95,9 +95,8 @@ impl Picker for Oldest {
         ensures nodes { length self.new.ages ≡ length self.old.ages }
         ensures seeded { self.new.seeded ≡ self.old.seeded }
     {
-        let now = self.log.len() as u64;
-        note(&mut self.ages, enabled, now);
-        let place = oldest(&self.ages, enabled, now + 1);
+        self.presence.note(enabled, self.log.len() as u64);
+        let place = self.presence.oldest();
         self.log.push_reserved(place);
         place
     }

@@ -19,24 +19,32 @@ take_front (x ∷ xs) ys = ap (λ l. x ∷ l) (take_front xs ys)
 turned_over : {X : Type 0} (xs ys : List X) → drop (length xs) (xs ++ ys) ++ take (length xs) (xs ++ ys) ≡ ys ++ xs
 turned_over xs ys = ap (λ l. l ++ take (length xs) (xs ++ ys)) (drop_front xs ys) ∙ ap (λ l. ys ++ l) (take_front xs ys)
 
+-- the declared nodes, one after the other
+pub declared_driven : (p : TypedProgram) (latch answer : ℕ) (inner d1 d2 d3 d4 d5 d6 : List NodeRules) → d1 ≡ inner ++ no_rules ∷ []
+    → d2 ≡ d1 ++ q_next latch answer ∷ [] → d3 ≡ d2 ++ channels_rules p 0 p.channels → d4 ≡ d3 ++ vars_rules p 0 p.vars
+    → d5 ≡ d4 ++ q_child go_node latch ∷ [] → d6 ≡ d5 ++ q_latch go_node answer ∷ []
+    → d6 ≡ inner ++ no_rules ∷ q_next latch answer ∷ (channels_rules p 0 p.channels ++ (vars_rules p 0 p.vars
+    ++ q_child go_node latch ∷ q_latch go_node answer ∷ []))
+declared_driven p latch answer inner d1 d2 d3 d4 d5 d6 e1 e2 e3 e4 e5 e6 =
+    two_on inner d1 d6 (no_rules ∷ []) _ e1
+    (two_on d1 d2 d6 (q_next latch answer ∷ []) _ e2
+    (two_on d2 d3 d6 (channels_rules p 0 p.channels) _ e3
+    (two_on d3 d4 d6 (vars_rules p 0 p.vars) _ e4 (two_on d4 d5 d6 (q_child go_node latch ∷ []) (q_latch go_node answer ∷ []) e5 e6))))
+
 -- those of the body are made first, and turned behind the others
-pub all_driven : (p : TypedProgram) (latch answer own : ℕ) (inner d1 d2 d3 d4 d5 d6 d7 : List NodeRules) → latch ≡ root_latch p → answer ≡ body_answer p
-    → inner ≡ rules_of p p.body (root_request p) (body_from p) → own ≡ length inner → d1 ≡ inner ++ no_rules ∷ [] → d2 ≡ d1 ++ q_next latch answer ∷ []
-    → d3 ≡ d2 ++ channels_rules p 0 p.channels → d4 ≡ d3 ++ vars_rules p 0 p.vars → d5 ≡ d4 ++ q_child go_node latch ∷ []
-    → d6 ≡ d5 ++ q_latch go_node answer ∷ [] → d7 ≡ drop own d6 ++ take own d6 → d7 ≡ all_rules p
-all_driven p latch answer own inner d1 d2 d3 d4 d5 d6 d7 latched answered body count e1 e2 e3 e4 e5 e6 e7 =
+pub all_driven : (p : TypedProgram) (latch answer own : ℕ) (inner whole turned : List NodeRules) → latch ≡ root_latch p → answer ≡ body_answer p
+    → inner ≡ rules_of p p.body (root_request p) (body_from p) → own ≡ length inner
+    → whole ≡ inner ++ no_rules ∷ q_next latch answer ∷ (channels_rules p 0 p.channels ++ (vars_rules p 0 p.vars
+    ++ q_child go_node latch ∷ q_latch go_node answer ∷ []))
+    → turned ≡ drop own whole ++ take own whole → turned ≡ all_rules p
+all_driven p latch answer own inner whole turned latched answered body count both over =
     let channels = channels_rules p 0 p.channels in
     let vars = vars_rules p 0 p.vars in
     let ends = q_child go_node latch ∷ q_latch go_node answer ∷ [] in
     let declared = no_rules ∷ q_next latch answer ∷ (channels ++ (vars ++ ends)) in
-    let whole : d6 ≡ inner ++ declared =
-    two_on inner d1 d6 (no_rules ∷ []) _ e1
-    (two_on d1 d2 d6 (q_next latch answer ∷ []) _ e2
-    (two_on d2 d3 d6 channels _ e3
-    (two_on d3 d4 d6 vars _ e4 (two_on d4 d5 d6 (q_child go_node latch ∷ []) (q_latch go_node answer ∷ []) e5 e6)))) in
-    let turned : d7 ≡ declared ++ inner =
-    e7 ∙ (ap (λ n. drop n d6 ++ take n d6) count ∙ (ap (λ l. drop (length inner) l ++ take (length inner) l) whole ∙ turned_over inner declared)) in
-    turned
+    let first : turned ≡ declared ++ inner =
+    over ∙ (ap (λ n. drop n whole ++ take n whole) count ∙ (ap (λ l. drop (length inner) l ++ take (length inner) l) both ∙ turned_over inner declared)) in
+    first
     ∙ (ap (λ l. no_rules ∷ q_next latch answer ∷ l) (append_assoc channels (vars ++ ends) inner ∙ ap (λ l. channels ++ l) (append_assoc vars ends inner))
     ∙ (ap (λ n. no_rules ∷ q_next n answer ∷ (channels ++ (vars ++ (q_child go_node n ∷ q_latch go_node answer ∷ inner)))) latched
     ∙ (ap (λ n. no_rules ∷ q_next (root_latch p) n ∷ (channels ++ (vars ++ (q_child go_node (root_latch p) ∷ q_latch go_node n ∷ inner)))) answered

@@ -1,7 +1,7 @@
 -- The drivers of statements, one behind the other.
-use Rattle.std.proofs.Common.{◌≡◌, ◌∙◌, ℕ, suc, ◌+◌, ◌-◌, ◌*◌, ◌<◌, ◌≤◌, Bool, true, false, List, [], ◌∷◌, ◌++◌, length, refl, ap, arith, append_assoc}
+use Rattle.std.proofs.Common.{◌≡◌, ◌∙◌, ℕ, suc, ◌+◌, ◌-◌, ◌*◌, ◌<◌, ◌≤◌, Bool, true, false, List, [], ◌∷◌, ◌++◌, length, get_or, take, map, refl, sym, ap, arith, append_assoc}
 use Rattle.std.specs.Prelude.{slice_set, if◌then◌else◌}
-use Rattle.std.proofs.lemmas.List.{length-append, length-set, set-append_left, set-append_right}
+use Rattle.std.proofs.lemmas.List.{map_more, length-append, length-set, set-append_left, set-append_right}
 use Rattle.prs_core.specs.Nets.{NodeRules}
 use Rattle.prs_core.specs.Pairs.{no_rules}
 use Rattle.width_check.specs.Processes.{choosing, Choices, choice_count, TypedProgram}
@@ -12,6 +12,12 @@ use Rattle.handshake_expand.proofs.Branches.{choosing_size, sites_more}
 use Rattle.cell_sequence.specs.Sequence.{q_child, q_latch, q_next, loop_request}
 use Rattle.cell_select.specs.Selections.{joined_answer, select_rules, again_rules}
 use Rattle.net_compose.specs.Translation.{branch_answers, rules_of, bodies_rules, guards_rules, choosing_at, repeating_at}
+
+-- one item more has its image
+pub mapped_more : {X Y : Type 0} (f : X → Y) (xs : List X) (i : ℕ) (x : X) (y : Y) (old new : List Y) → i < length xs → x ≡ get_or xs i x → y ≡ f x
+    → old ≡ map f (take i xs) → new ≡ old ++ y ∷ [] → new ≡ map f (take (i + 1) xs)
+mapped_more f xs i x y old new within at is so_far more = more ∙ (ap (λ z. old ++ z ∷ []) (is ∙ ap f at)
+    ∙ (ap (λ l. l ++ f (get_or xs i x) ∷ []) so_far ∙ sym (map_more f xs i x within)))
 
 pub two_on : (now mid new xs ys : List NodeRules) → mid ≡ now ++ xs → new ≡ mid ++ ys → new ≡ now ++ (xs ++ ys)
 two_on now mid new xs ys first after = after ∙ (ap (λ l. l ++ ys) first ∙ append_assoc now xs ys)

@@ -1,5 +1,5 @@
 -- The rails of guards are all apart, and lie among the guards' own nodes.
-use Rattle.std.proofs.Common.{◌≡◌, ℕ, ◌+◌, ◌*◌, ◌<◌, ◌≤◌, List, [], ◌∷◌, ◌++◌, length, All, refl, sym, ◌∙◌, subst, arith}
+use Rattle.std.proofs.Common.{◌≡◌, ℕ, ◌+◌, ◌*◌, ◌<◌, ◌≤◌, List, [], ◌∷◌, length, All, refl, sym, subst, arith}
 use Rattle.std.proofs.lemmas.List.Elements.{All-nil, All-cons, All-append}
 use Rattle.prs_core.specs.Pairs.{Pair, rails_of}
 use Rattle.width_check.specs.Processes.{Choices, no_choices, and_choice, TypedProgram}

@@ -1,5 +1,5 @@
 -- The nodes of a selection and of a guarded repetition are apart, and their own ones are numbered one behind the other.
-use Rattle.std.proofs.Common.{◌≡◌, ℕ, zero, suc, ◌+◌, ◌*◌, ◌<◌, ◌≤◌, List, [], ◌∷◌, ◌++◌, All, refl, sym, ap, ◌∙◌, subst, arith}
+use Rattle.std.proofs.Common.{◌≡◌, ℕ, zero, suc, ◌+◌, ◌<◌, ◌≤◌, List, [], ◌∷◌, ◌++◌, All, refl, sym, ap, ◌∙◌, subst, arith}
 use Rattle.std.specs.List.{range_with_len}
 use Rattle.prs_core.specs.Pairs.{Pair, rails_of}
 use Rattle.width_check.specs.Processes.{Choices, choice_count, TypedProgram}

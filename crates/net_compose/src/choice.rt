@@ -1,20 +1,23 @@
 //! The drivers of the own nodes of selections and guarded repetitions, and of their guards.
 
-ghost use Rattle.std.specs.Prelude.{◌≡◌, ◌+◌, ◌*◌, ◌^◌, ◌<◌, ◌≤◌, ◌++◌, if◌then◌else◌, true, false, length, slice_set, IfOk, OnOk};
+ghost use Rattle.std.specs.Prelude.{◌≡◌, ◌+◌, ◌*◌, ◌^◌, ◌<◌, ◌≤◌, ◌++◌, [], ◌∷◌, if◌then◌else◌, true, false, length, slice_set, IfOk, OnOk};
 ghost use Rattle.std.specs.List.{range_with_len};
+ghost use Rattle.prs_core.specs.Pairs.{no_rules, or_of, rails_of};
 ghost use Rattle.width_check.specs.Processes.{choosing};
 ghost use Rattle.width_check.specs.Typed.{program_of};
 ghost use Rattle.width_check.specs.Typing.{IsProcess, AreChoices};
 ghost use Rattle.handshake_expand.specs.Layout.{guards_size, size_of, root_request};
 ghost use Rattle.handshake_expand.specs.Answers.{guards_from, bodies_from, select_own, again_own};
 ghost use Rattle.handshake_expand.specs.PartTree.{own_before};
-ghost use Rattle.cell_select.specs.Selections.{joined_answer, latches, starts, select_rules, again_rules};
+ghost use Rattle.cell_sequence.specs.Sequence.{q_child};
+ghost use Rattle.cell_select.specs.Selections.{joined_answer, turn_request, latches, starts, select_rules, again_rules};
 ghost use Rattle.width_check.specs.View.{choices_in};
 ghost use Rattle.net_compose.specs.Begins.{var_firsts};
 ghost use Rattle.net_compose.specs.Translation.{branch_answers, guard_pairs, guards_rules, choosing_at, repeating_at};
+ghost use Rattle.net_compose.specs.Drivers.{wanted_latch, let_go};
 ghost use Rattle.net_compose.specs.Wanted.{one_wanted, all_unwanted};
 
-use crate::driver::Driver;
+use crate::driver::{Driver, add};
 use crate::formula::formula;
 use function_blocks::laws::rules_counted;
 use function_blocks::{Bit, rails_of};
@@ -73,7 +76,7 @@ fn add_latches(
 {
     for place in 0..guards.len() {
         let wanted = one_wanted(alloc, guards, place)?;
-        drivers.push(Driver::wanted(request, wanted))?;
+        add(Driver::wanted(request, wanted), drivers)?;
     }
     Ok(())
 }
@@ -93,7 +96,7 @@ fn add_starts(
     for place in 0..count {
         let rails = rails_of(alloc, guards)?;
         let latch = latched + place;
-        drivers.push(Driver::started(latch, latch, rails))?;
+        add(Driver::started(latch, latch, rails), drivers)?;
     }
     Ok(())
 }
@@ -128,6 +131,27 @@ fn guards(
     Ok(bits)
 }
 
+/// Adds the drivers of the three own nodes of a selection that come before the latches of its `count` branches. The
+/// joined answer, the first of them, isn't driven yet.
+fn joining_nodes(
+    alloc: Global,
+    request: u32,
+    from: u32,
+    count: u32,
+    drivers: &mut Vec<Driver>,
+) -> Result<(), AllocError>
+    requires { from + 3 + count < 2 ^ 32 }
+    ensures { OnOk result (drivers.new.items ≡ drivers.old.items
+        ++ no_rules ∷ q_child request (from + 2) ∷ or_of (range_with_len (from + 3) count) ∷ []) }
+{
+    add(Driver::undriven(), drivers)?;
+    add(Driver::child(request, from + 2), drivers)?;
+    add(
+        Driver::any(numbered_nodes(alloc, from + 3, count)?),
+        drivers,
+    )
+}
+
 /// Adds the drivers of a selection's own nodes, numbered from `from` on, and of its guards after them. The joined
 /// answer isn't driven until the answers of the branches are known: `join_answers` sets it.
 #[tactic(auto, using(handshake_expand::proofs::Branches::choosing_size, handshake_expand::proofs::Rows::arms_counted))]
@@ -152,7 +176,6 @@ fn selection_nodes(
         (guards_from (choices_in arms.now) select_own from))) }
 {
     let count = arms.len() as u32;
-    let any = from + 2;
     let latched = from + 3;
     let mut inner = Vec::new(alloc);
     let bits = guards(
@@ -164,13 +187,44 @@ fn selection_nodes(
         vars,
         &mut inner,
     )?;
-    drivers.push(Driver::undriven())?;
-    drivers.push(Driver::child(request, any))?;
-    drivers.push(Driver::any(numbered_nodes(alloc, latched, count)?))?;
+    joining_nodes(alloc, request, from, count, drivers)?;
     add_latches(alloc, &bits, request, drivers)?;
     add_starts(alloc, &bits, latched, count, drivers)?;
     drivers.append(&mut inner)?;
     Ok(())
+}
+
+/// Adds the drivers of the six own nodes of a guarded repetition that come before the latches of its `count` branches.
+/// The joined answer, the third of them, isn't driven yet.
+fn turn_nodes(
+    alloc: Global,
+    guards: &[Bit],
+    request: u32,
+    from: u32,
+    count: u32,
+    drivers: &mut Vec<Driver>,
+) -> Result<(), AllocError>
+    requires { from + 6 + count < 2 ^ 32 }
+    ensures { OnOk result (drivers.new.items ≡ drivers.old.items
+        ++ let_go (from + 5) (from + 4) (rails_of guards.now) ∷ turn_request request (from + 2) ∷ no_rules
+        ∷ q_child (from + 1) (from + 4) ∷ or_of (range_with_len (from + 5) (count + 1))
+        ∷ wanted_latch (from + 1) (all_unwanted guards.now) ∷ []) }
+{
+    let turn = from + 1;
+    let any = from + 4;
+    let leave = from + 5;
+    add(
+        Driver::started(leave, any, rails_of(alloc, guards)?),
+        drivers,
+    )?;
+    add(Driver::turn(request, from + 2), drivers)?;
+    add(Driver::undriven(), drivers)?;
+    add(Driver::child(turn, any), drivers)?;
+    add(
+        Driver::any(numbered_nodes(alloc, leave, count + 1)?),
+        drivers,
+    )?;
+    add(Driver::wanted(turn, all_unwanted(alloc, guards)?), drivers)
 }
 
 /// Adds the drivers of a guarded repetition's own nodes, numbered from `from` on, and of its guards after them. The
@@ -198,8 +252,6 @@ fn repetition_nodes(
 {
     let count = arms.len() as u32;
     let turn = from + 1;
-    let any = from + 4;
-    let leave = from + 5;
     let latched = from + 6;
     let mut inner = Vec::new(alloc);
     let bits = guards(
@@ -211,12 +263,7 @@ fn repetition_nodes(
         vars,
         &mut inner,
     )?;
-    drivers.push(Driver::started(leave, any, rails_of(alloc, &bits)?))?;
-    drivers.push(Driver::turn(request, from + 2))?;
-    drivers.push(Driver::undriven())?;
-    drivers.push(Driver::child(turn, any))?;
-    drivers.push(Driver::any(numbered_nodes(alloc, leave, count + 1)?))?;
-    drivers.push(Driver::wanted(turn, all_unwanted(alloc, &bits)?))?;
+    turn_nodes(alloc, &bits, request, from, count, drivers)?;
     add_latches(alloc, &bits, turn, drivers)?;
     add_starts(alloc, &bits, latched, count, drivers)?;
     drivers.append(&mut inner)?;

@@ -1,18 +1,21 @@
 //! The drivers of all nodes of a program's circuit.
 
-ghost use Rattle.std.specs.Prelude.{◌≡◌, ◌<◌, ◌≤◌, ◌++◌, true, fold, length, slice_set, IfOk, OnOk};
+ghost use Rattle.std.specs.Prelude.{◌≡◌, ◌<◌, ◌≤◌, ◌++◌, [], ◌∷◌, true, fold, length, slice_set, IfOk, OnOk};
 ghost use Rattle.width_check.specs.Typed.{program_of};
 ghost use Rattle.width_check.specs.Typing.{channel_width, kind_at, var_width};
-ghost use Rattle.handshake_expand.specs.Layout.{nodes_of, var_from};
+ghost use Rattle.prs_core.specs.Pairs.{no_rules};
+ghost use Rattle.handshake_expand.specs.Layout.{nodes_of, var_from, go_node};
 ghost use Rattle.handshake_expand.specs.Sites.{in_body};
+ghost use Rattle.cell_sequence.specs.Sequence.{q_child, q_latch, q_next};
 ghost use Rattle.cell_variable.specs.Variables.{variable_rules};
 ghost use Rattle.net_compose.specs.Begins.{channel_firsts, var_firsts};
 ghost use Rattle.net_compose.specs.Translation.{all_rules, channel_rules, channels_rules, vars_rules, write_site, hidden_high};
+ghost use Rattle.net_compose.specs.Contacts.{every_contact};
 ghost use Rattle.net_compose.specs.SortedContacts.{AreSortedContacts};
 
 use crate::block::{block, rails, silent};
 use crate::body::body;
-use crate::contact::Site;
+use crate::contact::{Contact, Site};
 use crate::driver::{Driver, add};
 use crate::firsts::Firsts;
 use crate::sorted::{Sorted, sort_contacts};
@@ -121,6 +124,34 @@ fn vars(
     Ok(())
 }
 
+/// Adds the drivers of the declared nodes: of `go` and `done`, the wires of channels and the blocks of variables, and
+/// of the root. `latch` is the root's latch, and `answer` the node that answers for the body.
+fn declare(
+    alloc: Global,
+    program: &Typed,
+    firsts: &[u32],
+    contacts: Vec<Contact>,
+    latch: u32,
+    answer: u32,
+    drivers: &mut Vec<Driver>,
+) -> Result<(), AllocError>
+    requires firsts { firsts.now ≡ var_firsts (program_of program.now) }
+    requires contacts { contacts.items ≡ in_body (program_of program.now) (every_contact (program_of program.now)) }
+    requires few { nodes_of (program_of program.now) ≤ 65536 }
+    ensures { OnOk result (drivers.new.items ≡ drivers.old.items ++ no_rules ∷ q_next latch answer
+        ∷ (channels_rules (program_of program.now) 0 program.now.channels
+        ++ (vars_rules (program_of program.now) 0 program.now.vars
+        ++ q_child go_node latch ∷ q_latch go_node answer ∷ []))) }
+{
+    add(Driver::undriven(), drivers)?;
+    add(Driver::next(latch, answer), drivers)?;
+    let sorted = sort_contacts(alloc, program, contacts)?;
+    channels(alloc, program, &sorted, drivers)?;
+    vars(alloc, program, firsts, &sorted, drivers)?;
+    add(Driver::child(0, latch), drivers)?;
+    add(Driver::latch(0, answer), drivers)
+}
+
 /// The drivers of all nodes, in order of their numbers. The rails of hidden variables that are high at first are
 /// raised.
 pub(crate) fn drivers_of(
@@ -146,13 +177,15 @@ pub(crate) fn drivers_of(
     let from = (count_nodes(program) - statement_nodes(program, statement)) as u32;
     let latch = from - 1;
     let answer = answer_node(program, statement, from);
-    drivers.push(Driver::undriven())?;
-    drivers.push(Driver::next(latch, answer))?;
-    let sorted = sort_contacts(alloc, program, contacts)?;
-    channels(alloc, program, &sorted, &mut drivers)?;
-    vars(alloc, program, &firsts.vars, &sorted, &mut drivers)?;
-    drivers.push(Driver::child(0, latch))?;
-    drivers.push(Driver::latch(0, answer))?;
+    declare(
+        alloc,
+        program,
+        &firsts.vars,
+        contacts,
+        latch,
+        answer,
+        &mut drivers,
+    )?;
     drivers.rotate_left(own);
     Ok(drivers)
 }

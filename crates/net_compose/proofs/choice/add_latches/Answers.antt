@@ -18,7 +18,7 @@ loop-place-preserved c =
     let one = wanted_latch r (one_wanted hs k) in
     let more : take (k + 1) all ≡ take k all ++ one ∷ [] =
     take_more all k one (omega (arith, long, within)) ∙ ap (λ d. take k all ++ d ∷ []) (latch_here r hs k one within) in
-    c.in_ok-push.ensures.items ∙ (ap (λ d. c.loop-place.drivers.items ++ d ∷ []) (c.wanted.ensures ∙ ap (wanted_latch r) c.in_ok-wanted.ensures)
+    c.in_ok-add.ensures ∙ (ap (λ d. c.loop-place.drivers.items ++ d ∷ []) (c.wanted.ensures ∙ ap (wanted_latch r) c.in_ok-wanted.ensures)
     ∙ (ap (λ l. l ++ one ∷ []) c.loop-place.invariant ∙ (append_assoc old (take k all) (one ∷ []) ∙ ap (λ l. old ++ l) (sym more))))
 
 pub returns : goal.returns

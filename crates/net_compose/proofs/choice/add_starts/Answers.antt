@@ -13,6 +13,6 @@ loop-place-preserved c =
     let latch = c.args.latched + k in
     let one = started latch hs in
     let before = starts (range_with_len c.args.latched k) hs in
-    c.in_ok-push.ensures.items ∙ (ap (λ d. c.loop-place.drivers.items ++ d ∷ []) (c.started.ensures ∙ ap (let_go latch latch) c.in_ok-rails.ensures)
+    c.in_ok-add.ensures ∙ (ap (λ d. c.loop-place.drivers.items ++ d ∷ []) (c.started.ensures ∙ ap (let_go latch latch) c.in_ok-rails.ensures)
     ∙ (ap (λ l. l ++ one ∷ []) c.loop-place.invariant ∙ (append_assoc old before (one ∷ [])
     ∙ ap (λ l. old ++ l) (sym (map-range_with_len_more (λ l. started l hs) c.args.latched k latch refl)))))

@@ -1,13 +1,14 @@
 use Rattle.std.proofs.Common.{◌≡◌, ◌∙◌, ◌+◌, ◌*◌, ℕ, suc, true, [], ◌∷◌, ◌++◌, length, refl, ap, sym, arith}
 use Rattle.std.specs.List.{range_with_len}
-use Rattle.prs_core.specs.Pairs.{no_rules, rails_of}
+use Rattle.prs_core.specs.Pairs.{no_rules, or_of, rails_of}
 use Rattle.width_check.specs.Processes.{choice_count}
 use Rattle.width_check.specs.Typed.{program_of}
 use Rattle.width_check.specs.View.{choices_in}
 use Rattle.handshake_expand.specs.Answers.{guards_from, bodies_from, again_own}
 use Rattle.handshake_expand.proofs.Branches.{choosing_size}
 use Rattle.handshake_expand.proofs.Rows.{arms_counted}
-use Rattle.cell_select.specs.Selections.{latches, starts}
+use Rattle.cell_sequence.specs.Sequence.{q_child}
+use Rattle.cell_select.specs.Selections.{turn_request, latches, starts}
 use Rattle.net_compose.specs.Translation.{branch_answers, guard_pairs, guards_rules}
 use Rattle.net_compose.specs.Drivers.{wanted_latch, let_go}
 use Rattle.net_compose.specs.Wanted.{all_unwanted}
@@ -33,22 +34,16 @@ returns c =
     let at : from + 6 + 2 * many ≡ guards_from cs again_own from = omega (arith, count) in
     let bits = c.in_ok-bits.bits.items in
     again_driven p cs c.args.request from (branch_answers p cs (bodies_from cs again_own from)) bits c.guards.new.drivers.items c.args.drivers.now.items
-    no_rules c.in_ok-numbered_nodes.field-0.items
-    (range_with_len (from + 6) (choice_count cs)) c.push.new.self.items c.push-2.new.self.items c.push-3.new.self.items c.push-4.new.self.items
-    c.push-5.new.self.items c.push-6.new.self.items c.add_latches.new.drivers.items c.add_starts.new.drivers.items c.append.new.self.items
-    refl (c.in_ok-numbered_nodes.ensures ∙ leaves_are from many (choice_count cs) count) refl
+    no_rules (range_with_len (from + 5) (many + 1)) (range_with_len (from + 6) (choice_count cs)) c.turn_nodes.new.drivers.items
+    c.add_latches.new.drivers.items c.add_starts.new.drivers.items c.append.new.self.items
+    refl (leaves_are from many (choice_count cs) count) refl
     (c.in_ok-bits.ensures.bits ∙ ap (guard_pairs cs) at)
     (c.in_ok-bits.ensures.made ∙ (ap (λ l. l ++ guards_rules p cs (from + 3) (from + 6 + 2 * many)) c.new-inner.ensures.items
     ∙ ap (guards_rules p cs (from + 3)) at))
-    (c.in_ok-push.ensures.items ∙ (ap (λ d. c.args.drivers.now.items ++ d ∷ []) c.started.ensures
-    ∙ ap (λ rails. c.args.drivers.now.items ++ let_go (from + 5) (from + 4) rails ∷ []) (c.in_ok-rails_of.ensures ∙ ap rails_of c.deref.ensures.value)))
-    (c.in_ok-push-2.ensures.items ∙ ap (λ d. c.push.new.self.items ++ d ∷ []) c.turn.ensures)
-    (c.in_ok-push-3.ensures.items ∙ ap (λ d. c.push-2.new.self.items ++ d ∷ []) c.undriven.ensures)
-    (c.in_ok-push-4.ensures.items ∙ ap (λ d. c.push-3.new.self.items ++ d ∷ []) c.child.ensures)
-    (c.in_ok-push-5.ensures.items ∙ ap (λ d. c.push-4.new.self.items ++ d ∷ []) c.any.ensures)
-    (c.in_ok-push-6.ensures.items ∙ (ap (λ d. c.push-5.new.self.items ++ d ∷ []) c.wanted.ensures
-    ∙ ap (λ ns. c.push-5.new.self.items ++ wanted_latch turn ns ∷ []) (c.in_ok-all_unwanted.ensures ∙ ap all_unwanted c.deref-2.ensures.value)))
-    (c.in_ok-add_latches.ensures ∙ ap (λ l. c.push-6.new.self.items ++ latches turn l) c.deref-3.ensures.value)
-    (c.in_ok-add_starts.ensures ∙ (ap (λ l. c.add_latches.new.drivers.items ++ starts (range_with_len (from + 6) many) l) c.deref-4.ensures.value
+    (c.in_ok-turn_nodes.ensures ∙ ap (λ l. c.args.drivers.now.items ++ let_go (from + 5) (from + 4) (rails_of l) ∷ turn_request c.args.request (from + 2)
+    ∷ no_rules ∷ q_child (from + 1) (from + 4) ∷ or_of (range_with_len (from + 5) (many + 1)) ∷ wanted_latch (from + 1) (all_unwanted l) ∷ [])
+    c.deref.ensures.value)
+    (c.in_ok-add_latches.ensures ∙ ap (λ l. c.turn_nodes.new.drivers.items ++ latches turn l) c.deref-2.ensures.value)
+    (c.in_ok-add_starts.ensures ∙ (ap (λ l. c.add_latches.new.drivers.items ++ starts (range_with_len (from + 6) many) l) c.deref-3.ensures.value
     ∙ ap (λ n. c.add_latches.new.drivers.items ++ starts (range_with_len (from + 6) n) bits) count))
     c.in_ok-append.ensures.items

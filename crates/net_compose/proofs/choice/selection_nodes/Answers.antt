@@ -1,4 +1,4 @@
-use Rattle.std.proofs.Common.{◌≡◌, ◌∙◌, ◌+◌, ◌*◌, false, [], ◌∷◌, ◌++◌, length, refl, ap, sym, arith}
+use Rattle.std.proofs.Common.{◌≡◌, ◌∙◌, ◌+◌, ◌*◌, false, ◌++◌, length, refl, ap, sym, arith}
 use Rattle.std.specs.List.{range_with_len}
 use Rattle.prs_core.specs.Pairs.{no_rules}
 use Rattle.width_check.specs.Processes.{choice_count}
@@ -23,16 +23,11 @@ returns c =
     let count : many ≡ choice_count cs = sym arms in
     let at : from + 3 + 2 * many ≡ guards_from cs select_own from = omega (arith, count) in
     select_driven p cs c.args.request from (branch_answers p cs (bodies_from cs select_own from)) c.in_ok-bits.bits.items c.guards.new.drivers.items
-    c.args.drivers.now.items no_rules c.in_ok-numbered_nodes.field-0.items
-    c.push.new.self.items c.push-2.new.self.items c.push-3.new.self.items c.add_latches.new.drivers.items
-    c.add_starts.new.drivers.items c.append.new.self.items refl
-    (c.in_ok-numbered_nodes.ensures ∙ ap (range_with_len (from + 3)) count) (c.in_ok-bits.ensures.bits ∙ ap (guard_pairs cs) at)
+    c.args.drivers.now.items no_rules (range_with_len (from + 3) many) c.joining_nodes.new.drivers.items c.add_latches.new.drivers.items
+    c.add_starts.new.drivers.items c.append.new.self.items refl (ap (range_with_len (from + 3)) count) (c.in_ok-bits.ensures.bits ∙ ap (guard_pairs cs) at)
     (c.in_ok-bits.ensures.made ∙ (ap (λ l. l ++ guards_rules p cs (from + 1) (from + 3 + 2 * many)) c.new-inner.ensures.items
     ∙ ap (guards_rules p cs (from + 1)) at))
-    (c.in_ok-push.ensures.items ∙ ap (λ d. c.args.drivers.now.items ++ d ∷ []) c.undriven.ensures)
-    (c.in_ok-push-2.ensures.items ∙ ap (λ d. c.push.new.self.items ++ d ∷ []) c.child.ensures)
-    (c.in_ok-push-3.ensures.items ∙ ap (λ d. c.push-2.new.self.items ++ d ∷ []) c.any.ensures)
-    (c.in_ok-add_latches.ensures ∙ ap (λ l. c.push-3.new.self.items ++ latches c.args.request l) c.deref.ensures.value)
-    (c.in_ok-add_starts.ensures ∙ (ap (λ l. c.add_latches.new.drivers.items ++ starts (range_with_len (from + 3) many) l) c.deref-2.ensures.value
-    ∙ ap (λ l. c.add_latches.new.drivers.items ++ starts l c.in_ok-bits.bits.items) (sym c.in_ok-numbered_nodes.ensures)))
+    c.in_ok-joining_nodes.ensures
+    (c.in_ok-add_latches.ensures ∙ ap (λ l. c.joining_nodes.new.drivers.items ++ latches c.args.request l) c.deref.ensures.value)
+    (c.in_ok-add_starts.ensures ∙ ap (λ l. c.add_latches.new.drivers.items ++ starts (range_with_len (from + 3) many) l) c.deref-2.ensures.value)
     c.in_ok-append.ensures.items
