@@ -26,7 +26,7 @@ use std::alloc::{AllocError, Global};
 use width_check::{TArm, TStmt, Typed};
 
 /// Law: a statement and the bodies of a selection have a driver for each node that the layout counts.
-fn statements_counted()
+pub fn statements_counted()
     ensures statements { (p : TypedProgram) (s : Process) (request from : ℕ) → IsProcess p.channels p.vars s
         → length (rules_of p s request from) ≡ size_of p s }
     ensures bodies { (p : TypedProgram) (choices : Choices) (start from : ℕ) → AreChoices p.channels p.vars choices
@@ -48,7 +48,7 @@ fn skip(request: u32, from: u32, drivers: &mut Vec<Driver>) -> Result<u32, Alloc
 
 /// Adds a loop's own nodes: its answer, which never rises, and the request of its body, which isn't driven until the
 /// body's answer is known.
-fn begin_loop(drivers: &mut Vec<Driver>) -> Result<(), AllocError>
+pub fn begin_loop(drivers: &mut Vec<Driver>) -> Result<(), AllocError>
     ensures { OnOk result (drivers.new.items ≡ drivers.old.items ++ no_rules ∷ no_rules ∷ []) }
 {
     drivers.push(Driver::undriven())?;
@@ -57,7 +57,7 @@ fn begin_loop(drivers: &mut Vec<Driver>) -> Result<(), AllocError>
 }
 
 /// Sets the request of a loop's body (Burns and Martin). The loop's own drivers begin at `place`.
-fn close_loop(place: usize, request: u32, body_answer: u32, drivers: &mut Vec<Driver>)
+pub fn close_loop(place: usize, request: u32, body_answer: u32, drivers: &mut Vec<Driver>)
     requires { place + 1 < length drivers.old.items }
     ensures { drivers.new.items ≡ slice_set drivers.old.items (place + 1) (loop_request request body_answer) }
 {
@@ -228,7 +228,7 @@ fn selection(
 /// returns the node that answers the request. Its sites on channels and variables are listed in text order, and the
 /// nodes of hidden variables that are high at first are raised.
 #[cycle(statements)]
-fn statement(
+pub fn statement(
     alloc: Global,
     program: &Typed,
     s: &TStmt,

@@ -25,7 +25,7 @@ use std::alloc::{AllocError, Global};
 use width_check::{TArm, Typed};
 
 /// How many nodes come before the latches: 3 in a selection, and 6, where `again`, in a guarded repetition.
-pub(crate) fn own_nodes(again: bool) -> u32
+pub fn own_nodes(again: bool) -> u32
     ensures { result ≡ own_before again }
 {
     if again { 6 } else { 3 }
@@ -272,7 +272,7 @@ fn repetition_nodes(
 
 /// Adds the drivers of the own nodes of a selection or, where `again`, of a guarded repetition, and of its guards.
 /// `join_answers` sets the joined answer, which isn't driven yet.
-pub(crate) fn choice(
+pub fn choice(
     alloc: Global,
     program: &Typed,
     again: bool,
@@ -309,7 +309,7 @@ pub(crate) fn choice(
 /// Sets the joined answer of a selection or guarded repetition, whose own nodes are numbered from `from` on and whose
 /// drivers begin at `place`: the first one of a selection, and the third one, where `again`, of a guarded repetition.
 /// `answers` are the nodes that answer the branches.
-pub(crate) fn join_answers(
+pub fn join_answers(
     place: usize,
     again: bool,
     from: u32,

@@ -116,7 +116,7 @@ impl Circuit {
 }
 
 /// Adds a reset node, where one is asked for, and returns its number.
-fn add_reset(
+pub fn add_reset(
     reset: bool,
     first: &mut Vec<bool>,
     drivers: &mut Vec<Driver>,

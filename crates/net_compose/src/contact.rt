@@ -10,7 +10,7 @@ use std::marker::Model;
 
 /// The bits of a value that is sent or written. Contracts see the list of them.
 #[derive(Debug, Drop)]
-pub(crate) struct Site {
+pub struct Site {
     bits: Vec<Bit>,
 }
 
@@ -43,7 +43,7 @@ impl Site {
 
 /// What a statement does at its site on a channel or a variable.
 #[derive(Debug, Drop)]
-pub(crate) enum Meeting {
+pub enum Meeting {
     /// It sends these bits on the channel.
     Sends { chan: u32, site: Site },
     /// It receives on the channel, and this node has stored the value.
@@ -54,7 +54,7 @@ pub(crate) enum Meeting {
 
 /// A site of a statement on a channel or a variable.
 #[derive(Debug, Drop)]
-pub(crate) struct Contact {
+pub struct Contact {
     pub meeting: Meeting,
 }
 

@@ -145,7 +145,7 @@ impl Driver {
     }
 
     /// No rule moves the node.
-    pub(crate) fn undriven() -> Driver
+    pub fn undriven() -> Driver
         ensures { result ≡ no_rules }
     {
         Driver::rail(RailDriver::undriven())
@@ -160,7 +160,7 @@ impl Driver {
 
     /// The request of a child that runs under the request until the latch is up; so are the request of a loop's body,
     /// until that has answered, and that of guards, until one of them is latched.
-    pub(crate) fn child(request: u32, latch: u32) -> Driver
+    pub fn child(request: u32, latch: u32) -> Driver
         ensures { result ≡ q_child request latch }
     {
         Driver {
@@ -172,7 +172,7 @@ impl Driver {
     }
 
     /// The latch of a Q-element.
-    pub(crate) fn latch(request: u32, child_answer: u32) -> Driver
+    pub fn latch(request: u32, child_answer: u32) -> Driver
         ensures { result ≡ q_latch request child_answer }
     {
         Driver {
@@ -184,7 +184,7 @@ impl Driver {
     }
 
     /// The next request of a Q-element.
-    pub(crate) fn next(latch: u32, child_answer: u32) -> Driver
+    pub fn next(latch: u32, child_answer: u32) -> Driver
         ensures { result ≡ q_next latch child_answer }
     {
         Driver {
@@ -196,7 +196,7 @@ impl Driver {
     }
 
     /// The answer of a site: of a send, a receive or a write.
-    pub(crate) fn site(request: u32, ack: u32) -> Driver
+    pub fn site(request: u32, ack: u32) -> Driver
         ensures { result ≡ site_answer request ack }
     {
         Driver {
@@ -232,7 +232,7 @@ impl Driver {
     }
 
     /// The OR of the inputs.
-    pub(crate) fn any(inputs: Vec<u32>) -> Driver
+    pub fn any(inputs: Vec<u32>) -> Driver
         ensures { result ≡ or_of inputs.items }
     {
         Driver {

@@ -50,7 +50,7 @@ fn all_low(alloc: Global, count: usize) -> Result<Vec<bool>, AllocError>
 /// First values as far as declarations go, one for each node: all are low except one rail of each bit of each variable
 /// that is declared, by its first value. Hidden variables aren't among them. `firsts` are the first nodes of the
 /// variables' blocks, as `firsts_of` returns them.
-pub(crate) fn declared_values(
+pub fn declared_values(
     alloc: Global,
     program: &Typed,
     firsts: &[u32],

@@ -10,7 +10,7 @@ use width_check::Typed;
 
 /// The first wire of each channel, and the first node of the block of each variable.
 #[derive(Debug, Drop)]
-pub(crate) struct Firsts {
+pub struct Firsts {
     /// Rail t of the lowest bit of each channel, in order of declaration.
     pub channels: Vec<u32>,
     /// Rail t of the lowest bit of each variable, in order of declaration.
@@ -57,7 +57,7 @@ pub(crate) fn block_nodes(width: u8) -> u32
 }
 
 /// Where the wires of channels and the blocks of variables begin.
-pub(crate) fn firsts_of(alloc: Global, program: &Typed) -> Result<Firsts, AllocError>
+pub fn firsts_of(alloc: Global, program: &Typed) -> Result<Firsts, AllocError>
     requires { root_request (program_of program.now) < 2 ^ 32 }
     ensures channels { IfOk result (λ firsts. firsts.channels.items ≡ channel_firsts (program_of program.now)) }
     ensures vars { IfOk result (λ firsts. firsts.vars.items ≡ var_firsts (program_of program.now)) }

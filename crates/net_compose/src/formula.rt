@@ -73,7 +73,7 @@ pub(crate) fn element(
 }
 
 /// Adds a Q-element whose child's answer isn't known yet: its latch and its next request aren't driven until it is.
-pub(crate) fn begin_element(
+pub fn begin_element(
     request: u32,
     latch: u32,
     drivers: &mut Vec<Driver>,
@@ -88,7 +88,7 @@ pub(crate) fn begin_element(
 }
 
 /// Sets the latch and the next request of such a Q-element, whose drivers begin at `place`.
-pub(crate) fn close_element(
+pub fn close_element(
     place: usize,
     request: u32,
     latch: u32,

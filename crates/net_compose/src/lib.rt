@@ -18,6 +18,7 @@ pub mod laws;
 mod leaves;
 mod names;
 mod net;
+pub mod parts;
 mod shape;
 mod sorted;
 mod through;

@@ -274,7 +274,7 @@ impl Names {
 
 /// The names of the program's nodes, in order of their numbers, and after them that of a reset node where one is
 /// asked for. They are made declaration by declaration, in time that grows with their number.
-pub(crate) fn names_of(alloc: Global, program: &Typed, reset: bool) -> Result<Names, AllocError>
+pub fn names_of(alloc: Global, program: &Typed, reset: bool) -> Result<Names, AllocError>
     requires { nodes_of (program_of program.now) ≤ 65536 }
     ensures { IfOk result (λ names. names ≡ node_names (program_of program.now)
         ++ (if reset then codes "reset" ∷ [] else [])) }

@@ -32,7 +32,7 @@ fn join_level(
 
 /// Adds the drivers of a completion tree (Martin) over the leaves, whose own nodes are numbered from `from` on, level
 /// upon level.
-pub(crate) fn tree(
+pub fn tree(
     alloc: Global,
     leaves: &[u32],
     from: u32,

@@ -37,7 +37,7 @@ fn wired(alloc: Global, channel: &Channel, first: u32) -> Result<Wires, AllocErr
 }
 
 /// The channels of a program with their wires, in order of declaration.
-pub(crate) fn wires_of(alloc: Global, program: &Typed) -> Result<Vec<Wires>, AllocError>
+pub fn wires_of(alloc: Global, program: &Typed) -> Result<Vec<Wires>, AllocError>
     requires { vars_from (program_of program.now) < 2 ^ 32 }
     ensures { IfOk result (λ wires. wires.items ≡ wires_from (program_of program.now) 0 program.now.channels) }
 {

@@ -1,0 +1,12 @@
+//! The parts of which a circuit is made, for nets that are made of more than one program's body.
+
+pub use crate::body::{begin_loop, close_loop, statement, statements_counted};
+pub use crate::choice::{choice, join_answers, own_nodes};
+pub use crate::circuit::add_reset;
+pub use crate::contact::{Contact, Meeting, Site};
+pub use crate::first::declared_values;
+pub use crate::firsts::{Firsts, firsts_of};
+pub use crate::formula::{begin_element, close_element};
+pub use crate::names::names_of;
+pub use crate::tree::tree;
+pub use crate::wires::wires_of;
