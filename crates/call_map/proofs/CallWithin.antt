@@ -2,9 +2,9 @@
 --
 -- C: the program with calls; P: that with copies; ps, bs: the bodies of the procedures; d: the answer of each body; count: how many
 -- nodes there are; q: a procedure; x, y: statements with calls; r, from: a statement's request and first node.
-use Rattle.std.proofs.Common.{◌≡◌, ℕ, zero, suc, ◌+◌, ◌*◌, ◌<◌, ◌≤◌, ◌==◌, true, false, List, [], ◌∷◌, ◌++◌, length, inl, inr, All, refl, subst, arith}
-use Rattle.std.specs.Prelude.{replicate, slice_index_or}
-use Rattle.std.proofs.lemmas.List.Elements.{All-nil, All-cons, All-append, All-replicate}
+use Rattle.std.proofs.Common.{◌≡◌, ℕ, zero, suc, ◌+◌, ◌<◌, ◌≤◌, ◌==◌, true, false, List, [], ◌∷◌, ◌++◌, length, inl, inr, All, refl, subst, arith}
+use Rattle.std.specs.Prelude.{slice_index_or}
+use Rattle.std.proofs.lemmas.List.Elements.{All-nil, All-cons, All-append}
 use Rattle.chp_base.specs.declared.channel.Channel.{Channel}
 use Rattle.chp_base.specs.declared.channel.Kind.{Kind}
 use Rattle.chp_base.specs.declared.channel.Kind.TheVariants.{In, Out, Chan}
@@ -22,11 +22,11 @@ use Rattle.cell_sequence.specs.Sequence.{q_child, q_latch, q_next, loop_request}
 use Rattle.cell_parallel.specs.Trees.{tree_rules}
 use Rattle.cell_variable.specs.Variables.{variable_rules}
 use Rattle.cell_select.specs.Selections.{select_rules, again_rules}
-use Rattle.net_compose.specs.Translation.{q_rules, guards_rules, rules_of, send_site, receive_site, write_site, rail_rules}
+use Rattle.net_compose.specs.Translation.{q_rules, guards_rules, rules_of, send_site, receive_site, write_site}
 use Rattle.net_compose.specs.Points.{IsTranslated}
 use Rattle.net_compose.proofs.EndsReady.{var_some}
 use Rattle.net_compose.proofs.FlatBlocks.{blocks_below}
-use Rattle.net_compose.proofs.NodesWithin.{IsNear, AreNear, Within, AreWithin, AreSites, none_in, none, more as one_more, joined, one_one, two_one, q_in, site_in, or_in, tree_in, rails_in, block_in, range_near, select_in, again_in, guards_in, guards_near, statement_in, one_if, send_near, receive_near, write_near, sites_near, are_rules}
+use Rattle.net_compose.proofs.NodesWithin.{IsNear, AreNear, AreWithin, AreSites, none_in, none, more as one_more, joined, one_one, two_one, q_in, site_in, or_in, tree_in, wire_in, block_in, range_near, select_in, again_in, guards_in, guards_near, statement_in, one_if, send_near, receive_near, write_near, sites_near, are_rules}
 use Rattle.call_map.specs.Calling.{Called, calling, atom, turned, abreast, chosen, looped, Calleds, no_calleds, and_called, CalledChoices, no_called, or_called, inlined, inlined_each, inlined_choices, called_size, called_turn_size, called_branches_size, called_bodies_size, called_answer, called_turn_answer, called_branch_answers, called_ends, called_choosing, called_repeating, called_rules, called_turn_rules, called_branches_rules, called_bodies_rules, called_sites, called_turn_sites, called_branch_sites, called_body_sites, called_requests, called_turn_requests, called_branch_requests, called_body_requests}
 use Rattle.call_map.specs.CallsApart.{Calls, OneCalls, ChoiceCalls}
 use Rattle.call_map.specs.CallNet.{CallProgram, inlined_program, procs_size, body_start, body_sites, procs_from, call_root, body_at, body_begins, proc_answer, call_answer, asks_of, proc_rules, all_sites, call_channel_rules, call_channels_rules, call_vars_rules, call_rules, call_count, call_composed, IsCallProgram}
@@ -309,16 +309,10 @@ module _ (C : CallProgram) (is : IsCallProgram C) (t : IsTranslated (inlined_pro
   writes_near : (x : ℕ) → AreSites count (all_sites C (write_site P x))
   writes_near x = sites_all (λ (s : List Pair). AreNear count (rails_of s)) (write_site P x) (write_near P t.typed count room x)
 
-  ack_in : (k : ℕ) → AreWithin count (or_of (all_sites C (receive_site k)) ∷ [])
-  ack_in k = one_more count (or_of (all_sites C (receive_site k))) [] (or_in count (all_sites C (receive_site k)) (takes_near k)) (none count)
-
   wires_in : (k width : ℕ) (kind : Kind) → AreWithin count (call_channel_rules C k width kind)
-  wires_in k width In = joined count (replicate (2 * width) no_rules) (or_of (all_sites C (receive_site k)) ∷ [])
-      (All-replicate (Within count) (2 * width) no_rules (none_in count)) (ack_in k)
-  wires_in k width Out = joined count (rail_rules (all_sites C (send_site k)) 0 width) (no_rules ∷ [])
-      (rails_in count some_nodes (all_sites C (send_site k)) (sends_near k) 0 width) (one_more count no_rules [] (none_in count) (none count))
-  wires_in k width Chan = joined count (rail_rules (all_sites C (send_site k)) 0 width) (or_of (all_sites C (receive_site k)) ∷ [])
-      (rails_in count some_nodes (all_sites C (send_site k)) (sends_near k) 0 width) (ack_in k)
+  wires_in k width In = wire_in count some_nodes (all_sites C (send_site k)) (sends_near k) (all_sites C (receive_site k)) (takes_near k) width In
+  wires_in k width Out = wire_in count some_nodes (all_sites C (send_site k)) (sends_near k) (all_sites C (receive_site k)) (takes_near k) width Out
+  wires_in k width Chan = wire_in count some_nodes (all_sites C (send_site k)) (sends_near k) (all_sites C (receive_site k)) (takes_near k) width Chan
 
   channels_in : (k : ℕ) (cs : List Channel) → AreWithin count (call_channels_rules C k cs)
   channels_in k [] = none count

@@ -31,7 +31,7 @@ use Rattle.function_blocks.specs.Expressions.{read_rail, read_bits, formula_resu
 use Rattle.function_blocks.proofs.Callers.{rules_in_blocks}
 use Rattle.function_blocks.proofs.Within.{rules_within}
 use Rattle.net_compose.specs.Begins.{var_firsts}
-use Rattle.net_compose.specs.Translation.{rails_at, bits_at, block_bits, ack_at, written_at, q_rules, read_back, through_at, assigned_rails, through_rules, guard_pairs, branch_answers, guards_rules, choosing_at, repeating_at, branch_ends, branches_end, rules_of, turn_rules, branches_rules, bodies_rules, send_site, receive_site, write_site, rail_rules, channel_rules, channels_rules, vars_rules, body_answer, all_rules, composed}
+use Rattle.net_compose.specs.Translation.{rails_at, bits_at, block_bits, ack_at, written_at, q_rules, read_back, through_at, assigned_rails, through_rules, guard_pairs, branch_answers, guards_rules, choosing_at, repeating_at, branch_ends, branches_end, rules_of, turn_rules, branches_rules, bodies_rules, send_site, receive_site, write_site, rail_rules, wire_rules, channel_rules, channels_rules, vars_rules, body_answer, all_rules, composed}
 use Rattle.net_compose.proofs.EndsReady.{all_written_is, var_some}
 use Rattle.net_compose.proofs.FlatBlocks.{blocks_below}
 use Rattle.net_compose.proofs.FlatWires.{wires_below}
@@ -173,9 +173,18 @@ module _ (count : ℕ) where
     merges_in place rest h = more (merged_true sites place) (merged_false sites place ∷ rest) (true_in place)
         (more (merged_false sites place) rest (false_in place) h)
 
-    pub rails_in : (place width : ℕ) → AreWithin (rail_rules sites place width)
+    rails_in : (place width : ℕ) → AreWithin (rail_rules sites place width)
     rails_in place zero = none
     rails_in place (suc n) = merges_in place (rail_rules sites (suc place) n) (rails_in (suc place) n)
+
+    ack_in : (taken : List ℕ) → AreNear taken → AreWithin (or_of taken ∷ [])
+    ack_in taken h = more (or_of taken) [] (or_in taken h) none
+
+    pub wire_in : (taken : List ℕ) → AreNear taken → (width : ℕ) (kind : Kind) → AreWithin (wire_rules sites taken width kind)
+    wire_in taken h width In =
+        joined (replicate (2 * width) no_rules) (or_of taken ∷ []) (All-replicate Within (2 * width) no_rules none_in) (ack_in taken h)
+    wire_in taken h width Out = joined (rail_rules sites 0 width) (no_rules ∷ []) (rails_in 0 width) (more no_rules [] none_in none)
+    wire_in taken h width Chan = joined (rail_rules sites 0 width) (or_of taken ∷ []) (rails_in 0 width) (ack_in taken h)
 
     kept_in : (set other reset : ℕ) → set < count → other < count → reset < count → Within (kept_rail set other reset)
     kept_in set other reset h k l = two_one (is_high set) (is_low other) (is_high reset) h k l
@@ -668,15 +677,8 @@ module _ (p : TypedProgram) (typed : IsTyped p.channels p.vars p.body) where
       (receive_near p typed (nodes_of p) (omega arith) k) p.body (body_from p) typed.body_is (omega arith)
 
   channel_in : (k width : ℕ) (kind : Kind) → AreWithin (nodes_of p) (channel_rules p k width kind)
-  channel_in k width In = joined (nodes_of p) (replicate (2 * width) no_rules) (or_of (in_body p (receive_site k)) ∷ [])
-      (All-replicate (AreBelow (nodes_of p)) (2 * width) no_rules (none_in (nodes_of p)))
-      (more (nodes_of p) (or_of (in_body p (receive_site k))) [] (or_in (nodes_of p) (in_body p (receive_site k)) (takes_near k)) (none (nodes_of p)))
-  channel_in k width Out = joined (nodes_of p) (rail_rules (in_body p (send_site k)) 0 width) (no_rules ∷ [])
-      (rails_in (nodes_of p) some_nodes (in_body p (send_site k)) (sends_near k) 0 width)
-      (more (nodes_of p) no_rules [] (none_in (nodes_of p)) (none (nodes_of p)))
-  channel_in k width Chan = joined (nodes_of p) (rail_rules (in_body p (send_site k)) 0 width) (or_of (in_body p (receive_site k)) ∷ [])
-      (rails_in (nodes_of p) some_nodes (in_body p (send_site k)) (sends_near k) 0 width)
-      (more (nodes_of p) (or_of (in_body p (receive_site k))) [] (or_in (nodes_of p) (in_body p (receive_site k)) (takes_near k)) (none (nodes_of p)))
+  channel_in k width kind =
+      wire_in (nodes_of p) some_nodes (in_body p (send_site k)) (sends_near k) (in_body p (receive_site k)) (takes_near k) width kind
 
   channels_in : (k : ℕ) (cs : List Channel) → AreWithin (nodes_of p) (channels_rules p k cs)
   channels_in k [] = none (nodes_of p)
