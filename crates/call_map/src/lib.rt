@@ -50,9 +50,9 @@ pub fn shared_bodies_within()
     ensures { SharedBodiesWithin }
 {}
 
-/// Law: that net, of at most 65,536 nodes, is a net that a rule file can hold: its wires and variables are named as those
-/// of a program are, and its other nodes by their numbers. `Shared.antt` and `Carrying.antt` aren't needed to read this,
-/// nor is what a run is.
+/// Law: that net, of at most 65,536 nodes, is a net that a rule file can hold: its wires and variables are named as
+/// those of a program are, and its other nodes by their numbers. `Shared.antt` and `Carrying.antt` aren't needed to
+/// read this, nor is what a run is.
 pub fn shared_bodies_hold()
     ensures { SharedBodiesHold }
 {}
