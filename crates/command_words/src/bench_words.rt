@@ -7,13 +7,14 @@ ghost use Rattle.command_words.specs.Forms.{texts_of};
 
 use crate::command::matches_in;
 use crate::run_words::{
-    MOST_OF_STEPS, STEPS, bare_form, number_or, option_arg, order_or_lowest, word_arg,
+    MOST_OF_STEPS, STEPS, bare_form, number_or, option_arg, order_or_lowest, with_two_options,
+    word_arg,
 };
 use clap::{Arg, ArgAction, Command};
 use std::alloc::{AllocError, Global};
 
 /// What a run on a bench is asked for.
-#[derive(Clone, Copy, Debug)]
+#[derive(Clone, Copy)]
 pub struct Benching<'a> {
     /// The name of the rule file.
     pub net: &'a str,
@@ -95,10 +96,9 @@ fn needed_arg<'a>(alloc: Global, id: &'a str) -> Arg<'a>
 fn bench_form<'a>(alloc: Global, name: &'a str) -> Result<Command<'a>, AllocError>
     ensures { IfOk result (λ form. app_of form ≡ bench_form name.entry.now) }
 {
-    bare_form(alloc, name)
+    let needed = bare_form(alloc, name)
         .arg(word_arg(alloc, "PRS"))?
-        .arg(needed_arg(alloc, "peer"))?
-        .arg(option_arg(alloc, "order"))?
-        .arg(option_arg(alloc, "seed"))?
-        .arg(option_arg(alloc, "steps"))
+        .arg(needed_arg(alloc, "peer"))?;
+    let ordered = with_two_options(alloc, needed, "order", "seed")?;
+    ordered.arg(option_arg(alloc, "steps"))
 }

@@ -7,7 +7,7 @@ ghost use Rattle.command_words.specs.Forms.{texts_of};
 ghost use Rattle.command_words.specs.RoundsWords.{plain_rounds, rounds_form, rounds_of, rounds_with};
 
 use crate::command::matches_in;
-use crate::run_words::{bare_form, number_or, option_arg, word_arg};
+use crate::run_words::{number_or, two_words_form, with_two_options};
 use clap::Command;
 use std::alloc::{AllocError, Global};
 
@@ -18,7 +18,7 @@ const ROUNDS: u64 = 1000;
 const MOST_OF_ROUNDS: u64 = 1_000_000;
 
 /// What a run of rounds is asked for.
-#[derive(Clone, Copy, Debug)]
+#[derive(Clone, Copy)]
 pub struct Rounds<'a> {
     /// The name of the file with the program text.
     pub file: &'a str,
@@ -84,9 +84,6 @@ fn rounds_with<'a>(
 fn rounds_form<'a>(alloc: Global, name: &'a str) -> Result<Command<'a>, AllocError>
     ensures { IfOk result (λ form. app_of form ≡ rounds_form name.entry.now) }
 {
-    bare_form(alloc, name)
-        .arg(word_arg(alloc, "FILE"))?
-        .arg(word_arg(alloc, "SCRIPT"))?
-        .arg(option_arg(alloc, "rounds"))?
-        .arg(option_arg(alloc, "buffer"))
+    let files = two_words_form(alloc, name, "FILE", "SCRIPT")?;
+    with_two_options(alloc, files, "rounds", "buffer")
 }

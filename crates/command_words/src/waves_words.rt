@@ -7,8 +7,8 @@ ghost use Rattle.command_words.specs.Forms.{texts_of};
 ghost use Rattle.command_words.specs.WavesWords.{plain_waves, waves_form, waves_of, waves_with};
 
 use crate::command::{is_set, matches_in};
-use crate::run_words::{bare_form, number_or, option_arg, word_arg};
-use clap::{Arg, ArgAction, Command};
+use crate::run_words::{flag_arg, number_or, two_words_form, with_two_options};
+use clap::Command;
 use std::alloc::{AllocError, Global};
 
 /// The most moves that may be asked for.
@@ -18,7 +18,7 @@ const MOST_OF_STEPS: u64 = 1_000_000;
 const STEPS: u64 = 100_000;
 
 /// What `waves` is asked for: a timed run whose moves are reported.
-#[derive(Clone, Copy, Debug)]
+#[derive(Clone, Copy)]
 pub struct Waves<'a> {
     /// The name of the rule file.
     pub net: &'a str,
@@ -91,13 +91,7 @@ fn waves_with<'a>(
 fn waves_form<'a>(alloc: Global, name: &'a str) -> Result<Command<'a>, AllocError>
     ensures { IfOk result (λ form. app_of form ≡ waves_form name.entry.now) }
 {
-    let causes = Arg::new(alloc, "causes")
-        .long("causes")
-        .action(ArgAction::SetTrue);
-    bare_form(alloc, name)
-        .arg(word_arg(alloc, "PRS"))?
-        .arg(word_arg(alloc, "SCRIPT"))?
-        .arg(option_arg(alloc, "steps"))?
-        .arg(option_arg(alloc, "delays"))?
-        .arg(causes)
+    let files = two_words_form(alloc, name, "PRS", "SCRIPT")?;
+    let timed = with_two_options(alloc, files, "steps", "delays")?;
+    timed.arg(flag_arg(alloc, "causes"))
 }
