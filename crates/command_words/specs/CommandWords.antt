@@ -24,6 +24,8 @@ use Rattle.command_words.specs.declared.simulation.Choosing.TheVariants.{ByOrder
 use Rattle.command_words.specs.declared.command.Verb.{Verb}
 use Rattle.command_words.specs.declared.grow_words.Growth.{Growth}
 use Rattle.command_words.specs.declared.command.Verb.TheVariants as verb
+use Rattle.command_words.specs.declared.command.FileVerb.{FileVerb}
+use Rattle.command_words.specs.declared.command.FileVerb.TheVariants as file_verb
 
 -- ---- the form of a command with one file
 
@@ -122,6 +124,13 @@ asked (Waves w) = traces (waves_asked w)
 asked (Unwave file) = unwaves file.now
 asked (Run r) = runs (rounds_asked r)
 asked (Grow growth) = grows growth
+
+-- what a command with one file asks for
+abbrev pub asked_of : FileVerb → Text → Asked
+asked_of file_verb.Migrate = migrates
+asked_of file_verb.Check = checks
+asked_of file_verb.Expand = expands
+asked_of file_verb.Unwave = unwaves
 
 -- the numbers of a command are within their bounds
 abbrev pub IsWithinBounds : Command → Type 0

@@ -2,7 +2,7 @@
 
 ghost use Rattle.std.specs.Prelude.{◌≡◌, IfOk, IfSome, Some, is_some, option_map, true};
 ghost use Rattle.clap.specs.Words.{app_of, found_of, matches_of, rows_of, takes};
-ghost use Rattle.command_words.specs.CommandWords.{IsWithinBounds, asked, benches, checks, command_of, command_with, compiles, expands, file_form, file_of, grows, migrates, plain_command, plain_file, plain_with, runs, simulate_asked, traces, unwaves, verb_of};
+ghost use Rattle.command_words.specs.CommandWords.{IsWithinBounds, asked, asked_of, benches, command_of, command_with, compiles, file_form, file_of, grows, plain_command, plain_file, plain_with, runs, simulate_asked, traces, verb_of};
 ghost use Rattle.command_words.specs.SimulateWords.{plain_simulate, simulate_of};
 ghost use Rattle.command_words.specs.BenchWords.{bench_of, plain_bench};
 ghost use Rattle.command_words.specs.CompileWords.{compile_of, plain_compile};
@@ -67,6 +67,15 @@ enum Verb {
     Grow,
 }
 
+/// The first word of a command with one file and nothing besides.
+#[derive(Clone, Copy)]
+enum FileVerb {
+    Migrate,
+    Check,
+    Expand,
+    Unwave,
+}
+
 /// The command that the words ask for, or `None` where they aren't a command's form. The words are those after the
 /// program's name.
 ///
@@ -110,13 +119,13 @@ fn command_with<'a>(
 {
     match verb {
         Verb::Compile => compile_in(alloc, word, rest),
-        Verb::Migrate => migrate_in(alloc, word, rest),
-        Verb::Check => check_in(alloc, word, rest),
-        Verb::Expand => expand_in(alloc, word, rest),
+        Verb::Migrate => file_command_in(alloc, FileVerb::Migrate, word, rest),
+        Verb::Check => file_command_in(alloc, FileVerb::Check, word, rest),
+        Verb::Expand => file_command_in(alloc, FileVerb::Expand, word, rest),
         Verb::Simulate => simulate_in(alloc, word, rest),
         Verb::Bench => bench_in(alloc, word, rest),
         Verb::Waves => trace_in(alloc, word, rest),
-        Verb::Unwave => unwave_in(alloc, word, rest),
+        Verb::Unwave => file_command_in(alloc, FileVerb::Unwave, word, rest),
         Verb::Run => run_in(alloc, word, rest),
         Verb::Grow => grow_in(alloc, word, rest),
     }
@@ -159,57 +168,35 @@ fn compile_in<'a>(
     }
 }
 
-/// What the words after `migrate` ask for, where they are its form.
-fn migrate_in<'a>(
+/// What the words after a command's name ask for, where they are the form of this one with one file.
+fn file_command_in<'a>(
     alloc: Global,
+    verb: FileVerb,
     name: &'a str,
     words: &'a [String],
 ) -> Result<Option<Command<'a>>, AllocError>
     ensures form { IfOk result (λ found. option_map asked found
-        ≡ option_map migrates (file_of name.entry.now (texts_of words.entry.now))) }
+        ≡ option_map (asked_of verb) (file_of name.entry.now (texts_of words.entry.now))) }
     ensures plain { IfOk result (λ found. option_map asked found
-        ≡ option_map migrates (plain_file (texts_of words.entry.now))) }
+        ≡ option_map (asked_of verb) (plain_file (texts_of words.entry.now))) }
     ensures bounds { IfOk result (λ found. IfSome found IsWithinBounds) }
 {
     match file_in(alloc, name, words)? {
-        Some(net) => Ok(Some(Command::Migrate { net })),
+        Some(file) => Ok(Some(command_on(verb, file))),
         None => Ok(None),
     }
 }
 
-/// What the words after `check` ask for, where they are its form.
-fn check_in<'a>(
-    alloc: Global,
-    name: &'a str,
-    words: &'a [String],
-) -> Result<Option<Command<'a>>, AllocError>
-    ensures form { IfOk result (λ found. option_map asked found
-        ≡ option_map checks (file_of name.entry.now (texts_of words.entry.now))) }
-    ensures plain { IfOk result (λ found. option_map asked found
-        ≡ option_map checks (plain_file (texts_of words.entry.now))) }
-    ensures bounds { IfOk result (λ found. IfSome found IsWithinBounds) }
+/// This command on this file.
+fn command_on<'a>(verb: FileVerb, file: &'a str) -> Command<'a>
+    ensures asked { asked result ≡ asked_of verb file.entry.now }
+    ensures bounds { IsWithinBounds result }
 {
-    match file_in(alloc, name, words)? {
-        Some(file) => Ok(Some(Command::Check { file })),
-        None => Ok(None),
-    }
-}
-
-/// What the words after `expand` ask for, where they are its form.
-fn expand_in<'a>(
-    alloc: Global,
-    name: &'a str,
-    words: &'a [String],
-) -> Result<Option<Command<'a>>, AllocError>
-    ensures form { IfOk result (λ found. option_map asked found
-        ≡ option_map expands (file_of name.entry.now (texts_of words.entry.now))) }
-    ensures plain { IfOk result (λ found. option_map asked found
-        ≡ option_map expands (plain_file (texts_of words.entry.now))) }
-    ensures bounds { IfOk result (λ found. IfSome found IsWithinBounds) }
-{
-    match file_in(alloc, name, words)? {
-        Some(file) => Ok(Some(Command::Expand { file })),
-        None => Ok(None),
+    match verb {
+        FileVerb::Migrate => Command::Migrate { net: file },
+        FileVerb::Check => Command::Check { file },
+        FileVerb::Expand => Command::Expand { file },
+        FileVerb::Unwave => Command::Unwave { file },
     }
 }
 
@@ -264,24 +251,6 @@ fn trace_in<'a>(
 {
     match waves_in(alloc, name, words)? {
         Some(asked) => Ok(Some(Command::Waves(asked))),
-        None => Ok(None),
-    }
-}
-
-/// What the words after `unwave` ask for, where they are its form.
-fn unwave_in<'a>(
-    alloc: Global,
-    name: &'a str,
-    words: &'a [String],
-) -> Result<Option<Command<'a>>, AllocError>
-    ensures form { IfOk result (λ found. option_map asked found
-        ≡ option_map unwaves (file_of name.entry.now (texts_of words.entry.now))) }
-    ensures plain { IfOk result (λ found. option_map asked found
-        ≡ option_map unwaves (plain_file (texts_of words.entry.now))) }
-    ensures bounds { IfOk result (λ found. IfSome found IsWithinBounds) }
-{
-    match file_in(alloc, name, words)? {
-        Some(file) => Ok(Some(Command::Unwave { file })),
         None => Ok(None),
     }
 }
@@ -352,7 +321,7 @@ fn file_in<'a>(
 }
 
 /// The form of a command of this name with one file and no flag, not even for help.
-fn file_form<'a>(alloc: Global, name: &'a str) -> Result<clap::Command<'a>, AllocError>
+pub(crate) fn file_form<'a>(alloc: Global, name: &'a str) -> Result<clap::Command<'a>, AllocError>
     ensures { IfOk result (λ form. app_of form ≡ file_form name.entry.now) }
 {
     bare_form(alloc, name).arg(word_arg(alloc, "FILE"))

@@ -7,7 +7,6 @@ use Rattle.command_words.proofs.compile_words.compile_form.Goals as goal
 -- the form that was built is the one of the definition
 pub returns : goal.returns
 returns c =
-    let one = c.in_ok-arg.ensures.shape c.word_arg.ensures.local ∙ ap₂ with_rule c.bare_form.ensures c.word_arg.ensures.rule in
-    let two = c.in_ok-arg-2.ensures.shape c.flag_arg.ensures.local ∙ ap₂ with_rule one c.flag_arg.ensures.rule in
-    ok_in c.arg-3.result _ (λ form. app_of form ≡ compile_form c.args.name.now)
-    (λ form adds. adds.shape c.option_arg.ensures.local ∙ ap₂ with_rule two c.option_arg.ensures.rule) c.arg-3.ensures
+    let one = c.in_ok-arg.ensures.shape c.flag_arg.ensures.local ∙ ap₂ with_rule c.in_ok-file_form.ensures c.flag_arg.ensures.rule in
+    ok_in c.arg-2.result _ (λ form. app_of form ≡ compile_form c.args.name.now)
+    (λ form adds. adds.shape c.option_arg.ensures.local ∙ ap₂ with_rule one c.option_arg.ensures.rule) c.arg-2.ensures
