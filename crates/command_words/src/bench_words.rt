@@ -57,8 +57,9 @@ fn bench_with<'a>(matches: &ArgMatches<'a>) -> Option<Benching<'a>>
         (first_value (found_of matches.now) (codes "seed")) (first_value (found_of matches.now) (codes "steps")) }
     ensures few { IfSome result (λ asked. asked.steps ≤ 1000000) }
 {
-    let net = matches.get_str("PRS")?;
-    let peer = matches.get_str("peer")?;
+    let (Some(net), Some(peer)) = (matches.get_str("PRS"), matches.get_str("peer")) else {
+        return None;
+    };
     let seed = number_or(matches.get_str("seed"), 0, u64::MAX)?;
     let steps = number_or(matches.get_str("steps"), STEPS, MOST_OF_STEPS)?;
     Some(Benching {

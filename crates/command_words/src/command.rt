@@ -162,9 +162,10 @@ fn compile_in<'a>(
         ≡ option_map compiles (plain_compile (texts_of words.entry.now))) }
     ensures bounds { IfOk result (λ found. IfSome found IsWithinBounds) }
 {
-    match compilation_of(alloc, name, words)? {
-        Some(asked) => Ok(Some(Command::Compile(asked))),
-        None => Ok(None),
+    match compilation_of(alloc, name, words) {
+        Ok(Some(asked)) => Ok(Some(Command::Compile(asked))),
+        Ok(None) => Ok(None),
+        Err(error) => Err(error),
     }
 }
 
@@ -181,9 +182,10 @@ fn file_command_in<'a>(
         ≡ option_map (asked_of verb) (plain_file (texts_of words.entry.now))) }
     ensures bounds { IfOk result (λ found. IfSome found IsWithinBounds) }
 {
-    match file_in(alloc, name, words)? {
-        Some(file) => Ok(Some(command_on(verb, file))),
-        None => Ok(None),
+    match file_in(alloc, name, words) {
+        Ok(Some(file)) => Ok(Some(command_on(verb, file))),
+        Ok(None) => Ok(None),
+        Err(error) => Err(error),
     }
 }
 
@@ -212,10 +214,11 @@ fn simulate_in<'a>(
         ≡ option_map simulate_asked (plain_simulate (texts_of words.entry.now))) }
     ensures bounds { IfOk result (λ found. IfSome found IsWithinBounds) }
 {
-    match simulation_in(alloc, name, words)? {
-        Some(Choosing::ByOrder(run)) => Ok(Some(Command::Simulate(run))),
-        Some(Choosing::ByDelays(timing)) => Ok(Some(Command::Time(timing))),
-        None => Ok(None),
+    match simulation_in(alloc, name, words) {
+        Ok(Some(Choosing::ByOrder(run))) => Ok(Some(Command::Simulate(run))),
+        Ok(Some(Choosing::ByDelays(timing))) => Ok(Some(Command::Time(timing))),
+        Ok(None) => Ok(None),
+        Err(error) => Err(error),
     }
 }
 
@@ -231,9 +234,10 @@ fn bench_in<'a>(
         ≡ option_map benches (plain_bench (texts_of words.entry.now))) }
     ensures bounds { IfOk result (λ found. IfSome found IsWithinBounds) }
 {
-    match benching_in(alloc, name, words)? {
-        Some(asked) => Ok(Some(Command::Bench(asked))),
-        None => Ok(None),
+    match benching_in(alloc, name, words) {
+        Ok(Some(asked)) => Ok(Some(Command::Bench(asked))),
+        Ok(None) => Ok(None),
+        Err(error) => Err(error),
     }
 }
 
@@ -249,9 +253,10 @@ fn trace_in<'a>(
         ≡ option_map traces (plain_waves (texts_of words.entry.now))) }
     ensures bounds { IfOk result (λ found. IfSome found IsWithinBounds) }
 {
-    match waves_in(alloc, name, words)? {
-        Some(asked) => Ok(Some(Command::Waves(asked))),
-        None => Ok(None),
+    match waves_in(alloc, name, words) {
+        Ok(Some(asked)) => Ok(Some(Command::Waves(asked))),
+        Ok(None) => Ok(None),
+        Err(error) => Err(error),
     }
 }
 
@@ -267,9 +272,10 @@ fn run_in<'a>(
         ≡ option_map runs (plain_rounds (texts_of words.entry.now))) }
     ensures bounds { IfOk result (λ found. IfSome found IsWithinBounds) }
 {
-    match rounds_in(alloc, name, words)? {
-        Some(asked) => Ok(Some(Command::Run(asked))),
-        None => Ok(None),
+    match rounds_in(alloc, name, words) {
+        Ok(Some(asked)) => Ok(Some(Command::Run(asked))),
+        Ok(None) => Ok(None),
+        Err(error) => Err(error),
     }
 }
 
@@ -285,9 +291,10 @@ fn grow_in<'a>(
         ≡ option_map grows (plain_growth (texts_of words.entry.now))) }
     ensures bounds { IfOk result (λ found. IfSome found IsWithinBounds) }
 {
-    match growth_of(alloc, name, words)? {
-        Some(growth) => Ok(Some(Command::Grow(growth))),
-        None => Ok(None),
+    match growth_of(alloc, name, words) {
+        Ok(Some(growth)) => Ok(Some(Command::Grow(growth))),
+        Ok(None) => Ok(None),
+        Err(error) => Err(error),
     }
 }
 

@@ -100,8 +100,9 @@ impl<'a> Texts<'a> {
         if self.order.is_some() || self.seed.is_some() {
             return None;
         }
-        let net = self.net?;
-        let script = self.script?;
+        let (Some(net), Some(script)) = (self.net, self.script) else {
+            return None;
+        };
         let steps = number_or(self.steps, STEPS, MOST_OF_STEPS)?;
         let power = power_of(self.power)?;
         Some(Timing {
@@ -119,8 +120,9 @@ impl<'a> Texts<'a> {
         ensures asked { option_map run_asked result ≡ run_with (texts_given self.entry) }
         ensures few { IfSome result (λ run. run.steps ≤ 1000000) }
     {
-        let net = self.net?;
-        let script = self.script?;
+        let (Some(net), Some(script)) = (self.net, self.script) else {
+            return None;
+        };
         let seed = number_or(self.seed, 0, u64::MAX)?;
         let steps = number_or(self.steps, STEPS, MOST_OF_STEPS)?;
         let power = power_of(self.power)?;
