@@ -59,12 +59,6 @@ both_true true true e = (refl, refl)
 both_true true false e = absurd (cc e)
 both_true false b e = absurd (cc e)
 
-pub skipped : {X : Type 0} (p : X → Bool) (x : X) (xs : List X) → p x ≡ false → find p (x ∷ xs) ≡ find p xs
-skipped p x xs e = rw e refl
-
-pub met_first : {X : Type 0} (p : X → Bool) (x : X) (xs : List X) → p x ≡ true → find p (x ∷ xs) ≡ Some x
-met_first p x xs e = rw e refl
-
 -- what was found passes
 pub found_passes : {X : Type 0} (p : X → Bool) (xs : List X) (x : X) → find p xs ≡ Some x → p x ≡ true
 found_passes p [] x e = absurd (cc e)

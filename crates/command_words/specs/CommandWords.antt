@@ -1,5 +1,5 @@
 -- The words of a command, and what they ask for.
-use Rattle.std.specs.Prelude.{◌≤◌, true, List, [], ◌∷◌, Option, Some, None, codes, option_map, if◌then◌else◌, option_and_then}
+use Rattle.std.specs.Prelude.{◌≤◌, List, [], ◌∷◌, Option, Some, None, codes, option_map, if◌then◌else◌, option_and_then}
 use Rattle.std.specs.Borrow.{Bor}
 use Rattle.std.specs.Str.{bytes_eq}
 use Rattle.std.specs.declared.alloc.Global.{Global}
@@ -8,13 +8,11 @@ use Rattle.command_words.specs.BenchWords.{AskedBench, bench_asked, bench_of, pl
 use Rattle.command_words.specs.CompileWords.{AskedCompilation, compilation_asked, compile_of, plain_compile}
 use Rattle.command_words.specs.GrowWords.{IsGrowable, growth_of, plain_growth}
 use Rattle.command_words.specs.RoundsWords.{AskedRounds, plain_rounds, rounds_of}
-use Rattle.command_words.specs.SimulateWords.{AskedRun, AskedSimulation, by_order, by_delays, most_of_steps, plain_simulate, simulate_of, AskedTiming}
+use Rattle.command_words.specs.SimulateWords.{AskedRun, AskedSimulation, AskedTiming, bare_form, by_order, by_delays, most_of_steps, plain_simulate, simulate_of, word_rule}
 use Rattle.command_words.specs.WavesWords.{AskedWaves, plain_waves, waves_of}
 use Rattle.command_words.specs.Forms.{texts_of}
 use Rattle.command_words.specs.PlainForms.{Argument, plain_words, word_named}
-use Rattle.clap.specs.Words.{App, Rule, Text, first_of, matches_of, new_app, new_rule, takes, with_rule}
-use Rattle.clap.specs.Simple.{on_top}
-use Rattle.clap.specs.declared.builder.ArgAction.TheVariants.{Set}
+use Rattle.clap.specs.Words.{App, Text, first_of, matches_of, takes, with_rule}
 use Rattle.command_words.specs.declared.command.Command.{Command}
 use Rattle.command_words.specs.declared.command.Command.TheVariants.{Compile, Migrate, Check, Expand, Simulate, Time, Bench, Waves, Unwave, Run, Grow}
 use Rattle.command_words.specs.declared.rounds_words.Rounds.{Rounds}
@@ -26,18 +24,14 @@ use Rattle.command_words.specs.declared.simulation.Choosing.TheVariants.{ByOrder
 use Rattle.command_words.specs.declared.command.Verb.{Verb}
 use Rattle.command_words.specs.declared.grow_words.Growth.{Growth}
 use Rattle.command_words.specs.declared.command.Verb.TheVariants as verb
+use Rattle.command_words.specs.declared.command.FileVerb.{FileVerb}
+use Rattle.command_words.specs.declared.command.FileVerb.TheVariants as file_verb
 
 -- ---- the form of a command with one file
 
--- the one argument: a positional that is required, and is given once
-abbrev pub file_rule : Rule
-file_rule = record (new_rule (codes "FILE")) { required = true; action = Some Set }
-
 -- the form of a command of this name: one file, and no flag, not even for help
 abbrev pub file_form : Text → App
-file_form name = with_rule
-    (on_top (λ s. record s { no_binary_name = true; disable_help_flag = true }) (new_app name))
-    file_rule
+file_form name = with_rule (bare_form name) (word_rule (codes "FILE"))
 
 -- the file that the words after the command's name give, where its form takes them
 unfoldable pub file_of : Text → List Text → Option Text
@@ -130,6 +124,13 @@ asked (Waves w) = traces (waves_asked w)
 asked (Unwave file) = unwaves file.now
 asked (Run r) = runs (rounds_asked r)
 asked (Grow growth) = grows growth
+
+-- what a command with one file asks for
+abbrev pub asked_of : FileVerb → Text → Asked
+asked_of file_verb.Migrate = migrates
+asked_of file_verb.Check = checks
+asked_of file_verb.Expand = expands
+asked_of file_verb.Unwave = unwaves
 
 -- the numbers of a command are within their bounds
 abbrev pub IsWithinBounds : Command → Type 0

@@ -1,10 +1,9 @@
 -- The words of `compile`: a file, the flag `--reset`, and the option `--buffer` with the name of a channel.
-use Rattle.std.specs.Prelude.{Bool, List, [], ◌∷◌, Option, None, Some, codes, option_and_then, option_map, if◌then◌else◌}
+use Rattle.std.specs.Prelude.{Bool, List, [], ◌∷◌, Option, None, codes, option_and_then, option_map, if◌then◌else◌}
 use Rattle.std.specs.Borrow.{Bor}
-use Rattle.clap.specs.Words.{App, Rule, Text, first_of, matches_of, new_rule, takes, with_rule}
-use Rattle.clap.specs.declared.builder.ArgAction.TheVariants.{SetTrue}
+use Rattle.clap.specs.Words.{App, Text, first_of, matches_of, takes, with_rule}
 use Rattle.command_words.specs.declared.compile_words.Compilation.{Compilation}
-use Rattle.command_words.specs.SimulateWords.{bare_form, word_rule, option_rule}
+use Rattle.command_words.specs.SimulateWords.{bare_form, flag_rule, word_rule, option_rule}
 use Rattle.command_words.specs.PlainForms.{Argument, flag_named, option_named, plain_words, word_named}
 use Rattle.command_words.specs.Words.{is_set}
 
@@ -23,13 +22,10 @@ compilation_asked c = record {
   buffer = option_map (λ (t : Bor Text). t.now) c.buffer;
 }
 
-abbrev pub reset_rule : Rule
-reset_rule = record (new_rule (codes "reset")) { long = Some (codes "reset"); action = Some SetTrue }
-
 -- the form: one file, a flag, and an option with a value
 abbrev pub compile_form : Text → App
-compile_form name = with_rule (with_rule (with_rule (bare_form name) (word_rule (codes "FILE"))) reset_rule)
-    (option_rule (codes "buffer"))
+compile_form name = with_rule (with_rule (with_rule (bare_form name) (word_rule (codes "FILE")))
+    (flag_rule (codes "reset"))) (option_rule (codes "buffer"))
 
 abbrev pub compile_with : (file reset buffer : Option Text) → Option AskedCompilation
 compile_with file reset buffer =

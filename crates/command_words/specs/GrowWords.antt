@@ -1,19 +1,16 @@
 -- The words of `grow`: a seed, a number of stages, and the flag `--sum`.
 use Rattle.std.specs.Prelude.{ℕ, ◌≤◌, nat_le, Bool, List, [], ◌∷◌, Option, Some, None, codes, if◌then◌else◌, option_and_then}
-use Rattle.clap.specs.Words.{App, Rule, Text, first_of, matches_of, new_rule, takes, with_rule}
-use Rattle.clap.specs.declared.builder.ArgAction.TheVariants.{SetTrue}
+use Rattle.clap.specs.Words.{App, Text, first_of, matches_of, takes, with_rule}
 use Rattle.command_words.specs.declared.grow_words.Growth.{Growth}
-use Rattle.command_words.specs.SimulateWords.{bare_form, most_of_seed, number_up_to, word_rule}
+use Rattle.command_words.specs.SimulateWords.{bare_form, flag_rule, most_of_seed, number_up_to, word_rule}
 use Rattle.command_words.specs.PlainForms.{Argument, flag_named, plain_words, word_named}
 use Rattle.command_words.specs.Words.{is_set}
-
-abbrev pub sum_rule : Rule
-sum_rule = record (new_rule (codes "sum")) { long = Some (codes "sum"); action = Some SetTrue }
 
 -- the form: both numbers and the flag
 abbrev pub grow_form : Text → App
 grow_form name =
-    with_rule (with_rule (with_rule (bare_form name) (word_rule (codes "SEED"))) (word_rule (codes "STAGES"))) sum_rule
+    with_rule (with_rule (with_rule (bare_form name) (word_rule (codes "SEED"))) (word_rule (codes "STAGES")))
+    (flag_rule (codes "sum"))
 
 -- the most stages
 abbrev pub most_of_stages : ℕ

@@ -122,9 +122,9 @@ told_texts [] met = Some []
 told_texts (a ∷ rest) met = option_and_then
     (λ text. option_map (λ more. text ∷ more) (told_texts rest met)) (told_text a.kind (text_met a.name met))
 
--- the text that the words give each of the arguments, in the order of these. The words of the form come in their order,
--- and each flag and each option once at most, at any place before `--`. That may be given once, and after it any word is
--- one of the form
+-- the text that the words give each of the arguments, in the order of these. The words of the form come in their
+-- order, and each flag and each option once at most, at any place before `--`. That may be given once, and after it any
+-- word is one of the form
 unfoldable pub plain_words : List Argument → List Text → Option (List (Option Text))
 plain_words arguments words =
     option_and_then (told_texts arguments) (read_words arguments anywhere (word_names arguments) [] words)

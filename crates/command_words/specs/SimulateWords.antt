@@ -6,7 +6,7 @@ use Rattle.chp_base.specs.Names.{digit}
 use Rattle.env_script.specs.Numbers.{number_of_word}
 use Rattle.clap.specs.Words.{App, Row, Rule, Text, first_of, matches_of, new_app, new_rule, takes, with_rule}
 use Rattle.clap.specs.Simple.{on_top}
-use Rattle.clap.specs.declared.builder.ArgAction.TheVariants.{Set}
+use Rattle.clap.specs.declared.builder.ArgAction.TheVariants.{Set, SetTrue}
 use Rattle.std.specs.Borrow.{Bor}
 use Rattle.command_words.specs.PlainForms.{Argument, option_named, plain_words, word_named}
 use Rattle.command_words.specs.declared.run_words.Texts.{Texts}
@@ -36,6 +36,10 @@ word_rule id = record (new_rule id) { required = true; action = Some Set }
 -- an option of this name with a value, which may be given once
 abbrev pub option_rule : Text → Rule
 option_rule id = record (new_rule id) { long = Some id; action = Some Set }
+
+-- a flag of this name, which may be given once
+abbrev pub flag_rule : Text → Rule
+flag_rule id = record (new_rule id) { long = Some id; action = Some SetTrue }
 
 -- a form that takes nothing, not even a flag for help
 abbrev pub bare_form : Text → App

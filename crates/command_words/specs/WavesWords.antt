@@ -1,20 +1,16 @@
 -- The words of `waves`.
 use Rattle.std.specs.Prelude.{if◌then◌else◌, List, [], ◌∷◌, Option, Some, None, codes, option_and_then, option_map, ℕ, Bool}
-use Rattle.clap.specs.Words.{App, Rule, Text, first_of, matches_of, new_rule, takes, with_rule}
-use Rattle.clap.specs.declared.builder.ArgAction.TheVariants.{SetTrue}
+use Rattle.clap.specs.Words.{App, Text, first_of, matches_of, takes, with_rule}
 use Rattle.command_words.specs.PlainForms.{Argument, flag_named, option_named, plain_words, word_named}
-use Rattle.command_words.specs.SimulateWords.{bare_form, word_rule, option_rule, number_or, most_of_steps}
+use Rattle.command_words.specs.SimulateWords.{bare_form, flag_rule, word_rule, option_rule, number_or, most_of_steps}
 use Rattle.command_words.specs.Words.{is_set}
-
-abbrev pub causes_rule : Rule
-causes_rule = record (new_rule (codes "causes")) { long = Some (codes "causes"); action = Some SetTrue }
 
 -- the form: two files, two options with a value each, and a flag
 abbrev pub waves_form : Text → App
 waves_form name =
     with_rule (with_rule (with_rule (with_rule (with_rule (bare_form name)
     (word_rule (codes "PRS"))) (word_rule (codes "SCRIPT")))
-    (option_rule (codes "steps"))) (option_rule (codes "delays"))) causes_rule
+    (option_rule (codes "steps"))) (option_rule (codes "delays"))) (flag_rule (codes "causes"))
 
 -- what is asked for: the names of the rule file, of the script and of the delay file, if there is one, the most moves,
 -- and whether the causes of the last move are wanted in place of the wave

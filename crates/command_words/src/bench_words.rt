@@ -1,19 +1,21 @@
 //! The words of `bench`.
 
-ghost use Rattle.std.specs.Prelude.{◌≡◌, ◌≤◌, IfOk, IfSome, false, option_map};
+ghost use Rattle.std.specs.Prelude.{◌≡◌, ◌≤◌, IfOk, IfSome, codes, false, option_map};
+ghost use Rattle.clap.specs.Matches.{first_value, found_of};
 ghost use Rattle.clap.specs.Words.{app_of, rule_of};
 ghost use Rattle.command_words.specs.BenchWords.{bench_asked, bench_form, bench_of, bench_with, needed_rule, plain_bench};
 ghost use Rattle.command_words.specs.Forms.{texts_of};
 
 use crate::command::matches_in;
 use crate::run_words::{
-    MOST_OF_STEPS, STEPS, bare_form, number_or, option_arg, order_or_lowest, word_arg,
+    MOST_OF_STEPS, STEPS, bare_form, number_or, option_arg, order_or_lowest, with_two_options,
+    word_arg,
 };
-use clap::{Arg, ArgAction, Command};
+use clap::{Arg, ArgAction, ArgMatches, Command};
 use std::alloc::{AllocError, Global};
 
 /// What a run on a bench is asked for.
-#[derive(Clone, Copy, Debug)]
+#[derive(Clone, Copy)]
 pub struct Benching<'a> {
     /// The name of the rule file.
     pub net: &'a str,
@@ -42,39 +44,28 @@ pub fn benching_in<'a>(
 {
     let form = bench_form(alloc, name)?;
     match matches_in(form, words) {
-        Ok(Some(matches)) => Ok(bench_with(
-            matches.get_str("PRS"),
-            matches.get_str("peer"),
-            matches.get_str("order"),
-            matches.get_str("seed"),
-            matches.get_str("steps"),
-        )),
+        Ok(Some(matches)) => Ok(bench_with(&matches)),
         Ok(None) => Ok(None),
         Err(error) => Err(error),
     }
 }
 
-/// What these texts ask for, where the file and the device are named and each number is one of its kind.
-fn bench_with<'a>(
-    net: Option<&'a str>,
-    peer: Option<&'a str>,
-    order: Option<&'a str>,
-    seed: Option<&'a str>,
-    steps: Option<&'a str>,
-) -> Option<Benching<'a>>
-    ensures asked { option_map bench_asked result ≡ bench_with (option_map (λ t. t.now) net.entry)
-        (option_map (λ t. t.now) peer.entry) (option_map (λ t. t.now) order.entry)
-        (option_map (λ t. t.now) seed.entry) (option_map (λ t. t.now) steps.entry) }
+/// What the matches of the form give, where the file and the device are named and each number is one of its kind.
+fn bench_with<'a>(matches: &ArgMatches<'a>) -> Option<Benching<'a>>
+    ensures asked { option_map bench_asked result ≡ bench_with (first_value (found_of matches.now) (codes "PRS"))
+        (first_value (found_of matches.now) (codes "peer")) (first_value (found_of matches.now) (codes "order"))
+        (first_value (found_of matches.now) (codes "seed")) (first_value (found_of matches.now) (codes "steps")) }
     ensures few { IfSome result (λ asked. asked.steps ≤ 1000000) }
 {
-    let net = net?;
-    let peer = peer?;
-    let seed = number_or(seed, 0, u64::MAX)?;
-    let steps = number_or(steps, STEPS, MOST_OF_STEPS)?;
+    let (Some(net), Some(peer)) = (matches.get_str("PRS"), matches.get_str("peer")) else {
+        return None;
+    };
+    let seed = number_or(matches.get_str("seed"), 0, u64::MAX)?;
+    let steps = number_or(matches.get_str("steps"), STEPS, MOST_OF_STEPS)?;
     Some(Benching {
         net,
         peer,
-        order: order_or_lowest(order),
+        order: order_or_lowest(matches.get_str("order")),
         seed,
         steps: steps as u32,
     })
@@ -95,10 +86,9 @@ fn needed_arg<'a>(alloc: Global, id: &'a str) -> Arg<'a>
 fn bench_form<'a>(alloc: Global, name: &'a str) -> Result<Command<'a>, AllocError>
     ensures { IfOk result (λ form. app_of form ≡ bench_form name.entry.now) }
 {
-    bare_form(alloc, name)
+    let needed = bare_form(alloc, name)
         .arg(word_arg(alloc, "PRS"))?
-        .arg(needed_arg(alloc, "peer"))?
-        .arg(option_arg(alloc, "order"))?
-        .arg(option_arg(alloc, "seed"))?
-        .arg(option_arg(alloc, "steps"))
+        .arg(needed_arg(alloc, "peer"))?;
+    let ordered = with_two_options(alloc, needed, "order", "seed")?;
+    ordered.arg(option_arg(alloc, "steps"))
 }

@@ -2,11 +2,13 @@
 
 ghost use Rattle.std.specs.Prelude.{◌≡◌, IfOk, IfSome, Some, is_some, option_map, true};
 ghost use Rattle.clap.specs.Words.{app_of, found_of, matches_of, rows_of, takes};
-ghost use Rattle.command_words.specs.CommandWords.{IsWithinBounds, asked, benches, command_of, command_with, file_form, file_of, grows, plain_command, plain_file, plain_with, simulate_asked, traces, verb_of};
+ghost use Rattle.command_words.specs.CommandWords.{IsWithinBounds, asked, asked_of, benches, command_of, command_with, compiles, file_form, file_of, grows, plain_command, plain_file, plain_with, runs, simulate_asked, traces, verb_of};
 ghost use Rattle.command_words.specs.SimulateWords.{plain_simulate, simulate_of};
 ghost use Rattle.command_words.specs.BenchWords.{bench_of, plain_bench};
+ghost use Rattle.command_words.specs.CompileWords.{compile_of, plain_compile};
 ghost use Rattle.command_words.specs.Forms.{is_form, texts_of};
 ghost use Rattle.command_words.specs.GrowWords.{growth_of, plain_growth};
+ghost use Rattle.command_words.specs.RoundsWords.{plain_rounds, rounds_of};
 ghost use Rattle.command_words.specs.WavesWords.{plain_waves, waves_of};
 ghost use Rattle.command_words.specs.Words.{is_set};
 
@@ -14,15 +16,15 @@ use crate::bench_words::{Benching, benching_in};
 use crate::compile_words::{Compilation, compilation_of};
 use crate::grow_words::{Growth, growth_of};
 use crate::rounds_words::{Rounds, rounds_in};
-use crate::run_words::simulation_in;
+use crate::run_words::{bare_form, simulation_in, word_arg};
 use crate::simulation::{Choosing, Simulation, Timing};
 use crate::waves_words::{Waves, waves_in};
+use clap::ArgMatches;
 use clap::error::ErrorKind;
-use clap::{Arg, ArgAction, ArgMatches};
 use std::alloc::{AllocError, Global};
 
 /// What the words ask for. The commands are this project's own.
-#[derive(Clone, Copy, Debug)]
+#[derive(Clone, Copy)]
 pub enum Command<'a> {
     /// `compile FILE [--reset] [--buffer X]`: write the rule file of the program text in this file, with a reset node
     /// and with a buffer on a channel where these are asked for.
@@ -63,6 +65,15 @@ enum Verb {
     Unwave,
     Run,
     Grow,
+}
+
+/// The first word of a command with one file and nothing besides.
+#[derive(Clone, Copy)]
+enum FileVerb {
+    Migrate,
+    Check,
+    Expand,
+    Unwave,
 }
 
 /// The command that the words ask for, or `None` where they aren't a command's form. The words are those after the
@@ -107,33 +118,15 @@ fn command_with<'a>(
     ensures bounds { IfOk result (λ found. IfSome found IsWithinBounds) }
 {
     match verb {
-        Verb::Compile => match compilation_of(alloc, word, rest)? {
-            Some(compilation) => Ok(Some(Command::Compile(compilation))),
-            None => Ok(None),
-        },
-        Verb::Migrate => match file_in(alloc, word, rest)? {
-            Some(net) => Ok(Some(Command::Migrate { net })),
-            None => Ok(None),
-        },
-        Verb::Check => match file_in(alloc, word, rest)? {
-            Some(file) => Ok(Some(Command::Check { file })),
-            None => Ok(None),
-        },
-        Verb::Expand => match file_in(alloc, word, rest)? {
-            Some(file) => Ok(Some(Command::Expand { file })),
-            None => Ok(None),
-        },
+        Verb::Compile => compile_in(alloc, word, rest),
+        Verb::Migrate => file_command_in(alloc, FileVerb::Migrate, word, rest),
+        Verb::Check => file_command_in(alloc, FileVerb::Check, word, rest),
+        Verb::Expand => file_command_in(alloc, FileVerb::Expand, word, rest),
         Verb::Simulate => simulate_in(alloc, word, rest),
         Verb::Bench => bench_in(alloc, word, rest),
         Verb::Waves => trace_in(alloc, word, rest),
-        Verb::Unwave => match file_in(alloc, word, rest)? {
-            Some(file) => Ok(Some(Command::Unwave { file })),
-            None => Ok(None),
-        },
-        Verb::Run => match rounds_in(alloc, word, rest)? {
-            Some(rounds) => Ok(Some(Command::Run(rounds))),
-            None => Ok(None),
-        },
+        Verb::Unwave => file_command_in(alloc, FileVerb::Unwave, word, rest),
+        Verb::Run => run_in(alloc, word, rest),
         Verb::Grow => grow_in(alloc, word, rest),
     }
 }
@@ -157,21 +150,55 @@ fn verb_in(word: &str) -> Option<Verb>
     }
 }
 
-/// What the words after `grow` ask for, where they are its form.
-fn grow_in<'a>(
+/// What the words after `compile` ask for, where they are its form.
+fn compile_in<'a>(
     alloc: Global,
     name: &'a str,
     words: &'a [String],
 ) -> Result<Option<Command<'a>>, AllocError>
     ensures form { IfOk result (λ found. option_map asked found
-        ≡ option_map grows (growth_of name.entry.now (texts_of words.entry.now))) }
+        ≡ option_map compiles (compile_of name.entry.now (texts_of words.entry.now))) }
     ensures plain { IfOk result (λ found. option_map asked found
-        ≡ option_map grows (plain_growth (texts_of words.entry.now))) }
+        ≡ option_map compiles (plain_compile (texts_of words.entry.now))) }
     ensures bounds { IfOk result (λ found. IfSome found IsWithinBounds) }
 {
-    match growth_of(alloc, name, words)? {
-        Some(growth) => Ok(Some(Command::Grow(growth))),
-        None => Ok(None),
+    match compilation_of(alloc, name, words) {
+        Ok(Some(asked)) => Ok(Some(Command::Compile(asked))),
+        Ok(None) => Ok(None),
+        Err(error) => Err(error),
+    }
+}
+
+/// What the words after a command's name ask for, where they are the form of this one with one file.
+fn file_command_in<'a>(
+    alloc: Global,
+    verb: FileVerb,
+    name: &'a str,
+    words: &'a [String],
+) -> Result<Option<Command<'a>>, AllocError>
+    ensures form { IfOk result (λ found. option_map asked found
+        ≡ option_map (asked_of verb) (file_of name.entry.now (texts_of words.entry.now))) }
+    ensures plain { IfOk result (λ found. option_map asked found
+        ≡ option_map (asked_of verb) (plain_file (texts_of words.entry.now))) }
+    ensures bounds { IfOk result (λ found. IfSome found IsWithinBounds) }
+{
+    match file_in(alloc, name, words) {
+        Ok(Some(file)) => Ok(Some(command_on(verb, file))),
+        Ok(None) => Ok(None),
+        Err(error) => Err(error),
+    }
+}
+
+/// This command on this file.
+fn command_on<'a>(verb: FileVerb, file: &'a str) -> Command<'a>
+    ensures asked { asked result ≡ asked_of verb file.entry.now }
+    ensures bounds { IsWithinBounds result }
+{
+    match verb {
+        FileVerb::Migrate => Command::Migrate { net: file },
+        FileVerb::Check => Command::Check { file },
+        FileVerb::Expand => Command::Expand { file },
+        FileVerb::Unwave => Command::Unwave { file },
     }
 }
 
@@ -187,10 +214,11 @@ fn simulate_in<'a>(
         ≡ option_map simulate_asked (plain_simulate (texts_of words.entry.now))) }
     ensures bounds { IfOk result (λ found. IfSome found IsWithinBounds) }
 {
-    match simulation_in(alloc, name, words)? {
-        Some(Choosing::ByOrder(run)) => Ok(Some(Command::Simulate(run))),
-        Some(Choosing::ByDelays(timing)) => Ok(Some(Command::Time(timing))),
-        None => Ok(None),
+    match simulation_in(alloc, name, words) {
+        Ok(Some(Choosing::ByOrder(run))) => Ok(Some(Command::Simulate(run))),
+        Ok(Some(Choosing::ByDelays(timing))) => Ok(Some(Command::Time(timing))),
+        Ok(None) => Ok(None),
+        Err(error) => Err(error),
     }
 }
 
@@ -206,9 +234,10 @@ fn bench_in<'a>(
         ≡ option_map benches (plain_bench (texts_of words.entry.now))) }
     ensures bounds { IfOk result (λ found. IfSome found IsWithinBounds) }
 {
-    match benching_in(alloc, name, words)? {
-        Some(asked) => Ok(Some(Command::Bench(asked))),
-        None => Ok(None),
+    match benching_in(alloc, name, words) {
+        Ok(Some(asked)) => Ok(Some(Command::Bench(asked))),
+        Ok(None) => Ok(None),
+        Err(error) => Err(error),
     }
 }
 
@@ -224,9 +253,48 @@ fn trace_in<'a>(
         ≡ option_map traces (plain_waves (texts_of words.entry.now))) }
     ensures bounds { IfOk result (λ found. IfSome found IsWithinBounds) }
 {
-    match waves_in(alloc, name, words)? {
-        Some(asked) => Ok(Some(Command::Waves(asked))),
-        None => Ok(None),
+    match waves_in(alloc, name, words) {
+        Ok(Some(asked)) => Ok(Some(Command::Waves(asked))),
+        Ok(None) => Ok(None),
+        Err(error) => Err(error),
+    }
+}
+
+/// What the words after `run` ask for, where they are its form.
+fn run_in<'a>(
+    alloc: Global,
+    name: &'a str,
+    words: &'a [String],
+) -> Result<Option<Command<'a>>, AllocError>
+    ensures form { IfOk result (λ found. option_map asked found
+        ≡ option_map runs (rounds_of name.entry.now (texts_of words.entry.now))) }
+    ensures plain { IfOk result (λ found. option_map asked found
+        ≡ option_map runs (plain_rounds (texts_of words.entry.now))) }
+    ensures bounds { IfOk result (λ found. IfSome found IsWithinBounds) }
+{
+    match rounds_in(alloc, name, words) {
+        Ok(Some(asked)) => Ok(Some(Command::Run(asked))),
+        Ok(None) => Ok(None),
+        Err(error) => Err(error),
+    }
+}
+
+/// What the words after `grow` ask for, where they are its form.
+fn grow_in<'a>(
+    alloc: Global,
+    name: &'a str,
+    words: &'a [String],
+) -> Result<Option<Command<'a>>, AllocError>
+    ensures form { IfOk result (λ found. option_map asked found
+        ≡ option_map grows (growth_of name.entry.now (texts_of words.entry.now))) }
+    ensures plain { IfOk result (λ found. option_map asked found
+        ≡ option_map grows (plain_growth (texts_of words.entry.now))) }
+    ensures bounds { IfOk result (λ found. IfSome found IsWithinBounds) }
+{
+    match growth_of(alloc, name, words) {
+        Ok(Some(growth)) => Ok(Some(Command::Grow(growth))),
+        Ok(None) => Ok(None),
+        Err(error) => Err(error),
     }
 }
 
@@ -260,16 +328,10 @@ fn file_in<'a>(
 }
 
 /// The form of a command of this name with one file and no flag, not even for help.
-fn file_form<'a>(alloc: Global, name: &'a str) -> Result<clap::Command<'a>, AllocError>
+pub(crate) fn file_form<'a>(alloc: Global, name: &'a str) -> Result<clap::Command<'a>, AllocError>
     ensures { IfOk result (λ form. app_of form ≡ file_form name.entry.now) }
 {
-    let file = Arg::new(alloc, "FILE")
-        .required(true)
-        .action(ArgAction::Set);
-    clap::Command::new(alloc, name)
-        .no_binary_name(true)
-        .disable_help_flag(true)
-        .arg(file)
+    bare_form(alloc, name).arg(word_arg(alloc, "FILE"))
 }
 
 /// What the words give each argument of the form, or `None` where the form doesn't take them, for whatever cause. It

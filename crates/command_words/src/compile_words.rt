@@ -6,13 +6,13 @@ ghost use Rattle.clap.specs.Words.{app_of};
 ghost use Rattle.command_words.specs.CompileWords.{compilation_asked, compile_form, compile_of, compile_with, plain_compile};
 ghost use Rattle.command_words.specs.Forms.{texts_of};
 
-use crate::command::{is_set, matches_in};
-use crate::run_words::{bare_form, option_arg, word_arg};
-use clap::{Arg, ArgAction, ArgMatches, Command};
+use crate::command::{file_form, is_set, matches_in};
+use crate::run_words::{flag_arg, option_arg};
+use clap::{ArgMatches, Command};
 use std::alloc::{AllocError, Global};
 
 /// What `compile` is asked for.
-#[derive(Clone, Copy, Debug)]
+#[derive(Clone, Copy)]
 pub struct Compilation<'a> {
     /// The name of the file with the program text.
     pub file: &'a str,
@@ -59,10 +59,7 @@ fn compilation_with<'a>(matches: &ArgMatches<'a>) -> Option<Compilation<'a>>
 fn compile_form<'a>(alloc: Global, name: &'a str) -> Result<Command<'a>, AllocError>
     ensures { IfOk result (λ form. app_of form ≡ compile_form name.entry.now) }
 {
-    let reset = Arg::new(alloc, "reset")
-        .long("reset")
-        .action(ArgAction::SetTrue);
-    let with_file = bare_form(alloc, name).arg(word_arg(alloc, "FILE"))?;
-    let with_reset = with_file.arg(reset)?;
-    with_reset.arg(option_arg(alloc, "buffer"))
+    file_form(alloc, name)?
+        .arg(flag_arg(alloc, "reset"))?
+        .arg(option_arg(alloc, "buffer"))
 }

@@ -7,15 +7,15 @@ ghost use Rattle.command_words.specs.Forms.{texts_of};
 ghost use Rattle.command_words.specs.GrowWords.{IsGrowable, grow_form, growth_in, growth_of, growth_with, plain_growth};
 
 use crate::command::{is_set, matches_in};
-use crate::run_words::{bare_form, number_up_to, word_arg};
-use clap::{Arg, ArgAction, ArgMatches};
+use crate::run_words::{flag_arg, number_up_to, two_words_form};
+use clap::ArgMatches;
 use std::alloc::{AllocError, Global};
 
 /// The most stages of a generated program.
 const MOST_OF_STAGES: u64 = 400;
 
 /// What `grow` is asked for.
-#[derive(Clone, Copy, Debug)]
+#[derive(Clone, Copy)]
 pub struct Growth {
     pub seed: u64,
     /// The number of stages, from 1 to 400.
@@ -75,11 +75,6 @@ fn growth_in(seed: &str, stages: &str, sum: bool) -> Option<Growth>
 fn grow_form<'a>(alloc: Global, name: &'a str) -> Result<clap::Command<'a>, AllocError>
     ensures { IfOk result (λ form. app_of form ≡ grow_form name.entry.now) }
 {
-    let sum = Arg::new(alloc, "sum")
-        .long("sum")
-        .action(ArgAction::SetTrue);
-    let bare = bare_form(alloc, name);
-    let with_seed = bare.arg(word_arg(alloc, "SEED"))?;
-    let with_both = with_seed.arg(word_arg(alloc, "STAGES"))?;
-    with_both.arg(sum)
+    let numbers = two_words_form(alloc, name, "SEED", "STAGES")?;
+    numbers.arg(flag_arg(alloc, "sum"))
 }

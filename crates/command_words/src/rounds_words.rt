@@ -1,14 +1,15 @@
 //! The words of `run`.
 
-ghost use Rattle.std.specs.Prelude.{◌≡◌, IfOk, option_map};
+ghost use Rattle.std.specs.Prelude.{◌≡◌, codes, IfOk, option_map};
+ghost use Rattle.clap.specs.Matches.{first_value, found_of};
 ghost use Rattle.clap.specs.Words.{app_of};
 ghost use Rattle.command_words.specs.CommandWords.{rounds_asked};
 ghost use Rattle.command_words.specs.Forms.{texts_of};
 ghost use Rattle.command_words.specs.RoundsWords.{plain_rounds, rounds_form, rounds_of, rounds_with};
 
 use crate::command::matches_in;
-use crate::run_words::{bare_form, number_or, option_arg, word_arg};
-use clap::Command;
+use crate::run_words::{number_or, two_words_form, with_two_options};
+use clap::{ArgMatches, Command};
 use std::alloc::{AllocError, Global};
 
 /// How many rounds are made where no number is given.
@@ -18,7 +19,7 @@ const ROUNDS: u64 = 1000;
 const MOST_OF_ROUNDS: u64 = 1_000_000;
 
 /// What a run of rounds is asked for.
-#[derive(Clone, Copy, Debug)]
+#[derive(Clone, Copy)]
 pub struct Rounds<'a> {
     /// The name of the file with the program text.
     pub file: &'a str,
@@ -44,39 +45,29 @@ pub fn rounds_in<'a>(
 {
     let form = rounds_form(alloc, name)?;
     match matches_in(form, words) {
-        Ok(Some(matches)) => Ok(rounds_with(
-            matches.get_str("FILE"),
-            matches.get_str("SCRIPT"),
-            matches.get_str("rounds"),
-            matches.get_str("buffer"),
-        )),
+        Ok(Some(matches)) => Ok(rounds_with(&matches)),
         Ok(None) => Ok(None),
         Err(error) => Err(error),
     }
 }
 
-/// What these texts ask for, where both files are given and the number is one of rounds.
-fn rounds_with<'a>(
-    file: Option<&'a str>,
-    script: Option<&'a str>,
-    rounds: Option<&'a str>,
-    buffer: Option<&'a str>,
-) -> Option<Rounds<'a>>
-    ensures { option_map rounds_asked result ≡ rounds_with (option_map (λ t. t.now) file.entry)
-        (option_map (λ t. t.now) script.entry) (option_map (λ t. t.now) rounds.entry)
-        (option_map (λ t. t.now) buffer.entry) }
+/// What the matches of the form give, where both files are given and the number is one of rounds.
+fn rounds_with<'a>(matches: &ArgMatches<'a>) -> Option<Rounds<'a>>
+    ensures { option_map rounds_asked result ≡ rounds_with (first_value (found_of matches.now) (codes "FILE"))
+        (first_value (found_of matches.now) (codes "SCRIPT")) (first_value (found_of matches.now) (codes "rounds"))
+        (first_value (found_of matches.now) (codes "buffer")) }
 {
-    match (file, script) {
-        (Some(file), Some(script)) => match number_or(rounds, ROUNDS, MOST_OF_ROUNDS) {
-            Some(rounds) => Some(Rounds {
-                file,
-                script,
-                rounds: rounds as u32,
-                buffer,
-            }),
-            None => None,
-        },
-        _ => None,
+    let (Some(file), Some(script)) = (matches.get_str("FILE"), matches.get_str("SCRIPT")) else {
+        return None;
+    };
+    match number_or(matches.get_str("rounds"), ROUNDS, MOST_OF_ROUNDS) {
+        Some(rounds) => Some(Rounds {
+            file,
+            script,
+            rounds: rounds as u32,
+            buffer: matches.get_str("buffer"),
+        }),
+        None => None,
     }
 }
 
@@ -84,9 +75,6 @@ fn rounds_with<'a>(
 fn rounds_form<'a>(alloc: Global, name: &'a str) -> Result<Command<'a>, AllocError>
     ensures { IfOk result (λ form. app_of form ≡ rounds_form name.entry.now) }
 {
-    bare_form(alloc, name)
-        .arg(word_arg(alloc, "FILE"))?
-        .arg(word_arg(alloc, "SCRIPT"))?
-        .arg(option_arg(alloc, "rounds"))?
-        .arg(option_arg(alloc, "buffer"))
+    let files = two_words_form(alloc, name, "FILE", "SCRIPT")?;
+    with_two_options(alloc, files, "rounds", "buffer")
 }

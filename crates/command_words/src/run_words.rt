@@ -3,11 +3,11 @@
 ghost use Rattle.std.specs.Prelude.{◌≡◌, ◌≤◌, ◌^◌, IfNone, IfOk, IfSome, false, option_map, true};
 ghost use Rattle.std.specs.List.{list_all};
 ghost use Rattle.chp_base.specs.Names.{digit};
-ghost use Rattle.clap.specs.Words.{app_of, rule_of};
+ghost use Rattle.clap.specs.Words.{app_of, rule_of, with_rule};
 ghost use Rattle.env_script.specs.Numbers.{digit_of_word, number_of_word};
 ghost use Rattle.command_words.specs.CommandWords.{HasFewSteps, run_asked, simulation_asked, timing_asked};
 ghost use Rattle.command_words.specs.Forms.{texts_of};
-ghost use Rattle.command_words.specs.SimulateWords.{bare_form, number_or, number_up_to, option_rule, order_or, plain_simulate, power_of_words, run_with, simulate_form, simulate_of, simulation_with, timing_with, word_rule};
+ghost use Rattle.command_words.specs.SimulateWords.{bare_form, flag_rule, number_or, number_up_to, option_rule, order_or, plain_simulate, power_of_words, run_with, simulate_form, simulate_of, simulation_with, timing_with, word_rule};
 
 use crate::command::matches_in;
 use crate::simulation::{Choosing, Simulation, Timing};
@@ -100,8 +100,9 @@ impl<'a> Texts<'a> {
         if self.order.is_some() || self.seed.is_some() {
             return None;
         }
-        let net = self.net?;
-        let script = self.script?;
+        let (Some(net), Some(script)) = (self.net, self.script) else {
+            return None;
+        };
         let steps = number_or(self.steps, STEPS, MOST_OF_STEPS)?;
         let power = power_of(self.power)?;
         Some(Timing {
@@ -119,8 +120,9 @@ impl<'a> Texts<'a> {
         ensures asked { option_map run_asked result ≡ run_with (texts_given self.entry) }
         ensures few { IfSome result (λ run. run.steps ≤ 1000000) }
     {
-        let net = self.net?;
-        let script = self.script?;
+        let (Some(net), Some(script)) = (self.net, self.script) else {
+            return None;
+        };
         let seed = number_or(self.seed, 0, u64::MAX)?;
         let steps = number_or(self.steps, STEPS, MOST_OF_STEPS)?;
         let power = power_of(self.power)?;
@@ -235,6 +237,14 @@ pub(crate) fn option_arg<'a>(alloc: Global, id: &'a str) -> Arg<'a>
     Arg::new(alloc, id).long(id).action(ArgAction::Set)
 }
 
+/// A flag of this name, which may be given once.
+pub(crate) fn flag_arg<'a>(alloc: Global, id: &'a str) -> Arg<'a>
+    ensures rule { rule_of result ≡ flag_rule id.entry.now }
+    ensures local { result.global ≡ false }
+{
+    Arg::new(alloc, id).long(id).action(ArgAction::SetTrue)
+}
+
 /// A form that takes nothing, not even a flag for help.
 pub(crate) fn bare_form<'a>(alloc: Global, name: &'a str) -> Command<'a>
     ensures { app_of result ≡ bare_form name.entry.now }
@@ -244,17 +254,41 @@ pub(crate) fn bare_form<'a>(alloc: Global, name: &'a str) -> Command<'a>
         .disable_help_flag(true)
 }
 
+/// A form with two words, which have to be there, in this order.
+pub(crate) fn two_words_form<'a>(
+    alloc: Global,
+    name: &'a str,
+    first: &'a str,
+    second: &'a str,
+) -> Result<Command<'a>, AllocError>
+    ensures { IfOk result (λ form. app_of form ≡ with_rule (with_rule (bare_form name.entry.now)
+        (word_rule first.entry.now)) (word_rule second.entry.now)) }
+{
+    bare_form(alloc, name)
+        .arg(word_arg(alloc, first))?
+        .arg(word_arg(alloc, second))
+}
+
+/// The form with two options of these names more, each with a value.
+pub(crate) fn with_two_options<'a>(
+    alloc: Global,
+    form: Command<'a>,
+    first: &'a str,
+    second: &'a str,
+) -> Result<Command<'a>, AllocError>
+    ensures { IfOk result (λ more. app_of more ≡ with_rule (with_rule (app_of form.entry)
+        (option_rule first.entry.now)) (option_rule second.entry.now)) }
+{
+    form.arg(option_arg(alloc, first))?
+        .arg(option_arg(alloc, second))
+}
+
 /// The form of `simulate`: two files, and six options, each with a value.
 fn simulate_form<'a>(alloc: Global, name: &'a str) -> Result<Command<'a>, AllocError>
     ensures { IfOk result (λ form. app_of form ≡ simulate_form name.entry.now) }
 {
-    bare_form(alloc, name)
-        .arg(word_arg(alloc, "PRS"))?
-        .arg(word_arg(alloc, "SCRIPT"))?
-        .arg(option_arg(alloc, "order"))?
-        .arg(option_arg(alloc, "seed"))?
-        .arg(option_arg(alloc, "steps"))?
-        .arg(option_arg(alloc, "power"))?
-        .arg(option_arg(alloc, "against"))?
-        .arg(option_arg(alloc, "delays"))
+    let files = two_words_form(alloc, name, "PRS", "SCRIPT")?;
+    let ordered = with_two_options(alloc, files, "order", "seed")?;
+    let limited = with_two_options(alloc, ordered, "steps", "power")?;
+    with_two_options(alloc, limited, "against", "delays")
 }

@@ -1,7 +1,7 @@
 //! What a simulation is asked for.
 
 /// What a simulation is asked for.
-#[derive(Clone, Copy, Debug)]
+#[derive(Clone, Copy)]
 pub struct Simulation<'a> {
     /// The name of the rule file.
     pub net: &'a str,
@@ -20,7 +20,7 @@ pub struct Simulation<'a> {
 }
 
 /// What a timed simulation is asked for, in which delays say when each move comes.
-#[derive(Clone, Copy, Debug)]
+#[derive(Clone, Copy)]
 pub struct Timing<'a> {
     /// The name of the rule file.
     pub net: &'a str,

@@ -1,14 +1,15 @@
 //! The words of `waves`.
 
-ghost use Rattle.std.specs.Prelude.{◌≡◌, ◌≤◌, IfOk, IfSome, option_map};
+ghost use Rattle.std.specs.Prelude.{◌≡◌, ◌≤◌, IfOk, IfSome, codes, option_map};
+ghost use Rattle.clap.specs.Matches.{first_value, found_of};
 ghost use Rattle.clap.specs.Words.{app_of};
 ghost use Rattle.command_words.specs.CommandWords.{waves_asked};
 ghost use Rattle.command_words.specs.Forms.{texts_of};
 ghost use Rattle.command_words.specs.WavesWords.{plain_waves, waves_form, waves_of, waves_with};
 
 use crate::command::{is_set, matches_in};
-use crate::run_words::{bare_form, number_or, option_arg, word_arg};
-use clap::{Arg, ArgAction, Command};
+use crate::run_words::{flag_arg, number_or, two_words_form, with_two_options};
+use clap::{ArgMatches, Command};
 use std::alloc::{AllocError, Global};
 
 /// The most moves that may be asked for.
@@ -18,7 +19,7 @@ const MOST_OF_STEPS: u64 = 1_000_000;
 const STEPS: u64 = 100_000;
 
 /// What `waves` is asked for: a timed run whose moves are reported.
-#[derive(Clone, Copy, Debug)]
+#[derive(Clone, Copy)]
 pub struct Waves<'a> {
     /// The name of the rule file.
     pub net: &'a str,
@@ -47,43 +48,31 @@ pub fn waves_in<'a>(
 {
     let form = waves_form(alloc, name)?;
     match matches_in(form, words) {
-        Ok(Some(matches)) => Ok(waves_with(
-            matches.get_str("PRS"),
-            matches.get_str("SCRIPT"),
-            matches.get_str("steps"),
-            matches.get_str("delays"),
-            matches.get_str("causes"),
-        )),
+        Ok(Some(matches)) => Ok(waves_with(&matches)),
         Ok(None) => Ok(None),
         Err(error) => Err(error),
     }
 }
 
-/// What these texts ask for, where both files are given and the number is one of moves.
-fn waves_with<'a>(
-    net: Option<&'a str>,
-    script: Option<&'a str>,
-    steps: Option<&'a str>,
-    delays: Option<&'a str>,
-    causes: Option<&'a str>,
-) -> Option<Waves<'a>>
-    ensures asked { option_map waves_asked result ≡ waves_with (option_map (λ t. t.now) net.entry)
-        (option_map (λ t. t.now) script.entry) (option_map (λ t. t.now) steps.entry)
-        (option_map (λ t. t.now) delays.entry) (option_map (λ t. t.now) causes.entry) }
+/// What the matches of the form give, where both files are given and the number is one of moves.
+fn waves_with<'a>(matches: &ArgMatches<'a>) -> Option<Waves<'a>>
+    ensures asked { option_map waves_asked result ≡ waves_with (first_value (found_of matches.now) (codes "PRS"))
+        (first_value (found_of matches.now) (codes "SCRIPT")) (first_value (found_of matches.now) (codes "steps"))
+        (first_value (found_of matches.now) (codes "delays")) (first_value (found_of matches.now) (codes "causes")) }
     ensures few { IfSome result (λ asked. asked.steps ≤ 1000000) }
 {
-    match (net, script) {
-        (Some(net), Some(script)) => match number_or(steps, STEPS, MOST_OF_STEPS) {
-            Some(steps) => Some(Waves {
-                net,
-                script,
-                steps: steps as u32,
-                delays,
-                causes: is_set(causes),
-            }),
-            None => None,
-        },
-        _ => None,
+    let (Some(net), Some(script)) = (matches.get_str("PRS"), matches.get_str("SCRIPT")) else {
+        return None;
+    };
+    match number_or(matches.get_str("steps"), STEPS, MOST_OF_STEPS) {
+        Some(steps) => Some(Waves {
+            net,
+            script,
+            steps: steps as u32,
+            delays: matches.get_str("delays"),
+            causes: is_set(matches.get_str("causes")),
+        }),
+        None => None,
     }
 }
 
@@ -91,13 +80,7 @@ fn waves_with<'a>(
 fn waves_form<'a>(alloc: Global, name: &'a str) -> Result<Command<'a>, AllocError>
     ensures { IfOk result (λ form. app_of form ≡ waves_form name.entry.now) }
 {
-    let causes = Arg::new(alloc, "causes")
-        .long("causes")
-        .action(ArgAction::SetTrue);
-    bare_form(alloc, name)
-        .arg(word_arg(alloc, "PRS"))?
-        .arg(word_arg(alloc, "SCRIPT"))?
-        .arg(option_arg(alloc, "steps"))?
-        .arg(option_arg(alloc, "delays"))?
-        .arg(causes)
+    let files = two_words_form(alloc, name, "PRS", "SCRIPT")?;
+    let timed = with_two_options(alloc, files, "steps", "delays")?;
+    timed.arg(flag_arg(alloc, "causes"))
 }

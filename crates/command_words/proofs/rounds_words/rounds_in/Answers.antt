@@ -1,15 +1,11 @@
-use Rattle.std.proofs.Common.{◌≡◌, ◌∙◌, refl, Option, None, option_map}
-use Rattle.clap.specs.Words.{Text, found_of}
+use Rattle.std.proofs.Common.{◌≡◌, ◌∙◌, Option, None, option_map}
+use Rattle.clap.specs.Words.{found_of}
 use Rattle.command_words.specs.CommandWords.{rounds_asked}
 use Rattle.command_words.specs.Forms.{texts_of}
-use Rattle.command_words.specs.RoundsWords.{AskedRounds, rounds_by, rounds_of, rounds_with, run_arguments}
+use Rattle.command_words.specs.RoundsWords.{AskedRounds, rounds_by, rounds_of, run_arguments}
 use Rattle.command_words.proofs.Asked.{refused_by, taken_by}
 use Rattle.command_words.proofs.PlainCommands.{rounds_is}
 use Rattle.command_words.proofs.rounds_words.rounds_in.Goals as goal
-
-same_texts : {file script rounds buffer f s r b : Option Text} → file ≡ f → script ≡ s → rounds ≡ r → buffer ≡ b →
-    rounds_with file script rounds buffer ≡ rounds_with f s r b
-same_texts one two three four = rw (one, two, three, four) refl
 
 pub returns-in-Ok-Some : goal.returns-in-Ok-Some
 unfolding rounds_of
@@ -20,8 +16,7 @@ returns-in-Ok-Some c =
     let is = rw c.in-Ok-Some.field-0-is at c.in-Ok-Some.ensures.matches in
     let given : option_map rounds_asked c.rounds_with.result ≡ rounds_of name (texts_of words) =
     c.rounds_with.ensures
-    ∙ (same_texts c.get_str.ensures c.get_str-in-Ok-Some.ensures c.get_str-in-Ok-Some-2.ensures c.get_str-in-Ok-Some-3.ensures
-    ∙ taken_by run_arguments rounds_by _ name (texts_of words) c.in_ok-form.ensures (found_of c.in-Ok-Some.matches) taken is) in
+    ∙ taken_by run_arguments rounds_by _ name (texts_of words) c.in_ok-form.ensures (found_of c.in-Ok-Some.matches) taken is in
     record { form = given; plain = given ∙ rounds_is name words }
 
 pub returns-in-Ok-None : goal.returns-in-Ok-None

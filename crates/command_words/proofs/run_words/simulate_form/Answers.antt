@@ -1,18 +1,16 @@
-use Rattle.std.proofs.Common.{◌≡◌, ◌∙◌, ap₂}
-use Rattle.clap.specs.Words.{app_of, with_rule}
-use Rattle.command_words.specs.SimulateWords.{simulate_form}
+use Rattle.std.proofs.Common.{◌≡◌, ◌∙◌, ap, codes}
+use Rattle.clap.specs.Words.{App, Text, app_of, with_rule}
+use Rattle.command_words.specs.SimulateWords.{option_rule, simulate_form}
 use Rattle.command_words.proofs.Results.{ok_in}
 use Rattle.command_words.proofs.run_words.simulate_form.Goals as goal
+
+abbrev with_two : (first second : Text) → App → App
+with_two first second form = with_rule (with_rule form (option_rule first)) (option_rule second)
 
 -- the form that was built is the one of the definition
 pub returns : goal.returns
 returns c =
-    let one = c.in_ok-arg.ensures.shape c.word_arg.ensures.local ∙ ap₂ with_rule c.bare_form.ensures c.word_arg.ensures.rule in
-    let two = c.in_ok-arg-2.ensures.shape c.word_arg-2.ensures.local ∙ ap₂ with_rule one c.word_arg-2.ensures.rule in
-    let three = c.in_ok-arg-3.ensures.shape c.option_arg.ensures.local ∙ ap₂ with_rule two c.option_arg.ensures.rule in
-    let four = c.in_ok-arg-4.ensures.shape c.option_arg-2.ensures.local ∙ ap₂ with_rule three c.option_arg-2.ensures.rule in
-    let five = c.in_ok-arg-5.ensures.shape c.option_arg-3.ensures.local ∙ ap₂ with_rule four c.option_arg-3.ensures.rule in
-    let six = c.in_ok-arg-6.ensures.shape c.option_arg-4.ensures.local ∙ ap₂ with_rule five c.option_arg-4.ensures.rule in
-    let seven = c.in_ok-arg-7.ensures.shape c.option_arg-5.ensures.local ∙ ap₂ with_rule six c.option_arg-5.ensures.rule in
-    ok_in c.arg-8.result _ (λ form. app_of form ≡ simulate_form c.args.name.now)
-    (λ form adds. adds.shape c.option_arg-6.ensures.local ∙ ap₂ with_rule seven c.option_arg-6.ensures.rule) c.arg-8.ensures
+    let ordered = c.in_ok-ordered.ensures ∙ ap (with_two (codes "order") (codes "seed")) c.in_ok-files.ensures in
+    let limited = c.in_ok-limited.ensures ∙ ap (with_two (codes "steps") (codes "power")) ordered in
+    ok_in c.with_two_options-3.result _ (λ form. app_of form ≡ simulate_form c.args.name.now)
+    (λ form is. is ∙ ap (with_two (codes "against") (codes "delays")) limited) c.with_two_options-3.ensures

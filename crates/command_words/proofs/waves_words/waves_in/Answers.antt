@@ -1,14 +1,11 @@
-use Rattle.std.proofs.Common.{◌≡◌, ◌∙◌, refl, Option, None, option_map}
-use Rattle.clap.specs.Words.{Text, found_of}
+use Rattle.std.proofs.Common.{◌≡◌, ◌∙◌, Option, None, option_map}
+use Rattle.clap.specs.Words.{found_of}
 use Rattle.command_words.specs.CommandWords.{waves_asked}
 use Rattle.command_words.specs.Forms.{texts_of}
-use Rattle.command_words.specs.WavesWords.{AskedWaves, waves_arguments, waves_by, waves_of, waves_with}
+use Rattle.command_words.specs.WavesWords.{AskedWaves, waves_arguments, waves_by, waves_of}
 use Rattle.command_words.proofs.Asked.{refused_by, taken_by}
 use Rattle.command_words.proofs.PlainCommands.{waves_is}
 use Rattle.command_words.proofs.waves_words.waves_in.Goals as goal
-
-same_texts : {a b c d e f g h i j : Option Text} → a ≡ f → b ≡ g → c ≡ h → d ≡ i → e ≡ j → waves_with a b c d e ≡ waves_with f g h i j
-same_texts one two three four five = rw (one, two, three, four, five) refl
 
 pub returns-in-Ok-Some : goal.returns-in-Ok-Some
 unfolding waves_of
@@ -19,9 +16,7 @@ returns-in-Ok-Some c =
     let is = rw c.in-Ok-Some.field-0-is at c.in-Ok-Some.ensures.matches in
     let given : option_map waves_asked c.waves_with.result ≡ waves_of name (texts_of words) =
     c.waves_with.ensures.asked
-    ∙ (same_texts c.get_str.ensures c.get_str-in-Ok-Some.ensures c.get_str-in-Ok-Some-2.ensures c.get_str-in-Ok-Some-3.ensures
-    c.get_str-in-Ok-Some-4.ensures
-    ∙ taken_by waves_arguments waves_by _ name (texts_of words) c.in_ok-form.ensures (found_of c.in-Ok-Some.matches) taken is) in
+    ∙ taken_by waves_arguments waves_by _ name (texts_of words) c.in_ok-form.ensures (found_of c.in-Ok-Some.matches) taken is in
     record { form = given; plain = given ∙ waves_is name words; few = c.waves_with.ensures.few }
 
 pub returns-in-Ok-None : goal.returns-in-Ok-None
