@@ -1,5 +1,5 @@
--- Each run of a net with shared bodies is a run of the net with copies, of no more moves; it is safe, and rests only where
--- the other rests.
+-- Each run of a net with shared bodies is a run of the net with copies, of no more moves, and of half as many at least but for
+-- what is owed; it is safe, and rests only where the other rests.
 --
 -- M, A, B, S, cur, st, far: as in MapStates; ns: the nodes that move, in order; c: a call; x: a node of its body.
 use Rattle.std.proofs.Common.{◌≡◌, ◌≢◌, ℕ, ◌+◌, ◌*◌, ◌<◌, ◌≤◌, ◌==◌, Bool, true, false, List, [], ◌∷◌, length, refl, sym, ap, ◌∙◌, subst, arith, ⊎_elim, None}
@@ -47,6 +47,7 @@ module _ (M : Mapping) where
       never true = refl
       never false = refl
 
+  -- no number beyond the net's own moves
   pub past_still : (st : RunState) (n : ℕ) → S.count ≤ n → move_enabled A script st n ≡ false
   past_still st n le = unruled_still M.names firsts M.rules st n (let w = is.within in omega (arith, w, le)) (is.past n le)
 
