@@ -1,7 +1,7 @@
 -- Each run of a net with shared bodies, from its first values.
 --
 -- A: the net with shared bodies; B: the net with copies; S: how they are numbered; st: a state of a net; ns: a run.
-use Rattle.std.proofs.Common.{◌≡◌, ℕ, Bool, true, List, [], ◌∷◌, ◌++◌, None, refl, sym, ap, ◌∙◌, subst}
+use Rattle.std.proofs.Common.{◌≡◌, ℕ, ◌≤◌, Bool, true, false, List, [], ◌∷◌, ◌++◌, None, refl, sym, ap, ◌∙◌, subst, arith}
 use Rattle.prs_core.specs.declared.wires.Wires.{Wires}
 use Rattle.prs_core.specs.Nets.{RulesValue, NetValue, net_of}
 use Rattle.prs_core.specs.Moves.{high}
@@ -10,7 +10,8 @@ use Rattle.env_script.specs.Runs.{RunState, move_enabled, moved, IsRun, after, b
 use Rattle.call_map.specs.Shared.{plainly, Sharing, SharesBodies, CopiesKeep, IsSafeAt}
 use Rattle.call_map.specs.Carrying.{CopiesKeepAlong, SafeAlong, IsMirrored, SharedRuns}
 use Rattle.call_map.proofs.MapStates.{Mapping}
-use Rattle.call_map.proofs.MapRuns.{mirror, tells_first, rest_there}
+use Rattle.call_map.proofs.MapDues.{few_owed}
+use Rattle.call_map.proofs.MapRuns.{mirror, tells_first, rest_there, past_still}
 
 module _ (net : NetValue) (script : List OfferValue) where
   run_on : (ns : List ℕ) (st : RunState) (n : ℕ) → IsRun net script st ns → move_enabled net script (after net st ns) n ≡ true
@@ -57,40 +58,48 @@ module _ (names more_names : List (List ℕ)) (first more_first : List Bool) (ru
   abbrev B : NetValue
   B = net_of more_names more_first more_rules ws None
 
-  pub mirrored : SharesBodies A B S → (script : List OfferValue) → SafeAlong B script → CopiesKeepAlong B S script
-      → (ns : List ℕ) → IsRun A script (begin_at A first) ns → IsMirrored A B S script ns
-  mirrored is script safe keep ns run =
-      let M : Mapping = record {
-        names = names;
-        more_names = more_names;
-        firsts = first;
-        more_firsts = more_first;
-        rules = rules;
-        more_rules = more_rules;
-        ws = ws;
-        S = S;
-        is = is;
-        script = script;
-        Reached = Reached B script;
-        next = reached_next B script;
-        safe = reached_safe B script safe;
-        keeps = reached_keeps B script S keep;
-      } in
-      let begins = tells_first M ([], tt, refl) in
-      let r = mirror M ns S.one_call (begin_at A first) (begin_at B more_first) begins run in
-      let last = r.last in
-      record {
-        moves = r.moves;
-        few = r.few;
-        run = r.run;
-        passed = last.histories;
-        plain = λ k h.
-            let z = is.low_plain k h in
-            ap (high (after A (begin_at A first) ns).values) (sym z.1)
-            ∙ (sym (last.shows (plainly k) z.0 tt) ∙ ap (high (after B (begin_at B more_first) r.moves).values) z.2);
-        rest = rest_there M r.cur (after A (begin_at A first) ns) (after B (begin_at B more_first) r.moves) last;
-        safe = r.is_safe;
-      }
+  module _ (is : SharesBodies A B S) (script : List OfferValue) (safe : SafeAlong B script) (keep : CopiesKeepAlong B S script) where
+    abbrev mapping : Mapping
+    mapping = record {
+      names = names;
+      more_names = more_names;
+      firsts = first;
+      more_firsts = more_first;
+      rules = rules;
+      more_rules = more_rules;
+      ws = ws;
+      S = S;
+      is = is;
+      script = script;
+      Reached = Reached B script;
+      next = reached_next B script;
+      safe = reached_safe B script safe;
+      keeps = reached_keeps B script S keep;
+    }
+
+    pub past_last : (st : RunState) (n : ℕ) → S.count ≤ n → move_enabled A script st n ≡ false
+    past_last st n le = past_still mapping st n le
+
+    pub mirrored : (ns : List ℕ) → IsRun A script (begin_at A first) ns → IsMirrored A B S script ns
+    mirrored ns run =
+        let begins = tells_first mapping ([], tt, refl) in
+        let r = mirror mapping ns S.one_call (begin_at A first) (begin_at B more_first) begins run in
+        let last = r.last in
+        let count = r.many in
+        let owes = few_owed mapping r.more (after A (begin_at A first) ns) (after B (begin_at B more_first) r.moves) last in
+        record {
+          moves = r.moves;
+          few = r.few;
+          many = omega (arith, count, owes);
+          run = r.run;
+          passed = last.histories;
+          plain = λ k h.
+              let z = is.low_plain k h in
+              ap (high (after A (begin_at A first) ns).values) (sym z.1)
+              ∙ (sym (last.shows (plainly k) z.0 tt) ∙ ap (high (after B (begin_at B more_first) r.moves).values) z.2);
+          rest = rest_there mapping r.more (after A (begin_at A first) ns) (after B (begin_at B more_first) r.moves) last;
+          safe = r.is_safe;
+        }
 
 pub shared_runs : SharedRuns
 shared_runs names more_names first more_first rules more_rules ws S is script safe keep ns run =

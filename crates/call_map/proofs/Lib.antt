@@ -3,6 +3,7 @@ mod MapNodes
 mod MapStates
 mod MapGuards
 mod MapEnabled
+mod MapDues
 mod MapMoved
 mod MapOwed
 mod MapWent
@@ -36,4 +37,5 @@ mod CallLiterals
 mod CallWithin
 mod CallHolds
 mod CallReset
+mod CallProgress
 mod CallExamples

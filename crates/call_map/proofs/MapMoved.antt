@@ -14,6 +14,7 @@ use Rattle.net_compose.proofs.Renamed.{values_same, values_stay}
 use Rattle.call_map.proofs.MapNodes.{level, phase_same, v, u, end, back, Current, IsOther, back_end, image, image_back, back_one, never_asks, never_result, not_current, IsOwn, IsFar, Drops}
 use Rattle.call_map.proofs.MapStates.{Mapping, shared_net, copies_net, may_there, PhaseOf, Tells, within_end, is_back, alike}
 use Rattle.call_map.proofs.MapGuards.{beyond_here, back_tests, low_alike}
+use Rattle.call_map.proofs.MapDues.{OwesOne}
 use Rattle.call_map.proofs.MapEnabled.{same_here, turned_here, same_there, turned_there, stays_on}
 
 module _ (M : Mapping) where
@@ -190,5 +191,5 @@ module _ (M : Mapping) where
   pub data Went (cur : ℕ → ℕ) (st far : RunState) (s : Here) : Type 0 where
     goes : (to : There) → IsThere S to → Current S cur to → back S to ≡ s → may_there M far to ≡ true
         → Tells M cur (moved A st (S.here s)) (moved B far (S.there to)) → Went cur st far s
-    stays : (more : ℕ → ℕ) → Drops S s → (to : There) → IsThere S to → IsFar S to → IsOwn S s → may_there M far to ≡ true → v S st s ≡ u S far to
+    stays : (more : ℕ → ℕ) → Drops S s → OwesOne M cur more st s → (to : There) → IsThere S to → IsFar S to → IsOwn S s → may_there M far to ≡ true → v S st s ≡ u S far to
         → Tells M more (moved A st (S.here s)) far → Went cur st far s

@@ -13,6 +13,7 @@ use Rattle.call_map.proofs.MapNodes.{level, asking, giving, asks_apart, body_apa
 use Rattle.call_map.proofs.MapStates.{Mapping, shared_net, copies_net, may, may_there, PhaseOf, Tells, within_end, passed, given, inside, body_alike, alike}
 use Rattle.call_map.proofs.MapGuards.{asks_same, body_same}
 use Rattle.call_map.proofs.MapEnabled.{giving_still, giving_asked, asking_still, asking_asked, AllLow, other_may, other_low}
+use Rattle.call_map.proofs.MapDues.{owed, level_owes, asking_owes, giving_owes, OwesOne, owes_kept}
 use Rattle.call_map.proofs.MapMoved.{all_stay, dropped_histories, back_stays, dropped, untouched, itself_turned, Went, stays}
 
 module _ (M : Mapping) where
@@ -54,7 +55,9 @@ module _ (M : Mapping) where
             let asks_is = all_stay M cur st far t (body_end S c) is_body tt never (asks c) l (λ z. cc) in
             let enters_is = all_stay M cur st far t (body_end S c) is_body tt never (enters (S.of c)) (is.of_below c l) (λ z. cc) in
             let answers_is = all_stay M cur st far t (body_end S c) is_body tt never (answers c) l (λ z. cc) in
-            stays cur (answer c l refl) (copied c (end S c)) is_copy tt tt far_on (da ∙ sym g)
+            let since = giving_owes M (moved A st (S.here (body_end S c))) c (asks_is ∙ (rq ∙ sym enters_is)) (turned ∙ ap not (da ∙ sym answers_is)) in
+            stays cur (answer c l refl) (owes_kept M cur st (body_end S c) c refl l on (level_owes M st c rq da) since)
+            (copied c (end S c)) is_copy tt tt far_on (da ∙ sym g)
             (dropped M cur st far t (body_end S c) is_body tt never (λ k m off. (λ z. cc, λ z. cc))
             (λ k m now. ⊎_elim
             (λ (same : k ≡ c). subst (λ z. PhaseOf M (moved A st (S.here (body_end S c))) far z) (sym same)
@@ -81,7 +84,8 @@ module _ (M : Mapping) where
             let result_is = all_stay M cur st far t (asks c) l tt never (body_end S c) (is.of_below c l, within_end M c l) (λ z. cc) in
             let enters_is = all_stay M cur st far t (asks c) l tt never (enters (S.of c)) (is.of_below c l) (λ z. cc) in
             let answers_is = all_stay M cur st far t (asks c) l tt never (answers c) l (λ z. cc) in
-            stays cur (request c l refl) (asked c) l tt tt far_on (rq ∙ sym p)
+            let since = asking_owes M (moved A st (S.here (asks c))) c (turned ∙ ap not (rq ∙ sym enters_is)) (result_is ∙ (da ∙ sym answers_is)) in
+            stays cur (request c l refl) (owes_kept M cur st (asks c) c refl l on (level_owes M st c rq da) since) (asked c) l tt tt far_on (rq ∙ sym p)
             (dropped M cur st far t (asks c) l tt never
             (λ k m off. (λ z. let same = asks_apart k c z in off (subst (λ i. cur (S.of i) ≡ i) (sym same) on), λ z. cc))
             (λ k m now. ⊎_elim
@@ -208,6 +212,18 @@ module _ (M : Mapping) where
             (λ (ne : S.of k ≢ S.of j). t.idle k l (λ f. more (pick_other (S.of k) ne ∙ f)))
             (cases_eq (S.of k) (S.of j))
 
+    switch_entered : v S switched (enters (S.of j)) ≡ false
+    switch_entered = stay (enters (S.of j)) (is.of_below j m) (λ e. cc) ∙ entry_low (S.of j) refl
+
+    switch_ended : v S switched (body_end S j) ≡ false
+    switch_ended = stay (body_end S j) (is.of_below j m, within_end M j m) (λ e. cc) ∙ body_low (S.of j) (end S j) refl (within_end M j m)
+
+    switch_answered : v S switched (answers j) ≡ false
+    switch_answered = stay (answers j) m (λ e. cc) ∙ (t.idle j m off).1
+
+    switch_asked : v S switched (asks j) ≡ not (v S switched (enters (S.of j)))
+    switch_asked = itself_turned M cur st far t (asks j) m tt no_back ∙ ap not ((t.idle j m off).0 ∙ sym switch_entered)
+
     abbrev SwitchPhase : ℕ → Type 0
     SwitchPhase k = PhaseOf M switched far k
 
@@ -220,13 +236,7 @@ module _ (M : Mapping) where
         (cases_eq (S.of k) (S.of j))
       where
         mine : SwitchPhase j
-        mine =
-            let entered : v S switched (enters (S.of j)) ≡ false = stay (enters (S.of j)) (is.of_below j m) (λ e. cc) ∙ entry_low (S.of j) refl in
-            let ended : v S switched (body_end S j) ≡ false =
-            stay (body_end S j) (is.of_below j m, within_end M j m) (λ e. cc) ∙ body_low (S.of j) (end S j) refl (within_end M j m) in
-            let answered : v S switched (answers j) ≡ false = stay (answers j) m (λ e. cc) ∙ (t.idle j m off).1 in
-            asking (itself_turned M cur st far t (asks j) m tt no_back ∙ ap not ((t.idle j m off).0 ∙ sym entered)) (ended ∙ sym entered)
-            (answered ∙ sym entered) switch_on
+        mine = asking switch_asked (switch_ended ∙ sym switch_entered) (switch_answered ∙ sym switch_entered) switch_on
 
     switch_current : (p : ℕ) → p < S.procs → (pick p < S.calls) × (S.of (pick p) ≡ p)
     switch_current p l = ⊎_elim
@@ -234,8 +244,16 @@ module _ (M : Mapping) where
         (λ (ne : p ≢ S.of j). subst (λ k. (k < S.calls) × (S.of k ≡ p)) (sym (pick_other p ne)) (t.current p l))
         (cases_eq p (S.of j))
 
+    switch_owes : OwesOne M cur pick st (asks j)
+    switch_owes = record {
+      below = is.of_below j m;
+      before = level_owes M st before (before_low.asked ∙ sym before_low.entered) (before_low.ended ∙ sym before_low.answered);
+      since = ap (owed M switched) (pick_same (S.of j) refl) ∙ asking_owes M switched j switch_asked (switch_ended ∙ sym switch_answered);
+      others = pick_other;
+    }
+
     pub switch_went : Went M cur st far (asks j)
-    switch_went = stays pick (request j m refl) (asked j) m tt tt switch_on ((t.idle j m off).0 ∙ sym (t.blank (asked j) m off)) (record {
+    switch_went = stays pick (request j m refl) switch_owes (asked j) m tt tt switch_on ((t.idle j m off).0 ∙ sym (t.blank (asked j) m off)) (record {
       long = length-set st.values (S.here (asks j)) (not (v S st (asks j))) ∙ t.long;
       long_there = t.long_there;
       histories = dropped_histories M cur st far t (asks j) m tt no_back;

@@ -1,8 +1,8 @@
--- Each run of a net with shared bodies is a run of the net with copies, of no more moves; it is safe, and rests only where
--- the other rests.
+-- Each run of a net with shared bodies is a run of the net with copies, of no more moves, and of half as many at least but for
+-- what is owed; it is safe, and rests only where the other rests.
 --
 -- M, A, B, S, cur, st, far: as in MapStates; ns: the nodes that move, in order; c: a call; x: a node of its body.
-use Rattle.std.proofs.Common.{◌≡◌, ◌≢◌, ℕ, ◌<◌, ◌≤◌, ◌==◌, Bool, true, false, List, [], ◌∷◌, length, refl, sym, ap, ◌∙◌, subst, arith, ⊎_elim, None}
+use Rattle.std.proofs.Common.{◌≡◌, ◌≢◌, ℕ, ◌+◌, ◌*◌, ◌<◌, ◌≤◌, ◌==◌, Bool, true, false, List, [], ◌∷◌, length, refl, sym, ap, ◌∙◌, subst, arith, ⊎_elim, None}
 use Rattle.std.specs.Prelude.{not, ◌&&◌, ◌||◌, if◌then◌else◌}
 use Rattle.std.proofs.lemmas.Bool.{cases_lt, cases_eq, ne_eqb}
 use Rattle.prs_core.specs.Nets.{RulesValue, NetValue, net_of, up_of, down_of}
@@ -14,6 +14,7 @@ use Rattle.call_map.proofs.MapNodes.{level, asking, giving, v, u, end, back_at, 
 use Rattle.call_map.proofs.MapStates.{Mapping, shared_net, copies_net, may, may_there, PhaseOf, Tells, within_end, passed, body_alike, alike}
 use Rattle.call_map.proofs.MapGuards.{env_none, plain_same, asks_same, body_same}
 use Rattle.call_map.proofs.MapEnabled.{giving_alike, all_low, enters_owed, answers_owed, others_idle}
+use Rattle.call_map.proofs.MapDues.{all_owed, one_more_owed, one_less_owed}
 use Rattle.call_map.proofs.MapMoved.{Went, goes, stays}
 use Rattle.call_map.proofs.MapWent.{at_proc, went}
 use Rattle.call_map.proofs.MapStable.{stable, no_fault}
@@ -45,6 +46,10 @@ module _ (M : Mapping) where
       never : (b : Bool) → (if b then false else false) ≡ false
       never true = refl
       never false = refl
+
+  -- no number beyond the net's own moves
+  pub past_still : (st : RunState) (n : ℕ) → S.count ≤ n → move_enabled A script st n ≡ false
+  past_still st n le = unruled_still M.names firsts M.rules st n (let w = is.within in omega (arith, w, le)) (is.past n le)
 
   module _ (cur : ℕ → ℕ) (st far : RunState) (t : Tells M cur st far) where
     -- no node is pulled both ways
@@ -117,11 +122,8 @@ module _ (M : Mapping) where
         (cases_lt n S.count)
 
     -- a node that may move is one of the net
-    past_still : (n : ℕ) → S.count ≤ n → move_enabled A script st n ≡ false
-    past_still n le = unruled_still M.names firsts M.rules st n (let w = is.within in omega (arith, w, le)) (is.past n le)
-
     found : (n : ℕ) → move_enabled A script st n ≡ true → (s : Here) × IsHere S s × (S.here s ≡ n)
-    found n on = ⊎_elim (λ (l : n < S.count). is.here_back n l) (λ (le : S.count ≤ n). absurd (true_false (move_enabled A script st n) on (past_still n le)))
+    found n on = ⊎_elim (λ (l : n < S.count). is.here_back n l) (λ (le : S.count ≤ n). absurd (true_false (move_enabled A script st n) on (past_still st n le)))
         (cases_lt n S.count)
 
     safe_move : (s : Here) → IsHere S s → may M st s ≡ true → IsSafeMove A script st (S.here s)
@@ -175,43 +177,51 @@ module _ (M : Mapping) where
         (cases_lt n S.count_there)
 
   -- a run of the shared net as a run of the net with copies
-  pub record Mirrored (st far : RunState) (ns : List ℕ) : Type 0 where
+  pub record Mirrored (cur : ℕ → ℕ) (st far : RunState) (ns : List ℕ) : Type 0 where
     pub moves : List ℕ
     pub few : length moves ≤ length ns
     pub run : IsRun B script far moves
-    pub cur : ℕ → ℕ
-    pub last : Tells M cur (after A st ns) (after B far moves)
+    pub more : ℕ → ℕ
+    pub last : Tells M more (after A st ns) (after B far moves)
+    pub many : length ns + all_owed M cur st ≤ 2 * length moves + all_owed M more (after A st ns)
     pub is_safe : IsSafeRun A script st ns
 
-  pub mirror : (ns : List ℕ) (cur : ℕ → ℕ) (st far : RunState) → Tells M cur st far → IsRun A script st ns → Mirrored st far ns
-  mirror [] cur st far t run = record { moves = []; few = omega arith; run = tt; cur = cur; last = t; is_safe = apart_here cur st far t }
+  pub mirror : (ns : List ℕ) (cur : ℕ → ℕ) (st far : RunState) → Tells M cur st far → IsRun A script st ns → Mirrored cur st far ns
+  mirror [] cur st far t run =
+      record { moves = []; few = omega arith; run = tt; more = cur; last = t; many = omega arith; is_safe = apart_here cur st far t }
   mirror (n ∷ ns) cur st far t run =
       let b = found cur st far t n run.0 in
-      subst (λ k. (move_enabled A script st k ≡ true) → IsRun A script (moved A st k) ns → Mirrored st far (k ∷ ns)) b.2
+      subst (λ k. (move_enabled A script st k ≡ true) → IsRun A script (moved A st k) ns → Mirrored cur st far (k ∷ ns)) b.2
       (λ on rest. one_more (λ more x y tells goes_on. mirror ns more x y tells goes_on) b.0 b.1 on rest (went M cur st far t b.0 b.1 on)) run.0 run.1
     where
-      one_more : ((more : ℕ → ℕ) (x y : RunState) → Tells M more x y → IsRun A script x ns → Mirrored x y ns) → (s : Here) → IsHere S s → may M st s ≡ true
-          → IsRun A script (moved A st (S.here s)) ns → Went M cur st far s → Mirrored st far (S.here s ∷ ns)
+      one_more : ((more : ℕ → ℕ) (x y : RunState) → Tells M more x y → IsRun A script x ns → Mirrored more x y ns) → (s : Here) → IsHere S s → may M st s ≡ true
+          → IsRun A script (moved A st (S.here s)) ns → Went M cur st far s → Mirrored cur st far (S.here s ∷ ns)
       one_more later s h on rest (goes to ht now is_s far_on tells) =
           let r = later cur (moved A st (S.here s)) (moved B far (S.there to)) tells rest in
           let f = r.few in
+          let m = r.many in
+          let owes = one_less_owed M cur st far t s h in
           record {
             moves = S.there to ∷ r.moves;
             few = omega (arith, f);
             run = (far_on, r.run);
-            cur = r.cur;
+            more = r.more;
             last = r.last;
+            many = omega (arith, m, owes);
             is_safe = (apart_here cur st far t, safe_move cur st far t s h on, r.is_safe);
           }
-      one_more later s h on rest (stays more drops to ht is_far own far_on same tells) =
+      one_more later s h on rest (stays more drops due to ht is_far own far_on same tells) =
           let r = later more (moved A st (S.here s)) far tells rest in
           let f = r.few in
+          let m = r.many in
+          let owes = one_more_owed M cur st far t s h more due in
           record {
             moves = r.moves;
             few = omega (arith, f);
             run = r.run;
-            cur = r.cur;
+            more = r.more;
             last = r.last;
+            many = omega (arith, m, owes);
             is_safe = (apart_here cur st far t, safe_move cur st far t s h on, r.is_safe);
           }
 

@@ -3,3 +3,4 @@ pub mod Carrying
 pub mod Calling
 pub mod CallsApart
 pub mod CallNet
+pub mod CallPace
