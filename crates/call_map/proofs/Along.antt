@@ -10,7 +10,7 @@ use Rattle.env_script.specs.Runs.{RunState, move_enabled, moved, IsRun, after, b
 use Rattle.call_map.specs.Shared.{plainly, Sharing, SharesBodies, CopiesKeep, IsSafeAt}
 use Rattle.call_map.specs.Carrying.{CopiesKeepAlong, SafeAlong, IsMirrored, SharedRuns}
 use Rattle.call_map.proofs.MapStates.{Mapping}
-use Rattle.call_map.proofs.MapDues.{few_owed}
+use Rattle.call_map.proofs.MapCounts.{few_owed}
 use Rattle.call_map.proofs.MapRuns.{mirror, tells_first, rest_there, past_still}
 
 module _ (net : NetValue) (script : List OfferValue) where

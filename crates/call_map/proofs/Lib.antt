@@ -3,7 +3,7 @@ mod MapNodes
 mod MapStates
 mod MapGuards
 mod MapEnabled
-mod MapDues
+mod MapCounts
 mod MapMoved
 mod MapOwed
 mod MapWent

@@ -14,7 +14,7 @@ use Rattle.net_compose.proofs.Renamed.{values_same, values_stay}
 use Rattle.call_map.proofs.MapNodes.{level, phase_same, v, u, end, back, Current, IsOther, back_end, image, image_back, back_one, never_asks, never_result, not_current, IsOwn, IsFar, Drops}
 use Rattle.call_map.proofs.MapStates.{Mapping, shared_net, copies_net, may_there, PhaseOf, Tells, within_end, is_back, alike}
 use Rattle.call_map.proofs.MapGuards.{beyond_here, back_tests, low_alike}
-use Rattle.call_map.proofs.MapDues.{OwesOne}
+use Rattle.call_map.proofs.MapCounts.{OwesOne}
 use Rattle.call_map.proofs.MapEnabled.{same_here, turned_here, same_there, turned_there, stays_on}
 
 module _ (M : Mapping) where

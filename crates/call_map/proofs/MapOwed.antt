@@ -13,7 +13,7 @@ use Rattle.call_map.proofs.MapNodes.{level, asking, giving, asks_apart, body_apa
 use Rattle.call_map.proofs.MapStates.{Mapping, shared_net, copies_net, may, may_there, PhaseOf, Tells, within_end, passed, given, inside, body_alike, alike}
 use Rattle.call_map.proofs.MapGuards.{asks_same, body_same}
 use Rattle.call_map.proofs.MapEnabled.{giving_still, giving_asked, asking_still, asking_asked, AllLow, other_may, other_low}
-use Rattle.call_map.proofs.MapDues.{owed, level_owes, asking_owes, giving_owes, OwesOne, owes_kept}
+use Rattle.call_map.proofs.MapCounts.{owed, level_owes, asking_owes, giving_owes, OwesOne, owes_kept}
 use Rattle.call_map.proofs.MapMoved.{all_stay, dropped_histories, back_stays, dropped, untouched, itself_turned, Went, stays}
 
 module _ (M : Mapping) where

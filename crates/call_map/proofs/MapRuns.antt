@@ -14,7 +14,7 @@ use Rattle.call_map.proofs.MapNodes.{level, asking, giving, v, u, end, back_at, 
 use Rattle.call_map.proofs.MapStates.{Mapping, shared_net, copies_net, may, may_there, PhaseOf, Tells, within_end, passed, body_alike, alike}
 use Rattle.call_map.proofs.MapGuards.{env_none, plain_same, asks_same, body_same}
 use Rattle.call_map.proofs.MapEnabled.{giving_alike, all_low, enters_owed, answers_owed, others_idle}
-use Rattle.call_map.proofs.MapDues.{all_owed, one_more_owed, one_less_owed}
+use Rattle.call_map.proofs.MapCounts.{all_owed, one_more_owed, one_less_owed}
 use Rattle.call_map.proofs.MapMoved.{Went, goes, stays}
 use Rattle.call_map.proofs.MapWent.{at_proc, went}
 use Rattle.call_map.proofs.MapStable.{stable, no_fault}
@@ -210,11 +210,11 @@ module _ (M : Mapping) where
             many = omega (arith, m, owes);
             is_safe = (apart_here cur st far t, safe_move cur st far t s h on, r.is_safe);
           }
-      one_more later s h on rest (stays more drops due to ht is_far own far_on same tells) =
+      one_more later s h on rest (stays more drops owing to ht is_far own far_on same tells) =
           let r = later more (moved A st (S.here s)) far tells rest in
           let f = r.few in
           let m = r.many in
-          let owes = one_more_owed M cur st far t s h more due in
+          let owes = one_more_owed M cur st far t s h more owing in
           record {
             moves = r.moves;
             few = omega (arith, f);

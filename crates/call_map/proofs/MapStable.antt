@@ -45,7 +45,7 @@ module _ (M : Mapping) where
           plain_same M cur then_here (moved B far (S.there to)) (alike M cur then_here (moved B far (S.there to)) tells) tells.histories k h
           ∙ stays_on M far t.reached to (plainly k) ht h far_on (λ e. ne (ap (back S) e ∙ is_s))
           (sym (plain_same M cur st far (alike M cur st far t) t.histories k h) ∙ on)
-      plain_stable k h ne on (stays more drops owes to ht is_far own far_on same tells) =
+      plain_stable k h ne on (stays more drops owing to ht is_far own far_on same tells) =
           plain_same M more then_here far (alike M more then_here far tells) tells.histories k h
           ∙ (sym (plain_same M cur st far (alike M cur st far t) t.histories k h) ∙ on)
 
@@ -82,7 +82,7 @@ module _ (M : Mapping) where
               asks_same M cur then_here (moved B far (S.there to)) (alike M cur then_here (moved B far (S.there to)) tells) j m
               (still_here (asks j) m ne ∙ (even ∙ sym (same_there M far to (asked j) ht m ap_there)))
               ∙ stays_on M far t.reached to (asked j) ht m far_on ap_there on_there
-          by (stays more drops owes to ht is_far own far_on same tells) =
+          by (stays more drops owing to ht is_far own far_on same tells) =
               asks_same M more then_here far (alike M more then_here far tells) j m (still_here (asks j) m ne ∙ even) ∙ on_there
 
       enters_stable : (c : ℕ) → c < S.calls → cur (S.of c) ≡ c → enters (S.of c) ≢ s → may M st (enters (S.of c)) ≡ true
@@ -179,7 +179,7 @@ module _ (M : Mapping) where
               (λ (same : x ≡ end S c). no_answer (sym (back_end S c) ∙ (ap (λ y. back S (copied c y)) (sym same) ∙ (ap (back S) e ∙ is_s))))
               (λ (apart : x ≢ end S c). ne (sym (back_inner S c x apart) ∙ (ap (back S) e ∙ is_s)))
               (cases_eq x (end S c))) on_there
-          by_went da (stays more drops owes to ht is_far own far_on same tells) =
+          by_went da (stays more drops owing to ht is_far own far_on same tells) =
               let a = body_alike M cur st far t c l now da in
               let on_there : may_there M far (copied c x) ≡ true = sym (body_same M st far c x l a h) ∙ on in
               let no_result = not_both da on_there in
@@ -213,7 +213,7 @@ module _ (M : Mapping) where
           (fault_same (high st.values) (high far.values) S.low (S.here (back S to)) (S.there to)
           (low_alike M cur (high st.values) (high far.values) (alike M cur st far t))
           (sym (t.shows to ht now)) (back_tests M to ht) ws is.wires ∙ z.phases)
-      no_fault (stays more drops owes to ht is_far own far_on same tells) =
+      no_fault (stays more drops owing to ht is_far own far_on same tells) =
           let z = (safe far t.reached).each (S.there to) far_on in
           fault_same (high st.values) (high far.values) S.low (S.here s) (S.there to)
           (low_alike M cur (high st.values) (high far.values) (alike M cur st far t))
