@@ -1,15 +1,16 @@
 -- What is claimed of rounds and runs.
-use Rattle.std.specs.Prelude.{◌≡◌, ◌≤◌, ℕ, suc, List, ◌++◌}
+use Rattle.std.specs.Prelude.{◌≡◌, ◌≤◌, ℕ, suc, List}
 use Rattle.env_script.specs.Scripts.{OfferValue}
 use Rattle.env_script.specs.Runs.{history_at}
 use Rattle.width_check.specs.Processes.{TypedProgram}
 use Rattle.chp_meaning.specs.Terms.{Place}
 use Rattle.chp_meaning.specs.Steps.{Configuration, Step, Leads, start_of}
 use Rattle.chp_meaning.specs.Rounds.{rounds}
+use Rattle.chp_meaning.specs.Prefixes.{IsPrefixOf}
 
 -- each history of the first is a prefix of that of the second
 abbrev pub IsBehind : Configuration → Configuration → Type 0
-IsBehind c d = (k : ℕ) → (rest : List ℕ) × (history_at d.histories k ≡ history_at c.histories k ++ rest)
+IsBehind c d = (k : ℕ) → IsPrefixOf (history_at c.histories k) (history_at d.histories k)
 
 -- from each configuration that a run of m steps leads to, a run leads to that after m rounds
 abbrev pub OneHistory : TypedProgram → List OfferValue → Type 0

@@ -1,6 +1,7 @@
 pub mod Terms
 pub mod Steps
 pub mod Rounds
+pub mod Prefixes
 pub mod Laws
 pub mod Fitting
 pub mod Remaining

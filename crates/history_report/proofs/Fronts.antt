@@ -5,7 +5,8 @@ use Rattle.std.proofs.Math.Seq.{take-suc, take-length}
 use Rattle.std.proofs.lemmas.Bool.{cases_lt}
 use Rattle.std.proofs.lemmas.List.{get_or-take, get_or_append_left, take-append-drop, take-append-le}
 use Rattle.std.proofs.lemmas.Option.{slice_get-get_or}
-use Rattle.history_report.specs.Comparing.{IsFrontOf, IsFirstDifference}
+use Rattle.chp_meaning.specs.Prefixes.{IsPrefixOf}
+use Rattle.history_report.specs.Comparing.{IsFirstDifference}
 
 -- alike one place further
 pub take_further : {X : Type 0} (xs ys : List X) (k : ℕ) (d : X) → take k xs ≡ take k ys → k < length xs → k < length ys → get_or xs k d ≡ get_or ys k d →
@@ -15,13 +16,13 @@ take_further xs ys k d alike a b same =
 
 -- ---- what is found
 
-pub front_found : (xs ys : List ℕ) → take (length xs) xs ≡ take (length xs) ys → IsFrontOf xs ys
+pub front_found : (xs ys : List ℕ) → take (length xs) xs ≡ take (length xs) ys → IsPrefixOf xs ys
 front_found xs ys alike =
     (drop (length xs) ys, sym (take-append-drop (length xs) ys) ∙ ap (λ zs. zs ++ drop (length xs) ys) (sym alike ∙ take-length xs))
 
 -- ---- of longer lists
 
-pub front_longer : (xs ys zs : List ℕ) → IsFrontOf xs ys → IsFrontOf ys zs → IsFrontOf xs zs
+pub front_longer : (xs ys zs : List ℕ) → IsPrefixOf xs ys → IsPrefixOf ys zs → IsPrefixOf xs zs
 front_longer xs ys zs one two = (one.0 ++ two.0, two.1 ∙ (ap (λ l. l ++ two.0) one.1 ∙ append_assoc xs one.0 two.0))
 
 kept_at : (xs rest : List ℕ) (k : ℕ) → k < length xs → slice_get (xs ++ rest) k ≡ slice_get xs k
@@ -42,7 +43,7 @@ difference_longer xs ys rest k long d =
 
 -- ---- there is one
 
-pub not_both : (xs ys : List ℕ) (k : ℕ) → IsFrontOf xs ys → IsFirstDifference xs ys k → ⊥
+pub not_both : (xs ys : List ℕ) (k : ℕ) → IsPrefixOf xs ys → IsFirstDifference xs ys k → ⊥
 not_both xs ys k front d = d.differs (sym (kept_at xs front.0 k d.within) ∙ ap (λ l. slice_get l k) (sym front.1))
 
 not_before : (xs ys : List ℕ) (j k : ℕ) → j < k → IsFirstDifference xs ys j → IsFirstDifference xs ys k → ⊥

@@ -12,7 +12,8 @@ use Rattle.chp_meaning.specs.Laws.{IsBehind}
 use Rattle.chp_meaning.specs.Ends.{seen, IsOf, CanStep}
 use Rattle.chp_meaning.proofs.RoundAnswers.{reached_fits, round_rests, rounds_rest, rounds_more}
 use Rattle.chp_meaning.proofs.RoundRuns.{one_round_more, rounds_lead, run_behind}
-use Rattle.history_report.specs.Comparing.{IsFrontOf, IsFirstDifference}
+use Rattle.chp_meaning.specs.Prefixes.{IsPrefixOf}
+use Rattle.history_report.specs.Comparing.{IsFirstDifference}
 use Rattle.history_report.proofs.Fronts.{front_longer, difference_longer}
 
 -- `all` rounds were to be made from the first configuration, and `left` of them are left
@@ -54,7 +55,7 @@ behind_later : (t : TypedValue) (c : Config) (n : ℕ) → MeetsSharing (process
 behind_later t c n meeting of = run_behind (rounds_lead n (seen t c) (reached_fits t (seen t c) meeting of.reached)).1
 
 module _ (t : TypedValue) (c : Config) (left chan : ℕ) (xs : List ℕ) (meeting : MeetsSharing (process_of t.body)) (of : IsOf t c) where
-  pub front_after : IsFrontOf xs (history_at (seen t c).histories chan) → IsFrontOf xs (history_at (rounds_from (seen t c) left).histories chan)
+  pub front_after : IsPrefixOf xs (history_at (seen t c).histories chan) → IsPrefixOf xs (history_at (rounds_from (seen t c) left).histories chan)
   front_after front =
       front_longer xs (history_at (seen t c).histories chan) (history_at (rounds_from (seen t c) left).histories chan) front
       (behind_later t c left meeting of chan)
@@ -75,7 +76,7 @@ module _ (t : TypedValue) (c : Config) (left chan : ℕ) (xs : List ℕ) (meetin
   some_after None enough is = tt
   some_after (Some place) enough is = difference_after place enough is
 
-  pub none_after : (found : Option ℕ) → IfNone found (IsFrontOf xs (history_at (seen t c).histories chan))
-      → IfNone found (IsFrontOf xs (history_at (rounds_from (seen t c) left).histories chan))
+  pub none_after : (found : Option ℕ) → IfNone found (IsPrefixOf xs (history_at (seen t c).histories chan))
+      → IfNone found (IsPrefixOf xs (history_at (rounds_from (seen t c) left).histories chan))
   none_after None is = front_after is
   none_after (Some place) is = tt

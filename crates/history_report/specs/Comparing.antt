@@ -8,14 +8,11 @@ use Rattle.env_script.specs.Scripts.{OfferValue}
 use Rattle.event_sim.specs.Passing.{values_through}
 use Rattle.event_sim.specs.Simulating.{RanValue}
 use Rattle.width_check.specs.Processes.{TypedProgram}
+use Rattle.chp_meaning.specs.Prefixes.{IsPrefixOf}
 use Rattle.chp_meaning.specs.Rounds.{rounds}
 use Rattle.history_report.specs.declared.comparison.Against.{Against}
 use Rattle.history_report.specs.declared.comparison.Against.TheVariants.{Agrees, Channels, Differs}
 use Rattle.history_report.specs.Reports.{channel_name}
-
--- the first list is a prefix of the second
-abbrev pub IsFrontOf : List ℕ → List ℕ → Type 0
-IsFrontOf xs ys = (rest : List ℕ) × (ys ≡ xs ++ rest)
 
 -- The first index at which the first list differs from the second: before it they are alike, and there the first has a
 -- number that the second doesn't have there.
@@ -33,7 +30,7 @@ abbrev pub rounds_history : RanValue → TypedProgram → List OfferValue → (c
 rounds_history r p script chan = history_at (rounds p script r.moves).histories chan
 
 abbrev pub IsBehindRounds : RanValue → TypedProgram → List OfferValue → (chan : ℕ) → Type 0
-IsBehindRounds r p script chan = IsFrontOf (run_history r chan) (rounds_history r p script chan)
+IsBehindRounds r p script chan = IsPrefixOf (run_history r chan) (rounds_history r p script chan)
 
 -- The run's net has other channels than the program. Or it has the same, and on the first channel on which the run's
 -- history is no prefix of that of the rounds this is the first index that differs. Or it is a prefix on each.

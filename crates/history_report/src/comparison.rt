@@ -11,7 +11,8 @@ ghost use Rattle.width_check.specs.Typed.{program_of};
 ghost use Rattle.width_check.specs.View.{process_of};
 ghost use Rattle.chp_meaning.specs.Rounds.{rounds_from};
 ghost use Rattle.chp_meaning.specs.Ends.{seen, IsOf};
-ghost use Rattle.history_report.specs.Comparing.{IsFrontOf, IsFirstDifference, run_history, IsAgainst, IsAgainstIn, against_line};
+ghost use Rattle.chp_meaning.specs.Prefixes.{IsPrefixOf};
+ghost use Rattle.history_report.specs.Comparing.{IsFirstDifference, run_history, IsAgainst, IsAgainstIn, against_line};
 
 use crate::report::{append, channel_name};
 use chp_base::Channel;
@@ -71,7 +72,7 @@ fn values_on(alloc: Global, passed: &[(u32, u64)], chan: u32) -> Result<Vec<u64>
 /// The first index at which the value isn't the history's, or it has none; None where the values are a prefix of it.
 fn first_difference(values: &[u64], history: &[u64]) -> Option<usize>
     ensures some { IfSome result (λ place. IsFirstDifference values.now history.now place) }
-    ensures none { IfNone result (IsFrontOf values.now history.now) }
+    ensures none { IfNone result (IsPrefixOf values.now history.now) }
 {
     for (place, value) in values.iter().enumerate() {
         if place >= history.len() || history[place] != *value {
@@ -130,7 +131,7 @@ fn difference_on(
         ≡ rounds_from (seen program.now config.old) (left.old - left.new)) }
     ensures some { IfOk result (λ found. IfSome found (λ place. IsFirstDifference (run_history ran.now chan)
         (history_at (rounds_from (seen program.now config.new) left.new).histories chan) place)) }
-    ensures none { IfOk result (λ found. IfNone found (IsFrontOf (run_history ran.now chan)
+    ensures none { IfOk result (λ found. IfNone found (IsPrefixOf (run_history ran.now chan)
         (history_at (rounds_from (seen program.now config.new) left.new).histories chan))) }
 {
     let values = values_on(alloc, ran.passed(), chan)?;

@@ -1,6 +1,6 @@
 -- What it means for a net to carry a program: whatever the environment offers and in whatever order the gates switch.
 -- How the net was made plays no part in it.
-use Rattle.std.specs.Prelude.{◌≡◌, ◌↔◌, ◌≤◌, ℕ, Bool, true, List, ◌++◌, map, length, All, ◌≢◌, codes, Some, None}
+use Rattle.std.specs.Prelude.{◌≡◌, ◌↔◌, ◌≤◌, ℕ, Bool, true, List, map, length, All, ◌≢◌, codes, Some, None}
 use Rattle.prs_core.specs.declared.wires.Wires.{Wires}
 use Rattle.prs_core.specs.Nets.{NetValue, IsNet}
 use Rattle.prs_core.specs.Moves.{high}
@@ -12,10 +12,11 @@ use Rattle.handshake_expand.specs.Layout.{done_node}
 use Rattle.chp_meaning.specs.Terms.{Place, finished}
 use Rattle.chp_meaning.specs.Steps.{Configuration, Step}
 use Rattle.chp_meaning.specs.Rounds.{rounds}
+use Rattle.chp_meaning.specs.Prefixes.{IsPrefixOf}
 
 -- on each channel the circuit's history is a prefix of the program's
 abbrev pub IsFollowing : RunState → Configuration → Type 0
-IsFollowing st c = (k : ℕ) → (rest : List ℕ) × (history_at c.histories k ≡ history_at st.histories k ++ rest)
+IsFollowing st c = (k : ℕ) → IsPrefixOf (history_at st.histories k) (history_at c.histories k)
 
 -- the circuit has passed all that the program has, which goes no further, and the answer is high exactly where it ended
 pub record IsSettled (st : RunState) (c : Configuration) : Type 0 where

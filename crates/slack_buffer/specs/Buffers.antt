@@ -9,6 +9,7 @@ use Rattle.width_check.specs.Typing.{channel_width}
 use Rattle.chp_meaning.specs.Steps.{Configuration, Leads, start_of}
 use Rattle.chp_meaning.specs.Rounds.{rounds}
 use Rattle.chp_meaning.specs.Laws.{IsBehind}
+use Rattle.chp_meaning.specs.Prefixes.{IsPrefixOf}
 
 -- what no text has
 abbrev pub nowhere : Span
@@ -60,17 +61,13 @@ buffered p chan k = record {
 abbrev pub with_nothing : List OfferValue → List OfferValue
 with_nothing script = script ++ nothing ∷ []
 
--- the first list is a prefix of the second
-abbrev pub GoesOn : List ℕ → List ℕ → Type 0
-GoesOn xs ys = (rest : List ℕ) × (ys ≡ xs ++ rest)
-
 -- what passes in a run of m steps is a prefix of what passes in 3m rounds with the buffer, and what passes on the
 -- channel then is a prefix of what passes on its copy
 abbrev pub KeepsPassing : TypedProgram → (chan k : ℕ) → Type 0
 KeepsPassing p chan k = (script : List OfferValue) (m : ℕ) (c : Configuration) → IsScript p.channels script →
     Leads (start_of p script) m c →
     IsBehind c (rounds (buffered p chan k) (with_nothing script) (3 * m))
-    × GoesOn (history_at c.histories chan)
+    × IsPrefixOf (history_at c.histories chan)
     (history_at (rounds (buffered p chan k) (with_nothing script) (3 * m)).histories (length p.channels))
 
 -- the first list, or it without its last value

@@ -10,7 +10,8 @@ use Rattle.width_check.specs.Typed.{program_of}
 use Rattle.chp_meaning.specs.Steps.{Configuration, start_of}
 use Rattle.chp_meaning.specs.Rounds.{rounds, rounds_from}
 use Rattle.chp_meaning.specs.Ends.{seen}
-use Rattle.history_report.specs.Comparing.{IsFrontOf, IsFirstDifference, IsBehindRounds, run_history, rounds_history}
+use Rattle.chp_meaning.specs.Prefixes.{IsPrefixOf}
+use Rattle.history_report.specs.Comparing.{IsFirstDifference, IsBehindRounds, run_history, rounds_history}
 use Rattle.history_report.proofs.Few.{channels_fit}
 use Rattle.history_report.proofs.Onward.{all_lead, made_further}
 use Rattle.history_report.proofs.comparison.compare.Goals as goal
@@ -46,9 +47,9 @@ front c none =
     let chan = c.loop-chan.chan in
     let run = run_history c.args.ran.now chan in
     let t = c.args.program.now in
-    let is = subst (λ (o : Option ℕ). IfNone o (IsFrontOf run
+    let is = subst (λ (o : Option ℕ). IfNone o (IsPrefixOf run
     (history_at (rounds_from (seen t c.difference_on.new.config) c.difference_on.new.left).histories chan))) none c.in_ok-place.ensures.none in
-    subst (λ (x : Configuration). IsFrontOf run (history_at x.histories chan)) (leads c) is
+    subst (λ (x : Configuration). IsPrefixOf run (history_at x.histories chan)) (leads c) is
 
 difference : (c : In_ok-place) (place : ℕ) → c.in_ok-place.field-0 ≡ Some place → IsFirstDifference (run_history c.args.ran.now c.loop-chan.chan)
     (rounds_history c.args.ran.now (program_of c.args.program.now) c.args.script.now c.loop-chan.chan) place

@@ -3,7 +3,8 @@ use Rattle.std.specs.Prelude.{IfSome, IfNone}
 use Rattle.env_script.specs.Runs.{history_at}
 use Rattle.event_sim.specs.Passing.{values_through}
 use Rattle.chp_meaning.specs.Ends.{seen}
-use Rattle.history_report.specs.Comparing.{IsFrontOf, IsFirstDifference, run_history}
+use Rattle.chp_meaning.specs.Prefixes.{IsPrefixOf}
+use Rattle.history_report.specs.Comparing.{IsFirstDifference, run_history}
 use Rattle.history_report.proofs.Onward.{some_after, none_after}
 use Rattle.history_report.proofs.comparison.difference_on.Goals as goal
 
@@ -28,6 +29,6 @@ returns-clause-none c =
     let run = run_history c.args.ran.now chan in
     let found = c.first_difference.result in
     let values_are : c.deref.result.now ≡ run = c.deref.ensures.value ∙ (c.in_ok-values.ensures ∙ ap (values_through chan) c.passed.ensures.passed) in
-    let is = subst (λ (ys : List ℕ). IfNone found (IsFrontOf c.deref.result.now ys)) c.history.ensures c.first_difference.ensures.none in
+    let is = subst (λ (ys : List ℕ). IfNone found (IsPrefixOf c.deref.result.now ys)) c.history.ensures c.first_difference.ensures.none in
     none_after t c.reach.new.config c.reach.new.left chan run c.requires.sharing c.reach.ensures.of found
-    (subst (λ (xs : List ℕ). IfNone found (IsFrontOf xs (history_at (seen t c.reach.new.config).histories chan))) values_are is)
+    (subst (λ (xs : List ℕ). IfNone found (IsPrefixOf xs (history_at (seen t c.reach.new.config).histories chan))) values_are is)
