@@ -37,7 +37,7 @@ meant_checks means free (too_many_forms calls meets large) = absurd (calls free)
 meant_checks {tree} means free (faulty itself fault) = faulty (subst (λ (t : ProgramTree). Means tree t) (means_itself free itself) means) fault
 meant_checks {tree} means free (accepted itself are is) = accepted (subst (λ (t : ProgramTree). Means tree t) (means_itself free itself) means) are is
 
-buffer_goes : {tree : ProgramTree} {chan : Option (List ℕ)} {Next : TypedProgram → Answer → Type 0} {a : Answer} → FromBuffer tree chan Never a →
+pub buffer_goes : {tree : ProgramTree} {chan : Option (List ℕ)} {Next : TypedProgram → Answer → Type 0} {a : Answer} → FromBuffer tree chan Never a →
     FromBuffer tree chan Next a
 buffer_goes (no_channel named not) = no_channel named not
 buffer_goes (has_channel made is never) = absurd never

@@ -1,6 +1,7 @@
 -- A program that was checked in place of the one that means it.
 use Rattle.std.proofs.Common.{◌≡◌, ℕ, List, Option, subst}
 use Rattle.std.specs.Prelude.{Result, Ok, Err, IfOk, IfErr, OnOk}
+use Rattle.chp_syntax.specs.Shape.{IsShaped}
 use Rattle.chp_syntax.specs.Trees.{ProgramTree}
 use Rattle.width_check.specs.Accepted.{IsAccepted}
 use Rattle.width_check.specs.Calls.{IsCallFree}
@@ -10,10 +11,10 @@ use Rattle.command_answers.specs.declared.answer.Stop.{Stop}
 use Rattle.command_answers.specs.Answers.{Answer}
 use Rattle.command_answers.specs.Replies.{Halts}
 use Rattle.command_steps.specs.HeldBuffered.{IsBufferedFrom}
-use Rattle.command_steps.specs.Inlined.{IsFormOf, Means}
+use Rattle.command_steps.specs.Inlined.{AreShaped, IsFormOf, Means}
 use Rattle.command_steps.specs.Steps.{FromChecks}
 use Rattle.command_steps.proofs.BufferStopping.{meant_checks}
-use Rattle.command_steps.proofs.OneMeaning.{means_itself}
+use Rattle.command_steps.proofs.OneMeaning.{means_itself, means_once}
 use Rattle.command_steps.proofs.Stopping.{err_in, halts_in}
 use Rattle.command_words.proofs.Results.{ok_in}
 
@@ -30,6 +31,11 @@ module _ {T E : Type 0} (typed : T → TypedProgram) (tree plain : ProgramTree) 
     where
       meant : (other : ProgramTree) → Means plain other → Means tree other
       meant other itself = subst (λ (p : ProgramTree). Means tree p) (means_itself free itself) means
+
+-- what is meant has the shape of the grammar, where one that is meant has it
+pub shaped_as : {T E : Type 0} (tree plain : ProgramTree) → Means tree plain → IsShaped plain → (r : Result T E) → OnOk r (AreShaped (Means tree))
+shaped_as tree plain means shaped (Ok t) = λ other also. subst IsShaped (means_once means also) shaped
+shaped_as tree plain means shaped (Err e) = tt
 
 pub checks_for : {T : Type 0} (tree plain : ProgramTree) → Means tree plain → IsCallFree plain → (Next : ProgramTree → Answer → Type 0) (r : Result T Stop) →
     IfErr r (Halts (FromChecks plain Next)) → IfErr r (Halts (FromChecks tree Next))

@@ -1,5 +1,6 @@
 -- The program with neither procedures nor calls that a program means.
 use Rattle.std.specs.Prelude.{◌≡◌, ◌≤◌}
+use Rattle.chp_syntax.specs.Shape.{IsShaped}
 use Rattle.chp_syntax.specs.Trees.{ProgramTree}
 use Rattle.width_check.specs.Accepted.{IsAccepted}
 use Rattle.width_check.specs.Calls.{IsCallFree}
@@ -15,6 +16,10 @@ pub data Means (program : ProgramTree) : ProgramTree → Type 0 where
   as_it_is : IsCallFree program → Means program program
   with_calls : {plain : ProgramTree} → ¬ IsCallFree program → MeetsCalling program → IsInlined program plain →
       statement_forms plain.body ≤ most_forms → Means program plain
+
+-- each such program has the shape of the grammar
+abbrev pub AreShaped : (ProgramTree → Type 0) → Type 0
+AreShaped Is = (program : ProgramTree) → Is program → IsShaped program
 
 -- that one is accepted, and this is its typed form
 pub record IsFormOf (program : ProgramTree) (typed : TypedProgram) : Type 0 where

@@ -10,7 +10,7 @@ ghost use Rattle.width_check.specs.Form.{typed_form};
 ghost use Rattle.width_check.specs.Typed.{program_of as typed_of};
 ghost use Rattle.command_answers.specs.Answers.{Gives, given_by};
 ghost use Rattle.command_answers.specs.Replies.{Halts, Stops};
-ghost use Rattle.command_steps.specs.Inlined.{IsFormOf, Means};
+ghost use Rattle.command_steps.specs.Inlined.{AreShaped, IsFormOf, Means};
 ghost use Rattle.command_steps.specs.Steps.{FromChecks, FromFile, FromNet, FromNodes, FromProgram, IsFileOf, IsTextOf, Never, most_declared, most_of_net, most_of_nodes, most_of_text};
 
 use call_merge::{CallError, inline};
@@ -125,6 +125,7 @@ pub fn checked_program<'a>(alloc: Global, program: &Program) -> Result<Disjoint,
     requires shaped { IsShaped (program_tree program.now) }
     requires few { length program.now.decls.items + length program.now.procs.items ≤ most_declared }
     ensures checked { IfOk result (λ disjoint. IsFormOf (program_tree program.now) (typed_of disjoint)) }
+    ensures shaped { OnOk result (AreShaped (Means (program_tree program.now))) }
     ensures stopped { IfErr result (Halts (FromChecks (program_tree program.now) Never)) }
 {
     if is_call_free(program) {

@@ -14,10 +14,10 @@ use Rattle.width_check.specs.Calls.{IsCallFree}
 use Rattle.width_check.specs.Processes.{TypedProgram}
 use Rattle.command_answers.specs.declared.answer.Ending.{Ending}
 use Rattle.command_answers.specs.Answers.{Given, Gives, Answer, writes}
-use Rattle.command_steps.specs.BufferSteps.{FromBuffer, has_channel, no_channel}
+use Rattle.command_steps.specs.BufferSteps.{FromBuffer, has_channel}
 use Rattle.command_steps.specs.HeldBuffered.{IsBufferedFrom}
 use Rattle.command_steps.specs.Steps.{FromChecks, FromNodes, IsTextOf, Never, accepted, few_enough}
-use Rattle.command_steps.proofs.BufferStopping.{checks_as}
+use Rattle.command_steps.proofs.BufferStopping.{buffer_goes, checks_as}
 use Rattle.command_words.specs.CompileWords.{AskedCompilation}
 use Rattle.program_commands.specs.declared.reply.Reply.{Reply}
 use Rattle.program_commands.specs.Compiling.{CompilesNet, CompilesProgram, FromBuilt, IsBuilt, IsFaithful, IsFaithfulFile, IsFaithfulTo, built, compiled, net_for, not_built}
@@ -72,11 +72,6 @@ pub built_goes : {program : ProgramTree} {buffer : Option (List ℕ)} {Next : An
     FromBuilt program buffer Next a
 built_goes (not_built not) = not_built not
 built_goes (built may never) = absurd never
-
-buffer_goes : {tree : ProgramTree} {chan : Option (List ℕ)} {Next : TypedProgram → Answer → Type 0} {a : Answer} → FromBuffer tree chan Never a →
-    FromBuffer tree chan Next a
-buffer_goes (no_channel named not) = no_channel named not
-buffer_goes (has_channel made is never) = absurd never
 
 -- the checks behind which the net is made
 pub checks_stop : (c : AskedCompilation) (program : ProgramTree) (a : Answer) →

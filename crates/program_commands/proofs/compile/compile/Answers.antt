@@ -1,7 +1,6 @@
 use Rattle.std.proofs.Common.{◌∷◌, []}
 use Rattle.chp_syntax.specs.View.{program_tree}
 use Rattle.command_answers.specs.Answers.{given_by}
-use Rattle.command_answers.specs.Replies.{Halts, Stops}
 use Rattle.command_words.specs.CompileWords.{compilation_asked}
 use Rattle.command_steps.specs.Steps.{FromProgram, Never, a_file, a_program, most_of_text}
 use Rattle.command_steps.proofs.Stopping.{err_in, file_passed, passed_on, program_goes, stops_where}
