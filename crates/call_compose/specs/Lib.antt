@@ -1,4 +1,5 @@
 pub mod CalledForm
+pub mod Inlined
 pub mod CallsMeant
 pub mod CallsCarried
 pub mod CallsCounted

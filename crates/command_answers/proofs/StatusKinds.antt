@@ -19,6 +19,7 @@ pub refusing_status : (r : Refusal) → is_refusing (refusal_status r) ≡ true
 refusing_status (refusal.Text fault) = refl
 refusing_status (refusal.TooLong name limit) = refl
 refusing_status (refusal.TooManyNodes count) = refl
+refusing_status (refusal.TooManyForms count) = refl
 refusing_status refusal.TooManyValues = refl
 refusing_status (refusal.BadNet fault line) = refl
 refusing_status (refusal.BadScript fault line) = refl

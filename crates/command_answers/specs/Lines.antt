@@ -97,15 +97,19 @@ refused_line f = concat (
     codes "chp: " ∷ decimal (number_of f.code) ∷ codes " " ∷ fault_name f.code ∷ codes " at " ∷ span_text f.at
     ∷ (if has_two_places f.code then codes " and " ++ span_text f.other else []) ∷ codes "\n" ∷ [])
 
--- the program has procedures or calls, which aren't served yet
+-- the program has procedures or calls, of which no net is made yet
 abbrev pub not_built_line : List ℕ
 not_built_line = codes "chp: 19 not built\n"
 
--- ---- of a circuit and a file that are too large, and of a refused rule file
+-- ---- of a circuit, a program and a file that are too large, and of a refused rule file
 
 -- the circuit of the program has so many nodes
 abbrev pub nodes_line : (count : ℕ) → List ℕ
 nodes_line count = concat (codes "chp: 7 nodes " ∷ decimal count ∷ codes "\n" ∷ [])
+
+-- the program has so many statements and expressions with its calls replaced
+abbrev pub forms_line : (count : ℕ) → List ℕ
+forms_line count = concat (codes "chp: 7 forms " ∷ decimal count ∷ codes "\n" ∷ [])
 
 -- more values pass in the rounds of a program than may be held
 abbrev pub values_line : List ℕ

@@ -50,6 +50,9 @@ pub enum Refusal<'a> {
     TooLong { name: &'a str, limit: usize },
     /// The circuit of the program has so many nodes, which are more than it may have.
     TooManyNodes(u64),
+    /// The program would have so many statements and expressions with its calls replaced, which are more than it may
+    /// have.
+    TooManyForms(u64),
     /// More values pass in the rounds than may be held.
     TooManyValues,
     /// A rule file is refused at this line.
@@ -68,7 +71,7 @@ pub enum Refusal<'a> {
     NoChannel(&'a str),
     /// There is no device of this name.
     NoPeer(&'a str),
-    /// The program has procedures or calls, which aren't served yet.
+    /// The program has procedures or calls, of which no net is made yet.
     NotBuilt,
 }
 
@@ -78,9 +81,10 @@ impl Refusal<'_> {
     {
         match self {
             Refusal::Text(_) => Status::RefusedText,
-            Refusal::TooLong { .. } | Refusal::TooManyNodes(_) | Refusal::TooManyValues => {
-                Status::TooLarge
-            }
+            Refusal::TooLong { .. }
+            | Refusal::TooManyNodes(_)
+            | Refusal::TooManyForms(_)
+            | Refusal::TooManyValues => Status::TooLarge,
             Refusal::BadNet { .. }
             | Refusal::BadScript { .. }
             | Refusal::BadDelays { .. }

@@ -4,7 +4,7 @@
 ghost use Rattle.std.specs.Prelude.{◌≡◌, ◌≤◌, ◌++◌, true, OnOk, OnErr};
 ghost use Rattle.std.specs.List.{flat_map};
 ghost use Rattle.chp_edge.specs.Faults.{Rose};
-ghost use Rattle.command_answers.specs.Lines.{refused_line, bad_file_line, too_long_line, nodes_line, delay_fault_name, fault_name, net_fault_name, script_fault_name, wave_fault_name, has_two_places};
+ghost use Rattle.command_answers.specs.Lines.{refused_line, bad_file_line, too_long_line, nodes_line, forms_line, delay_fault_name, fault_name, net_fault_name, script_fault_name, wave_fault_name, has_two_places};
 ghost use Rattle.command_answers.specs.Replies.{refusal_line, stop_line, end_line};
 
 use crate::answer::{End, Ending, Refusal, Stop};
@@ -225,6 +225,18 @@ fn say_nodes<W: Sink>(say: &mut W, count: u64)
     say_pieces(say, &["chp: 7 nodes ", number, "\n"]);
 }
 
+/// Says the line of a program with more statements and expressions than it may have.
+fn say_forms<W: Sink>(say: &mut W, count: u64)
+    ensures faults { W.faults say.old ≤ W.faults say.new }
+    ensures same { W.tells say.new ≡ W.tells say.old }
+    ensures said { W.tells say.old ≡ true → ¬ Rose (W.faults say.old) (W.faults say.new) →
+        W.written say.new ≡ W.written say.old ++ forms_line count }
+{
+    let mut number = Buffer::new();
+    let number = number.format(count);
+    say_pieces(say, &["chp: 7 forms ", number, "\n"]);
+}
+
 /// Says the line of a refusal.
 fn say_refusal<W: Sink>(say: &mut W, refusal: &Refusal)
     ensures faults { W.faults say.old ≤ W.faults say.new }
@@ -236,6 +248,7 @@ fn say_refusal<W: Sink>(say: &mut W, refusal: &Refusal)
         Refusal::Text(fault) => say_refused_text(say, fault),
         Refusal::TooLong { name, limit } => say_too_long(say, name, *limit),
         Refusal::TooManyNodes(count) => say_nodes(say, *count),
+        Refusal::TooManyForms(count) => say_forms(say, *count),
         Refusal::TooManyValues => say_pieces(say, &["chp: 7 values over 1048576\n"]),
         Refusal::BadNet { fault, line } => {
             say_bad_file(say, fault.number(), name_of_net_fault(*fault), *line);

@@ -20,7 +20,8 @@ pub enum Status {
     Hazard,
     /// Memory ran out.
     NoMemory,
-    /// A file has more bytes than it may have, a circuit more nodes, or some rounds pass more values.
+    /// A file has more bytes than it may have, a circuit more nodes, a program with its calls replaced more statements
+    /// and expressions, or some rounds pass more values.
     TooLarge,
     /// A rule file, a script, a delay file or a wave file isn't in its grammar or limits, a rule file can't be
     /// migrated, or it has no reset node and is to be run from power-up.
@@ -34,7 +35,7 @@ pub enum Status {
     NoChannel,
     /// No handed-in device has the wanted name.
     NoPeer,
-    /// The program has procedures or calls, which aren't served yet.
+    /// The program has procedures or calls, of which no net is made yet.
     NotBuilt,
 }
 

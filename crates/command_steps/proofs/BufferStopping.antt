@@ -2,13 +2,16 @@
 use Rattle.std.proofs.Common.{ℕ, List, [], ◌∷◌, Option, subst, arith}
 use Rattle.std.specs.Prelude.{Contains}
 use Rattle.chp_syntax.specs.Trees.{ProgramTree}
+use Rattle.width_check.specs.Calls.{IsCallFree}
 use Rattle.width_check.specs.Processes.{TypedProgram}
 use Rattle.command_answers.specs.declared.answer.Stop.{Stop}
 use Rattle.command_answers.specs.Answers.{Given, Answer}
 use Rattle.command_steps.specs.BufferSteps.{FromBuffer, no_channel, has_channel, FromProgramFile}
 use Rattle.command_steps.specs.HeldBuffered.{HoldsBuffered}
 use Rattle.command_answers.specs.Replies.{Halts, Stops}
-use Rattle.command_steps.specs.Steps.{a_file, FromProgram, no_program, a_program, FromChecks, has_calls, faulty, accepted, Never, IsTextOf}
+use Rattle.command_steps.specs.Inlined.{Means}
+use Rattle.command_steps.specs.Steps.{a_file, FromProgram, no_program, a_program, FromChecks, bad_calls, too_many_forms, faulty, accepted, Never}
+use Rattle.command_steps.proofs.OneMeaning.{means_itself}
 use Rattle.command_steps.proofs.RunStopping.{file_as}
 use Rattle.command_steps.proofs.Stopping.{halts_in, stops_in}
 
@@ -19,12 +22,22 @@ pub program_as : {text : List ℕ} {One Next : ProgramTree → Answer → Type 0
 program_as goes (no_program none) = no_program none
 program_as goes (a_program {program = tree} read is) = a_program read (goes tree is)
 
-checks_as : {tree : ProgramTree} {One Next : Answer → Type 0} {a : Answer} → (One a → Next a) → FromChecks tree One a → FromChecks tree Next a
-checks_as goes (has_calls some) = has_calls some
-checks_as goes (faulty free fault) = faulty free fault
-checks_as goes (accepted are is) = accepted are (goes is)
+pub checks_as : {tree : ProgramTree} {One Next : ProgramTree → Answer → Type 0} {a : Answer} → ((plain : ProgramTree) → One plain a → Next plain a) →
+    FromChecks tree One a → FromChecks tree Next a
+checks_as goes (bad_calls calls fault) = bad_calls calls fault
+checks_as goes (too_many_forms calls meets large) = too_many_forms calls meets large
+checks_as goes (faulty means fault) = faulty means fault
+checks_as goes (accepted {plain = plain} means are is) = accepted means are (goes plain is)
 
-buffer_goes : {tree : ProgramTree} {chan : Option (List ℕ)} {Next : TypedProgram → Answer → Type 0} {a : Answer} → FromBuffer tree chan Never a →
+-- what is answered for the program that another one means is answered for that one
+pub meant_checks : {tree plain : ProgramTree} {Next : ProgramTree → Answer → Type 0} {a : Answer} → Means tree plain → IsCallFree plain →
+    FromChecks plain Next a → FromChecks tree Next a
+meant_checks means free (bad_calls calls fault) = absurd (calls free)
+meant_checks means free (too_many_forms calls meets large) = absurd (calls free)
+meant_checks {tree} means free (faulty itself fault) = faulty (subst (λ (t : ProgramTree). Means tree t) (means_itself free itself) means) fault
+meant_checks {tree} means free (accepted itself are is) = accepted (subst (λ (t : ProgramTree). Means tree t) (means_itself free itself) means) are is
+
+pub buffer_goes : {tree : ProgramTree} {chan : Option (List ℕ)} {Next : TypedProgram → Answer → Type 0} {a : Answer} → FromBuffer tree chan Never a →
     FromBuffer tree chan Next a
 buffer_goes (no_channel named not) = no_channel named not
 buffer_goes (has_channel made is never) = absurd never
@@ -32,24 +45,18 @@ buffer_goes (has_channel made is never) = absurd never
 -- ---- from a text on
 
 abbrev pub OnlyBuffer : (chan : Option (List ℕ)) → ProgramTree → Answer → Type 0
-OnlyBuffer chan tree = FromChecks tree (FromBuffer tree chan Never)
+OnlyBuffer chan tree = FromChecks tree (λ plain. FromBuffer plain chan Never)
 
-module _ (text : List ℕ) (chan : Option (List ℕ)) where
-  pub program_halts : (stop : Stop) → Halts (FromProgram text Never) stop → Halts (FromProgram text (OnlyBuffer chan)) stop
-  program_halts stop halts =
-      halts_in (FromProgram text Never) (FromProgram text (OnlyBuffer chan)) (λ answer is. program_as (λ tree never. absurd never) is) stop halts
-
-  module _ (tree : ProgramTree) (read : IsTextOf text tree) where
-    pub checks_halt : (stop : Stop) → Halts (FromChecks tree (Never tree)) stop → Halts (FromProgram text (OnlyBuffer chan)) stop
-    checks_halt stop halts =
-        halts_in (FromChecks tree (Never tree)) (FromProgram text (OnlyBuffer chan)) (λ answer is. a_program read (checks_as (λ never. absurd never) is)) stop
-        halts
+pub program_halts : (text : List ℕ) (chan : Option (List ℕ)) (stop : Stop) → Halts (FromProgram text Never) stop →
+    Halts (FromProgram text (OnlyBuffer chan)) stop
+program_halts text chan stop halts =
+    halts_in (FromProgram text Never) (FromProgram text (OnlyBuffer chan)) (λ answer is. program_as (λ tree never. absurd never) is) stop halts
 
 -- ---- within a command
 
 module _ (given : Given) (file : List ℕ) (chan : Option (List ℕ)) (Next : TypedProgram → Answer → Type 0) where
   file_goes_on : (a : Answer) → FromProgramFile given file chan Never a → FromProgramFile given file chan Next a
-  file_goes_on a is = file_as (λ text there. program_as (λ tree so. checks_as (λ also. buffer_goes also) so) there) is
+  file_goes_on a is = file_as (λ text there. program_as (λ tree so. checks_as (λ plain also. buffer_goes also) so) there) is
 
   pub buffered_stopped : (more : List (List ℕ)) → ((name : List ℕ) → Contains (file ∷ []) name → Contains more name) → (before after : ℕ) (stop : Stop) →
       Stops (FromProgramFile given file chan Never) (file ∷ []) given before after stop
@@ -61,9 +68,10 @@ module _ (given : Given) (file : List ℕ) (chan : Option (List ℕ)) (Next : Ty
   module _ (program : TypedProgram) (holds : HoldsBuffered given file chan program) where
     pub buffered_on : (a : Answer) → Next program a → FromProgramFile given file chan Next a
     buffered_on a is =
-        a_file holds.gives holds.short (a_program holds.is.read (accepted holds.is.accepted (has_channel holds.is.is.made holds.is.is.buffered
-        (subst (λ (p : TypedProgram). Next p a) holds.is.is.form is))))
+        let from = holds.is.from in
+        a_file holds.gives holds.short (a_program holds.is.read (accepted from.means from.accepted (has_channel from.is.made from.is.buffered
+        (subst (λ (p : TypedProgram). Next p a) from.is.form is))))
 
 -- a program by itself, accepted or not
 abbrev pub OnlyChecks : ProgramTree → Answer → Type 0
-OnlyChecks tree = FromChecks tree (Never tree)
+OnlyChecks tree = FromChecks tree Never

@@ -1,22 +1,12 @@
 -- What the passes over a program find, as its faults.
-use Rattle.std.proofs.Common.{◌≡◌, List, [], ◌∷◌, map, refl, sym, ap, subst}
+use Rattle.std.proofs.Common.{◌≡◌, sym, ap, subst}
 use Rattle.chp_base.specs.declared.fault.Fault.{Fault}
-use Rattle.chp_syntax.specs.Trees.{ProgramTree, Procedure}
-use Rattle.chp_syntax.specs.View.{procedure_of}
-use Rattle.chp_syntax.specs.declared.tree.Proc.{Proc}
-use Rattle.width_check.specs.Calls.{IsCallFree}
+use Rattle.chp_syntax.specs.Trees.{ProgramTree}
 use Rattle.width_check.specs.Faults.{naming_faults, HasNone, IsFirstFault}
 use Rattle.width_check.specs.Form.{typed_form}
 use Rattle.width_check.specs.Processes.{TypedProgram}
 use Rattle.width_check.specs.Sharing.{sharing_faults, IsFirstSharedFault}
 use Rattle.command_steps.specs.Steps.{IsFaulty, of_names, of_sharing}
-
-no_items : (ps : List Proc) → map procedure_of ps ≡ [] → ps ≡ []
-no_items [] none = refl
-no_items (p ∷ ps) none = absurd (cc none)
-
-pub no_procedures : (ps : List Proc) (p : ProgramTree) → IsCallFree p → p.procs ≡ map procedure_of ps → ps ≡ []
-no_procedures ps p free same = no_items ps (subst (λ (xs : List Procedure). xs ≡ []) same free.procs)
 
 pub named_fault : (p : ProgramTree) (f : Fault) → f.other ≡ f.at → IsFirstFault p naming_faults f.code f.at → IsFaulty p f
 named_fault p f other first = subst (λ o. IsFaulty p (record { code = f.code; at = f.at; other = o })) (sym other) (of_names first)

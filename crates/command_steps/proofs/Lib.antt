@@ -1,11 +1,12 @@
 pub mod Stopping
+pub mod OneMeaning
 pub mod OneAnswers
 pub mod RunStopping
 pub mod Referring
 pub mod BufferStopping
+pub mod Checked
 pub mod Buffering
 pub mod RunChannels
-pub mod FewDeclarations
 pub mod Faulty
 pub mod NodeCounts
 pub mod OrderNames

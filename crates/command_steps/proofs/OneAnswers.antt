@@ -16,11 +16,13 @@ use Rattle.width_check.specs.Faults.{naming_faults, HasNone, IsFirstFault}
 use Rattle.width_check.specs.Form.{typed_form}
 use Rattle.width_check.specs.Processes.{Process, TypedProgram}
 use Rattle.width_check.specs.Sharing.{MeetsSharing, IsFirstSharedFault, sharing_faults}
-use Rattle.command_answers.specs.declared.status.Status.TheVariants.{RefusedText, BadFile, NoChannel}
+use Rattle.call_merge.specs.CallFaults.{call_faults}
+use Rattle.command_answers.specs.declared.status.Status.TheVariants.{RefusedText, TooLarge, BadFile, NoChannel}
 use Rattle.command_answers.specs.Answers.{Given, Answer, refuses, OneAnswer}
 use Rattle.command_steps.specs.BufferSteps.{FromBuffer, no_channel, has_channel, FromProgramFile, IsBuffered, PutsBuffer}
-use Rattle.command_answers.specs.Lines.{refused_line, bad_net_line, no_channel_line}
-use Rattle.command_steps.specs.Steps.{FromFile, no_file, long_file, a_file, FromProgram, no_program, a_program, IsFaulty, of_names, of_sharing, FromChecks, has_calls, faulty, accepted, FromNodes, too_many, few_enough, FromNet, no_net, a_net}
+use Rattle.command_answers.specs.Lines.{forms_line, refused_line, bad_net_line, no_channel_line}
+use Rattle.command_steps.specs.Steps.{FromFile, no_file, long_file, a_file, FromProgram, no_program, a_program, IsFaulty, of_names, of_sharing, FromChecks, HasCallFault, bad_calls, too_many_forms, faulty, accepted, FromNodes, too_many, few_enough, FromNet, no_net, a_net}
+use Rattle.command_steps.proofs.OneMeaning.{bad_or_meant, bad_or_meets, call_fault_once, large_once, large_or_meant, means_once}
 
 pub same_text : {held : Option (List ℕ)} {a b : List ℕ} → held ≡ Some a → held ≡ Some b → a ≡ b
 same_text e f = cc (e, f)
@@ -77,6 +79,11 @@ module _ (p : TypedProgram) (Next : TypedProgram → Answer → Type 0) (next : 
   nodes_once a b (few_enough f n) (too_many m) = absurd (omega arith)
   nodes_once a b (few_enough f n) (few_enough g m) = next a b n m
 
+same_call_fault : (p : ProgramTree) (f g : Fault) → HasCallFault p f → HasCallFault p g → f ≡ g
+same_call_fault p f g n m =
+    let once = call_fault_once p call_faults f.code g.code f.at f.other g.at g.other n m in
+    same_fault f g once.0 once.1 once.2
+
 -- a program has at most one fault, and none where it is accepted
 module _ (named : (p : ProgramTree) (c d : FaultCode) (s t : Span) → IsFirstFault p naming_faults c s → IsFirstFault p naming_faults d t → c ≡ d)
     (placed : (p : ProgramTree) (c d : FaultCode) (s t : Span) → IsFirstFault p naming_faults c s → IsFirstFault p naming_faults d t → s ≡ t)
@@ -100,17 +107,30 @@ module _ (named : (p : ProgramTree) (c d : FaultCode) (s t : Span) → IsFirstFa
   no_fault p f is (of_names {c = c} {at = s} n) = no_name p c s is.named n
   no_fault p f is (of_sharing {c = c} {at = s} {other = t} none n) = unshared (typed_form p).body c s t is.sharing n
 
-  pub checks_once : (program : ProgramTree) (Next : Answer → Type 0) → OneAnswer Next → (a b : Answer) → FromChecks program Next a → FromChecks program Next b →
-      a ≡ b
-  checks_once p Next next a b (has_calls some) (has_calls any) = refl
-  checks_once p Next next a b (has_calls some) (faulty free f) = absurd (some free)
-  checks_once p Next next a b (has_calls some) (accepted is n) = absurd (some is.call_free)
-  checks_once p Next next a b (faulty free f) (has_calls some) = absurd (some free)
-  checks_once p Next next a b (faulty {fault = f} free n) (faulty {fault = g} also m) = ap (λ h. refuses RefusedText (refused_line h)) (fault_once p f g n m)
-  checks_once p Next next a b (faulty {fault = f} free n) (accepted is m) = absurd (no_fault p f is n)
-  checks_once p Next next a b (accepted is n) (has_calls some) = absurd (some is.call_free)
-  checks_once p Next next a b (accepted is n) (faulty {fault = f} free m) = absurd (no_fault p f is m)
-  checks_once p Next next a b (accepted is n) (accepted are m) = next a b n m
+  pub checks_once : (program : ProgramTree) (Next : ProgramTree → Answer → Type 0) → ((plain : ProgramTree) → OneAnswer (Next plain)) → (a b : Answer) →
+      FromChecks program Next a → FromChecks program Next b → a ≡ b
+  checks_once p Next next a b (bad_calls {fault = f} calls n) (bad_calls {fault = g} also m) =
+      ap (λ h. refuses RefusedText (refused_line h)) (same_call_fault p f g n m)
+  checks_once p Next next a b (bad_calls {fault = f} calls n) (too_many_forms also meets large) = bad_or_meets p f n meets
+  checks_once p Next next a b (bad_calls {fault = f} calls n) (faulty means m) = bad_or_meant f calls n means
+  checks_once p Next next a b (bad_calls {fault = f} calls n) (accepted means is m) = bad_or_meant f calls n means
+  checks_once p Next next a b (too_many_forms calls meets large) (bad_calls {fault = f} also m) = bad_or_meets p f m meets
+  checks_once p Next next a b (too_many_forms {count = n} calls meets large) (too_many_forms {count = m} also met big) =
+      ap (λ (k : ℕ). refuses TooLarge (forms_line k)) (large_once p n m large big)
+  checks_once p Next next a b (too_many_forms calls meets large) (faulty means m) = large_or_meant calls large means
+  checks_once p Next next a b (too_many_forms calls meets large) (accepted means is m) = large_or_meant calls large means
+  checks_once p Next next a b (faulty means n) (bad_calls {fault = f} calls m) = bad_or_meant f calls m means
+  checks_once p Next next a b (faulty means n) (too_many_forms calls meets large) = large_or_meant calls large means
+  checks_once p Next next a b (faulty {plain = r} {fault = f} means n) (faulty {plain = s} {fault = g} also m) =
+      ap (λ h. refuses RefusedText (refused_line h)) (fault_once r f g n (subst (λ (t : ProgramTree). IsFaulty t g) (means_once also means) m))
+  checks_once p Next next a b (faulty {plain = r} {fault = f} means n) (accepted also is m) =
+      absurd (no_fault r f (subst IsAccepted (means_once also means) is) n)
+  checks_once p Next next a b (accepted means is n) (bad_calls {fault = f} calls m) = bad_or_meant f calls m means
+  checks_once p Next next a b (accepted means is n) (too_many_forms calls meets large) = large_or_meant calls large means
+  checks_once p Next next a b (accepted {plain = r} means is n) (faulty {fault = f} also m) =
+      absurd (no_fault r f is (subst (λ (t : ProgramTree). IsFaulty t f) (means_once also means) m))
+  checks_once p Next next a b (accepted {plain = r} means is n) (accepted also are m) =
+      next r a b n (subst (λ (t : ProgramTree). Next t b) (means_once also means) m)
 
 -- ---- a program with its buffer
 
@@ -139,7 +159,7 @@ same_name : {chan : Option (List ℕ)} {a b : List ℕ} → chan ≡ Some a → 
 same_name e f = cc (e, f)
 
 module _ (program : ProgramTree) (chan : Option (List ℕ)) (Next : TypedProgram → Answer → Type 0) (next : (p : TypedProgram) → OneAnswer (Next p)) where
-  buffer_once : (a b : Answer) → FromBuffer program chan Next a → FromBuffer program chan Next b → a ≡ b
+  pub buffer_once : (a b : Answer) → FromBuffer program chan Next a → FromBuffer program chan Next b → a ≡ b
   buffer_once a b (no_channel {name = x} is n) (no_channel {name = y} are m) =
       ap (λ (name : List ℕ). refuses NoChannel (no_channel_line name)) (same_name is are)
   buffer_once a b (no_channel {name = x} is n) (has_channel p has m) = needs_channel program chan x p is n has
@@ -149,9 +169,10 @@ module _ (program : ProgramTree) (chan : Option (List ℕ)) (Next : TypedProgram
 
 module _ (cause : (text : List ℕ) (k j : FaultCode) (s t : Span) → IsRefusedText text k s → IsRefusedText text j t → k ≡ j)
     (place : (text : List ℕ) (k j : FaultCode) (s t : Span) → IsRefusedText text k s → IsRefusedText text j t → s ≡ t)
-    (checked : (program : ProgramTree) (Next : Answer → Type 0) → OneAnswer Next → OneAnswer (FromChecks program Next)) where
+    (checked : (program : ProgramTree) (Next : ProgramTree → Answer → Type 0) → ((plain : ProgramTree) → OneAnswer (Next plain)) →
+    OneAnswer (FromChecks program Next)) where
   pub program_file_once : (given : Given) (file : List ℕ) (chan : Option (List ℕ)) (Next : TypedProgram → Answer → Type 0) → given.tells ≡ true →
       ((p : TypedProgram) → OneAnswer (Next p)) → OneAnswer (FromProgramFile given file chan Next)
   program_file_once given file chan Next told next = file_once given file _ _ told
-      (λ text. program_once text (λ program. FromChecks program (FromBuffer program chan Next))
-      (λ program. checked program (FromBuffer program chan Next) (buffer_once program chan Next next)) (cause text) (place text))
+      (λ text. program_once text (λ program. FromChecks program (λ plain. FromBuffer plain chan Next))
+      (λ program. checked program (λ plain. FromBuffer plain chan Next) (λ plain. buffer_once plain chan Next next)) (cause text) (place text))

@@ -48,12 +48,13 @@ module _ (channels : List Channel) (text : List ℕ) (Next : List OfferValue →
 
 module _ (cause : (text : List ℕ) (k j : FaultCode) (s t : Span) → IsRefusedText text k s → IsRefusedText text j t → k ≡ j)
     (place : (text : List ℕ) (k j : FaultCode) (s t : Span) → IsRefusedText text k s → IsRefusedText text j t → s ≡ t)
-    (checked : (program : ProgramTree) (Next : Answer → Type 0) → OneAnswer Next → OneAnswer (FromChecks program Next)) where
+    (checked : (program : ProgramTree) (Next : ProgramTree → Answer → Type 0) → ((plain : ProgramTree) → OneAnswer (Next plain)) →
+    OneAnswer (FromChecks program Next)) where
   pub reference_once : (given : Given) → given.tells ≡ true → (Next : Option TypedProgram → Answer → Type 0) →
       ((p : Option TypedProgram) → OneAnswer (Next p)) → (file : Option (List ℕ)) → OneAnswer (FromReference given file Next)
   reference_once given told Next next None = next None
   reference_once given told Next next (Some file) = file_once given file _ _ told
-      (λ text. program_once text _ (λ program. checked program _ (next (Some (typed_form program)))) (cause text) (place text))
+      (λ text. program_once text _ (λ program. checked program _ (λ plain. next (Some (typed_form plain)))) (cause text) (place text))
 
 module _ (names : List (List ℕ)) (text : List ℕ) (Next : DelayTable → Answer → Type 0) (next : (delays : DelayTable) → OneAnswer (Next delays)) where
   pub delays_once : (a b : Answer) → FromDelays names text Next a → FromDelays names text Next b → a ≡ b

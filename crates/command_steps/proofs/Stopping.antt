@@ -1,12 +1,12 @@
 -- Steps by themselves, and within the commands that are made of them.
-use Rattle.std.proofs.Common.{◌≡◌, ℕ, ◌+◌, ◌<◌, ◌≤◌, List, [], ◌∷◌, ◌++◌, length, ◌⊎◌, inl, inr, true, Result, Ok, Err, refl, sym, subst, arith, length-append}
+use Rattle.std.proofs.Common.{◌≡◌, ◌∙◌, ℕ, ◌+◌, ◌<◌, ◌≤◌, List, [], ◌∷◌, ◌++◌, length, ◌⊎◌, inl, inr, true, Result, Ok, Err, refl, sym, subst, arith, length-append}
 use Rattle.std.specs.Prelude.{Contains, IfOk, IfErr, IsErrAnd}
 use Rattle.std.proofs.lemmas.Result.{err_from_is_err_and}
 use Rattle.chp_edge.specs.Faults.{Rose, IsReadFault}
 use Rattle.chp_edge.specs.Reading.{IsLeft}
 use Rattle.chp_syntax.specs.Trees.{ProgramTree}
 use Rattle.prs_core.specs.Nets.{NetValue}
-use Rattle.width_check.specs.Accepted.{IsAccepted}
+use Rattle.width_check.specs.Form.{typed_form}
 use Rattle.width_check.specs.Processes.{TypedProgram}
 use Rattle.command_answers.specs.declared.status.Status.TheVariants.{TooLarge}
 use Rattle.command_answers.specs.declared.answer.Output.{Output}
@@ -15,7 +15,8 @@ use Rattle.command_answers.specs.declared.answer.Stop.TheVariants.{Refused, Unre
 use Rattle.command_answers.specs.Answers.{Given, Gives, Answer, misses, refuses}
 use Rattle.command_answers.specs.Lines.{too_long_line}
 use Rattle.command_answers.specs.Replies.{Halts, IsUnread, Stops, told_answer}
-use Rattle.command_steps.specs.Steps.{FromFile, no_file, long_file, a_file, FromProgram, no_program, a_program, FromChecks, has_calls, faulty, accepted, FromNodes, too_many, few_enough, FromNet, no_net, a_net, IsTextOf, IsFileOf, Never}
+use Rattle.command_steps.specs.Inlined.{IsFormOf}
+use Rattle.command_steps.specs.Steps.{FromFile, no_file, long_file, a_file, FromProgram, no_program, a_program, FromChecks, bad_calls, too_many_forms, faulty, accepted, FromNodes, too_many, few_enough, FromNet, no_net, a_net, IsTextOf, IsFileOf, Never}
 use Rattle.command_words.proofs.Results.{ok_in}
 
 -- ---- a step by itself is the same step of a command
@@ -38,10 +39,11 @@ pub nodes_go : {p : TypedProgram} {Next : TypedProgram → Answer → Type 0} {a
 nodes_go (too_many many) = too_many many
 nodes_go (few_enough few never) = absurd never
 
-pub checks_go : {program : ProgramTree} {Next : Answer → Type 0} {a : Answer} → FromChecks program (Never program) a → FromChecks program Next a
-checks_go (has_calls some) = has_calls some
-checks_go (faulty free fault) = faulty free fault
-checks_go (accepted is never) = absurd never
+pub checks_go : {program : ProgramTree} {Next : ProgramTree → Answer → Type 0} {a : Answer} → FromChecks program Never a → FromChecks program Next a
+checks_go (bad_calls calls fault) = bad_calls calls fault
+checks_go (too_many_forms calls meets large) = too_many_forms calls meets large
+checks_go (faulty means fault) = faulty means fault
+checks_go (accepted means is never) = absurd never
 
 -- ---- where one of them stops, the command does
 
@@ -106,15 +108,19 @@ module _ (text : List ℕ) (program : ProgramTree) (Next : ProgramTree → Answe
       (halts_in (Next program) (FromProgram text Next) (λ answer is. a_program read is))
 
 -- the checks, of whose program this is the typed form
-module _ (program : ProgramTree) (typed form : TypedProgram) (Next : TypedProgram → Answer → Type 0) (same : typed ≡ form) (is_accepted : IsAccepted program)
+module _ (program : ProgramTree) (typed form : TypedProgram) (Next : TypedProgram → Answer → Type 0) (same : typed ≡ form) (checked : IsFormOf program form)
     (r : Result Output Stop) where
-  pub form_answers : IfOk r (λ output. Next typed (told_answer output)) → IfOk r (λ output. FromChecks program (Next form) (told_answer output))
-  form_answers = ok_in r (λ output. Next typed (told_answer output)) (λ output. FromChecks program (Next form) (told_answer output))
-      (λ output is. accepted is_accepted (subst (λ p. Next p (told_answer output)) same is))
+  goes_on : (a : Answer) → Next typed a → FromChecks program (λ plain. Next (typed_form plain)) a
+  goes_on a is = accepted checked.means checked.accepted (subst (λ p. Next p a) (same ∙ checked.form) is)
 
-  pub form_stops : IfErr r (Halts (Next typed)) → IfErr r (Halts (FromChecks program (Next form)))
-  form_stops = err_in r (Halts (Next typed)) (Halts (FromChecks program (Next form)))
-      (halts_in (Next typed) (FromChecks program (Next form)) (λ answer is. accepted is_accepted (subst (λ p. Next p answer) same is)))
+  pub form_answers : IfOk r (λ output. Next typed (told_answer output)) →
+      IfOk r (λ output. FromChecks program (λ plain. Next (typed_form plain)) (told_answer output))
+  form_answers = ok_in r (λ output. Next typed (told_answer output)) (λ output. FromChecks program (λ plain. Next (typed_form plain)) (told_answer output))
+      (λ output is. goes_on (told_answer output) is)
+
+  pub form_stops : IfErr r (Halts (Next typed)) → IfErr r (Halts (FromChecks program (λ plain. Next (typed_form plain))))
+  form_stops = err_in r (Halts (Next typed)) (Halts (FromChecks program (λ plain. Next (typed_form plain))))
+      (halts_in (Next typed) (FromChecks program (λ plain. Next (typed_form plain))) goes_on)
 
 module _ (text : List ℕ) (net : NetValue) (Next : NetValue → Answer → Type 0) (read : IsFileOf text net) (r : Result Output Stop) where
   pub net_answers : IfOk r (λ output. Next net (told_answer output)) → IfOk r (λ output. FromNet text Next (told_answer output))

@@ -29,8 +29,8 @@ pub data FromBuffer (program : ProgramTree) (chan : Option (List ℕ)) (Next : T
   has_channel : (made : ProgramTree) {answer : Answer} → IsBuffered program chan made → Next (typed_form made) answer →
       FromBuffer program chan Next answer
 
--- from the name of a file to the accepted program that its text reads as, with a buffer on the channel that is named
+-- from the name of a file to the accepted program that its text means, with a buffer on the channel that is named
 abbrev pub FromProgramFile : Given → (file : List ℕ) → (chan : Option (List ℕ)) → (TypedProgram → Answer → Type 0) →
     Answer → Type 0
 FromProgramFile given file chan Next = FromFile given file most_of_text
-    (λ text. FromProgram text (λ program. FromChecks program (FromBuffer program chan Next)))
+    (λ text. FromProgram text (λ program. FromChecks program (λ plain. FromBuffer plain chan Next)))

@@ -6,6 +6,7 @@ use Rattle.width_check.specs.Form.{typed_form}
 use Rattle.width_check.specs.Processes.{TypedProgram}
 use Rattle.command_answers.specs.Answers.{Given, Gives}
 use Rattle.command_steps.specs.BufferSteps.{IsBuffered}
+use Rattle.command_steps.specs.Inlined.{Means}
 use Rattle.command_steps.specs.Steps.{IsTextOf, most_of_text}
 
 -- this is the typed form of the program, or of the program with a buffer on the channel that is named
@@ -14,12 +15,18 @@ pub record IsBufferedForm (tree : ProgramTree) (chan : Option (List ℕ)) (progr
   pub buffered : IsBuffered tree chan made
   pub form : program ≡ typed_form made
 
--- the text reads as a program that is accepted, and this is its typed form so buffered
+-- the program that the tree means is accepted, and this is its typed form so buffered
+pub record IsBufferedFrom (tree : ProgramTree) (chan : Option (List ℕ)) (program : TypedProgram) : Type 0 where
+  pub plain : ProgramTree
+  pub means : Means tree plain
+  pub accepted : IsAccepted plain
+  pub is : IsBufferedForm plain chan program
+
+-- the text reads as a program of which that holds
 pub record IsBufferedOf (text : List ℕ) (chan : Option (List ℕ)) (program : TypedProgram) : Type 0 where
   pub tree : ProgramTree
   pub read : IsTextOf text tree
-  pub accepted : IsAccepted tree
-  pub is : IsBufferedForm tree chan program
+  pub from : IsBufferedFrom tree chan program
 
 -- the text of this program, within its limit
 pub record HoldsBuffered (given : Given) (file : List ℕ) (chan : Option (List ℕ)) (program : TypedProgram) : Type 0

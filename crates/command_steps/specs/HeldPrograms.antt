@@ -1,18 +1,16 @@
 -- The accepted program that a file holds.
-use Rattle.std.specs.Prelude.{◌≡◌, ℕ, ◌≤◌, List, length}
+use Rattle.std.specs.Prelude.{ℕ, ◌≤◌, List, length}
 use Rattle.chp_syntax.specs.Trees.{ProgramTree}
-use Rattle.width_check.specs.Accepted.{IsAccepted}
-use Rattle.width_check.specs.Form.{typed_form}
 use Rattle.width_check.specs.Processes.{TypedProgram}
 use Rattle.command_answers.specs.Answers.{Given, Gives}
+use Rattle.command_steps.specs.Inlined.{IsFormOf}
 use Rattle.command_steps.specs.Steps.{IsTextOf, most_of_text}
 
--- the text reads as a program that is accepted, and this is its typed form
+-- the text reads as a program; the one that it means is accepted, and this is its typed form
 pub record IsProgramOf (text : List ℕ) (program : TypedProgram) : Type 0 where
   pub tree : ProgramTree
   pub read : IsTextOf text tree
-  pub accepted : IsAccepted tree
-  pub form : program ≡ typed_form tree
+  pub is : IsFormOf tree program
 
 -- the text of this program, within its limit
 pub record HoldsProgram (given : Given) (file : List ℕ) (program : TypedProgram) : Type 0 where

@@ -1,3 +1,4 @@
+pub mod Inlined
 pub mod Steps
 pub mod Orders
 pub mod RunSteps

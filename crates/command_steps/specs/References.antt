@@ -7,6 +7,7 @@ use Rattle.width_check.specs.Form.{typed_form}
 use Rattle.width_check.specs.Processes.{TypedProgram}
 use Rattle.command_answers.specs.Answers.{Given, Answer}
 use Rattle.command_steps.specs.HeldPrograms.{HoldsProgram}
+use Rattle.command_steps.specs.Inlined.{Means}
 use Rattle.command_steps.specs.Steps.{FromFile, FromProgram, FromChecks, most_of_text}
 
 -- where a file is named, it reads and checks the program in it
@@ -14,7 +15,7 @@ abbrev pub FromReference : Given → (file : Option (List ℕ)) → (Next : Opti
     Type 0
 FromReference given None Next = Next None
 FromReference given (Some file) Next = FromFile given file most_of_text
-    (λ text. FromProgram text (λ tree. FromChecks tree (Next (Some (typed_form tree)))))
+    (λ text. FromProgram text (λ tree. FromChecks tree (λ plain. Next (Some (typed_form plain)))))
 
 -- what was read there: the accepted program that the file holds, or none where no file is named
 abbrev pub HoldsReference : Given → (file : Option (List ℕ)) → Option TypedProgram → Type 0
@@ -27,14 +28,16 @@ abbrev pub IsReferredTo : Given → (file : Option (List ℕ)) → TypedProgram 
 IsReferredTo given None p = Unit {0}
 IsReferredTo given (Some file) p = HoldsProgram given file p
 
--- the file holds the text of an accepted program, within its limit
+-- the file holds the text of a program within its limit, and the one that it means is accepted
 pub record HoldsAccepted (given : Given) (file : List ℕ) : Type 0 where
   pub text : List ℕ
   pub program : ProgramTree
+  pub plain : ProgramTree
   pub held : given.files file ≡ Some text
   pub short : length text ≤ most_of_text
   pub reads : Reads text program
-  pub accepted : IsAccepted program
+  pub means : Means program plain
+  pub accepted : IsAccepted plain
 
 abbrev pub IsToReferTo : Given → (file : Option (List ℕ)) → Type 0
 IsToReferTo given None = Unit {0}

@@ -18,9 +18,12 @@ use Rattle.width_check.specs.Faults.{naming_faults, HasNone, IsFirstFault}
 use Rattle.width_check.specs.Form.{typed_form}
 use Rattle.width_check.specs.Processes.{TypedProgram}
 use Rattle.width_check.specs.Sharing.{sharing_faults, IsFirstSharedFault}
-use Rattle.command_answers.specs.declared.status.Status.TheVariants.{RefusedText, TooLarge, BadFile, NotBuilt}
+use Rattle.call_merge.specs.CallFaults.{call_faults, IsFirstCallFault, MeetsCalling}
+use Rattle.call_merge.specs.Inlining.{HasTooManyForms}
+use Rattle.command_answers.specs.declared.status.Status.TheVariants.{RefusedText, TooLarge, BadFile}
 use Rattle.command_answers.specs.Answers.{Given, Gives, Lacks, Answer, refuses, misses}
-use Rattle.command_answers.specs.Lines.{too_long_line, refused_line, bad_net_line, nodes_line, not_built_line}
+use Rattle.command_answers.specs.Lines.{too_long_line, refused_line, bad_net_line, forms_line, nodes_line}
+use Rattle.command_steps.specs.Inlined.{Means}
 
 -- a command that never answers: what a step by itself continues with
 abbrev pub Never : {X : Type 0} → X → Answer → Type 0
@@ -31,6 +34,10 @@ Never x answer = ⊥
 -- the most bytes of a program text
 abbrev pub most_of_text : ℕ
 most_of_text = 262144
+
+-- the most declarations and procedures of such a text
+abbrev pub most_declared : ℕ
+most_declared = 52428
 
 -- the most bytes of a rule file
 abbrev pub most_of_net : ℕ
@@ -70,7 +77,7 @@ pub data FromProgram (text : List ℕ) (Next : ProgramTree → Answer → Type 0
 
 -- ---- from a program to an accepted one
 
--- the program is refused for this fault: the first one of names, kinds and widths, or else of sharing
+-- the program without calls is refused for this fault: the first one of names, kinds and widths, or else of sharing
 pub data IsFaulty (program : ProgramTree) : Fault → Type 0 where
   of_names : {c : FaultCode} {at : Span} → IsFirstFault program naming_faults c at →
       IsFaulty program (record { code = c; at = at; other = at })
@@ -78,12 +85,21 @@ pub data IsFaulty (program : ProgramTree) : Fault → Type 0 where
       IsFirstSharedFault (typed_form program).body sharing_faults c at other
       → IsFaulty program (record { code = c; at = at; other = other })
 
--- it checks the program; one with procedures isn't served yet
-pub data FromChecks (program : ProgramTree) (Next : Answer → Type 0) : Answer → Type 0 where
-  has_calls : ¬ IsCallFree program → FromChecks program Next (refuses NotBuilt not_built_line)
-  faulty : {fault : Fault} → IsCallFree program → IsFaulty program fault →
+-- the program is refused for this fault: the first one of procedures and calls
+abbrev pub HasCallFault : ProgramTree → Fault → Type 0
+HasCallFault program fault = IsFirstCallFault program call_faults fault.code fault.at fault.other
+
+-- it checks the procedures and calls of a program, if there are any, and how large the program is that it means; then
+-- it checks that program, and continues with it
+pub data FromChecks (program : ProgramTree) (Next : ProgramTree → Answer → Type 0) : Answer → Type 0 where
+  bad_calls : {fault : Fault} → ¬ IsCallFree program → HasCallFault program fault →
       FromChecks program Next (refuses RefusedText (refused_line fault))
-  accepted : {answer : Answer} → IsAccepted program → Next answer → FromChecks program Next answer
+  too_many_forms : {count : ℕ} → ¬ IsCallFree program → MeetsCalling program → HasTooManyForms program count →
+      FromChecks program Next (refuses TooLarge (forms_line count))
+  faulty : {plain : ProgramTree} {fault : Fault} → Means program plain → IsFaulty plain fault →
+      FromChecks program Next (refuses RefusedText (refused_line fault))
+  accepted : {plain : ProgramTree} {answer : Answer} → Means program plain → IsAccepted plain → Next plain answer →
+      FromChecks program Next answer
 
 -- ---- from a program to one whose circuit isn't too large
 

@@ -1,21 +1,22 @@
-//! Steps from the name of a file to the program to continue with: the accepted one that its text reads as, with a
-//! buffer on the channel that is named.
+//! Steps from the name of a file to the program to continue with: the accepted one that its text means, with a buffer
+//! on the channel that is named.
 
-ghost use Rattle.std.specs.Prelude.{◌≡◌, ◌≤◌, ◌∷◌, [], length, IfOk, IfErr, option_map};
+ghost use Rattle.std.specs.Prelude.{◌≡◌, ◌+◌, ◌≤◌, ◌∷◌, [], length, IfOk, IfErr, option_map};
 ghost use Rattle.chp_syntax.specs.Shape.{IsShaped};
 ghost use Rattle.chp_syntax.specs.View.{program_tree};
 ghost use Rattle.slack_buffer.specs.BufferedTrees.{IsInnerChannel};
 ghost use Rattle.width_check.specs.Accepted.{IsAccepted};
+ghost use Rattle.width_check.specs.Calls.{IsCallFree};
 ghost use Rattle.width_check.specs.Form.{typed_form};
 ghost use Rattle.width_check.specs.Places.{declaration};
 ghost use Rattle.width_check.specs.Typed.{program_of as typed_of};
 ghost use Rattle.command_answers.specs.Answers.{given_by};
 ghost use Rattle.command_steps.specs.BufferSteps.{FromBuffer, FromProgramFile};
-ghost use Rattle.command_steps.specs.HeldBuffered.{HoldsBuffered, IsBufferedForm, IsBufferedOf};
+ghost use Rattle.command_steps.specs.HeldBuffered.{HoldsBuffered, IsBufferedForm, IsBufferedFrom, IsBufferedOf};
 ghost use Rattle.command_answers.specs.Replies.{Halts, Stops};
-ghost use Rattle.command_steps.specs.Steps.{FromChecks, FromProgram, Never, most_of_text};
+ghost use Rattle.command_steps.specs.Steps.{FromChecks, FromProgram, Never, most_declared, most_of_text};
 
-use crate::files::{MOST_OF_TEXT, checked_program, program_of_text, text_of_file};
+use crate::files::{MOST_OF_TEXT, checked_plain, inlined_program, program_of_text, text_of_file};
 use chp_base::{Name, TextError};
 use chp_edge::Shelf;
 use chp_syntax::{Decl, Program};
@@ -24,7 +25,7 @@ use sharing_check::{Disjoint, share};
 use slack_buffer::{is_inner_channel, with_buffer};
 use std::alloc::{AllocError, Global};
 use width_check::laws::one_fault;
-use width_check::resolve;
+use width_check::{is_call_free, resolve};
 
 /// The declared name that this text is.
 fn declared_name<'p>(decls: &'p [Decl], text: &str) -> Option<&'p Name>
@@ -104,6 +105,44 @@ fn buffered<'a>(
     }
 }
 
+/// The program without procedures and calls, checked and with the buffer.
+fn buffered_plain<'a>(
+    alloc: Global,
+    program: &Program,
+    buffer: Option<&'a str>,
+) -> Result<Disjoint, Stop<'a>>
+    requires shaped { IsShaped (program_tree program.now) }
+    requires few { length program.now.decls.items ≤ most_of_text }
+    requires call_free { IsCallFree (program_tree program.now) }
+    ensures made { IfOk result (λ made.
+        IsBufferedFrom (program_tree program.now) (option_map (λ t. t.now) buffer.entry) (typed_of made)) }
+    ensures stopped { IfErr result (Halts (FromChecks (program_tree program.now) (λ plain.
+        FromBuffer plain (option_map (λ t. t.now) buffer.entry) Never))) }
+{
+    let disjoint = checked_plain(alloc, program)?;
+    buffered(alloc, program, disjoint, buffer)
+}
+
+/// The program that this one means, checked and with the buffer.
+pub fn buffered_program<'a>(
+    alloc: Global,
+    program: &Program,
+    buffer: Option<&'a str>,
+) -> Result<Disjoint, Stop<'a>>
+    requires shaped { IsShaped (program_tree program.now) }
+    requires few { length program.now.decls.items + length program.now.procs.items ≤ most_declared }
+    ensures made { IfOk result (λ made.
+        IsBufferedFrom (program_tree program.now) (option_map (λ t. t.now) buffer.entry) (typed_of made)) }
+    ensures stopped { IfErr result (Halts (FromChecks (program_tree program.now) (λ plain.
+        FromBuffer plain (option_map (λ t. t.now) buffer.entry) Never))) }
+{
+    if is_call_free(program) {
+        return buffered_plain(alloc, program, buffer);
+    }
+    let plain = inlined_program(alloc, program)?;
+    buffered_plain(alloc, &plain, buffer)
+}
+
 /// The program to continue with, from this text.
 fn buffered_of_text<'a>(
     alloc: Global,
@@ -113,15 +152,14 @@ fn buffered_of_text<'a>(
     requires { length text.now ≤ most_of_text }
     ensures read { IfOk result (λ program.
         IsBufferedOf text.now (option_map (λ t. t.now) buffer.entry) (typed_of program)) }
-    ensures stopped { IfErr result (Halts (FromProgram text.now (λ tree.
-        FromChecks tree (FromBuffer tree (option_map (λ t. t.now) buffer.entry) Never)))) }
+    ensures stopped { IfErr result (Halts (FromProgram text.now (λ tree. FromChecks tree (λ plain.
+        FromBuffer plain (option_map (λ t. t.now) buffer.entry) Never)))) }
 {
     let program = program_of_text(alloc, text)?;
-    let disjoint = checked_program(alloc, &program)?;
-    buffered(alloc, &program, disjoint, buffer)
+    buffered_program(alloc, &program, buffer)
 }
 
-/// The accepted program whose text the file of this name has, with a buffer on the channel that is named.
+/// The accepted program that the text of the file of this name means, with a buffer on the channel that is named.
 pub fn buffered_program_in<'a, S: Shelf>(
     alloc: Global,
     shelf: &mut S,

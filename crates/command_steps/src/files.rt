@@ -1,16 +1,19 @@
 //! Steps of which commands are made: from a file to its text, and from there to what it says.
 
-ghost use Rattle.std.specs.Prelude.{◌≡◌, ◌-◌, ◌<◌, ◌≤◌, ◌^◌, ◌∷◌, [], length, IfOk, IfErr, OnOk};
+ghost use Rattle.std.specs.Prelude.{◌≡◌, ◌+◌, ◌-◌, ◌<◌, ◌≤◌, ◌^◌, ◌∷◌, [], length, IfOk, IfErr, OnOk};
 ghost use Rattle.chp_syntax.specs.Shape.{IsShaped};
 ghost use Rattle.chp_syntax.specs.View.{program_tree};
 ghost use Rattle.handshake_expand.specs.Layout.{node_count};
 ghost use Rattle.width_check.specs.Accepted.{IsAccepted};
+ghost use Rattle.width_check.specs.Calls.{IsCallFree};
 ghost use Rattle.width_check.specs.Form.{typed_form};
 ghost use Rattle.width_check.specs.Typed.{program_of as typed_of};
 ghost use Rattle.command_answers.specs.Answers.{Gives, given_by};
 ghost use Rattle.command_answers.specs.Replies.{Halts, Stops};
-ghost use Rattle.command_steps.specs.Steps.{FromChecks, FromFile, FromNet, FromNodes, FromProgram, IsFileOf, IsTextOf, Never, most_of_net, most_of_nodes, most_of_text};
+ghost use Rattle.command_steps.specs.Inlined.{AreShaped, IsFormOf, Means};
+ghost use Rattle.command_steps.specs.Steps.{FromChecks, FromFile, FromNet, FromNodes, FromProgram, IsFileOf, IsTextOf, Never, most_declared, most_of_net, most_of_nodes, most_of_text};
 
+use call_merge::{CallError, inline};
 use chp_base::TextError;
 use chp_edge::{ReadEnd, Shelf, read_all};
 use chp_syntax::{Program, parse};
@@ -20,6 +23,7 @@ use prs_core::Net;
 use prs_file::{NetReadError, read_net};
 use sharing_check::{Disjoint, share};
 use std::alloc::Global;
+use text_sizes::few_declared;
 use width_check::{Typed, is_call_free, resolve};
 
 /// The most bytes of a program text.
@@ -62,9 +66,10 @@ pub fn program_of_text<'a>(alloc: Global, text: &[u8]) -> Result<Program, Stop<'
     requires { length text.now ≤ most_of_text }
     ensures read { IfOk result (λ program. IsTextOf text.now (program_tree program)) }
     ensures shaped { IfOk result (λ program. IsShaped (program_tree program)) }
-    ensures few { IfOk result (λ program. program.procs.items ≡ [] → length program.decls.items ≤ most_of_text) }
+    ensures few { IfOk result (λ program. length program.decls.items + length program.procs.items ≤ most_declared) }
     ensures stopped { IfErr result (Halts (FromProgram text.now Never)) }
 {
+    few_declared();
     match parse(alloc, text) {
         Ok(program) => Ok(program),
         Err(TextError::Refused(fault)) => Err(Stop::Refused(Refusal::Text(fault))),
@@ -72,18 +77,36 @@ pub fn program_of_text<'a>(alloc: Global, text: &[u8]) -> Result<Program, Stop<'
     }
 }
 
-/// The program with its names resolved. It is refused for the first fault of its names and widths, or else of sharing;
-/// one with procedures or calls isn't served yet.
-pub fn checked_program<'a>(alloc: Global, program: &Program) -> Result<Disjoint, Stop<'a>>
+/// The program in which each call is its procedure's body. It is refused for the first fault of procedures and calls,
+/// or if it is too large with its calls replaced.
+pub(crate) fn inlined_program<'a>(alloc: Global, program: &Program) -> Result<Program, Stop<'a>>
     requires shaped { IsShaped (program_tree program.now) }
-    requires few { program.now.procs.items ≡ [] → length program.now.decls.items ≤ most_of_text }
+    requires few { length program.now.decls.items + length program.now.procs.items ≤ most_declared }
+    requires calls { ¬ IsCallFree (program_tree program.now) }
+    ensures means { IfOk result (λ plain. Means (program_tree program.now) (program_tree plain)) }
+    ensures shaped { IfOk result (λ plain. IsShaped (program_tree plain)) }
+    ensures call_free { IfOk result (λ plain. IsCallFree (program_tree plain)) }
+    ensures few { IfOk result (λ plain. length plain.decls.items ≤ most_of_text) }
+    ensures stopped { IfErr result (Halts (FromChecks (program_tree program.now) Never)) }
+{
+    match inline(alloc, program) {
+        Ok(plain) => Ok(plain),
+        Err(CallError::Refused(fault)) => Err(Stop::Refused(Refusal::Text(fault))),
+        Err(CallError::TooManyForms(count)) => Err(Stop::Refused(Refusal::TooManyForms(count))),
+        Err(CallError::NoMemory(_)) => Err(Stop::NoMemory),
+    }
+}
+
+/// The program without procedures and calls with its names resolved. It is refused for the first fault of its names and
+/// widths, or else of sharing.
+pub(crate) fn checked_plain<'a>(alloc: Global, program: &Program) -> Result<Disjoint, Stop<'a>>
+    requires shaped { IsShaped (program_tree program.now) }
+    requires few { length program.now.decls.items ≤ most_of_text }
+    requires call_free { IsCallFree (program_tree program.now) }
     ensures accepted { OnOk result (IsAccepted (program_tree program.now)) }
     ensures form { IfOk result (λ disjoint. typed_of disjoint ≡ typed_form (program_tree program.now)) }
-    ensures stopped { IfErr result (Halts (FromChecks (program_tree program.now) (Never (program_tree program.now)))) }
+    ensures stopped { IfErr result (Halts (FromChecks (program_tree program.now) Never)) }
 {
-    if !is_call_free(program) {
-        return Err(Stop::Refused(Refusal::NotBuilt));
-    }
     let typed = match resolve(alloc, program) {
         Ok(typed) => typed,
         Err(TextError::Refused(fault)) => return Err(Stop::Refused(Refusal::Text(fault))),
@@ -94,6 +117,22 @@ pub fn checked_program<'a>(alloc: Global, program: &Program) -> Result<Disjoint,
         Err(TextError::Refused(fault)) => Err(Stop::Refused(Refusal::Text(fault))),
         Err(TextError::NoMemory(_)) => Err(Stop::NoMemory),
     }
+}
+
+/// The program that this one means, with its names resolved. It is refused for the first fault of procedures and calls,
+/// of its size with the calls replaced, of names and widths, or else of sharing.
+pub fn checked_program<'a>(alloc: Global, program: &Program) -> Result<Disjoint, Stop<'a>>
+    requires shaped { IsShaped (program_tree program.now) }
+    requires few { length program.now.decls.items + length program.now.procs.items ≤ most_declared }
+    ensures checked { IfOk result (λ disjoint. IsFormOf (program_tree program.now) (typed_of disjoint)) }
+    ensures shaped { OnOk result (AreShaped (Means (program_tree program.now))) }
+    ensures stopped { IfErr result (Halts (FromChecks (program_tree program.now) Never)) }
+{
+    if is_call_free(program) {
+        return checked_plain(alloc, program);
+    }
+    let plain = inlined_program(alloc, program)?;
+    checked_plain(alloc, &plain)
 }
 
 /// Counts the nodes of the program's circuit, and refuses one with too many.

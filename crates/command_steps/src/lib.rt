@@ -9,7 +9,7 @@ mod program_files;
 mod reference;
 mod run_files;
 
-pub use buffered::buffered_program_in;
+pub use buffered::{buffered_program, buffered_program_in};
 pub use delay_files::{delays_if, delays_in};
 pub use files::{
     MOST_OF_NET, MOST_OF_TEXT, checked_program, counted, net_of_text, program_of_text, text_of_file,

@@ -16,19 +16,19 @@ use sharing_check::Disjoint;
 use std::alloc::Global;
 use width_check::laws::form_is_typed;
 
-/// The accepted program that the text reads as.
+/// The accepted program that the text means.
 pub fn accepted_program<'a>(alloc: Global, text: &[u8]) -> Result<Disjoint, Stop<'a>>
     requires { length text.now ≤ most_of_text }
     ensures read { IfOk result (λ program. IsProgramOf text.now (typed_of program)) }
     ensures typed { IfOk result (λ program. IsTyped program.channels program.vars (process_of program.body)) }
-    ensures stopped { IfErr result (Halts (FromProgram text.now (λ tree. FromChecks tree (Never tree)))) }
+    ensures stopped { IfErr result (Halts (FromProgram text.now (λ tree. FromChecks tree Never))) }
 {
     form_is_typed();
     let program = program_of_text(alloc, text)?;
     checked_program(alloc, &program)
 }
 
-/// The accepted program whose text the file of this name has.
+/// The accepted program that the text of the file of this name means.
 pub fn program_in<'a, S: Shelf>(
     alloc: Global,
     shelf: &mut S,
@@ -39,7 +39,7 @@ pub fn program_in<'a, S: Shelf>(
     ensures typed { IfOk result (λ program. IsTyped program.channels program.vars (process_of program.body)) }
     ensures stopped { IfErr result (Stops
         (FromFile (given_by (S.tells shelf.old) (S.holds shelf.old)) file.entry.now most_of_text
-        (λ text. FromProgram text (λ tree. FromChecks tree (Never tree))))
+        (λ text. FromProgram text (λ tree. FromChecks tree Never)))
         (file.entry.now ∷ []) (given_by (S.tells shelf.old) (S.holds shelf.old)) (S.faults shelf.old)
         (S.faults shelf.new)) }
     ensures same { S.tells shelf.new ≡ S.tells shelf.old }

@@ -14,7 +14,7 @@ use command_answers::Stop;
 use sharing_check::Disjoint;
 use std::alloc::Global;
 
-/// The accepted program whose text the file of this name has, where a file is named.
+/// The accepted program that the text of the file of this name means, where a file is named.
 pub fn reference_in<'a, S: Shelf>(
     alloc: Global,
     shelf: &mut S,

@@ -21,6 +21,7 @@ use Rattle.net_compose.specs.Carries.{Carries}
 use Rattle.program_maker.specs.Drawn.{word_at}
 use Rattle.prs_core.specs.Nets.{IsNet, NetValue}
 use Rattle.width_check.specs.Accepted.{IsAccepted}
+use Rattle.width_check.specs.Calls.{IsCallFree}
 use Rattle.width_check.specs.Form.{typed_form}
 use Rattle.width_check.specs.Processes.{TypedProgram}
 use Rattle.command_answers.specs.declared.answer.Ending.TheVariants.{Done}
@@ -32,19 +33,23 @@ use Rattle.command_steps.specs.Orders.{Played}
 use Rattle.command_answers.specs.Replies.{Halts}
 use Rattle.simulation_commands.specs.RunReporting.{ending_for}
 use Rattle.simulation_commands.specs.Simulating.{HasPlayed, simulation_for}
-use Rattle.command_steps.specs.Steps.{FromChecks, has_calls, faulty, accepted, FromProgram, no_program, a_program, IsFaulty, Never}
+use Rattle.command_steps.specs.Steps.{FromChecks, bad_calls, too_many_forms, faulty, accepted, FromProgram, no_program, a_program, IsFaulty, Never}
+use Rattle.command_steps.proofs.OneMeaning.{means_itself}
 use Rattle.grown_commands.specs.Summing.{grown_script}
 use Rattle.grown_commands.proofs.SafeRuns.{all_safe, run_calm}
 
 -- ---- a text that is served is refused for nothing
 
 abbrev OwnChecks : (text : List ℕ) → Answer → Type 0
-OwnChecks text = FromProgram text (λ tree. FromChecks tree (Never tree))
+OwnChecks text = FromProgram text (λ tree. FromChecks tree Never)
 
 module _ (text : List ℕ) (channels : List Channel) (most : ℕ) (served : IsServed text channels most) where
   -- it is the program that is served
   pub served_form : (p : TypedProgram) → IsProgramOf text p → p ≡ typed_form served.program
-  served_form p is = is.form ∙ ap typed_form (sym (is.read.only served.program served.reads))
+  served_form p is =
+      let same : served.program ≡ is.tree = is.read.only served.program served.reads in
+      let free : IsCallFree is.tree = subst IsCallFree same served.accepted.call_free in
+      is.is.form ∙ ap typed_form (sym (same ∙ means_itself free is.is.means))
 
   pub served_few : (p : TypedProgram) → IsProgramOf text p → node_count p ≤ most
   served_few p is = subst (λ q. node_count q ≤ most) (sym (served_form p is)) served.few
@@ -53,10 +58,12 @@ module _ (text : List ℕ) (channels : List Channel) (most : ℕ) (served : IsSe
   served_wired p is = ap (λ (q : TypedProgram). q.channels) (served_form p is) ∙ served.wired
 
   module _ (no_fault : (p : ProgramTree) (f : Fault) → IsAccepted p → ¬ IsFaulty p f) where
-    checks_pass : (p : ProgramTree) (a : Answer) → IsAccepted p → FromChecks p (Never p) a → ⊥
-    checks_pass p a is (has_calls some) = some is.call_free
-    checks_pass p a is (faulty {fault = f} free fault) = no_fault p f is fault
-    checks_pass p a is (accepted are never) = never
+    checks_pass : (p : ProgramTree) (a : Answer) → IsAccepted p → FromChecks p Never a → ⊥
+    checks_pass p a is (bad_calls calls fault) = calls is.call_free
+    checks_pass p a is (too_many_forms calls meets large) = calls is.call_free
+    checks_pass p a is (faulty {plain = r} {fault = f} means fault) =
+        no_fault p f is (subst (λ (t : ProgramTree). IsFaulty t f) (sym (means_itself is.call_free means)) fault)
+    checks_pass p a is (accepted means are never) = never
 
     never_refused : (a : Answer) → OwnChecks text a → ⊥
     never_refused a (no_program none) = none.never served.program served.reads

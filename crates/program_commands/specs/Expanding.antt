@@ -16,8 +16,9 @@ tree_text p = parts_text p (expansion p)
 abbrev pub TreeReport : TypedProgram → Answer → Type 0
 TreeReport p answer = answer ≡ writes Done (tree_text p)
 
+-- the parts are those of the program that this one means
 abbrev pub ExpandsProgram : ProgramTree → Answer → Type 0
-ExpandsProgram program = FromChecks program (FromNodes (typed_form program) TreeReport)
+ExpandsProgram program = FromChecks program (λ plain. FromNodes (typed_form plain) TreeReport)
 
 abbrev pub Expands : Given → (file : List ℕ) → Answer → Type 0
 Expands given file = FromFile given file most_of_text (λ text. FromProgram text ExpandsProgram)

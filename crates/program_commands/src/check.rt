@@ -1,13 +1,14 @@
 //! `check FILE`: whether a program is accepted.
 
-ghost use Rattle.std.specs.Prelude.{◌≡◌, ◌≤◌, ◌∷◌, [], length, IfOk, IfErr};
+ghost use Rattle.std.specs.Prelude.{◌≡◌, ◌+◌, ◌≤◌, ◌∷◌, [], length, IfOk, IfErr};
 ghost use Rattle.chp_syntax.specs.Shape.{IsShaped};
 ghost use Rattle.chp_syntax.specs.View.{program_tree};
 ghost use Rattle.command_answers.specs.Answers.{given_by};
 ghost use Rattle.program_commands.specs.Checking.{Checks, ChecksProgram, accepted_text};
 ghost use Rattle.command_answers.specs.Replies.{Halts, Stops, told_answer};
-ghost use Rattle.command_steps.specs.Steps.{FromProgram, most_of_text};
+ghost use Rattle.command_steps.specs.Steps.{FromProgram, most_declared, most_of_text};
 
+use crate::compile::built;
 use chp_edge::Shelf;
 use chp_syntax::Program;
 use command_answers::{Ending, Output, Stop};
@@ -29,11 +30,12 @@ fn accepted_text(alloc: Global, nodes: u64) -> Result<Vec<u8>, AllocError>
 
 fn check_program<'a>(alloc: Global, program: &Program) -> Result<Output, Stop<'a>>
     requires shaped { IsShaped (program_tree program.now) }
-    requires few { program.now.procs.items ≡ [] → length program.now.decls.items ≤ most_of_text }
+    requires few { length program.now.decls.items + length program.now.procs.items ≤ most_declared }
     ensures answered { IfOk result (λ output. ChecksProgram (program_tree program.now) (told_answer output)) }
     ensures stopped { IfErr result (Halts (ChecksProgram (program_tree program.now))) }
 {
     let disjoint = checked_program(alloc, program)?;
+    built(program, None)?;
     match accepted_text(alloc, count_nodes(disjoint.typed())) {
         Ok(text) => Ok(Output {
             text,

@@ -1,26 +1,30 @@
 //! `compile FILE [--reset] [--buffer X]`: from a program text to its rule file.
 
-ghost use Rattle.std.specs.Prelude.{◌≡◌, ◌<◌, ◌≤◌, ◌∷◌, [], true, IfOk, IfErr, OnOk};
+ghost use Rattle.std.specs.Prelude.{◌≡◌, ◌+◌, ◌<◌, ◌≤◌, ◌∷◌, [], true, length, option_map, IfOk, IfErr, OnOk};
+ghost use Rattle.chp_syntax.specs.Shape.{IsShaped};
+ghost use Rattle.chp_syntax.specs.View.{program_tree};
 ghost use Rattle.handshake_expand.specs.Layout.{node_count, nodes_of};
 ghost use Rattle.net_compose.specs.Errors.{IfTooMany};
 ghost use Rattle.prs_file.specs.Spelling.{NetText};
 ghost use Rattle.width_check.specs.Typed.{program_of as typed_of};
 ghost use Rattle.command_answers.specs.Answers.{given_by};
-ghost use Rattle.program_commands.specs.Compiling.{Compiles, CompilesNet, IsFaithful, IsFaithfulFile, net_for};
+ghost use Rattle.program_commands.specs.Compiling.{Compiles, CompilesNet, CompilesProgram, FromBuilt, IsBuilt, IsFaithful, IsFaithfulFile, IsFaithfulTo, net_for};
 ghost use Rattle.command_words.specs.CompileWords.{compilation_asked};
 ghost use Rattle.command_answers.specs.Replies.{Halts, Stops};
 ghost use Rattle.program_commands.specs.RepliesTold.{reply_bytes, told_reply};
-ghost use Rattle.command_steps.specs.Steps.{FromNodes};
+ghost use Rattle.command_steps.specs.Steps.{FromNodes, Never, most_declared};
 
 use crate::reply::{Piece, Reply};
 use chp_edge::Shelf;
+use chp_syntax::Program;
 use command_answers::{Refusal, Stop};
-use command_steps::buffered_program_in;
+use command_steps::{MOST_OF_TEXT, buffered_program, program_of_text, text_of_file};
 use command_words::Compilation;
 use net_compose::NetError;
 use net_stream::Streamer;
 use sharing_check::Disjoint;
 use std::alloc::Global;
+use width_check::is_call_free;
 
 /// The streamer of the program's rule file, with a reset node where that is asked for.
 fn streamer_of(alloc: Global, program: &Disjoint, reset: bool) -> Result<Streamer, NetError>
@@ -57,7 +61,39 @@ fn compile_accepted<'a>(alloc: Global, program: &Disjoint, reset: bool) -> Resul
     }
 }
 
-/// What `compile` answers. The program gets its buffer, where one is asked for, before its nodes are counted.
+/// Refuses a program with procedures or calls that gets no buffer: no net is made for it yet.
+pub(crate) fn built<'a>(program: &Program, buffer: Option<&str>) -> Result<(), Stop<'a>>
+    ensures built { OnOk result (IsBuilt (program_tree program.now) (option_map (λ t. t.now) buffer.entry)) }
+    ensures stopped { IfErr result (Halts (FromBuilt (program_tree program.now) (option_map (λ t. t.now) buffer.entry)
+        (Never (program_tree program.now)))) }
+{
+    if buffer.is_none() && !is_call_free(program) {
+        return Err(Stop::Refused(Refusal::NotBuilt));
+    }
+    Ok(())
+}
+
+/// What `compile` answers for a program. It gets its buffer, where one is asked for, before its nodes are counted.
+fn compile_program<'a>(
+    alloc: Global,
+    program: &Program,
+    asked: &Compilation<'a>,
+) -> Result<Reply, Stop<'a>>
+    requires shaped { IsShaped (program_tree program.now) }
+    requires few { length program.now.decls.items + length program.now.procs.items ≤ most_declared }
+    ensures answered { IfOk result (λ reply.
+        CompilesProgram (compilation_asked asked.now) (program_tree program.now) (told_reply reply)) }
+    ensures faithful { IfOk result (λ reply.
+        IsFaithfulTo (compilation_asked asked.now) (program_tree program.now) (reply_bytes reply)) }
+    ensures stopped { IfErr result
+        (Halts (CompilesProgram (compilation_asked asked.now) (program_tree program.now))) }
+{
+    let made = buffered_program(alloc, program, asked.buffer)?;
+    built(program, asked.buffer)?;
+    compile_accepted(alloc, &made, asked.reset)
+}
+
+/// What `compile` answers.
 pub fn compile<'a, S: Shelf>(
     alloc: Global,
     shelf: &mut S,
@@ -74,6 +110,7 @@ pub fn compile<'a, S: Shelf>(
     ensures kept { S.holds shelf.new ≡ S.holds shelf.old }
     ensures faults { S.faults shelf.old ≤ S.faults shelf.new }
 {
-    let program = buffered_program_in(alloc, shelf, asked.file, asked.buffer)?;
-    compile_accepted(alloc, &program, asked.reset)
+    let text = text_of_file(alloc, shelf, asked.file, MOST_OF_TEXT)?;
+    let program = program_of_text(alloc, &text)?;
+    compile_program(alloc, &program, asked)
 }

@@ -1,6 +1,6 @@
-//! `expand FILE`: the tree of parts of a program.
+//! `expand FILE`: the tree of parts of a program, with each call replaced by its procedure's body.
 
-ghost use Rattle.std.specs.Prelude.{◌≡◌, ◌≤◌, ◌∷◌, [], length, IfOk, IfErr};
+ghost use Rattle.std.specs.Prelude.{◌≡◌, ◌+◌, ◌≤◌, ◌∷◌, [], length, IfOk, IfErr};
 ghost use Rattle.chp_syntax.specs.Shape.{IsShaped};
 ghost use Rattle.chp_syntax.specs.View.{program_tree};
 ghost use Rattle.handshake_expand.specs.Layout.{node_count};
@@ -8,7 +8,7 @@ ghost use Rattle.width_check.specs.Typed.{program_of as typed_of};
 ghost use Rattle.command_answers.specs.Answers.{given_by};
 ghost use Rattle.program_commands.specs.Expanding.{Expands, ExpandsProgram, TreeReport, tree_text};
 ghost use Rattle.command_answers.specs.Replies.{Halts, Stops, told_answer};
-ghost use Rattle.command_steps.specs.Steps.{FromNodes, FromProgram, most_of_nodes, most_of_text};
+ghost use Rattle.command_steps.specs.Steps.{FromNodes, FromProgram, most_declared, most_of_nodes, most_of_text};
 
 use chp_edge::Shelf;
 use chp_syntax::Program;
@@ -44,7 +44,7 @@ fn expand_accepted<'a>(alloc: Global, program: &Typed) -> Result<Output, Stop<'a
 
 fn expand_program<'a>(alloc: Global, program: &Program) -> Result<Output, Stop<'a>>
     requires shaped { IsShaped (program_tree program.now) }
-    requires few { program.now.procs.items ≡ [] → length program.now.decls.items ≤ most_of_text }
+    requires few { length program.now.decls.items + length program.now.procs.items ≤ most_declared }
     ensures answered { IfOk result (λ output. ExpandsProgram (program_tree program.now) (told_answer output)) }
     ensures stopped { IfErr result (Halts (ExpandsProgram (program_tree program.now))) }
 {

@@ -29,7 +29,8 @@ report_once p script n a b (spent within can) (spent also could) = refl
 
 module _ (cause : (text : List ℕ) (k j : FaultCode) (s t : Span) → IsRefusedText text k s → IsRefusedText text j t → k ≡ j)
     (place : (text : List ℕ) (k j : FaultCode) (s t : Span) → IsRefusedText text k s → IsRefusedText text j t → s ≡ t)
-    (checked : (program : ProgramTree) (Next : Answer → Type 0) → OneAnswer Next → OneAnswer (FromChecks program Next)) where
+    (checked : (program : ProgramTree) (Next : ProgramTree → Answer → Type 0) → ((plain : ProgramTree) → OneAnswer (Next plain)) →
+    OneAnswer (FromChecks program Next)) where
   pub rounds_once : (r : AskedRounds) (given : Given) → given.tells ≡ true → OneAnswer (Runs r given)
   rounds_once r given told = program_file_once cause place checked given r.file r.buffer (RunsProgram r given) told
       (λ p. file_once given r.script _ _ told (λ words. script_once p.channels words _ (λ script. report_once p script r.rounds)))

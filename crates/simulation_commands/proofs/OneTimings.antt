@@ -36,7 +36,8 @@ module _ (ran : (t : TimedValue) (ms ns : List NotedMove) (r q : RanValue) (u v 
 
   module _ (cause : (text : List ℕ) (k j : FaultCode) (s t : Span) → IsRefusedText text k s → IsRefusedText text j t → k ≡ j)
       (place : (text : List ℕ) (k j : FaultCode) (s t : Span) → IsRefusedText text k s → IsRefusedText text j t → s ≡ t)
-      (checked : (program : ProgramTree) (Next : Answer → Type 0) → OneAnswer Next → OneAnswer (FromChecks program Next))
+      (checked : (program : ProgramTree) (Next : ProgramTree → Answer → Type 0) → ((plain : ProgramTree) → OneAnswer (Next plain)) →
+      OneAnswer (FromChecks program Next))
       (once : (text : List ℕ) (f g : NetFault) (l m : ℕ) → IsRefused text f l → IsRefused text g m → (f ≡ g) × (l ≡ m)) where
     timed_file_once : (t : AskedTiming) (given : Given) → given.tells ≡ true → (net : NetValue) → OneAnswer (TimesFile t given net)
     timed_file_once t given told net = power_once net t.power _

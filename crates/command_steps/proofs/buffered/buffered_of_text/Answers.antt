@@ -1,8 +1,6 @@
-use Rattle.std.proofs.Common.{refl}
 use Rattle.chp_syntax.specs.View.{program_tree}
-use Rattle.command_steps.specs.Steps.{FromProgram, a_program, accepted}
-use Rattle.command_steps.proofs.BufferStopping.{OnlyBuffer, checks_halt, program_halts}
-use Rattle.command_steps.proofs.Faulty.{no_procedures}
+use Rattle.command_steps.specs.Steps.{FromProgram, a_program}
+use Rattle.command_steps.proofs.BufferStopping.{OnlyBuffer, program_halts}
 use Rattle.command_steps.proofs.Stopping.{err_in, halts_in, passed_on}
 use Rattle.command_words.proofs.Results.{ok_in}
 use Rattle.command_steps.proofs.buffered.buffered_of_text.Goals as goal
@@ -12,29 +10,16 @@ returns-in_err-program-clause-stopped c =
     passed_on c.from_residual.result _ _ c.from_residual.ensures.1
     (program_halts c.args.text.now _ c.in_err-program.field-0.0 c.in_err-program.ensures.stopped)
 
-pub returns-in_err-disjoint-clause-stopped : goal.returns-in_err-disjoint-clause-stopped
-returns-in_err-disjoint-clause-stopped c =
-    passed_on c.from_residual-in_err-disjoint.result _ _ c.from_residual-in_err-disjoint.ensures.1
-    (checks_halt c.args.text.now _ (program_tree c.in_ok-program.program) c.in_ok-program.ensures.read c.in_err-disjoint.field-0.0
-    c.in_err-disjoint.ensures.stopped)
-
-pub buffered-requires-clause-few : goal.buffered-requires-clause-few
-buffered-requires-clause-few c =
-    c.in_ok-program.ensures.few (no_procedures c.in_ok-program.program.procs.items (program_tree c.in_ok-program.program)
-    c.in_ok-disjoint.ensures.accepted.call_free refl)
-
 pub returns-clause-read : goal.returns-clause-read
 returns-clause-read c =
-    ok_in c.buffered.result _ _ (λ made is. record {
+    ok_in c.buffered_program.result _ _ (λ made is. record {
       tree = program_tree c.in_ok-program.program;
       read = c.in_ok-program.ensures.read;
-      accepted = c.in_ok-disjoint.ensures.accepted;
-      is = is;
-    }) c.buffered.ensures.goes_on
+      from = is;
+    }) c.buffered_program.ensures.made
 
 pub returns-clause-stopped : goal.returns-clause-stopped
 returns-clause-stopped c =
-    err_in c.buffered.result _ _
-    (λ stop halts. halts_in _ (FromProgram c.args.text.now (OnlyBuffer _))
-    (λ answer is. a_program c.in_ok-program.ensures.read (accepted c.in_ok-disjoint.ensures.accepted is)) stop halts)
-    c.buffered.ensures.stopped
+    err_in c.buffered_program.result _ _
+    (λ stop halts. halts_in _ (FromProgram c.args.text.now (OnlyBuffer _)) (λ answer is. a_program c.in_ok-program.ensures.read is) stop halts)
+    c.buffered_program.ensures.stopped

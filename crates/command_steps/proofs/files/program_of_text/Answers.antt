@@ -1,7 +1,6 @@
-use Rattle.std.proofs.Common.{List, map, ap, arith}
+use Rattle.std.proofs.Common.{arith}
+use Rattle.std.proofs.lemmas.List.{length-map}
 use Rattle.chp_syntax.specs.View.{procedure_of, program_tree}
-use Rattle.chp_syntax.specs.declared.tree.Proc.{Proc}
-use Rattle.command_steps.proofs.FewDeclarations.{few_declarations}
 use Rattle.command_steps.specs.Steps.{no_program}
 use Rattle.command_steps.proofs.files.program_of_text.Goals as goal
 
@@ -13,6 +12,7 @@ returns-in-Err-Refused-clause-stopped c =
     no_program (rw c.in-Err-Refused.fault-is (record { never = never; cause = cause; other = other }))
 
 pub returns-in-Ok-clause-few : goal.returns-in-Ok-clause-few
-returns-in-Ok-clause-few c = λ none.
-    let few = few_declarations c.args.text.now (program_tree c.in-Ok.program) c.in-Ok.ensures.reads (ap (λ (ps : List Proc). map procedure_of ps) none) in
-    omega (arith, few, c.requires)
+returns-in-Ok-clause-few c =
+    let program = c.in-Ok.program in
+    let few = c.few_declared.ensures c.args.text.now (program_tree program) c.in-Ok.ensures.reads in
+    omega (arith, few, c.requires, length-map program.procs.items procedure_of)
