@@ -4,6 +4,7 @@ use Rattle.std.proofs.lemmas.List.{length-map}
 use Rattle.std.specs.Prelude.{IsSome}
 use Rattle.chp_base.specs.declared.channel.Channel.{Channel}
 use Rattle.chp_syntax.specs.Reading.{Reads}
+use Rattle.chp_syntax.specs.Trees.{ProgramTree}
 use Rattle.prs_core.specs.declared.wires.Wires.{Wires}
 use Rattle.prs_core.specs.Nets.{NetValue, IsNet}
 use Rattle.env_script.specs.Environment.{net_channels, is_reset}
@@ -27,6 +28,7 @@ use Rattle.command_answers.specs.declared.answer.Ending.{Ending}
 use Rattle.command_answers.specs.declared.answer.Ending.TheVariants.{Done}
 use Rattle.command_answers.specs.Answers.{Given, writes}
 use Rattle.command_steps.specs.HeldPrograms.{HoldsProgram}
+use Rattle.command_steps.specs.Inlined.{Means}
 use Rattle.command_steps.specs.Orders.{Played}
 use Rattle.command_steps.specs.References.{HoldsReference, IsReferredTo}
 use Rattle.simulation_commands.specs.RunReporting.{IsReported, alone, hazardous, compared, ending_against, ending_for}
@@ -34,6 +36,7 @@ use Rattle.chp_cli.specs.Simulated.{HoldsCarrying, IsFileSimulated}
 use Rattle.command_words.specs.SimulateWords.{AskedRun}
 use Rattle.simulation_commands.specs.Simulating.{ran_value, simulation_for}
 use Rattle.command_steps.proofs.OneAnswers.{same_text}
+use Rattle.command_steps.proofs.OneMeaning.{means_once}
 
 -- ---- further rounds
 
@@ -128,7 +131,9 @@ module _ (hold : (p : TypedProgram) (script : List OfferValue) → MeetsSharing 
         same_program file p q h i =
             let texts : i.text ≡ h.text = same_text (i.gives told) (h.gives told) in
             let trees : i.is.tree ≡ h.is.tree = h.is.read.only i.is.tree (subst (λ t. Reads t i.is.tree) texts i.is.read.reads) in
-            h.is.form ∙ (sym (ap typed_form trees) ∙ sym i.is.form)
+            let plains : i.is.is.plain ≡ h.is.is.plain =
+            means_once i.is.is.means (subst (λ (t : ProgramTree). Means t h.is.is.plain) (sym trees) h.is.is.means) in
+            h.is.is.form ∙ (sym (ap typed_form plains) ∙ sym i.is.is.form)
 
         pub same_reference : (file : Option (List ℕ)) (p : TypedProgram) (o : Option TypedProgram) → IsReferredTo given file p → HoldsReference given file o →
             (q : TypedProgram) → o ≡ Some q → (q ≡ p) × MeetsSharing p.body
@@ -138,7 +143,7 @@ module _ (hold : (p : TypedProgram) (script : List OfferValue) → MeetsSharing 
         same_reference (Some file) p (Some r) refers holds q is =
             let other : q ≡ r = cc is in (
               other ∙ same_program file r p holds refers,
-              subst (λ (t : TypedProgram). MeetsSharing t.body) (sym refers.is.form) refers.is.accepted.sharing,
+              subst (λ (t : TypedProgram). MeetsSharing t.body) (sym refers.is.is.form) refers.is.is.accepted.sharing,
             )
 
         module _ (s : AskedRun) (played : Played) (p : TypedProgram) (holds : HoldsCarrying given s.net p) (refers : IsReferredTo given s.against p) where

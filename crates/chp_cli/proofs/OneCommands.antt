@@ -1,5 +1,5 @@
 -- Each command has at most one answer.
-use Rattle.std.proofs.Common.{◌≡◌, ◌∙◌, ℕ, List, true, sym}
+use Rattle.std.proofs.Common.{◌≡◌, ◌∙◌, ℕ, List, None, true, sym}
 use Rattle.chp_base.specs.declared.span.Span.{Span}
 use Rattle.chp_base.specs.declared.fault.FaultCode.{FaultCode}
 use Rattle.chp_syntax.specs.Trees.{ProgramTree}
@@ -7,13 +7,12 @@ use Rattle.chp_syntax.specs.Refusals.{RefusedText as IsRefusedText}
 use Rattle.prs_file.specs.declared.fault.NetFault.{NetFault}
 use Rattle.prs_file.specs.Reading.{IsRefused}
 use Rattle.width_check.specs.Form.{typed_form}
-use Rattle.width_check.specs.Processes.{TypedProgram}
 use Rattle.command_words.specs.declared.grow_words.Growth.{Growth}
 use Rattle.command_answers.specs.Answers.{Given, Answer, OneAnswer}
-use Rattle.program_commands.specs.Checking.{AcceptedReport, ChecksProgram}
+use Rattle.program_commands.specs.Checking.{AcceptedReport, AcceptedText, ChecksProgram}
 use Rattle.command_words.specs.CommandWords.{Asked, compiles, migrates, checks, expands, simulates, times, benches, traces, unwaves, runs, grows}
 use Rattle.chp_cli.specs.Commands.{IsAnswer}
-use Rattle.program_commands.specs.Compiling.{CompilesNet}
+use Rattle.program_commands.specs.Compiling.{CompilesNet, CompilesProgram, FromBuilt}
 use Rattle.program_commands.specs.Expanding.{ExpandsProgram, TreeReport}
 use Rattle.grown_commands.specs.Growing.{Grows}
 use Rattle.program_commands.specs.Migrating.{MigratesNet}
@@ -30,8 +29,8 @@ use Rattle.command_words.specs.WavesWords.{AskedWaves}
 use Rattle.simulation_commands.specs.Tracing.{Traces}
 use Rattle.simulation_commands.specs.Unwaving.{Unwaves}
 use Rattle.command_steps.specs.Steps.{FromChecks, FromNodes}
-use Rattle.command_steps.proofs.OneAnswers.{file_once, program_once, net_once, nodes_once, program_file_once}
-use Rattle.program_commands.proofs.OneWritten.{compile_once, migrate_once}
+use Rattle.command_steps.proofs.OneAnswers.{file_once, program_once, net_once, nodes_once, buffer_once}
+use Rattle.program_commands.proofs.OneWritten.{built_once, compile_once, migrate_once}
 
 module _ (cause : (text : List ℕ) (k j : FaultCode) (s t : Span) → IsRefusedText text k s → IsRefusedText text j t → k ≡ j)
     (place : (text : List ℕ) (k j : FaultCode) (s t : Span) → IsRefusedText text k s → IsRefusedText text j t → s ≡ t)
@@ -43,17 +42,22 @@ module _ (cause : (text : List ℕ) (k j : FaultCode) (s t : Span) → IsRefused
     (unwaves_once : (given : Given) (file : List ℕ) → given.tells ≡ true → OneAnswer (Unwaves given file))
     (rounds_once : (r : AskedRounds) (given : Given) → given.tells ≡ true → OneAnswer (Runs r given))
     (growth_once : (growth : Growth) (played : Played) → OneAnswer (Grows growth played))
-    (checked : (program : ProgramTree) (Next : Answer → Type 0) → OneAnswer Next → OneAnswer (FromChecks program Next)) where
+    (checked : (program : ProgramTree) (Next : ProgramTree → Answer → Type 0) → ((plain : ProgramTree) → OneAnswer (Next plain)) →
+    OneAnswer (FromChecks program Next)) where
   pub command_once : (command : Asked) (given : Given) (handed : HandedIn) → given.tells ≡ true → OneAnswer (IsAnswer command given handed)
-  command_once (compiles c) given handed told = program_file_once cause place checked given c.file c.buffer
-      (λ (p : TypedProgram). FromNodes p (CompilesNet c.reset)) told
-      (λ p. nodes_once p (CompilesNet c.reset) (compile_once c.reset p))
+  command_once (compiles c) given handed told = file_once given c.file _ _ told
+      (λ text. program_once text (CompilesProgram c)
+      (λ program. checked program _
+      (λ plain. buffer_once plain c.buffer (λ p. FromBuilt program c.buffer (FromNodes p (CompilesNet c.reset)))
+      (λ p. built_once program c.buffer _ (nodes_once p (CompilesNet c.reset) (compile_once c.reset p))))) (cause text) (place text))
   command_once (migrates file) given handed told = file_once given file _ _ told (λ text. net_once text MigratesNet migrate_once (once text))
   command_once (checks file) given handed told = file_once given file _ _ told
-      (λ text. program_once text ChecksProgram (λ program. checked program (AcceptedReport program) (λ a b is are. is ∙ sym are)) (cause text) (place text))
+      (λ text. program_once text ChecksProgram (λ program. checked program (AcceptedReport program)
+      (λ plain. built_once program None (AcceptedText plain) (λ a b is are. is ∙ sym are))) (cause text) (place text))
   command_once (expands file) given handed told = file_once given file _ _ told
       (λ text. program_once text ExpandsProgram
-      (λ program. checked program (FromNodes (typed_form program) TreeReport) (nodes_once (typed_form program) TreeReport (λ a b is are. is ∙ sym are)))
+      (λ program. checked program (λ plain. FromNodes (typed_form plain) TreeReport)
+      (λ plain. nodes_once (typed_form plain) TreeReport (λ a b is are. is ∙ sym are)))
       (cause text) (place text))
   command_once (simulates run) given handed told = simulate_once run given handed.orders told
   command_once (times t) given handed told = times_once t given told

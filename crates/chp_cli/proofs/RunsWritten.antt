@@ -1,7 +1,6 @@
 -- Where nothing speaks against it, `simulate` writes.
 use Rattle.std.proofs.Common.{◌≡◌, ℕ, true, false, List, Option, Some, None, refl, subst}
 use Rattle.chp_base.specs.declared.fault.Fault.{Fault}
-use Rattle.chp_syntax.specs.Reading.{Reads}
 use Rattle.chp_syntax.specs.Trees.{ProgramTree}
 use Rattle.env_script.specs.Environment.{net_channels}
 use Rattle.env_script.specs.Scripts.{OfferValue}
@@ -14,19 +13,18 @@ use Rattle.history_report.specs.declared.comparison.Against.TheVariants as again
 use Rattle.prs_core.specs.Nets.{NetValue}
 use Rattle.prs_file.specs.Spelling.{NetText}
 use Rattle.width_check.specs.Accepted.{IsAccepted}
-use Rattle.width_check.specs.Form.{typed_form}
 use Rattle.width_check.specs.Processes.{TypedProgram}
 use Rattle.command_answers.specs.Answers.{Given, Answer, status_of, status_with}
 use Rattle.command_steps.specs.Orders.{Played}
-use Rattle.command_steps.specs.References.{FromReference, IsToReferTo}
 use Rattle.simulation_commands.specs.RunReporting.{IsReported, alone, hazardous, compared, ending_against, ending_for}
 use Rattle.command_steps.specs.RunSteps.{no_order, an_order, no_reset, has_power, no_script, a_script, lacks_reset}
 use Rattle.chp_cli.specs.Simulated.{IsToSimulate}
 use Rattle.command_words.specs.SimulateWords.{AskedRun}
 use Rattle.simulation_commands.specs.Simulating.{Simulates, SimulatesFile}
 use Rattle.command_answers.specs.Statuses.{is_whole}
-use Rattle.command_steps.specs.Steps.{FromChecks, IsFaulty, no_file, long_file, a_file, no_net, a_net, no_program, a_program, has_calls, faulty, accepted}
+use Rattle.command_steps.specs.Steps.{IsFaulty, no_file, long_file, a_file, no_net, a_net}
 use Rattle.command_steps.proofs.OneAnswers.{same_text, too_long, not_there}
+use Rattle.chp_cli.proofs.StepsPassed.{reference_passed}
 
 pub whole_end : (e : End) → is_whole (status_with (ending_for e)) ≡ true
 whole_end end.AtRest = refl
@@ -46,23 +44,8 @@ whole_report script time r p a alone = whole_end r.end
 whole_report script time r p a (hazardous hazard) = refl
 whole_report script time r p a (compared x calm is) = whole_against x
 
--- the program that is read
-module _ (no_fault : (program : ProgramTree) (f : Fault) → IsAccepted program → ¬ IsFaulty program f) (given : Given) (told : given.tells ≡ true)
-    (Next : Option TypedProgram → Answer → Type 0) (next : (p : Option TypedProgram) (a : Answer) → Next p a → is_whole (status_of a) ≡ true) where
-  checked : (p : ProgramTree) → IsAccepted p → (a : Answer) → FromChecks p (Next (Some (typed_form p))) a → is_whole (status_of a) ≡ true
-  checked p are a (has_calls some) = absurd (some are.call_free)
-  checked p are a (faulty {fault = f} free bad) = absurd (no_fault p f are bad)
-  checked p are a (accepted also is) = next (Some (typed_form p)) a is
-
-  reference_writes : (file : Option (List ℕ)) → IsToReferTo given file → (a : Answer) → FromReference given file Next a → is_whole (status_of a) ≡ true
-  reference_writes None t a is = next None a is
-  reference_writes (Some file) t a (no_file lacks) = not_there lacks.none t.held
-  reference_writes (Some file) t a (long_file long) = too_long (long told).1 t.held (long told).2 t.short
-  reference_writes (Some file) t a (a_file gives short (no_program none)) =
-      absurd (none.never t.program (subst (λ x. Reads x t.program) (same_text t.held (gives told)) t.reads))
-  reference_writes (Some file) t a (a_file gives short (a_program {program = p} is checks)) =
-      let same = is.only t.program (subst (λ x. Reads x t.program) (same_text t.held (gives told)) t.reads) in
-      checked p (subst IsAccepted same t.accepted) a checks
+abbrev IsWritten : Answer → Type 0
+IsWritten a = is_whole (status_of a) ≡ true
 
 module _ (no_fault : (program : ProgramTree) (f : Fault) → IsAccepted program → ¬ IsFaulty program f)
     (s : AskedRun) (given : Given) (played : Played) (told : given.tells ≡ true) (t : IsToSimulate s given played) where
@@ -74,7 +57,7 @@ module _ (no_fault : (program : ProgramTree) (f : Fault) → IsAccepted program 
       absurd (none.never t.script (subst (λ x. IsScriptText (net_channels n) x t.script) (same_text t.held_script (gives told))
       (subst (λ (m : NetValue). IsScriptText (net_channels m) t.told t.script) same t.says)))
   net_writes place n same a (has_power is (a_file gives short (a_script {script = sc} are next))) =
-      reference_writes no_fault given told _ (λ p b plays. whole_report sc None _ p b plays.plays.written) s.against t.referable a next
+      reference_passed IsWritten no_fault given told s.against t.referable _ (λ p b plays. whole_report sc None _ p b plays.plays.written) a next
 
   pub simulate_writes : (a : Answer) → Simulates s given played a → is_whole (status_of a) ≡ true
   simulate_writes a (no_order none) = absurd (cc (none, t.named))

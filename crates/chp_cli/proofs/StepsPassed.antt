@@ -19,13 +19,16 @@ use Rattle.width_check.specs.Form.{typed_form}
 use Rattle.width_check.specs.Processes.{TypedProgram}
 use Rattle.command_answers.specs.Answers.{Given, Answer}
 use Rattle.command_steps.specs.BufferSteps.{FromBuffer, IsBuffered, no_channel, has_channel}
+use Rattle.command_steps.specs.Inlined.{Means}
 use Rattle.command_steps.specs.Orders.{Played, place_named}
 use Rattle.command_steps.specs.References.{FromReference, IsToReferTo}
 use Rattle.command_steps.specs.RunSteps.{FromOrder, FromPower, FromScript, no_order, an_order, no_reset, has_power, no_script, a_script, lacks_reset}
 use Rattle.chp_cli.specs.Serving.{HoldsText}
-use Rattle.command_steps.specs.Steps.{FromFile, FromProgram, FromChecks, FromNodes, FromNet, IsFaulty, no_file, long_file, a_file, no_program, a_program, has_calls, faulty, accepted, too_many, few_enough, no_net, a_net, most_of_nodes, most_of_text}
+use Rattle.command_steps.specs.Steps.{FromFile, FromProgram, FromChecks, FromNodes, FromNet, IsFaulty, no_file, long_file, a_file, no_program, a_program, bad_calls, too_many_forms, faulty, accepted, too_many, few_enough, no_net, a_net, most_of_nodes, most_of_text}
 use Rattle.command_steps.specs.DelaySteps.{FromDelays, delays_refused, delays_read}
 use Rattle.command_steps.proofs.OneAnswers.{same_text, too_long, not_there, needs_channel, one_buffered}
+use Rattle.command_steps.proofs.OneMeaning.{bad_or_meant, large_or_meant, means_once}
+use Rattle.program_commands.specs.Compiling.{FromBuilt, IsBuilt, not_built, built}
 
 module _ (P : Answer → Type 0) where
   pub file_passed : (given : Given) → given.tells ≡ true → (name text : List ℕ) (most : ℕ) → HoldsText given name most text
@@ -50,6 +53,11 @@ module _ (P : Answer → Type 0) where
   buffer_passed p made chan buffered Next next a (no_channel {name = x} named not) = needs_channel p chan x made named not buffered
   buffer_passed p made chan buffered Next next a (has_channel other also is) =
       next a (subst (λ (t : ProgramTree). Next (typed_form t) a) (one_buffered p chan other made also buffered) is)
+
+  pub built_passed : (program : ProgramTree) (chan : Option (List ℕ)) → IsBuilt program chan → (Next : Answer → Type 0) → ((a : Answer) → Next a → P a)
+      → (a : Answer) → FromBuilt program chan Next a → P a
+  built_passed program chan is Next next a (not_built not) = absurd (not is)
+  built_passed program chan is Next next a (built also goes) = next a goes
 
   pub net_passed : (text : List ℕ) (net : NetValue) → IsNet net → NetText text net → (Next : NetValue → Answer → Type 0) → ((a : Answer) → Next net a → P a)
       → (a : Answer) → FromNet text Next a → P a
@@ -88,22 +96,27 @@ module _ (P : Answer → Type 0) where
   delays_passed names text delays says Next next a (delays_read is are) = next a (subst (λ (d : DelayTable). Next d a) (sym (is.only delays says)) are)
 
   module _ (no_fault : (program : ProgramTree) (f : Fault) → IsAccepted program → ¬ IsFaulty program f) where
-    pub checks_passed : (p : ProgramTree) → IsAccepted p → (Next : Answer → Type 0) → ((a : Answer) → Next a → P a) → (a : Answer) → FromChecks p Next a → P a
-    checks_passed p are Next next a (has_calls some) = absurd (some are.call_free)
-    checks_passed p are Next next a (faulty {fault = f} free bad) = absurd (no_fault p f are bad)
-    checks_passed p are Next next a (accepted also is) = next a is
+    pub checks_passed : (p plain : ProgramTree) → Means p plain → IsAccepted plain → (Next : ProgramTree → Answer → Type 0)
+        → ((a : Answer) → Next plain a → P a) → (a : Answer) → FromChecks p Next a → P a
+    checks_passed p plain means are Next next a (bad_calls {fault = f} calls fault) = bad_or_meant f calls fault means
+    checks_passed p plain means are Next next a (too_many_forms calls meets large) = large_or_meant calls large means
+    checks_passed p plain means are Next next a (faulty {fault = f} also bad) =
+        absurd (no_fault plain f are (subst (λ (t : ProgramTree). IsFaulty t f) (means_once also means) bad))
+    checks_passed p plain means are Next next a (accepted also accept is) =
+        next a (subst (λ (t : ProgramTree). Next t a) (means_once also means) is)
 
-    pub text_passed : (given : Given) → given.tells ≡ true → (name text : List ℕ) (p : ProgramTree) → HoldsText given name most_of_text text
-        → Reads text p → IsAccepted p → (Next : ProgramTree → Answer → Type 0) → ((a : Answer) → Next p a → P a)
+    -- Next: with what the command goes on for a program, and the one that it means
+    pub text_passed : (given : Given) → given.tells ≡ true → (name text : List ℕ) (p plain : ProgramTree) → HoldsText given name most_of_text text
+        → Reads text p → Means p plain → IsAccepted plain → (Next : (program plain : ProgramTree) → Answer → Type 0) → ((a : Answer) → Next p plain a → P a)
         → (a : Answer) → FromFile given name most_of_text (λ t. FromProgram t (λ q. FromChecks q (Next q))) a → P a
-    text_passed given told name text p h reads are Next next a is =
+    text_passed given told name text p plain h reads means are Next next a is =
         file_passed given told name text most_of_text h (λ t. FromProgram t (λ q. FromChecks q (Next q)))
-        (λ b from. program_passed text p reads (λ q. FromChecks q (Next q)) (λ c checks. checks_passed p are (Next p) next c checks) b from) a is
+        (λ b from. program_passed text p reads (λ q. FromChecks q (Next q)) (λ c checks. checks_passed p plain means are (Next p) next c checks) b from) a is
 
     pub reference_passed : (given : Given) → given.tells ≡ true → (file : Option (List ℕ)) → IsToReferTo given file
         → (Next : Option TypedProgram → Answer → Type 0) → ((p : Option TypedProgram) (a : Answer) → Next p a → P a)
         → (a : Answer) → FromReference given file Next a → P a
     reference_passed given told None t Next next a is = next None a is
     reference_passed given told (Some file) t Next next a is =
-        text_passed given told file t.text t.program (record { held = t.held; short = t.short }) t.reads t.accepted (λ q. Next (Some (typed_form q)))
-        (λ b also. next (Some (typed_form t.program)) b also) a is
+        text_passed given told file t.text t.program t.plain (record { held = t.held; short = t.short }) t.reads t.means t.accepted
+        (λ q plain. Next (Some (typed_form plain))) (λ b also. next (Some (typed_form t.plain)) b also) a is

@@ -1,59 +1,59 @@
 -- Where nothing speaks against it, a command writes.
-use Rattle.std.proofs.Common.{◌≡◌, ◌∙◌, ℕ, ◌≤◌, Bool, List, true, refl, ap, subst, arith}
-use Rattle.chp_syntax.specs.Reading.{Reads}
+use Rattle.std.proofs.Common.{◌≡◌, ◌∙◌, ℕ, Bool, List, true, refl, ap, subst}
 use Rattle.chp_base.specs.declared.fault.Fault.{Fault}
 use Rattle.chp_syntax.specs.Trees.{ProgramTree}
 use Rattle.width_check.specs.Accepted.{IsAccepted}
 use Rattle.width_check.specs.Form.{typed_form}
 use Rattle.width_check.specs.Processes.{TypedProgram}
-use Rattle.handshake_expand.specs.Layout.{node_count}
 use Rattle.prs_core.specs.Nets.{NetValue}
 use Rattle.prs_file.specs.Spelling.{NetText}
 use Rattle.command_answers.specs.declared.status.Status.TheVariants.{Done}
 use Rattle.command_answers.specs.declared.answer.Ending.{Ending}
 use Rattle.command_answers.specs.Answers.{Given, Answer, writes, status_of}
-use Rattle.command_steps.specs.BufferSteps.{FromBuffer, no_channel, has_channel, IsBuffered}
-use Rattle.program_commands.specs.Compiling.{Compiles, CompilesNet, IsFileCompiled, IsToCompile, compiled}
+use Rattle.command_steps.specs.BufferSteps.{FromBuffer, has_channel}
+use Rattle.program_commands.specs.Compiling.{Compiles, CompilesNet, FromBuilt, IsFileCompiled, IsToCompile, built, compiled}
 use Rattle.command_words.specs.CompileWords.{AskedCompilation}
 use Rattle.program_commands.specs.Migrating.{Migrates, IsToMigrate, named_reset, taken, migrated}
-use Rattle.command_steps.specs.Steps.{FromChecks, FromNodes, IsFaulty, has_calls, faulty, accepted, no_file, long_file, a_file, no_program, a_program, too_many, few_enough, no_net, a_net, most_of_nodes}
-use Rattle.command_steps.proofs.OneAnswers.{same_text, too_long, not_there, needs_channel, one_buffered}
+use Rattle.command_steps.specs.Steps.{FromNodes, IsFaulty, accepted, no_file, long_file, a_file, a_program, few_enough, no_net, a_net}
+use Rattle.command_steps.proofs.OneAnswers.{same_text, too_long, not_there}
+use Rattle.chp_cli.proofs.StepsPassed.{buffer_passed, built_passed, nodes_passed, text_passed}
 
--- a circuit that isn't too large
-nodes_write : (reset : Bool) (p : TypedProgram) (a : Answer) → node_count p ≤ most_of_nodes → FromNodes p (CompilesNet reset) a → status_of a ≡ Done
-nodes_write reset p a within (too_many many) = absurd (omega (arith, within, many))
-nodes_write reset p a within (few_enough few (compiled d)) = refl
+abbrev IsDone : Answer → Type 0
+IsDone a = status_of a ≡ Done
 
--- to an accepted program that can have its buffer, whose circuit isn't too large then
+net_written : (reset : Bool) (p : TypedProgram) (a : Answer) → CompilesNet reset p a → IsDone a
+net_written reset p a (compiled spells) = refl
+
+-- to a program for which a net is made, and which means an accepted one that can have its buffer, whose circuit isn't too large then
 module _ (c : AskedCompilation) (no_fault : (program : ProgramTree) (f : Fault) → IsAccepted program → ¬ IsFaulty program f) where
-  buffer_writes : (program made : ProgramTree) (a : Answer) → node_count (typed_form made) ≤ most_of_nodes → IsBuffered program c.buffer made →
-      FromBuffer program c.buffer (λ p. FromNodes p (CompilesNet c.reset)) a → status_of a ≡ Done
-  buffer_writes p q a few buffered (no_channel {name = x} named not) = needs_channel p c.buffer x q named not buffered
-  buffer_writes p q a few buffered (has_channel r also next) =
-      nodes_write c.reset (typed_form r) a
-      (subst (λ (t : ProgramTree). node_count (typed_form t) ≤ most_of_nodes) (one_buffered p c.buffer q r buffered also) few) next
-
-  accepted_writes : (program made : ProgramTree) (a : Answer) → node_count (typed_form made) ≤ most_of_nodes → IsBuffered program c.buffer made →
-      IsAccepted program → FromChecks program (FromBuffer program c.buffer (λ p. FromNodes p (CompilesNet c.reset))) a → status_of a ≡ Done
-  accepted_writes p q a few buffered is (has_calls some) = absurd (some is.call_free)
-  accepted_writes p q a few buffered is (faulty {fault = f} free bad) = absurd (no_fault p f is bad)
-  accepted_writes p q a few buffered is (accepted are next) = buffer_writes p q a few buffered next
+  abbrev Builds : (program plain : ProgramTree) → Answer → Type 0
+  Builds program plain = FromBuffer plain c.buffer (λ p. FromBuilt program c.buffer (FromNodes p (CompilesNet c.reset)))
 
   pub compile_writes : (given : Given) → given.tells ≡ true → IsToCompile c given → (a : Answer) → Compiles c given a → status_of a ≡ Done
-  compile_writes given told t a (no_file lacks) = not_there lacks.none t.held
-  compile_writes given told t a (long_file long) = too_long (long told).1 t.held (long told).2 t.short
-  compile_writes given told t a (a_file gives short (no_program none)) =
-      absurd (none.never t.program (subst (λ x. Reads x t.program) (same_text t.held (gives told)) t.reads))
-  compile_writes given told t a (a_file gives short (a_program {program = p} is next)) =
-      let same : t.program ≡ p = is.only t.program (subst (λ x. Reads x t.program) (same_text t.held (gives told)) t.reads) in
-      accepted_writes p t.made a t.few (subst (λ (q : ProgramTree). IsBuffered q c.buffer t.made) same t.buffered) (subst IsAccepted same t.accepted) next
+  compile_writes given told t =
+      let p = typed_form t.made in
+      text_passed IsDone no_fault given told c.file t.text t.program t.plain (record { held = t.held; short = t.short }) t.reads t.means t.accepted Builds
+      (buffer_passed IsDone t.plain t.made c.buffer t.buffered (λ q. FromBuilt t.program c.buffer (FromNodes q (CompilesNet c.reset)))
+      (built_passed IsDone t.program c.buffer t.built (FromNodes p (CompilesNet c.reset))
+      (nodes_passed IsDone p t.few (CompilesNet c.reset) (net_written c.reset p))))
 
 -- what is written is the text of the program's net
 module _ (c : AskedCompilation) (given : Given) (told : given.tells ≡ true) where
   pub written_right : (end : Ending) (text : List ℕ) → Compiles c given (writes end text) → IsFileCompiled c given text
-  written_right end text (a_file {text = x} gives short (a_program {program = p} is (accepted are (has_channel q buffered
-      (few_enough few (compiled d)))))) =
-      record { text = x; program = p; made = q; held = gives told; reads = is; accepted = are; buffered = buffered; spells = d }
+  written_right end text (a_file {text = x} gives short (a_program {program = p} is (accepted {plain = r} means are (has_channel q buffered
+      (built may (few_enough few (compiled d))))))) = record {
+        text = x;
+        program = p;
+        plain = r;
+        made = q;
+        held = gives told;
+        reads = is;
+        means = means;
+        built = may;
+        accepted = are;
+        buffered = buffered;
+        spells = d;
+      }
 
 module _ (given : Given) (file : List ℕ) (told : given.tells ≡ true) where
   pub migrate_writes : IsToMigrate given file → (a : Answer) → Migrates given file a → status_of a ≡ Done

@@ -26,7 +26,8 @@ use Rattle.command_answers.specs.Answers.{Given}
 use Rattle.command_words.specs.BenchWords.{AskedBench}
 use Rattle.command_steps.specs.BufferSteps.{IsBuffered}
 use Rattle.command_words.specs.CommandWords.{Asked, compiles, migrates, checks, expands, simulates, times, benches, traces, unwaves, runs, grows}
-use Rattle.program_commands.specs.Compiling.{IsToCompile}
+use Rattle.command_steps.specs.Inlined.{Means}
+use Rattle.program_commands.specs.Compiling.{IsBuilt, IsToCompile}
 use Rattle.program_commands.specs.Migrating.{IsToMigrate}
 use Rattle.command_steps.specs.Orders.{Played, place_named}
 use Rattle.command_steps.specs.References.{IsToReferTo}
@@ -49,12 +50,13 @@ pub record HoldsText (given : Given) (name : List ℕ) (most : ℕ) (text : List
   pub held : given.files name ≡ Some text
   pub short : length text ≤ most
 
--- the text of this program, which is accepted
-pub record IsSource (given : Given) (file : List ℕ) (program : ProgramTree) : Type 0 where
+-- the text of this program, which means that one without procedures and calls, which is accepted
+pub record IsSource (given : Given) (file : List ℕ) (program plain : ProgramTree) : Type 0 where
   pub text : List ℕ
   pub held : HoldsText given file most_of_text text
   pub reads : Reads text program
-  pub accepted : IsAccepted program
+  pub means : Means program plain
+  pub accepted : IsAccepted plain
 
 -- the rule file of this net
 pub record IsRuleFile (given : Given) (file : List ℕ) (net : NetValue) : Type 0 where
@@ -83,25 +85,29 @@ HasDelays given (Some file) names delays = IsDelayFile given file names delays
 
 -- ---- what a command is served with
 
--- an accepted program
+-- an accepted program, whose nodes can be counted
 pub record IsToCheck (given : Given) (file : List ℕ) : Type 0 where
   pub program : ProgramTree
-  pub source : IsSource given file program
+  pub plain : ProgramTree
+  pub source : IsSource given file program plain
+  pub built : IsBuilt program None
 
 -- one whose circuit isn't too large
 pub record IsToExpand (given : Given) (file : List ℕ) : Type 0 where
   pub program : ProgramTree
-  pub source : IsSource given file program
-  pub few : node_count (typed_form program) ≤ most_of_nodes
+  pub plain : ProgramTree
+  pub source : IsSource given file program plain
+  pub few : node_count (typed_form plain) ≤ most_of_nodes
 
 -- an accepted program, which can have the buffer that is asked for, and a script of it in whose rounds not too many
 -- values pass
 pub record IsToRun (r : AskedRounds) (given : Given) : Type 0 where
   pub program : ProgramTree
+  pub plain : ProgramTree
   pub made : ProgramTree
   pub script : List OfferValue
-  pub source : IsSource given r.file program
-  pub buffered : IsBuffered program r.buffer made
+  pub source : IsSource given r.file program plain
+  pub buffered : IsBuffered plain r.buffer made
   pub offers : IsScriptFile given r.script (typed_form made).channels script
   pub few : held_in (rounds (typed_form made) script r.rounds) ≤ most_of_values
 

@@ -50,9 +50,10 @@ pub fn one_answer()
     wave_file::laws::one_wave_refusal();
 }
 
-/// Law: what `compile` writes for a file is the one text of the net of the one program that its text reads as, which is
-/// accepted. Where a buffer is asked for, that is said of the program with the buffer, which keeps what passes on each
-/// channel. (That the net carries the program is a clause of the call that compiles.)
+/// Law: what `compile` writes for a file is the one text of the net of what the one program means that its text reads
+/// as: of this program itself, where it has neither procedures nor calls. It is accepted. Where a buffer is asked for,
+/// that is said of the program with the buffer, which keeps what passes on each channel. (That the net carries the
+/// program is a clause of the call that compiles.)
 pub fn compiled_right()
     ensures { (c : AskedCompilation) (given : Given) → given.tells ≡ true → (end : Ending) (text : List ℕ) →
         Compiles c given (writes end text) → IsFileCompiled c given text }
