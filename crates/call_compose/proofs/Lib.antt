@@ -4,3 +4,5 @@ pub mod Unread
 pub mod CallPrograms
 pub mod Accepting
 pub mod SizesAlike
+pub mod Noting
+pub mod CalledCounts
