@@ -10,9 +10,8 @@ mod bodies;
 mod insides;
 mod nodes;
 
-pub use nodes::count_calls;
-
 use call_map::{shared_bodies_carry, shared_bodies_carry_reset, shared_bodies_hold};
+pub use nodes::count_calls;
 use width_check::laws::form_is_typed;
 
 /// Law: with a copy of its body in place of each call, the typed form of a program with procedures is the typed form of
