@@ -4,3 +4,10 @@ pub mod Unread
 pub mod CallPrograms
 pub mod Accepting
 pub mod SizesAlike
+pub mod BodiesPlaced
+pub mod CallsAsked
+pub mod CallsDriven
+pub mod CallsSorted
+pub mod InnerDriven
+pub mod SharedFacts
+pub mod SharedCircuits

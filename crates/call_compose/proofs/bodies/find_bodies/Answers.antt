@@ -1,0 +1,4 @@
+use Rattle.call_compose.proofs.bodies.find_bodies.Goals as goal
+
+pub returns : goal.returns
+returns c = ?
