@@ -168,11 +168,11 @@ calls_carried form carry p r h meets shaped accepted names =
     (carry (call_program p h.vars) (calls_asked form p r h meets shaped accepted) (copies_typed form p r h shaped accepted) names)
 
 pub calls_hold : FormIsTyped → SharedBodiesHold → CallsHold
-calls_hold form hold p r h meets shaped accepted few rules =
-    hold (call_program p h.vars) (calls_asked form p r h meets shaped accepted) (copies_typed form p r h shaped accepted) few rules
+calls_hold form hold p r h meets shaped accepted few =
+    hold (call_program p h.vars) (calls_asked form p r h meets shaped accepted) (copies_typed form p r h shaped accepted) few
 
 pub calls_carried_reset : FormIsTyped → SharedBodiesCarryReset → CallsCarriedReset
-calls_carried_reset form carry p r h meets shaped accepted few rules =
+calls_carried_reset form carry p r h meets shaped accepted few =
     subst (λ (t : TypedProgram). CarriesReset (reset_of (call_net (call_program p h.vars) (call_names (call_program p h.vars)))) t)
     (calls_alike p h.vars ∙ sym (ap typed_form h.tree))
-    (carry (call_program p h.vars) (calls_asked form p r h meets shaped accepted) (copies_typed form p r h shaped accepted) few rules)
+    (carry (call_program p h.vars) (calls_asked form p r h meets shaped accepted) (copies_typed form p r h shaped accepted) few)

@@ -4,10 +4,10 @@ use Rattle.chp_syntax.specs.Shape.{IsShaped}
 use Rattle.chp_syntax.specs.Trees.{ProgramTree}
 use Rattle.width_check.specs.Accepted.{IsAccepted}
 use Rattle.width_check.specs.Form.{typed_form}
-use Rattle.prs_core.specs.Nets.{IsRules, IsNet}
+use Rattle.prs_core.specs.Nets.{IsNet}
 use Rattle.reset_net.specs.Resets.{reset_of}
 use Rattle.net_compose.specs.Carries.{Carries, CarriesReset}
-use Rattle.call_map.specs.CallNet.{IsCallProgram, call_net, call_count, call_composed, call_names}
+use Rattle.call_map.specs.CallNet.{IsCallProgram, call_net, call_count, call_names}
 use Rattle.call_merge.specs.CallFaults.{MeetsCalling}
 use Rattle.call_merge.specs.Inlining.{IsInlined}
 use Rattle.call_compose.specs.CalledForm.{call_program}
@@ -23,14 +23,13 @@ abbrev pub CallsCarried : Type 0
 CallsCarried = (p r : ProgramTree) (h : IsInlined p r) → MeetsCalling p → IsShaped r → IsAccepted r
     → (names : List (List ℕ)) → Carries (call_net (call_program p h.vars) names) (typed_form r)
 
--- A net of at most 65,536 nodes, whose guards are over its own nodes only, is a net that a rule file can hold, and
--- carries the program with a reset node too.
+-- A net of at most 65,536 nodes is a net that a rule file can hold, and carries the program with a reset node too.
 abbrev pub CallsHold : Type 0
 CallsHold = (p r : ProgramTree) (h : IsInlined p r) → MeetsCalling p → IsShaped r → IsAccepted r
-    → call_count (call_program p h.vars) ≤ 65536 → IsRules (call_composed (call_program p h.vars))
+    → call_count (call_program p h.vars) ≤ 65536
     → IsNet (call_net (call_program p h.vars) (call_names (call_program p h.vars)))
 
 abbrev pub CallsCarriedReset : Type 0
 CallsCarriedReset = (p r : ProgramTree) (h : IsInlined p r) → MeetsCalling p → IsShaped r → IsAccepted r
-    → call_count (call_program p h.vars) ≤ 65536 → IsRules (call_composed (call_program p h.vars))
+    → call_count (call_program p h.vars) ≤ 65536
     → CarriesReset (reset_of (call_net (call_program p h.vars) (call_names (call_program p h.vars)))) (typed_form r)

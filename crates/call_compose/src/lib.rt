@@ -53,7 +53,7 @@ pub fn calls_carried()
     shared_bodies_carry();
 }
 
-/// Law: that net, of at most 65,536 nodes and with guards over its own nodes only, is a net that a rule file can hold.
+/// Law: that net, of at most 65,536 nodes, is a net that a rule file can hold.
 pub fn calls_hold()
     ensures { CallsHold }
 {

@@ -8,7 +8,7 @@ use Rattle.std.proofs.lemmas.List.Elements.{All-nil, All-cons}
 use Rattle.chp_base.specs.declared.channel.Channel.{Channel}
 use Rattle.chp_base.specs.declared.channel.Kind.{Kind}
 use Rattle.chp_base.specs.declared.channel.Kind.TheVariants.{In, Out, Chan}
-use Rattle.prs_core.specs.Nets.{NetValue, NodeRules, IsUndriven, IsRules, IsNet, wires_from_outside}
+use Rattle.prs_core.specs.Nets.{NetValue, NodeRules, IsUndriven, IsNet, wires_from_outside}
 use Rattle.prs_core.specs.Pairs.{no_rules, or_of, rails_of}
 use Rattle.width_check.specs.Processes.{Process, TypedProgram}
 use Rattle.width_check.specs.Typing.{kind_at, channel_width}
@@ -32,6 +32,7 @@ use Rattle.call_map.proofs.CallListed.{call_facts}
 use Rattle.call_map.proofs.CallFirsts.{rules_long, first_here, firsts_fit}
 use Rattle.call_map.proofs.CallFilled.{all_full}
 use Rattle.call_map.proofs.CallLiterals.{few_literals}
+use Rattle.call_map.proofs.CallWithin.{call_rules_hold}
 
 -- the hidden rails that are high have higher numbers than the variables
 module _ (P : TypedProgram) (ps : List Process) where
@@ -211,8 +212,8 @@ module _ (C : CallProgram) (is : IsCallProgram C) (t : IsTranslated (inlined_pro
       (All-nil (IsUndriven the_net))
   outside_of k h Chan is = All-nil (IsUndriven the_net)
 
-  pub call_net_is : IsRules (call_composed C) → IsNet (call_net C (call_names C))
-  call_net_is rules =
+  pub call_net_is : IsNet (call_net C (call_names C))
+  call_net_is =
       let facts = call_facts C is t in
       let full = all_full C facts.typed facts.bodies in
       let few = few_literals C facts.typed facts.bodies in
@@ -222,6 +223,6 @@ module _ (C : CallProgram) (is : IsCallProgram C) (t : IsTranslated (inlined_pro
       let ups : length (map (λ (r : NodeRules). r.up) (call_rules C)) ≡ length (call_rules C) = length-map (call_rules C) (λ (r : NodeRules). r.up) in
       net_is P t.typed (procs_size P C.procs + (2 + called_size C.procs P C.body)) (omega (arith, small)) (call_firsts C) (call_composed C)
       (omega (arith, first)) low_before
-      (λ k h. outside_of k h (kind_at C.channels k) refl) (omega (arith, first, ups, own)) rules (ups_filled (call_rules C) full)
+      (λ k h. outside_of k h (kind_at C.channels k) refl) (omega (arith, first, ups, own)) (call_rules_hold C is t small) (ups_filled (call_rules C) full)
       (downs_filled (call_rules C) full)
       (omega (arith, few, first, cost)) (record { up = refl; down = refl })

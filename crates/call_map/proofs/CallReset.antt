@@ -9,7 +9,7 @@ use Rattle.call_map.specs.CallNet.{inlined_program, procs_size, call_net, call_n
 use Rattle.call_map.proofs.CallHolds.{firsts_long}
 
 pub call_net_resets : ((net : NetValue) (p : TypedProgram) → ResetCarries net p) → SharedBodiesCarry → SharedBodiesHold → SharedBodiesCarryReset
-call_net_resets resets carries holds C is t small rules =
+call_net_resets resets carries holds C is t small =
     let P = inlined_program C in
-    resets (call_net C (call_names C)) P (carries C is t (call_names C)) (holds C is t small rules) refl
+    resets (call_net C (call_names C)) P (carries C is t (call_names C)) (holds C is t small) refl
     (let e = firsts_long C is t in omega (arith, e, small)) (some_names_free P (procs_size P C.procs + (2 + called_size C.procs P C.body)))

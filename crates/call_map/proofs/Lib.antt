@@ -33,6 +33,7 @@ mod CallTurns
 mod SharedBodies
 mod CallFilled
 mod CallLiterals
+mod CallWithin
 mod CallHolds
 mod CallReset
 mod CallExamples

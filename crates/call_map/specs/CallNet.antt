@@ -152,12 +152,16 @@ abbrev pub SharedBodiesCounted : Type 0
 SharedBodiesCounted = (C : CallProgram) → IsCallProgram C → IsTranslated (inlined_program C)
     → IsOfSize (call_net C (call_names C)) (call_count C)
 
--- A net of at most 65,536 nodes, whose guards are over its own nodes only, is a net that a rule file can hold.
+-- The guards of a net of at most 65,536 nodes are over its own nodes only, and it is a net that a rule file can hold.
+abbrev pub SharedBodiesWithin : Type 0
+SharedBodiesWithin = (C : CallProgram) → IsCallProgram C → IsTranslated (inlined_program C) → call_count C ≤ 65536
+    → IsRules (call_composed C)
+
 abbrev pub SharedBodiesHold : Type 0
 SharedBodiesHold = (C : CallProgram) → IsCallProgram C → IsTranslated (inlined_program C) → call_count C ≤ 65536
-    → IsRules (call_composed C) → IsNet (call_net C (call_names C))
+    → IsNet (call_net C (call_names C))
 
 -- So it carries the program with a reset node too, from every power-up state.
 abbrev pub SharedBodiesCarryReset : Type 0
 SharedBodiesCarryReset = (C : CallProgram) → IsCallProgram C → IsTranslated (inlined_program C) → call_count C ≤ 65536
-    → IsRules (call_composed C) → CarriesReset (reset_of (call_net C (call_names C))) (inlined_program C)
+    → CarriesReset (reset_of (call_net C (call_names C))) (inlined_program C)

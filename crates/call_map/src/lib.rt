@@ -2,7 +2,8 @@
 #![tactic(auto)]
 
 ghost use Rattle.call_map.specs.Carrying.{SharedRuns, SharedCarries};
-ghost use Rattle.call_map.specs.CallNet.{SharedBodiesCarry, SharedBodiesCounted, SharedBodiesHold, SharedBodiesCarryReset};
+ghost use Rattle.call_map.specs.CallNet.{SharedBodiesCarry, SharedBodiesCounted, SharedBodiesWithin, SharedBodiesHold};
+ghost use Rattle.call_map.specs.CallNet.{SharedBodiesCarryReset};
 
 use chp_meaning::laws::{rounds_hold, steps_taken};
 use net_compose::laws::{carries, carries_reset, parts_in_turns};
@@ -43,9 +44,15 @@ pub fn shared_bodies_counted()
     ensures { SharedBodiesCounted }
 {}
 
-/// Law: that net, of at most 65,536 nodes and with guards over its own nodes only, is a net that a rule file can hold:
-/// its wires and variables are named as those of a program are, and its other nodes by their numbers.
-/// `Shared.antt` and `Carrying.antt` aren't needed to read this, nor is what a run is.
+/// Law: the guards of that net, if it has at most 65,536 nodes, are over its own nodes only. `Shared.antt` and
+/// `Carrying.antt` aren't needed to read this, nor is what a run is.
+pub fn shared_bodies_within()
+    ensures { SharedBodiesWithin }
+{}
+
+/// Law: that net, of at most 65,536 nodes, is a net that a rule file can hold: its wires and variables are named as
+/// those of a program are, and its other nodes by their numbers. `Shared.antt` and `Carrying.antt` aren't needed to
+/// read this, nor is what a run is.
 pub fn shared_bodies_hold()
     ensures { SharedBodiesHold }
 {}

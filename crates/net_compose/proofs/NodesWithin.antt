@@ -1,13 +1,15 @@
 -- The guards of a typed program's net are over its own nodes alone.
-use Rattle.std.proofs.Common.{◌≡◌, ℕ, zero, suc, ◌+◌, ◌*◌, ◌/◌, ◌<◌, ◌≤◌, Bool, true, false, ◌^◌, List, [], ◌∷◌, ◌++◌, length, map, All, refl, sym, ap, subst, ◌∙◌, arith}
+use Rattle.std.proofs.Common.{◌≡◌, ℕ, zero, suc, ◌+◌, ◌*◌, ◌/◌, ◌<◌, ◌≤◌, ◌==◌, Bool, true, false, ◌^◌, List, [], ◌∷◌, ◌++◌, length, map, All, refl, sym, ap, subst, ◌∙◌, arith}
 use Rattle.std.specs.Prelude.{if◌then◌else◌, replicate}
 use Rattle.std.specs.List.{range_with_len}
+use Rattle.std.proofs.lemmas.Bool.{eqb-true}
+use Rattle.std.proofs.lemmas.List.{length-map}
 use Rattle.std.proofs.lemmas.List.Elements.{All-nil, All-cons, All-head, All-tail, All-append, All-weaker, All-map, All-replicate}
 use Rattle.chp_base.specs.declared.channel.Channel.{Channel}
 use Rattle.chp_base.specs.declared.channel.Kind.{Kind}
 use Rattle.chp_base.specs.declared.channel.Kind.TheVariants.{In, Out, Chan}
 use Rattle.prs_core.specs.declared.rule.Literal.{Literal}
-use Rattle.prs_core.specs.Nets.{NodeRules, IsBelow, IsRules, is_high, is_low}
+use Rattle.prs_core.specs.Nets.{NodeRules, RulesValue, IsBelow, IsRules, is_high, is_low}
 use Rattle.prs_core.specs.Pairs.{Pair, pair_at, pair_of, pairs_from, no_rules, or_of, lows, rails_of, merged_true, merged_false}
 use Rattle.width_check.specs.declared.typed.Var.{Var}
 use Rattle.width_check.specs.Processes.{Formula, Process, skipping, assigning, sending, receiving, in_turn, side_by_side, choosing, repeating, Processes, no_members, and_member, Choices, no_choices, and_choice, choice_count, TypedProgram}
@@ -16,7 +18,7 @@ use Rattle.width_check.specs.Typing.{channel_width, var_width, ReadsFrom, IsProc
 use Rattle.width_check.specs.Reads.{reads}
 use Rattle.handshake_expand.specs.Layout.{formula_size, block_size, through_size, size_of, guards_size, bodies_size, branches_size, turn_size, blocks_before, var_from, root_request, root_latch, body_from, nodes_of, go_node}
 use Rattle.handshake_expand.specs.Answers.{answer_of, guards_from, bodies_from, select_own, again_own}
-use Rattle.handshake_expand.specs.Sites.{in_body}
+use Rattle.handshake_expand.specs.Sites.{Sites, sites_in, sites_in_turn, sites_in_branches, sites_in_bodies, in_body}
 use Rattle.handshake_expand.proofs.Ranges.{answer_within}
 use Rattle.cell_sequence.specs.Sequence.{q_child, q_latch, q_next, skip_answer, loop_request}
 use Rattle.cell_parallel.specs.Trees.{c_element, level_rules, next_level, levels_rules, tree_rules}
@@ -29,16 +31,13 @@ use Rattle.function_blocks.specs.Expressions.{read_rail, read_bits, formula_resu
 use Rattle.function_blocks.proofs.Callers.{rules_in_blocks}
 use Rattle.function_blocks.proofs.Within.{rules_within}
 use Rattle.net_compose.specs.Begins.{var_firsts}
-use Rattle.net_compose.specs.Translation.{rails_at, bits_at, block_bits, ack_at, written_at, q_rules, through_at, through_rules, guard_pairs, branch_answers, guards_rules, choosing_at, repeating_at, branch_ends, branches_end, rules_of, turn_rules, branches_rules, bodies_rules, send_site, receive_site, write_site, rail_rules, channel_rules, channels_rules, vars_rules, body_answer, all_rules, composed}
-use Rattle.net_compose.specs.Contacts.{every_contact}
+use Rattle.net_compose.specs.Translation.{rails_at, bits_at, block_bits, ack_at, written_at, q_rules, read_back, through_at, assigned_rails, through_rules, guard_pairs, branch_answers, guards_rules, choosing_at, repeating_at, branch_ends, branches_end, rules_of, turn_rules, branches_rules, bodies_rules, send_site, receive_site, write_site, rail_rules, wire_rules, channel_rules, channels_rules, vars_rules, body_answer, all_rules, composed}
 use Rattle.net_compose.proofs.EndsReady.{all_written_is, var_some}
 use Rattle.net_compose.proofs.FlatBlocks.{blocks_below}
 use Rattle.net_compose.proofs.FlatWires.{wires_below}
 use Rattle.net_compose.proofs.FormulaReady.{bit_pair, bits_there, first_at}
 use Rattle.net_compose.proofs.ResultsOwn.{rails_own}
-use Rattle.net_compose.proofs.SitesOwn.{AreRails, all_own, sent_own, taken_own, written_own}
-use Rattle.net_compose.proofs.ContactsPicked.{sends_are, takes_are, writes_are}
-use Rattle.net_compose.proofs.Sizes.{Counted, has_bits, root_and_body, all_counted, ends_length}
+use Rattle.net_compose.proofs.Sizes.{Counted, has_bits, root_and_body, all_length, ends_length}
 
 -- single rules
 
@@ -49,7 +48,7 @@ module _ (count : ℕ) where
   abbrev pub AreNear : List ℕ → Type 0
   AreNear ns = All IsNear ns
 
-  abbrev Near : Literal → Type 0
+  abbrev pub Near : Literal → Type 0
   Near l = l.node < count
 
   abbrev Term : List Literal → Type 0
@@ -73,28 +72,28 @@ module _ (count : ℕ) where
   double : (l m : Literal) → Near l → Near m → Term (l ∷ m ∷ [])
   double l m h k = All-cons Near l (m ∷ []) h (single m k)
 
-  one_one : (a b : Literal) → Near a → Near b → Within (record { up = (a ∷ []) ∷ []; down = (b ∷ []) ∷ [] })
+  pub one_one : (a b : Literal) → Near a → Near b → Within (record { up = (a ∷ []) ∷ []; down = (b ∷ []) ∷ [] })
   one_one a b h k = (one_term_in (a ∷ []) (single a h), one_term_in (b ∷ []) (single b k))
 
-  two_one : (a b c : Literal) → Near a → Near b → Near c → Within (record { up = (a ∷ b ∷ []) ∷ []; down = (c ∷ []) ∷ [] })
+  pub two_one : (a b c : Literal) → Near a → Near b → Near c → Within (record { up = (a ∷ b ∷ []) ∷ []; down = (c ∷ []) ∷ [] })
   two_one a b c h k l = (one_term_in (a ∷ b ∷ []) (double a b h k), one_term_in (c ∷ []) (single c l))
 
   two_two : (a b c d : Literal) → Near a → Near b → Near c → Near d → Within (record { up = (a ∷ b ∷ []) ∷ []; down = (c ∷ d ∷ []) ∷ [] })
   two_two a b c d h k l m = (one_term_in (a ∷ b ∷ []) (double a b h k), one_term_in (c ∷ d ∷ []) (double c d l m))
 
-  none_in : Within no_rules
+  pub none_in : Within no_rules
   none_in = (no_terms, no_terms)
 
-  none : AreWithin []
+  pub none : AreWithin []
   none = All-nil Within
 
-  more : (r : NodeRules) (rs : List NodeRules) → Within r → AreWithin rs → AreWithin (r ∷ rs)
+  pub more : (r : NodeRules) (rs : List NodeRules) → Within r → AreWithin rs → AreWithin (r ∷ rs)
   more r rs h k = All-cons Within r rs h k
 
-  joined : (rs ss : List NodeRules) → AreWithin rs → AreWithin ss → AreWithin (rs ++ ss)
+  pub joined : (rs ss : List NodeRules) → AreWithin rs → AreWithin ss → AreWithin (rs ++ ss)
   joined rs ss h k = All-append Within rs ss h k
 
-  q_in : (request child_answer from : ℕ) → request < count → child_answer < count → from + 2 < count → AreWithin (q_rules request child_answer from)
+  pub q_in : (request child_answer from : ℕ) → request < count → child_answer < count → from + 2 < count → AreWithin (q_rules request child_answer from)
   q_in request child_answer from asked answered room =
       let latch : from + 1 < count = omega (arith, room) in
       more (q_child request (from + 1)) (q_latch request child_answer ∷ q_next (from + 1) child_answer ∷ [])
@@ -103,7 +102,7 @@ module _ (count : ℕ) where
       (one_one (is_high child_answer) (is_low request) answered asked)
       (more (q_next (from + 1) child_answer) [] (two_one (is_high (from + 1)) (is_low child_answer) (is_low (from + 1)) latch answered latch) none))
 
-  site_in : (request ack : ℕ) → request < count → ack < count → Within (write_answer request ack)
+  pub site_in : (request ack : ℕ) → request < count → ack < count → Within (write_answer request ack)
   site_in request ack asked answered = two_one (is_high request) (is_high ack) (is_low ack) asked answered answered
 
   -- rules over lists of nodes
@@ -114,7 +113,7 @@ module _ (count : ℕ) where
   singles_in : (ns : List ℕ) → AreNear ns → IsBelow count (map (λ k. is_high k ∷ []) ns)
   singles_in ns h = All-map Term (λ k. is_high k ∷ []) ns (All-weaker IsNear (λ k. Term (is_high k ∷ [])) (λ k l. single (is_high k) l) ns h)
 
-  or_in : (ns : List ℕ) → AreNear ns → Within (or_of ns)
+  pub or_in : (ns : List ℕ) → AreNear ns → Within (or_of ns)
   or_in [] h = none_in
   or_in (n ∷ ns) h = (singles_in (n ∷ ns) h, one_term_in (lows (n ∷ ns)) (lows_in (n ∷ ns) h))
 
@@ -143,7 +142,7 @@ module _ (count : ℕ) where
       (levels_in n (next_level ls from) (from + length ls / 2) (next_in ls from h room) (omega (arith, next, room)))
 
   -- a tree over these leaves has one node fewer
-  tree_in : (ls : List ℕ) (from : ℕ) → AreNear ls → from + length ls ≤ count + 1 → AreWithin (tree_rules ls from)
+  pub tree_in : (ls : List ℕ) (from : ℕ) → AreNear ls → from + length ls ≤ count + 1 → AreWithin (tree_rules ls from)
   tree_in ls from h room = levels_in (length ls) ls from h room
 
   -- rules over bits
@@ -177,6 +176,15 @@ module _ (count : ℕ) where
     rails_in : (place width : ℕ) → AreWithin (rail_rules sites place width)
     rails_in place zero = none
     rails_in place (suc n) = merges_in place (rail_rules sites (suc place) n) (rails_in (suc place) n)
+
+    ack_in : (taken : List ℕ) → AreNear taken → AreWithin (or_of taken ∷ [])
+    ack_in taken h = more (or_of taken) [] (or_in taken h) none
+
+    pub wire_in : (taken : List ℕ) → AreNear taken → (width : ℕ) (kind : Kind) → AreWithin (wire_rules sites taken width kind)
+    wire_in taken h width In =
+        joined (replicate (2 * width) no_rules) (or_of taken ∷ []) (All-replicate Within (2 * width) no_rules none_in) (ack_in taken h)
+    wire_in taken h width Out = joined (rail_rules sites 0 width) (no_rules ∷ []) (rails_in 0 width) (more no_rules [] none_in none)
+    wire_in taken h width Chan = joined (rail_rules sites 0 width) (or_of taken ∷ []) (rails_in 0 width) (ack_in taken h)
 
     kept_in : (set other reset : ℕ) → set < count → other < count → reset < count → Within (kept_rail set other reset)
     kept_in set other reset h k l = two_one (is_high set) (is_low other) (is_high reset) h k l
@@ -213,7 +221,7 @@ module _ (count : ℕ) where
     leaves_count zero from = refl
     leaves_count (suc n) from = ap suc (leaves_count n (from + 5))
 
-    block_in : (width from : ℕ) → 1 ≤ width → from + block_size width ≤ count → AreWithin (variable_rules width from sites)
+    pub block_in : (width from : ℕ) → 1 ≤ width → from + block_size width ≤ count → AreWithin (variable_rules width from sites)
     block_in width from wide room =
         let n = leaves_count width from in
         joined (bits_rules sites 0 (bits_from width from)) (tree_rules (written_leaves width from) (from + 5 * width))
@@ -245,7 +253,7 @@ module _ (count : ℕ) where
   block_near (suc n) from room = All-cons IsNear from ((from + 1) ∷ rails_of (block_bits n (from + 5))) (omega (arith, room))
       (All-cons IsNear (from + 1) (rails_of (block_bits n (from + 5))) (omega (arith, room)) (block_near n (from + 5) (omega (arith, room))))
 
-  range_near : (from n : ℕ) → from + n ≤ count → AreNear (range_with_len from n)
+  pub range_near : (from n : ℕ) → from + n ≤ count → AreNear (range_with_len from n)
   range_near from zero room = All-nil IsNear
   range_near from (suc n) room = All-cons IsNear from (range_with_len (from + 1) n) (omega (arith, room)) (range_near (from + 1) n (omega (arith, room)))
 
@@ -303,7 +311,7 @@ module _ (count : ℕ) where
   evaluation_in : (request any : ℕ) → request < count → any < count → Within (evaluation request any)
   evaluation_in request any h k = two_one (is_high request) (is_low any) (is_high any) h k k
 
-  select_in : (c : Choosing) → c.request < count → c.any < count → AreNear c.latched → AreNear (rails_of c.guards) → AreNear c.answers →
+  pub select_in : (c : Choosing) → c.request < count → c.any < count → AreNear c.latched → AreNear (rails_of c.guards) → AreNear c.answers →
       AreWithin (select_rules c)
   select_in c asked l latched guards answers =
       let own = latches c.request c.guards ++ starts c.latched c.guards in
@@ -313,7 +321,7 @@ module _ (count : ℕ) where
       (joined (latches c.request c.guards) (starts c.latched c.guards) (latches_in c.request c.guards asked guards)
       (starts_in c.latched c.guards latched guards))))
 
-  again_in : (r : Repeating) → r.request < count → r.joined < count → r.leave < count → r.turn.request < count → r.turn.any < count
+  pub again_in : (r : Repeating) → r.request < count → r.joined < count → r.leave < count → r.turn.request < count → r.turn.any < count
       → AreNear r.turn.latched → AreNear (rails_of r.turn.guards) → AreNear r.turn.answers → AreWithin (again_rules r)
   again_in r asked joins leaves turns l latched guards answers =
       let c = r.turn in
@@ -340,6 +348,11 @@ module _ (count : ℕ) where
       )
       (joined (latches c.request c.guards) (starts c.latched c.guards) (latches_in c.request c.guards turns guards)
       (starts_in c.latched c.guards latched guards)))))))
+
+-- what is there under a condition
+pub one_if : {A : Type 0} (Good : A → Type 0) (b : Bool) (a : A) → (b ≡ true → Good a) → All Good (if b then a ∷ [] else [])
+one_if Good true a h = All-cons Good a [] (h refl) (All-nil Good)
+one_if Good false a h = All-nil Good
 
 -- statements
 
@@ -400,7 +413,7 @@ module _ (p : TypedProgram) (typed : IsTyped p.channels p.vars p.body) (count : 
   either_in true xs ys m n from h k end = h end
   either_in false xs ys m n from h k end = k end
 
-  guards_in : (choices : Choices) (request from : ℕ) → AreChoices p.channels p.vars choices → root_request p ≤ request → request < count →
+  pub guards_in : (choices : Choices) (request from : ℕ) → AreChoices p.channels p.vars choices → root_request p ≤ request → request < count →
       from + guards_size choices ≤ count → AreWithin count (guards_rules p choices request from)
   guards_in no_choices request from h low asked end = none count
   guards_in (and_choice g s more_choices) request from h low asked end =
@@ -408,7 +421,7 @@ module _ (p : TypedProgram) (typed : IsTyped p.channels p.vars p.body) (count : 
       (formula_in g request from h.0.formed h.0.reads low asked (omega (arith, end)))
       (guards_in more_choices request (from + formula_size g) h.2 low asked (omega (arith, end)))
 
-  guards_near : (choices : Choices) (from : ℕ) → AreChoices p.channels p.vars choices → from + guards_size choices ≤ count →
+  pub guards_near : (choices : Choices) (from : ℕ) → AreChoices p.channels p.vars choices → from + guards_size choices ≤ count →
       AreNear count (rails_of (guard_pairs choices from))
   guards_near no_choices from h end = All-nil (IsNear count)
   guards_near (and_choice g s more_choices) from h end =
@@ -434,7 +447,7 @@ module _ (p : TypedProgram) (typed : IsTyped p.channels p.vars p.body) (count : 
   branches_end_is (and_member s more_members) from = let e = branches_end_is more_members (from + 3 + size_of p s) in omega (arith, e)
 
   mutual
-    statement_in : (s : Process) (request from : ℕ) → IsProcess p.channels p.vars s → root_request p ≤ request → request < count → root_request p ≤ from
+    pub statement_in : (s : Process) (request from : ℕ) → IsProcess p.channels p.vars s → root_request p ≤ request → request < count → root_request p ≤ from
         → from + size_of p s ≤ count → AreWithin count (rules_of p s request from)
     statement_in skipping request from h low asked base end =
         more count (skip_answer request) [] (one_one count (is_high request) (is_low request) asked asked) (none count)
@@ -533,46 +546,139 @@ module _ (p : TypedProgram) (typed : IsTyped p.channels p.vars p.body) (count : 
         (statement_in s start from h.1 low (omega (arith, asked)) base (omega (arith, end)))
         (bodies_in more_choices (start + 1) (from + size_of p s) h.2 (omega (arith, low)) (omega (arith, asked)) (omega (arith, base)) (omega (arith, end)))
 
+  -- what a statement contributes at its sites
+
+  abbrev RailsNear : List Pair → Type 0
+  RailsNear bits = AreNear count (rails_of bits)
+
+  pub send_near : (k : ℕ) (s : Process) (from : ℕ) → IsProcess p.channels p.vars s → from + size_of p s ≤ count → AreSites count (send_site k s from)
+  send_near k skipping from h end = All-nil RailsNear
+  send_near k (assigning x at e) from h end = All-nil RailsNear
+  send_near k (sending chan at e) from h end =
+      one_if RailsNear (chan == k) (formula_result e (from + 1)) (λ same. result_near e (from + 1) h.sent.formed (omega (arith, end)))
+  send_near k (receiving chan chan_at x var_at) from h end = All-nil RailsNear
+  send_near k (in_turn _) from h end = All-nil RailsNear
+  send_near k (side_by_side _) from h end = All-nil RailsNear
+  send_near k (choosing _ _) from h end = All-nil RailsNear
+  send_near k (repeating s) from h end = All-nil RailsNear
+
+  pub receive_near : (k : ℕ) (s : Process) (from : ℕ) → IsProcess p.channels p.vars s → from + size_of p s ≤ count → AreNear count (receive_site k s from)
+  receive_near k skipping from h end = All-nil (IsNear count)
+  receive_near k (assigning x at e) from h end = All-nil (IsNear count)
+  receive_near k (sending chan at e) from h end = All-nil (IsNear count)
+  receive_near k (receiving chan chan_at x var_at) from h end = one_if (IsNear count) (chan == k) (from + 1) (λ same. omega (arith, end))
+  receive_near k (in_turn _) from h end = All-nil (IsNear count)
+  receive_near k (side_by_side _) from h end = All-nil (IsNear count)
+  receive_near k (choosing _ _) from h end = All-nil (IsNear count)
+  receive_near k (repeating s) from h end = All-nil (IsNear count)
+
+  assigned_near : (b : Bool) (x : ℕ) (e : Formula) (from : ℕ) → IsWellFormed e
+      → from + (if b then through_size (var_width p.vars x) e else 1 + formula_size e) ≤ count
+      → RailsNear (if b then read_back (through_at (var_width p.vars x) (formula_size e) from) else formula_result e (from + 1))
+  assigned_near true x e from formed end = pairs_near count (var_width p.vars x) _ (omega (arith, end))
+  assigned_near false x e from formed end = result_near e (from + 1) formed (omega (arith, end))
+
+  pub write_near : (x : ℕ) (s : Process) (from : ℕ) → IsProcess p.channels p.vars s → from + size_of p s ≤ count → AreSites count (write_site p x s from)
+  write_near x skipping from h end = All-nil RailsNear
+  write_near x (assigning y at e) from h end =
+      one_if RailsNear (y == x) (assigned_rails p x e from)
+      (λ same. subst (λ z. RailsNear (assigned_rails p z e from)) (eqb-true y x same) (assigned_near (reads y e) y e from h.1.formed end))
+  write_near x (sending chan at e) from h end = All-nil RailsNear
+  write_near x (receiving chan chan_at y var_at) from h end =
+      one_if RailsNear (y == x) (pairs_from (channel_width p.channels chan) (from + 2))
+      (λ same. pairs_near count (channel_width p.channels chan) (from + 2) (omega (arith, end)))
+  write_near x (in_turn _) from h end = All-nil RailsNear
+  write_near x (side_by_side _) from h end = All-nil RailsNear
+  write_near x (choosing _ _) from h end = All-nil RailsNear
+  write_near x (repeating s) from h end = All-nil RailsNear
+
+  -- what holds of each site of a statement's nodes holds of those of its parts
+  module _ {A : Type 0} (Good : A → Type 0) (site : Sites A)
+      (own : (s : Process) (from : ℕ) → IsProcess p.channels p.vars s → from + size_of p s ≤ count → All Good (site s from)) where
+    mutual
+      pub sites_near : (s : Process) (from : ℕ) → IsProcess p.channels p.vars s → from + size_of p s ≤ count → All Good (sites_in p site s from)
+      sites_near skipping from h end = own skipping from h end
+      sites_near (assigning x at e) from h end = own (assigning x at e) from h end
+      sites_near (sending chan at e) from h end = own (sending chan at e) from h end
+      sites_near (receiving chan chan_at x var_at) from h end = own (receiving chan chan_at x var_at) from h end
+      sites_near (in_turn members) from h end = turn_near members from h.1 end
+      sites_near (side_by_side members) from h end = branches_near members from h.1 (omega (arith, end))
+      sites_near (choosing false choices) from h end = arms_near choices (bodies_from choices select_own from) h.2 (omega (arith, end))
+      sites_near (choosing true choices) from h end = arms_near choices (bodies_from choices again_own from) h.2 (omega (arith, end))
+      sites_near (repeating s) from h end = sites_near s (from + 2) h (omega (arith, end))
+
+      turn_near : (members : Processes) (from : ℕ) → AreProcesses p.channels p.vars members → from + turn_size p members ≤ count
+          → All Good (sites_in_turn p site members from)
+      turn_near no_members from h end = All-nil Good
+      turn_near (and_member s no_members) from h end = sites_near s from h.0 end
+      turn_near (and_member s (and_member t more_members)) from h end =
+          All-append Good (sites_in p site s (from + 3)) (sites_in_turn p site (and_member t more_members) (from + 3 + size_of p s))
+          (sites_near s (from + 3) h.0 (omega (arith, end)))
+          (turn_near (and_member t more_members) (from + 3 + size_of p s) h.1 (omega (arith, end)))
+
+      branches_near : (members : Processes) (from : ℕ) → AreProcesses p.channels p.vars members → from + branches_size p members ≤ count
+          → All Good (sites_in_branches p site members from)
+      branches_near no_members from h end = All-nil Good
+      branches_near (and_member s more_members) from h end =
+          All-append Good (sites_in p site s (from + 3)) (sites_in_branches p site more_members (from + 3 + size_of p s))
+          (sites_near s (from + 3) h.0 (omega (arith, end)))
+          (branches_near more_members (from + 3 + size_of p s) h.1 (omega (arith, end)))
+
+      arms_near : (choices : Choices) (from : ℕ) → AreChoices p.channels p.vars choices → from + bodies_size p choices ≤ count
+          → All Good (sites_in_bodies p site choices from)
+      arms_near no_choices from h end = All-nil Good
+      arms_near (and_choice g s more_choices) from h end =
+          All-append Good (sites_in p site s from) (sites_in_bodies p site more_choices (from + size_of p s))
+          (sites_near s from h.1 (omega (arith, end)))
+          (arms_near more_choices (from + size_of p s) h.2 (omega (arith, end)))
+
+-- rules over their own nodes
+
+ups_in : (n : ℕ) (rs : List NodeRules) → AreWithin n rs → All (IsBelow n) (map (λ (r : NodeRules). r.up) rs)
+ups_in n rs h = All-map (IsBelow n) (λ (r : NodeRules). r.up) rs (All-weaker (AreBelow n) (λ (r : NodeRules). IsBelow n r.up) (λ r k. k.0) rs h)
+
+downs_in : (n : ℕ) (rs : List NodeRules) → AreWithin n rs → All (IsBelow n) (map (λ (r : NodeRules). r.down) rs)
+downs_in n rs h = All-map (IsBelow n) (λ (r : NodeRules). r.down) rs (All-weaker (AreBelow n) (λ (r : NodeRules). IsBelow n r.down) (λ r k. k.1) rs h)
+
+abbrev pub rules_listed : List NodeRules → RulesValue
+rules_listed rs = record { up = map (λ (r : NodeRules). r.up) rs; down = map (λ (r : NodeRules). r.down) rs }
+
+pub are_rules : (n : ℕ) (rs : List NodeRules) → length rs ≡ n → n < 2 ^ 32 → AreWithin n rs → IsRules (rules_listed rs)
+are_rules n rs long few h =
+    let up : length (map (λ (r : NodeRules). r.up) rs) ≡ n = length-map rs (λ (r : NodeRules). r.up) ∙ long in
+    let down : length (map (λ (r : NodeRules). r.down) rs) ≡ n = length-map rs (λ (r : NodeRules). r.down) ∙ long in
+    record {
+      few = omega (arith, up, few);
+      downs = omega (arith, up, down);
+      up_within = subst (λ m. All (IsBelow m) (map (λ (r : NodeRules). r.up) rs)) (sym up) (ups_in n rs h);
+      down_within = subst (λ m. All (IsBelow m) (map (λ (r : NodeRules). r.down) rs)) (sym up) (downs_in n rs h);
+    }
+
 -- all rules
 
 module _ (p : TypedProgram) (typed : IsTyped p.channels p.vars p.body) where
-  abbrev Sites : List (List Pair) → Type 0
-  Sites sites = AreSites (nodes_of p) sites
-
   some_nodes : 1 < nodes_of p
   some_nodes = omega arith
 
   -- what the sites contribute
-  rails_near : (width low : ℕ) (sites : List (List Pair)) → All (λ (s : List Pair). AreRails width low (nodes_of p) (rails_of s)) sites → Sites sites
-  rails_near width low sites h =
-      All-weaker (λ (s : List Pair). AreRails width low (nodes_of p) (rails_of s)) (λ (s : List Pair). AreNear (nodes_of p) (rails_of s))
-      (λ s r. r.within) sites h
+  sends_near : (k : ℕ) → AreSites (nodes_of p) (in_body p (send_site k))
+  sends_near k =
+      sites_near p typed (nodes_of p) (omega arith) (λ (s : List Pair). AreNear (nodes_of p) (rails_of s)) (send_site k)
+      (send_near p typed (nodes_of p) (omega arith) k) p.body (body_from p) typed.body_is (omega arith)
 
-  sends_near : (k : ℕ) → Sites (in_body p (send_site k))
-  sends_near k = rails_near (channel_width p.channels k) (body_from p) (in_body p (send_site k))
-      (subst (All (λ (s : List Pair). AreRails (channel_width p.channels k) (body_from p) (nodes_of p) (rails_of s))) (sends_are p k)
-      (sent_own p (body_from p) (nodes_of p) k (in_body p (every_contact p)) (all_own p typed.body_is)))
-
-  writes_near : (x : ℕ) → Sites (in_body p (write_site p x))
-  writes_near x = rails_near (var_width p.vars x) (body_from p) (in_body p (write_site p x))
-      (subst (All (λ (s : List Pair). AreRails (var_width p.vars x) (body_from p) (nodes_of p) (rails_of s))) (writes_are p x)
-      (written_own p (body_from p) (nodes_of p) x (in_body p (every_contact p)) (all_own p typed.body_is)))
+  writes_near : (x : ℕ) → AreSites (nodes_of p) (in_body p (write_site p x))
+  writes_near x =
+      sites_near p typed (nodes_of p) (omega arith) (λ (s : List Pair). AreNear (nodes_of p) (rails_of s)) (write_site p x)
+      (write_near p typed (nodes_of p) (omega arith) x) p.body (body_from p) typed.body_is (omega arith)
 
   takes_near : (k : ℕ) → AreNear (nodes_of p) (in_body p (receive_site k))
-  takes_near k = λ i d l.
-      (subst (All (λ node. (body_from p ≤ node) × (node < nodes_of p))) (takes_are p k)
-      (taken_own p (body_from p) (nodes_of p) k (in_body p (every_contact p)) (all_own p typed.body_is)) i d l).1
+  takes_near k =
+      sites_near p typed (nodes_of p) (omega arith) (IsNear (nodes_of p)) (receive_site k)
+      (receive_near p typed (nodes_of p) (omega arith) k) p.body (body_from p) typed.body_is (omega arith)
 
   channel_in : (k width : ℕ) (kind : Kind) → AreWithin (nodes_of p) (channel_rules p k width kind)
-  channel_in k width In = joined (nodes_of p) (replicate (2 * width) no_rules) (or_of (in_body p (receive_site k)) ∷ [])
-      (All-replicate (AreBelow (nodes_of p)) (2 * width) no_rules (none_in (nodes_of p)))
-      (more (nodes_of p) (or_of (in_body p (receive_site k))) [] (or_in (nodes_of p) (in_body p (receive_site k)) (takes_near k)) (none (nodes_of p)))
-  channel_in k width Out = joined (nodes_of p) (rail_rules (in_body p (send_site k)) 0 width) (no_rules ∷ [])
-      (rails_in (nodes_of p) some_nodes (in_body p (send_site k)) (sends_near k) 0 width)
-      (more (nodes_of p) no_rules [] (none_in (nodes_of p)) (none (nodes_of p)))
-  channel_in k width Chan = joined (nodes_of p) (rail_rules (in_body p (send_site k)) 0 width) (or_of (in_body p (receive_site k)) ∷ [])
-      (rails_in (nodes_of p) some_nodes (in_body p (send_site k)) (sends_near k) 0 width)
-      (more (nodes_of p) (or_of (in_body p (receive_site k))) [] (or_in (nodes_of p) (in_body p (receive_site k)) (takes_near k)) (none (nodes_of p)))
+  channel_in k width kind =
+      wire_in (nodes_of p) some_nodes (in_body p (send_site k)) (sends_near k) (in_body p (receive_site k)) (takes_near k) width kind
 
   channels_in : (k : ℕ) (cs : List Channel) → AreWithin (nodes_of p) (channels_rules p k cs)
   channels_in k [] = none (nodes_of p)
@@ -625,21 +731,5 @@ module _ (p : TypedProgram) (typed : IsTyped p.channels p.vars p.body) where
       first_block [] = refl
       first_block (v ∷ vs) = refl
 
-  -- so the rules are rules over their own nodes
-  ups_in : (n : ℕ) (rs : List NodeRules) → AreWithin n rs → All (IsBelow n) (map (λ (r : NodeRules). r.up) rs)
-  ups_in n rs h = All-map (IsBelow n) (λ (r : NodeRules). r.up) rs (All-weaker (AreBelow n) (λ (r : NodeRules). IsBelow n r.up) (λ r k. k.0) rs h)
-
-  downs_in : (n : ℕ) (rs : List NodeRules) → AreWithin n rs → All (IsBelow n) (map (λ (r : NodeRules). r.down) rs)
-  downs_in n rs h = All-map (IsBelow n) (λ (r : NodeRules). r.down) rs (All-weaker (AreBelow n) (λ (r : NodeRules). IsBelow n r.down) (λ r k. k.1) rs h)
-
   pub rules_hold : Counted → nodes_of p < 2 ^ 32 → IsRules (composed p)
-  rules_hold counted few =
-      let size = all_counted counted p typed in
-      let up = size.up in
-      let down = size.down in
-      record {
-        few = omega (arith, up, few);
-        downs = omega (arith, up, down);
-        up_within = subst (λ n. All (IsBelow n) (composed p).up) (sym up) (ups_in (nodes_of p) (all_rules p) all_in);
-        down_within = subst (λ n. All (IsBelow n) (composed p).down) (sym up) (downs_in (nodes_of p) (all_rules p) all_in);
-      }
+  rules_hold counted few = are_rules (nodes_of p) (all_rules p) (all_length counted p typed.body_is) few all_in
