@@ -126,9 +126,26 @@ module _ (p : TypedProgram) (ask : ℕ → NodeRules) (base : ℕ) (counted : (s
       (omega (arith, long, count, at, low))
       ∙ (append_assoc front (ask q ∷ own) rests ∙ ap (λ l. front ++ ask q ∷ l) (sym (append_assoc own (procs_rules p ask (suc q) bs next) tail))))
 
-  pub requests_within : (bs : List Process) (from count : ℕ) → base ≤ from → from + procs_size p bs ≤ base + count
-      → All (λ request. (base ≤ request) × (request - base < count)) (requests_from p bs from)
-  requests_within [] from count low high = All-nil (λ request. (base ≤ request) × (request - base < count))
-  requests_within (b ∷ bs) from count low high =
-      All-cons (λ request. (base ≤ request) × (request - base < count)) from (requests_from p bs (from + 1 + size_of p b))
-      (low, omega (arith, low, high)) (requests_within bs (from + 1 + size_of p b) count (omega (arith, low)) (omega (arith, high)))
+-- each request is among the nodes of the procedures
+pub requests_within : (p : TypedProgram) (base : ℕ) (bs : List Process) (from count : ℕ) → base ≤ from → from + procs_size p bs ≤ base + count
+    → All (λ request. (base ≤ request) × (request - base < count)) (requests_from p bs from)
+requests_within p base [] from count low high = All-nil (λ request. (base ≤ request) × (request - base < count))
+requests_within p base (b ∷ bs) from count low high =
+    All-cons (λ request. (base ≤ request) × (request - base < count)) from (requests_from p bs (from + 1 + size_of p b))
+    (low, omega (arith, low, high)) (requests_within p base bs (from + 1 + size_of p b) count (omega (arith, low)) (omega (arith, high)))
+
+pub unasked_count : (p : TypedProgram) → ((s : Process) (request from : ℕ) → IsProcess p.channels p.vars s
+    → length (rules_of p s request from) ≡ size_of p s) → (bs : List Process) (from : ℕ) → All (IsProcess p.channels p.vars) bs
+    → length (unasked_rules p bs from) ≡ procs_size p bs
+unasked_count p counted [] from typed = refl
+unasked_count p counted (b ∷ bs) from typed =
+    let own = rules_of p b from (from + 1) in
+    let next = from + 1 + size_of p b in
+    let long = length-append own (unasked_rules p bs next) in
+    let here = counted b from (from + 1) (All-head (IsProcess p.channels p.vars) b bs typed) in
+    let rest = unasked_count p counted bs (from + 1 + size_of p b) (All-tail (IsProcess p.channels p.vars) b bs typed) in
+    omega (arith, long, here, rest)
+
+pub answers_count : (p : TypedProgram) (bs : List Process) (from : ℕ) → length (answers_from p bs from) ≡ length bs
+answers_count p [] from = refl
+answers_count p (b ∷ bs) from = ap suc (answers_count p bs (from + 1 + size_of p b))

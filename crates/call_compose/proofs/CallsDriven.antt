@@ -1,5 +1,5 @@
 -- The rules of the procedures and of a body with calls, by the nodes that answer for the bodies and the requests of the calls.
-use Rattle.std.proofs.Common.{◌≡◌, ◌∙◌, ℕ, zero, suc, ◌+◌, ◌<◌, List, [], ◌∷◌, ◌++◌, length, get_or, refl, sym, ap, arith, inl, inr}
+use Rattle.std.proofs.Common.{◌≡◌, ◌∙◌, ℕ, zero, suc, ◌+◌, ◌<◌, true, false, List, [], ◌∷◌, ◌++◌, length, refl, ap, arith, inl, inr}
 use Rattle.std.specs.Prelude.{slice_index_or}
 use Rattle.prs_core.specs.Nets.{NodeRules}
 use Rattle.prs_core.specs.Pairs.{no_rules, or_of}

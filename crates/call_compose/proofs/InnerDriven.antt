@@ -46,6 +46,15 @@ pub record IsListed (p : TypedProgram) (bs : List Process) (x : Called) (root : 
   pub low : raised ≡ with_raised old (body_sites p (hidden_high p) bs (root_request p))
   pub high : first ≡ with_raised raised (called_sites bs p (hidden_high p) x (root + 2))
 
+-- so many drivers, with the two of the root
+pub inner_long : (own mid before after : List NodeRules) (a b : NodeRules) (rest : List NodeRules) → mid ≡ own ++ a ∷ [] → before ≡ mid ++ b ∷ []
+    → after ≡ before ++ rest → length after ≡ length own + 2 + length rest
+inner_long own mid before after a b rest first second third =
+    let l = ap length first ∙ length-append own (a ∷ []) in
+    let m = ap length second ∙ length-append mid (b ∷ []) in
+    let n = ap length third ∙ length-append before rest in
+    omega (arith, l, m, n)
+
 same_length : (p : TypedProgram) (ask : ℕ → NodeRules) (q : ℕ) (bs : List Process) (from : ℕ)
     → length (unasked_rules p bs from) ≡ length (procs_rules p ask q bs from)
 same_length p ask q [] from = refl

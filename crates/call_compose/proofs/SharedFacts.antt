@@ -3,10 +3,7 @@ use Rattle.std.proofs.Common.{◌≡◌, ◌∙◌, ℕ, suc, ◌+◌, ◌<◌, 
 use Rattle.std.proofs.lemmas.List.{length-map}
 use Rattle.std.proofs.lemmas.List.Elements.{All-from_get_or}
 use Rattle.chp_syntax.specs.declared.tree.Decl.{Decl}
-use Rattle.chp_syntax.specs.declared.tree.Proc.{Proc}
-use Rattle.chp_syntax.specs.declared.tree.Program.{Program}
 use Rattle.chp_syntax.specs.Trees.{Procedure, ProgramTree}
-use Rattle.chp_syntax.specs.View.{procedure_of, program_tree}
 use Rattle.width_check.specs.Form.{process_form, typed_form}
 use Rattle.width_check.specs.Processes.{Process, skipping, TypedProgram}
 use Rattle.width_check.specs.Typing.{IsProcess}
@@ -45,7 +42,7 @@ module _ (P : ProgramTree) (p : TypedProgram) (h : AreInlined P p) where
       ap (λ (q : TypedProgram). root_request q + procs_size q C.procs + 2 + called_size C.procs q C.body) (sym same_program)
 
   module _ (names : List (List ℕ)) (named : names ≡ procedure_names P.procs) (s : Process) (is : s ≡ p.body) where
-    pub copied : Copied names s P.body
+    abbrev pub copied : Copied names s P.body
     copied = record {
       bodies = (shared_of h).procs;
       decls = P.decls ++ h.inlined.vars;
@@ -69,36 +66,24 @@ module _ (P : ProgramTree) (p : TypedProgram) (h : AreInlined P p) where
           root = omega (arith, at);
         }
 
--- the names of procedures
-
-named_procs : (qs : List Proc) → map (λ (q : Procedure). q.name.name) (map procedure_of qs) ≡ map (λ (q : Proc). q.name.name) qs
-named_procs [] = refl
-named_procs (q ∷ qs) = ap (λ ns. q.name.name ∷ ns) (named_procs qs)
-
-pub names_are : (program : Program) (qs : List Proc) (names : List (List ℕ)) → qs ≡ program.procs.items → names ≡ map (λ (q : Proc). q.name.name) qs
-    → names ≡ procedure_names (program_tree program).procs
-names_are program qs names items are = are ∙ (sym (named_procs qs) ∙ ap (λ (l : List Proc). map (λ (q : Procedure). q.name.name) (map procedure_of l)) items)
-
--- there are no more procedures than nodes
+-- each procedure has a body
 
 split_count : (decls : List Decl) (names : List (List ℕ)) (n : ℕ) (qs : List Procedure) → length (split_procedures decls names n qs) ≡ length qs
 split_count decls names n [] = refl
 split_count decls names n (q ∷ qs) = ap suc (split_count decls names (n + length (own_readers decls q.body)) qs)
 
-each_counted : (p : TypedProgram) (bs : List Process) → length bs ≤ procs_size p bs
-each_counted p [] = omega arith
-each_counted p (b ∷ bs) = let rest = each_counted p bs in omega (arith, rest)
+pub procs_count : (P : ProgramTree) (p : TypedProgram) (h : AreInlined P p) → length (shared_of h).procs ≡ length P.procs
+procs_count P p h =
+    length-map (split_procedures P.decls (own_names h.inlined.vars) 0 P.procs) (λ (q : Procedure). process_form (P.decls ++ h.inlined.vars) q.body)
+    ∙ split_count P.decls (own_names h.inlined.vars) 0 P.procs
 
-pub few_procs : (program : Program) (p : TypedProgram) (h : AreInlined (program_tree program) p) (qs : List Proc) → qs ≡ program.procs.items
-    → call_count (shared_of h) ≤ 65536 → length qs ≤ 65536
-few_procs program p h qs items few =
-    let P = program_tree program in
-    let C = shared_of h in
-    let all = count_is P p h in
-    let some = each_counted p C.procs in
-    let forms : length C.procs ≡ length (split_procedures P.decls (own_names h.inlined.vars) 0 P.procs) =
-    length-map (split_procedures P.decls (own_names h.inlined.vars) 0 P.procs) (λ (q : Procedure). process_form (P.decls ++ h.inlined.vars) q.body) in
-    let split = split_count P.decls (own_names h.inlined.vars) 0 P.procs in
-    let mapped : length P.procs ≡ length program.procs.items = length-map program.procs.items procedure_of in
-    let same : length qs ≡ length program.procs.items = ap length items in
-    omega (arith, all, some, forms, split, mapped, same, few)
+-- the same of a program that is the same
+abbrev pub moved : (P : ProgramTree) (p q : TypedProgram) → p ≡ q → AreInlined P q → AreInlined P p
+moved P p q same h = record {
+  tree = h.tree;
+  inlined = h.inlined;
+  meets = h.meets;
+  shaped = h.shaped;
+  accepted = h.accepted;
+  typed = same ∙ h.typed;
+}

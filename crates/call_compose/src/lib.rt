@@ -13,7 +13,6 @@ mod procs;
 mod walk;
 
 pub use circuit::{call_circuit_of, translate_calls};
-pub use nodes::call_nodes;
 
 use call_map::{shared_bodies_carry, shared_bodies_carry_reset, shared_bodies_hold};
 use width_check::laws::form_is_typed;

@@ -122,8 +122,9 @@ pub(crate) fn ask_bodies(
     drivers: &mut [Driver],
 ) -> Result<(), AllocError>
     requires { All (λ request. (from ≤ request) × (request - from < length drivers.old)) requests.now }
-    ensures { OnOk result (drivers.new
+    ensures asked { OnOk result (drivers.new
         ≡ with_asked (λ proc. or_of (requests_of proc calls.now)) from 0 requests.now drivers.old) }
+    ensures count { length drivers.new ≡ length drivers.old }
 {
     let lists = asking(alloc, calls, requests.len())?;
     for proc in 0..requests.len() {

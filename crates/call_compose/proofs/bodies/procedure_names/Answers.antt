@@ -1,0 +1,4 @@
+use Rattle.call_compose.proofs.bodies.procedure_names.Goals as goal
+
+pub returns : goal.returns
+returns c = ?
