@@ -4,3 +4,7 @@ pub mod Unread
 pub mod CallPrograms
 pub mod Accepting
 pub mod SizesAlike
+pub mod CalledLengths
+pub mod CopiedMembers
+pub mod CalledSteps
+pub mod CalledRoom

@@ -2,3 +2,4 @@ pub mod CalledForm
 pub mod CallsMeant
 pub mod CallsCarried
 pub mod CallsCounted
+pub mod Walking

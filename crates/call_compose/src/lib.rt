@@ -6,6 +6,9 @@ ghost use Rattle.call_compose.specs.CallsCounted.{CallsCounted};
 ghost use Rattle.call_compose.specs.CallsMeant.{CallsMeant};
 ghost use Rattle.call_compose.specs.CallsCarried.{CallsAsked, CallsCarried, CallsHold, CallsCarriedReset};
 
+mod inner;
+mod walk;
+
 use call_map::{shared_bodies_carry, shared_bodies_carry_reset, shared_bodies_hold};
 use width_check::laws::form_is_typed;
 
