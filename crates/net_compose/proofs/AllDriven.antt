@@ -16,20 +16,28 @@ take_front : {X : Type 0} (xs ys : List X) → take (length xs) (xs ++ ys) ≡ x
 take_front [] ys = refl
 take_front (x ∷ xs) ys = ap (λ l. x ∷ l) (take_front xs ys)
 
-turned_over : {X : Type 0} (xs ys : List X) → drop (length xs) (xs ++ ys) ++ take (length xs) (xs ++ ys) ≡ ys ++ xs
+pub turned_over : {X : Type 0} (xs ys : List X) → drop (length xs) (xs ++ ys) ++ take (length xs) (xs ++ ys) ≡ ys ++ xs
 turned_over xs ys = ap (λ l. l ++ take (length xs) (xs ++ ys)) (drop_front xs ys) ∙ ap (λ l. ys ++ l) (take_front xs ys)
 
 -- the declared nodes, one after the other
-pub declared_driven : (p : TypedProgram) (latch answer : ℕ) (inner d1 d2 d3 d4 d5 d6 : List NodeRules) → d1 ≡ inner ++ no_rules ∷ []
-    → d2 ≡ d1 ++ q_next latch answer ∷ [] → d3 ≡ d2 ++ channels_rules p 0 p.channels → d4 ≡ d3 ++ vars_rules p 0 p.vars
-    → d5 ≡ d4 ++ q_child go_node latch ∷ [] → d6 ≡ d5 ++ q_latch go_node answer ∷ []
-    → d6 ≡ inner ++ no_rules ∷ q_next latch answer ∷ (channels_rules p 0 p.channels ++ (vars_rules p 0 p.vars
+pub ends_driven : (latch answer : ℕ) (inner d1 d2 d3 d4 wires blocks : List NodeRules) → d1 ≡ inner ++ no_rules ∷ []
+    → d2 ≡ d1 ++ q_next latch answer ∷ [] → d3 ≡ d2 ++ wires → d4 ≡ d3 ++ blocks → d4 ≡ inner ++ no_rules ∷ q_next latch answer ∷ (wires ++ blocks)
+ends_driven latch answer inner d1 d2 d3 d4 wires blocks e1 e2 e3 e4 =
+    two_on inner d1 d4 (no_rules ∷ []) _ e1 (two_on d1 d2 d4 (q_next latch answer ∷ []) _ e2 (two_on d2 d3 d4 wires blocks e3 e4))
+
+-- and those of the root behind them
+pub declared_driven : (p : TypedProgram) (latch answer : ℕ) (inner d1 d2 d3 wires blocks : List NodeRules) → wires ≡ channels_rules p 0 p.channels
+    → blocks ≡ vars_rules p 0 p.vars → d1 ≡ inner ++ no_rules ∷ q_next latch answer ∷ (wires ++ blocks)
+    → d2 ≡ d1 ++ q_child go_node latch ∷ [] → d3 ≡ d2 ++ q_latch go_node answer ∷ []
+    → d3 ≡ inner ++ no_rules ∷ q_next latch answer ∷ (channels_rules p 0 p.channels ++ (vars_rules p 0 p.vars
     ++ q_child go_node latch ∷ q_latch go_node answer ∷ []))
-declared_driven p latch answer inner d1 d2 d3 d4 d5 d6 e1 e2 e3 e4 e5 e6 =
-    two_on inner d1 d6 (no_rules ∷ []) _ e1
-    (two_on d1 d2 d6 (q_next latch answer ∷ []) _ e2
-    (two_on d2 d3 d6 (channels_rules p 0 p.channels) _ e3
-    (two_on d3 d4 d6 (vars_rules p 0 p.vars) _ e4 (two_on d4 d5 d6 (q_child go_node latch ∷ []) (q_latch go_node answer ∷ []) e5 e6))))
+declared_driven p latch answer inner d1 d2 d3 wires blocks w b e1 e2 e3 =
+    let ends = q_child go_node latch ∷ q_latch go_node answer ∷ [] in
+    two_on inner d1 d3 (no_rules ∷ q_next latch answer ∷ (wires ++ blocks)) ends e1
+    (two_on d1 d2 d3 (q_child go_node latch ∷ []) (q_latch go_node answer ∷ []) e2 e3)
+    ∙ (ap (λ l. inner ++ no_rules ∷ q_next latch answer ∷ l) (append_assoc wires blocks ends)
+    ∙ (ap (λ l. inner ++ no_rules ∷ q_next latch answer ∷ (l ++ (blocks ++ ends))) w
+    ∙ ap (λ l. inner ++ no_rules ∷ q_next latch answer ∷ (channels_rules p 0 p.channels ++ (l ++ ends))) b))
 
 -- those of the body are made first, and turned behind the others
 pub all_driven : (p : TypedProgram) (latch answer own : ℕ) (inner whole turned : List NodeRules) → latch ≡ root_latch p → answer ≡ body_answer p

@@ -10,9 +10,6 @@ use Rattle.prs_core.specs.Nets.{GuardValue, NodeRules, NetValue, net_of, up_of, 
 use Rattle.prs_core.specs.Pairs.{no_rules}
 use Rattle.reset_net.specs.Resets.{has_rules, held, forced, reset_guard, reset_literal, reset_up, reset_down, reset_of}
 use Rattle.reset_net.proofs.Whole.{reset_is_net}
-use Rattle.width_check.specs.Processes.{TypedProgram}
-use Rattle.handshake_expand.specs.Named.{node_names}
-use Rattle.net_compose.specs.Translation.{all_rules, first_values, translation, wires_from}
 use Rattle.net_compose.specs.declared.ending.Ending.{Ending}
 use Rattle.net_compose.specs.declared.ending.Ending.TheVariants.{Plain, Held, Forced}
 use Rattle.net_compose.specs.Circuits.{reset_rules, each_reset, circuit_rules, circuit_net, side, with_ending, ending_of, term_end, guard_end, with_ends}
@@ -210,33 +207,31 @@ same_more false first rs same =
     let b = length-append first [] in
     omega (arith, a, b, same)
 
-module _ (p : TypedProgram) (reset : Bool) (names : List (List ℕ)) (channels : List Wires) (at : Option ℕ)
-    (first now : List Bool) (drivers : List NodeRules)
-    (named : names ≡ node_names p ++ (if reset then codes "reset" ∷ [] else [])) (valued : first ≡ first_values p)
-    (first_is : now ≡ first ++ (if reset then true ∷ [] else [])) (driven_by : drivers ≡ all_rules p ++ (if reset then no_rules ∷ [] else []))
-    (wired : channels ≡ wires_from p 0 p.channels) (placed : at ≡ (if reset then Some (length first) else None))
-    (same : length (all_rules p) ≡ length (first_values p)) where
-  pub circuit_is : circuit_net names now drivers channels at ≡ (if reset then reset_of (translation p) else translation p)
+module _ (ns : List (List ℕ)) (fs : List Bool) (rs : List NodeRules) (ws : List Wires) (reset : Bool) (names : List (List ℕ)) (channels : List Wires)
+    (at : Option ℕ) (first now : List Bool) (drivers : List NodeRules)
+    (named : names ≡ ns ++ (if reset then codes "reset" ∷ [] else [])) (valued : first ≡ fs)
+    (first_is : now ≡ first ++ (if reset then true ∷ [] else [])) (driven_by : drivers ≡ rs ++ (if reset then no_rules ∷ [] else []))
+    (wired : channels ≡ ws) (placed : at ≡ (if reset then Some (length first) else None)) (same : length rs ≡ length fs) where
+  pub circuit_is : circuit_net names now drivers channels at
+      ≡ (if reset then reset_of (circuit_net ns fs rs ws None) else circuit_net ns fs rs ws None)
   circuit_is =
       ap (λ x. circuit_net x now drivers channels at) named
-      ∙ (ap (λ x. circuit_net (node_names p ++ (if reset then codes "reset" ∷ [] else [])) x drivers channels at)
+      ∙ (ap (λ x. circuit_net (ns ++ (if reset then codes "reset" ∷ [] else [])) x drivers channels at)
       (first_is ∙ ap (λ x. x ++ (if reset then true ∷ [] else [])) valued)
-      ∙ (ap (λ x. circuit_net (node_names p ++ (if reset then codes "reset" ∷ [] else [])) (first_values p ++ (if reset then true ∷ [] else [])) x channels at)
-      driven_by
-      ∙ (ap (λ x. circuit_net (node_names p ++ (if reset then codes "reset" ∷ [] else [])) (first_values p ++ (if reset then true ∷ [] else []))
-      (all_rules p ++ (if reset then no_rules ∷ [] else [])) x at) wired
-      ∙ (ap (λ x. circuit_net (node_names p ++ (if reset then codes "reset" ∷ [] else [])) (first_values p ++ (if reset then true ∷ [] else []))
-      (all_rules p ++ (if reset then no_rules ∷ [] else [])) (wires_from p 0 p.channels) x)
-      (placed ∙ ap (λ (x : List Bool). if reset then Some (length x) else None) valued)
-      ∙ reset_if reset (node_names p) (first_values p) (all_rules p) (wires_from p 0 p.channels) same))))
+      ∙ (ap (λ x. circuit_net (ns ++ (if reset then codes "reset" ∷ [] else [])) (fs ++ (if reset then true ∷ [] else [])) x channels at) driven_by
+      ∙ (ap (λ x. circuit_net (ns ++ (if reset then codes "reset" ∷ [] else [])) (fs ++ (if reset then true ∷ [] else []))
+      (rs ++ (if reset then no_rules ∷ [] else [])) x at) wired
+      ∙ (ap (λ x. circuit_net (ns ++ (if reset then codes "reset" ∷ [] else [])) (fs ++ (if reset then true ∷ [] else []))
+      (rs ++ (if reset then no_rules ∷ [] else [])) ws x) (placed ∙ ap (λ (x : List Bool). if reset then Some (length x) else None) valued)
+      ∙ reset_if reset ns fs rs ws same))))
 
-  pub circuit_holds : IsNet (translation p) → All (λ (name : List ℕ). name ≢ codes "reset") (translation p).names
+  pub circuit_holds : IsNet (circuit_net ns fs rs ws None) → All (λ (name : List ℕ). name ≢ codes "reset") ns
       → (length drivers ≡ length now) × IsNet (circuit_net names now drivers channels at)
   circuit_holds whole free = (
     ap (λ (x : List NodeRules). length x) driven_by
-        ∙ (same_more reset (first_values p) (all_rules p) same
+        ∙ (same_more reset fs rs same
         ∙ sym (ap (λ (x : List Bool). length x) (first_is ∙ ap (λ x. x ++ (if reset then true ∷ [] else [])) valued))),
-    subst IsNet (sym circuit_is) (reset_holds reset (translation p) whole refl free),
+    subst IsNet (sym circuit_is) (reset_holds reset (circuit_net ns fs rs ws None) whole refl free),
   )
 
 -- a driver of a circuit is over the circuit's own nodes

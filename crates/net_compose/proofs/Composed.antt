@@ -68,7 +68,7 @@ module _ (p : TypedProgram) where
   high_end vs x now all end so_far = ap (λ us. with_raised now (vars_high p x us)) (sym (drop_all x vs end)) ∙ so_far
 
   pub high_room : (vs : List Var) (x from : ℕ) (v : Var) → vs ≡ p.vars → x < length vs → v ≡ get_or vs x v → from ≡ var_from p x
-      → from + 5 * v.width ≤ nodes_of p
+      → from + 5 * v.width ≤ root_request p
   high_room vs x from v same within is at =
       let wide = var_found vs x v within is in
       let below = blocks_below vs x within in

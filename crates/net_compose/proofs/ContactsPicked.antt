@@ -54,9 +54,10 @@ module _ {A B : Type 0} (p : TypedProgram) (pick : B → List A) (every : Sites 
 alone : {A : Type 0} (b : Bool) (a : A) → (if b then a ∷ [] else []) ++ [] ≡ (if b then a ∷ [] else [])
 alone b a = append-nil (if b then a ∷ [] else [])
 
-pub sends_are : (p : TypedProgram) (k : ℕ) → flat_map (sent_by k) (in_body p (every_contact p)) ≡ in_body p (send_site k)
-sends_are p k =
-    picked p (sent_by k) (every_contact p) (send_site k) leaf p.body (body_from p)
+pub sends_in : (p : TypedProgram) (k : ℕ) (t : Process) (from : ℕ)
+    → flat_map (sent_by k) (sites_in p (every_contact p) t from) ≡ sites_in p (send_site k) t from
+sends_in p k t from =
+    picked p (sent_by k) (every_contact p) (send_site k) leaf t from
   where
     leaf : (s : Process) (from : ℕ) → flat_map (sent_by k) (every_contact p s from) ≡ send_site k s from
     leaf skipping from = refl
@@ -68,9 +69,10 @@ sends_are p k =
     leaf (choosing again choices) from = refl
     leaf (repeating s) from = refl
 
-pub takes_are : (p : TypedProgram) (k : ℕ) → flat_map (taken_by k) (in_body p (every_contact p)) ≡ in_body p (receive_site k)
-takes_are p k =
-    picked p (taken_by k) (every_contact p) (receive_site k) leaf p.body (body_from p)
+pub takes_in : (p : TypedProgram) (k : ℕ) (t : Process) (from : ℕ)
+    → flat_map (taken_by k) (sites_in p (every_contact p) t from) ≡ sites_in p (receive_site k) t from
+takes_in p k t from =
+    picked p (taken_by k) (every_contact p) (receive_site k) leaf t from
   where
     leaf : (s : Process) (from : ℕ) → flat_map (taken_by k) (every_contact p s from) ≡ receive_site k s from
     leaf skipping from = refl
@@ -89,9 +91,10 @@ one_variable : (p : TypedProgram) (x y : ℕ) (e : Formula) (from : ℕ) (b : Bo
 one_variable p x y e from true is = ap (λ z. assigned_rails p z e from ∷ []) (eqb-true y x is)
 one_variable p x y e from false is = refl
 
-pub writes_are : (p : TypedProgram) (x : ℕ) → flat_map (written_by x) (in_body p (every_contact p)) ≡ in_body p (write_site p x)
-writes_are p x =
-    picked p (written_by x) (every_contact p) (write_site p x) leaf p.body (body_from p)
+pub writes_in : (p : TypedProgram) (x : ℕ) (t : Process) (from : ℕ)
+    → flat_map (written_by x) (sites_in p (every_contact p) t from) ≡ sites_in p (write_site p x) t from
+writes_in p x t from =
+    picked p (written_by x) (every_contact p) (write_site p x) leaf t from
   where
     leaf : (s : Process) (from : ℕ) → flat_map (written_by x) (every_contact p s from) ≡ write_site p x s from
     leaf skipping from = refl
@@ -102,3 +105,13 @@ writes_are p x =
     leaf (side_by_side members) from = refl
     leaf (choosing again choices) from = refl
     leaf (repeating s) from = refl
+
+-- of a program's body
+pub sends_are : (p : TypedProgram) (k : ℕ) → flat_map (sent_by k) (in_body p (every_contact p)) ≡ in_body p (send_site k)
+sends_are p k = sends_in p k p.body (body_from p)
+
+pub takes_are : (p : TypedProgram) (k : ℕ) → flat_map (taken_by k) (in_body p (every_contact p)) ≡ in_body p (receive_site k)
+takes_are p k = takes_in p k p.body (body_from p)
+
+pub writes_are : (p : TypedProgram) (x : ℕ) → flat_map (written_by x) (in_body p (every_contact p)) ≡ in_body p (write_site p x)
+writes_are p x = writes_in p x p.body (body_from p)

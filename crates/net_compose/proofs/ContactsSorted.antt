@@ -1,5 +1,5 @@
 -- Contacts are sorted into lists, one after another.
-use Rattle.std.proofs.Common.{◌≡◌, ◌∙◌, ℕ, zero, suc, ◌<◌, ◌==◌, Bool, true, false, List, [], ◌∷◌, ◌++◌, length, get_or, map, All, refl, sym, ap, subst, arith}
+use Rattle.std.proofs.Common.{◌≡◌, ◌∙◌, ℕ, zero, suc, ◌+◌, ◌<◌, ◌==◌, Bool, true, false, List, [], ◌∷◌, ◌++◌, length, get_or, map, All, refl, sym, ap, subst, arith}
 use Rattle.std.specs.Prelude.{if◌then◌else◌, slice_set}
 use Rattle.std.specs.List.{flat_map}
 use Rattle.std.specs.declared.alloc.Global.{Global}
@@ -8,15 +8,14 @@ use Rattle.std.proofs.lemmas.Bool.{eqb-true, eqb-false}
 use Rattle.std.proofs.lemmas.List.{append-nil, map-set, map-id, length-map, get_or-map, get_or-set_same, get_or-set_other}
 use Rattle.std.proofs.lemmas.List.Concat.{flat_map-append}
 use Rattle.prs_core.specs.Pairs.{Pair}
-use Rattle.width_check.specs.Processes.{TypedProgram}
+use Rattle.width_check.specs.Processes.{Process, TypedProgram}
 use Rattle.width_check.specs.Typing.{IsProcess}
-use Rattle.handshake_expand.specs.Layout.{body_from, nodes_of}
-use Rattle.handshake_expand.specs.Sites.{in_body}
-use Rattle.net_compose.specs.Translation.{send_site, receive_site, write_site}
-use Rattle.net_compose.proofs.SitesOwn.{IsSite, all_own, site_of}
+use Rattle.handshake_expand.specs.Layout.{size_of}
+use Rattle.handshake_expand.specs.Sites.{sites_in}
+use Rattle.net_compose.proofs.SitesOwn.{sites_own, site_of}
 use Rattle.net_compose.specs.declared.sorted.Sorted.{Sorted}
 use Rattle.net_compose.specs.Contacts.{ContactValue, every_contact}
-use Rattle.net_compose.specs.SortedContacts.{IsDeclaredContact, listed_at, HasContactLists, AreSortedContacts}
+use Rattle.net_compose.specs.SortedContacts.{IsDeclaredContact, listed_at, HasContactLists}
 
 -- lists to one of which an item is appended
 module _ {A : Type 0} (lists : List (List A)) (n : ℕ) (within : n < length lists) (a : A) (new : List A) (is : new ≡ get_or lists n [] ++ a ∷ []) where
@@ -66,10 +65,9 @@ picked_more pick contacts v now new added before =
     ∙ (ap (λ xs. flat_map pick contacts ++ xs) (sym (append-nil (pick v)))
     ∙ sym (flat_map-append pick contacts (v ∷ []))))
 
-pub all_picked : {C : Type 0} (pick : ContactValue → List C) (contacts of_body yielded : List ContactValue) (now of_program : List C) → contacts ≡ of_body
-    → map (λ (v : ContactValue). v) yielded ≡ contacts → now ≡ flat_map pick yielded → flat_map pick of_body ≡ of_program → now ≡ of_program
-all_picked pick contacts of_body yielded now of_program are all so_far whole =
-    so_far ∙ (ap (flat_map pick) (sym (map-id yielded) ∙ (all ∙ are)) ∙ whole)
+pub all_picked : {C : Type 0} (pick : ContactValue → List C) (contacts yielded : List ContactValue) (now : List C)
+    → map (λ (v : ContactValue). v) yielded ≡ contacts → now ≡ flat_map pick yielded → now ≡ flat_map pick contacts
+all_picked pick contacts yielded now all so_far = so_far ∙ ap (flat_map pick) (sym (map-id yielded) ∙ all)
 
 -- the lists stay as many
 pub lists_same : (sorted : Sorted) (channels vars : ℕ) (new : Sorted) → HasContactLists channels vars sorted → HasContactLists (length sorted.sent.items)
@@ -81,22 +79,24 @@ pub number_within : (sorted : Sorted) (channels vars : ℕ) (v : ContactValue) �
 number_within sorted channels vars v h of =
     subst (λ n. IsDeclaredContact n (length sorted.written.items) v) (sym h.sent) (subst (λ n. IsDeclaredContact channels n v) (sym h.written) of)
 
--- the contacts are those of a program
-pub contact_within : (p : TypedProgram) (typed : IsProcess p.channels p.vars p.body) (contacts : List ContactValue)
-    (are : contacts ≡ in_body p (every_contact p)) (i : ℕ) (v : ContactValue) → i < length contacts → v ≡ get_or contacts i v
-    → IsDeclaredContact (length p.channels) (length p.vars) v
-contact_within p typed contacts are i v within is =
-    let all : All (IsSite p (body_from p) (nodes_of p)) contacts = subst (All (IsSite p (body_from p) (nodes_of p))) (sym are) (all_own p typed) in
-    site_of p (body_from p) (nodes_of p) v (subst (IsSite p (body_from p) (nodes_of p)) (sym is) (all i v within))
+-- one of contacts that are declared
+pub contact_within : (channels vars : ℕ) (contacts : List ContactValue) → All (IsDeclaredContact channels vars) contacts → (i : ℕ) (v : ContactValue)
+    → i < length contacts → v ≡ get_or contacts i v → IsDeclaredContact channels vars v
+contact_within channels vars contacts all i v within is = subst (IsDeclaredContact channels vars) (sym is) (all i v within)
+
+-- those of a statement are
+pub statement_declared : (p : TypedProgram) (s : Process) (from : ℕ) → IsProcess p.channels p.vars s
+    → All (IsDeclaredContact (length p.channels) (length p.vars)) (sites_in p (every_contact p) s from)
+statement_declared p s from h = λ i d inside.
+    site_of p from (from + size_of p s) (get_or (sites_in p (every_contact p) s from) i d) (sites_own p s from h i d inside)
 
 -- the lists of one channel and of one variable
-module _ (p : TypedProgram) (k : ℕ) (sorted : Sorted) (are : AreSortedContacts p sorted) where
-  pub sent_here : k < length p.channels → (list : Vec (List Pair) Global) → list ≡ get_or sorted.sent.items k list → list.items ≡ in_body p (send_site k)
-  sent_here within list is = let n = are.lists.sent in list_at sorted.sent.items k list (omega (arith, n, within)) is ∙ are.sent k
+module _ (sorted : Sorted) (channels vars : ℕ) (lists : HasContactLists channels vars sorted) (k : ℕ) where
+  pub sent_here : k < channels → (list : Vec (List Pair) Global) → list ≡ get_or sorted.sent.items k list → list.items ≡ listed_at sorted.sent.items k
+  sent_here within list is = let n = lists.sent in list_at sorted.sent.items k list (omega (arith, n, within)) is
 
-  pub taken_here : k < length p.channels → (list : Vec ℕ Global) → list ≡ get_or sorted.taken.items k list → list.items ≡ in_body p (receive_site k)
-  taken_here within list is = let n = are.lists.taken in list_at sorted.taken.items k list (omega (arith, n, within)) is ∙ are.taken k
+  pub taken_here : k < channels → (list : Vec ℕ Global) → list ≡ get_or sorted.taken.items k list → list.items ≡ listed_at sorted.taken.items k
+  taken_here within list is = let n = lists.taken in list_at sorted.taken.items k list (omega (arith, n, within)) is
 
-  pub written_here : k < length p.vars → (list : Vec (List Pair) Global) → list ≡ get_or sorted.written.items k list
-      → list.items ≡ in_body p (write_site p k)
-  written_here within list is = let n = are.lists.written in list_at sorted.written.items k list (omega (arith, n, within)) is ∙ are.written k
+  pub written_here : k < vars → (list : Vec (List Pair) Global) → list ≡ get_or sorted.written.items k list → list.items ≡ listed_at sorted.written.items k
+  written_here within list is = let n = lists.written in list_at sorted.written.items k list (omega (arith, n, within)) is

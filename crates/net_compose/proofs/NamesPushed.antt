@@ -10,6 +10,7 @@ use Rattle.width_check.specs.declared.typed.Var.{Var}
 use Rattle.width_check.specs.Processes.{TypedProgram}
 use Rattle.handshake_expand.specs.Layout.{block_size, wires_before, blocks_before, vars_from, root_request, size_of, nodes_of}
 use Rattle.handshake_expand.specs.Named.{numbered, numbered_from, wires_named, wire_names, bits_named, block_names, node_names}
+use Rattle.net_compose.specs.NamesTo.{names_to}
 
 -- what is appended leaves what was there before it
 pub front_kept : (xs ys zs : List ℕ) → zs ≡ xs ++ ys → take (length xs) zs ≡ xs
@@ -77,16 +78,16 @@ block_more vs i from v before now after within is so_far one =
 pub nodes_more : (p : TypedProgram) (cs : List Channel) (vs : List Var) (all from root count : ℕ) (before ends wires blocks after : List (List ℕ))
     → cs ≡ p.channels → vs ≡ p.vars → ends ≡ before ++ codes "go" ∷ codes "done" ∷ [] → wires ≡ ends ++ wire_names cs → blocks ≡ wires ++ block_names vs from
     → after ≡ blocks ++ numbered_from root count → from ≡ 2 + wires_before cs (length cs) → root ≡ from + blocks_before vs (length vs)
-    → all ≡ nodes_of p → count ≡ all - root → after ≡ before ++ node_names p
-nodes_more p cs vs all from root count before ends wires blocks after same_channels same_vars first second third fourth at_from at_root whole at_count =
+    → count ≡ all - root → after ≡ before ++ names_to p (all - root_request p)
+nodes_more p cs vs all from root count before ends wires blocks after same_channels same_vars first second third fourth at_from at_root at_count =
     let heads = codes "go" ∷ codes "done" ∷ [] in
     let channel_part = wire_names p.channels in
     let var_part = block_names p.vars (vars_from p) in
-    let last_part = numbered_from (root_request p) (2 + size_of p p.body) in
+    let last_part = numbered_from (root_request p) (all - root_request p) in
     let vars_at : from ≡ vars_from p = at_from ∙ ap (λ (l : List Channel). 2 + wires_before l (length l)) same_channels in
     let root_at : root ≡ root_request p =
     at_root ∙ (ap (λ n. n + blocks_before vs (length vs)) vars_at ∙ ap (λ (l : List Var). vars_from p + blocks_before l (length l)) same_vars) in
-    let left : count ≡ 2 + size_of p p.body = omega (arith, at_count, whole, root_at) in
+    let left : count ≡ all - root_request p = at_count ∙ ap (λ n. all - n) root_at in
     let two : wires ≡ ends ++ channel_part = second ∙ ap (λ (l : List Channel). ends ++ wire_names l) same_channels in
     let three : blocks ≡ wires ++ var_part =
     third ∙ (ap (λ (l : List Var). wires ++ block_names l from) same_vars ∙ ap (λ n. wires ++ block_names p.vars n) vars_at) in
@@ -97,3 +98,9 @@ nodes_more p cs vs all from root count before ends wires blocks after same_chann
     ∙ (append_assoc ((before ++ heads) ++ channel_part) var_part last_part
     ∙ (append_assoc (before ++ heads) channel_part (var_part ++ last_part)
     ∙ append_assoc before heads (channel_part ++ (var_part ++ last_part)))))
+
+-- those of a program's circuit
+pub program_names : (p : TypedProgram) (count : ℕ) → count ≡ nodes_of p → names_to p (count - root_request p) ≡ node_names p
+program_names p count is =
+    let left : count - root_request p ≡ 2 + size_of p p.body = omega (arith, is) in
+    ap (names_to p) left

@@ -7,7 +7,6 @@ use Rattle.width_check.specs.Typing.{AreChoices}
 use Rattle.handshake_expand.specs.Answers.{guards_from, bodies_from, select_own}
 use Rattle.cell_select.specs.Contract.{Branch, SelectNodes}
 use Rattle.cell_select.specs.PortNodes.{branches_from, select_of}
-use Rattle.cell_select.specs.Selections.{latches, starts}
 use Rattle.cell_select.specs.declared.emit.SelectPorts.{SelectPorts}
 use Rattle.net_compose.specs.Translation.{guard_pairs, branch_answers}
 use Rattle.net_compose.proofs.RailsApart.{rails_among}

@@ -193,10 +193,13 @@ abbrev pub rail_rules : (sites : List (List Pair)) → (place width : ℕ) → L
 rail_rules sites place zero = []
 rail_rules sites place (suc n) = merged_true sites place ∷ merged_false sites place ∷ rail_rules sites (suc place) n
 
+abbrev pub wire_rules : (sent : List (List Pair)) → (taken : List ℕ) → (width : ℕ) → Kind → List NodeRules
+wire_rules sent taken width In = replicate (2 * width) no_rules ++ or_of taken ∷ []
+wire_rules sent taken width Out = rail_rules sent 0 width ++ no_rules ∷ []
+wire_rules sent taken width Chan = rail_rules sent 0 width ++ or_of taken ∷ []
+
 abbrev pub channel_rules : TypedProgram → ℕ → (width : ℕ) → Kind → List NodeRules
-channel_rules p k width In = replicate (2 * width) no_rules ++ or_of (in_body p (receive_site k)) ∷ []
-channel_rules p k width Out = rail_rules (in_body p (send_site k)) 0 width ++ no_rules ∷ []
-channel_rules p k width Chan = rail_rules (in_body p (send_site k)) 0 width ++ or_of (in_body p (receive_site k)) ∷ []
+channel_rules p k width kind = wire_rules (in_body p (send_site k)) (in_body p (receive_site k)) width kind
 
 -- of the channels and of the variables from a number on
 abbrev pub channels_rules : TypedProgram → (k : ℕ) → List Channel → List NodeRules

@@ -29,7 +29,7 @@ use std::marker::Model;
 use width_check::Typed;
 
 /// How many nodes a net has at most that a rule file can hold.
-const MOST_NODES: u64 = 65_536;
+pub const MOST_NODES: u64 = 65_536;
 
 /// A circuit: the names and first values of its nodes, what drives each of them, and its channels. Contracts see the
 /// net.
@@ -145,10 +145,11 @@ fn make(alloc: Global, program: &Typed, reset: bool) -> Result<Circuit, AllocErr
     all_counted();
     // the contract of `body` says what holds of a checked program
     let _kept = program.body();
+    let count = count_nodes(program) as u32;
     let firsts = firsts_of(alloc, program)?;
-    let mut first = declared_values(alloc, program, &firsts.vars)?;
+    let mut first = declared_values(alloc, program, &firsts.vars, count)?;
     let mut drivers = drivers_of(alloc, program, &firsts, &mut first)?;
-    let names = names_of(alloc, program, reset)?;
+    let names = names_of(alloc, program, count, reset)?;
     let channels = wires_of(alloc, program)?;
     let at = add_reset(reset, &mut first, &mut drivers)?;
     Ok(Circuit {

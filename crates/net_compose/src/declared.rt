@@ -1,6 +1,6 @@
 //! The drivers of all nodes of a program's circuit.
 
-ghost use Rattle.std.specs.Prelude.{◌≡◌, ◌<◌, ◌≤◌, ◌++◌, [], ◌∷◌, true, fold, length, slice_set, IfOk, OnOk};
+ghost use Rattle.std.specs.Prelude.{◌≡◌, ◌<◌, ◌≤◌, ◌++◌, [], ◌∷◌, true, fold, length, slice_set, All, IfOk, OnOk};
 ghost use Rattle.width_check.specs.Typed.{program_of};
 ghost use Rattle.width_check.specs.Typing.{channel_width, kind_at, var_width};
 ghost use Rattle.prs_core.specs.Pairs.{no_rules};
@@ -9,9 +9,9 @@ ghost use Rattle.handshake_expand.specs.Sites.{in_body};
 ghost use Rattle.cell_sequence.specs.Sequence.{q_child, q_latch, q_next};
 ghost use Rattle.cell_variable.specs.Variables.{variable_rules};
 ghost use Rattle.net_compose.specs.Begins.{channel_firsts, var_firsts};
-ghost use Rattle.net_compose.specs.Translation.{all_rules, channel_rules, channels_rules, vars_rules, write_site, hidden_high};
+ghost use Rattle.net_compose.specs.Translation.{all_rules, wire_rules, channels_rules, vars_rules, hidden_high};
 ghost use Rattle.net_compose.specs.Contacts.{every_contact};
-ghost use Rattle.net_compose.specs.SortedContacts.{AreSortedContacts};
+ghost use Rattle.net_compose.specs.SortedContacts.{IsDeclaredContact, HasContactLists, listed_at, wires_by, blocks_by, contact_wires, contact_blocks};
 
 use crate::block::{block, rails, silent};
 use crate::body::body;
@@ -34,14 +34,12 @@ fn channel(
     sorted: &Sorted,
     drivers: &mut Vec<Driver>,
 ) -> Result<(), AllocError>
-    requires sorted { AreSortedContacts (program_of program.now) sorted.now }
+    requires lists { HasContactLists (length program.now.channels) (length program.now.vars) sorted.now }
     requires within { chan < length program.now.channels }
     ensures { OnOk result (drivers.new.items ≡ drivers.old.items
-        ++ channel_rules (program_of program.now) chan
+        ++ wire_rules (listed_at sorted.now.sent.items chan) (listed_at sorted.now.taken.items chan)
         (channel_width program.now.channels chan) (kind_at program.now.channels chan)) }
 {
-    // the contract of `body` says what holds of a checked program
-    let _kept = program.body();
     let channels = program.channels();
     let declared = &channels[chan];
     let sites: &[Site] = &sorted.sent[chan];
@@ -69,9 +67,10 @@ fn channels(
     sorted: &Sorted,
     drivers: &mut Vec<Driver>,
 ) -> Result<(), AllocError>
-    requires sorted { AreSortedContacts (program_of program.now) sorted.now }
+    requires { HasContactLists (length program.now.channels) (length program.now.vars) sorted.now }
     ensures { OnOk result (drivers.new.items ≡ drivers.old.items
-        ++ channels_rules (program_of program.now) 0 program.now.channels) }
+        ++ wires_by (λ k. listed_at sorted.now.sent.items k) (λ k. listed_at sorted.now.taken.items k) 0
+        program.now.channels) }
 {
     for chan in 0..program.channels().len() {
         channel(alloc, program, chan, sorted, drivers)?;
@@ -89,12 +88,12 @@ fn var(
     drivers: &mut Vec<Driver>,
 ) -> Result<(), AllocError>
     requires firsts { firsts.now ≡ var_firsts (program_of program.now) }
-    requires sorted { AreSortedContacts (program_of program.now) sorted.now }
+    requires lists { HasContactLists (length program.now.channels) (length program.now.vars) sorted.now }
     requires within { number < length program.now.vars }
     requires few { nodes_of (program_of program.now) ≤ 65536 }
     ensures { OnOk result (drivers.new.items ≡ drivers.old.items
         ++ variable_rules (var_width program.now.vars number) (var_from (program_of program.now) number)
-        (in_body (program_of program.now) (write_site (program_of program.now) number))) }
+        (listed_at sorted.now.written.items number)) }
 {
     // the contract of `body` says what holds of a checked program
     let _kept = program.body();
@@ -113,10 +112,10 @@ fn vars(
     drivers: &mut Vec<Driver>,
 ) -> Result<(), AllocError>
     requires firsts { firsts.now ≡ var_firsts (program_of program.now) }
-    requires sorted { AreSortedContacts (program_of program.now) sorted.now }
+    requires lists { HasContactLists (length program.now.channels) (length program.now.vars) sorted.now }
     requires few { nodes_of (program_of program.now) ≤ 65536 }
     ensures { OnOk result (drivers.new.items ≡ drivers.old.items
-        ++ vars_rules (program_of program.now) 0 program.now.vars) }
+        ++ blocks_by (program_of program.now) (λ x. listed_at sorted.now.written.items x) 0 program.now.vars) }
 {
     for number in 0..program.vars().len() {
         var(alloc, program, number, firsts, sorted, drivers)?;
@@ -124,8 +123,32 @@ fn vars(
     Ok(())
 }
 
-/// Adds the drivers of the declared nodes: of `go` and `done`, the wires of channels and the blocks of variables, and
-/// of the root. `latch` is the root's latch, and `answer` the node that answers for the body.
+/// Adds the drivers of `go` and `done`, of the wires of channels and of the blocks of variables, where these are the
+/// sites. `latch` is the root's latch, and `answer` the node that answers for the body.
+pub fn declared(
+    alloc: Global,
+    program: &Typed,
+    firsts: &[u32],
+    contacts: Vec<Contact>,
+    latch: u32,
+    answer: u32,
+    drivers: &mut Vec<Driver>,
+) -> Result<(), AllocError>
+    requires firsts { firsts.now ≡ var_firsts (program_of program.now) }
+    requires contacts { All (IsDeclaredContact (length program.now.channels) (length program.now.vars)) contacts.items }
+    requires few { nodes_of (program_of program.now) ≤ 65536 }
+    ensures { OnOk result (drivers.new.items ≡ drivers.old.items ++ no_rules ∷ q_next latch answer
+        ∷ (contact_wires contacts.items 0 program.now.channels
+        ++ contact_blocks (program_of program.now) contacts.items 0 program.now.vars)) }
+{
+    add(Driver::undriven(), drivers)?;
+    add(Driver::next(latch, answer), drivers)?;
+    let sorted = sort_contacts(alloc, program, contacts)?;
+    channels(alloc, program, &sorted, drivers)?;
+    vars(alloc, program, firsts, &sorted, drivers)
+}
+
+/// The same, where these are the sites of the program's body, and the drivers of the root after them.
 fn declare(
     alloc: Global,
     program: &Typed,
@@ -143,11 +166,9 @@ fn declare(
         ++ (vars_rules (program_of program.now) 0 program.now.vars
         ++ q_child go_node latch ∷ q_latch go_node answer ∷ []))) }
 {
-    add(Driver::undriven(), drivers)?;
-    add(Driver::next(latch, answer), drivers)?;
-    let sorted = sort_contacts(alloc, program, contacts)?;
-    channels(alloc, program, &sorted, drivers)?;
-    vars(alloc, program, firsts, &sorted, drivers)?;
+    // the contract of `body` says what holds of a checked program
+    let _kept = program.body();
+    declared(alloc, program, firsts, contacts, latch, answer, drivers)?;
     add(Driver::child(0, latch), drivers)?;
     add(Driver::latch(0, answer), drivers)
 }

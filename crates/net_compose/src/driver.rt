@@ -282,7 +282,7 @@ impl Driver {
 }
 
 /// Adds one driver.
-pub(crate) fn add(driver: Driver, drivers: &mut Vec<Driver>) -> Result<(), AllocError>
+pub fn add(driver: Driver, drivers: &mut Vec<Driver>) -> Result<(), AllocError>
     ensures { OnOk result (drivers.new.items ≡ drivers.old.items ++ driver ∷ []) }
 {
     drivers.push(driver)?;

@@ -2,12 +2,11 @@
 
 ghost use Rattle.std.specs.Prelude.{◌≡◌, ◌+◌, ◌*◌, ◌%◌, ◌==◌, ◌^◌, ◌<◌, ◌≤◌, true, false, fold, if◌then◌else◌, length, replicate, slice_set, IfOk};
 ghost use Rattle.width_check.specs.Typed.{program_of};
-ghost use Rattle.handshake_expand.specs.Layout.{nodes_of};
+ghost use Rattle.handshake_expand.specs.Layout.{root_request};
 ghost use Rattle.cell_variable.specs.Variables.{high_first};
 ghost use Rattle.net_compose.specs.Begins.{var_firsts};
 ghost use Rattle.net_compose.specs.Translation.{vars_high};
 
-use handshake_expand::count_nodes;
 use std::alloc::{AllocError, Global};
 use width_check::Typed;
 
@@ -47,22 +46,22 @@ fn all_low(alloc: Global, count: usize) -> Result<Vec<bool>, AllocError>
     vec![in alloc; false; count]
 }
 
-/// First values as far as declarations go, one for each node: all are low except one rail of each bit of each variable
-/// that is declared, by its first value. Hidden variables aren't among them. `firsts` are the first nodes of the
-/// variables' blocks, as `firsts_of` returns them.
+/// First values as far as declarations go, one for each of `count` nodes: all are low except one rail of each bit of
+/// each variable that is declared, by its first value. Hidden variables aren't among them. `firsts` are the first nodes
+/// of the variables' blocks, as `firsts_of` returns them.
 pub fn declared_values(
     alloc: Global,
     program: &Typed,
     firsts: &[u32],
+    count: u32,
 ) -> Result<Vec<bool>, AllocError>
     requires firsts { firsts.now ≡ var_firsts (program_of program.now) }
-    requires few { nodes_of (program_of program.now) ≤ 65536 }
+    requires room { root_request (program_of program.now) ≤ count }
     ensures values { IfOk result (λ first. first.items ≡ fold (λ values node. slice_set values node true)
-        (replicate (nodes_of (program_of program.now)) false) (vars_high (program_of program.now) 0 program.now.vars)) }
-    ensures count { IfOk result (λ first. length first.items ≡ nodes_of (program_of program.now)) }
+        (replicate count false) (vars_high (program_of program.now) 0 program.now.vars)) }
+    ensures count { IfOk result (λ first. length first.items ≡ count) }
 {
-    let count = count_nodes(program) as usize;
-    let mut first = all_low(alloc, count)?;
+    let mut first = all_low(alloc, count as usize)?;
     let vars = program.vars();
     for var in 0..vars.len() {
         let declared = &vars[var];

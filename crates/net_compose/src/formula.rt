@@ -73,11 +73,7 @@ pub(crate) fn element(
 }
 
 /// Adds a Q-element whose child's answer isn't known yet: its latch and its next request aren't driven until it is.
-pub fn begin_element(
-    request: u32,
-    latch: u32,
-    drivers: &mut Vec<Driver>,
-) -> Result<(), AllocError>
+pub fn begin_element(request: u32, latch: u32, drivers: &mut Vec<Driver>) -> Result<(), AllocError>
     ensures { OnOk result (drivers.new.items
         ≡ drivers.old.items ++ q_child request latch ∷ no_rules ∷ no_rules ∷ []) }
 {

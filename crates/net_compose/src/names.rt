@@ -4,12 +4,12 @@ ghost use Rattle.std.specs.Prelude.{◌≡◌, ◌+◌, ◌-◌, ◌*◌, ◌^�
 ghost use Rattle.std.specs.List.{flat_map};
 ghost use Rattle.prs_core.specs.Nets.{true_rail, false_rail, ack_name};
 ghost use Rattle.width_check.specs.Typed.{program_of};
-ghost use Rattle.handshake_expand.specs.Layout.{wires_size, block_size, wires_before, blocks_before, nodes_of};
-ghost use Rattle.handshake_expand.specs.Named.{numbered, numbered_from, wires_named, wire_names, bit_names, bits_named, block_names, node_names};
+ghost use Rattle.handshake_expand.specs.Layout.{wires_size, block_size, wires_before, blocks_before, root_request};
+ghost use Rattle.handshake_expand.specs.Named.{numbered, numbered_from, wires_named, wire_names, bit_names, bits_named, block_names};
 ghost use Rattle.net_compose.specs.Cuts.{cut, AreEnds, cut_begin};
+ghost use Rattle.net_compose.specs.NamesTo.{names_to};
 
 use chp_base::Channel;
-use handshake_expand::count_nodes;
 use itoa::Buffer;
 use std::alloc::{AllocError, Global};
 use std::marker::Model;
@@ -235,11 +235,13 @@ impl Names {
         Ok(())
     }
 
-    /// Appends the names of the program's nodes, which are that many, in order of their numbers.
+    /// Appends the names of that many nodes, in order of their numbers, where the program's wires and variables are
+    /// among them.
     fn push_nodes(&mut self, program: &Typed, count: u32) -> Result<(), AllocError>
-        requires small { nodes_of (program_of program.now) ≤ 65536 }
-        requires count { count ≡ nodes_of (program_of program.now) }
-        ensures { OnOk result (self.new ≡ self.old ++ node_names (program_of program.now)) }
+        requires room { root_request (program_of program.now) ≤ count }
+        requires few { count ≤ 65536 }
+        ensures { OnOk result (self.new ≡ self.old
+            ++ names_to (program_of program.now) (count - root_request (program_of program.now))) }
     {
         let channels = program.channels();
         let vars = program.vars();
@@ -272,14 +274,21 @@ impl Names {
     }
 }
 
-/// The names of the program's nodes, in order of their numbers, and after them that of a reset node where one is
-/// asked for. They are made declaration by declaration, in time that grows with their number.
-pub fn names_of(alloc: Global, program: &Typed, reset: bool) -> Result<Names, AllocError>
-    requires { nodes_of (program_of program.now) ≤ 65536 }
-    ensures { IfOk result (λ names. names ≡ node_names (program_of program.now)
+/// The names of `count` nodes, in order of their numbers, where the program's wires and variables are among them, and
+/// after them that of a reset node where one is asked for. They are made declaration by declaration, in time that grows
+/// with their number.
+pub fn names_of(
+    alloc: Global,
+    program: &Typed,
+    count: u32,
+    reset: bool,
+) -> Result<Names, AllocError>
+    requires room { root_request (program_of program.now) ≤ count }
+    requires few { count ≤ 65536 }
+    ensures { IfOk result (λ names. names
+        ≡ names_to (program_of program.now) (count - root_request (program_of program.now))
         ++ (if reset then codes "reset" ∷ [] else [])) }
 {
-    let count = count_nodes(program) as u32;
     let mut names = Names::with_room(alloc, count as usize + 1)?;
     names.push_nodes(program, count)?;
     names.push_reset(reset)?;

@@ -70,7 +70,7 @@ fn rules_in(alloc: Global, circuit: &Circuit) -> Result<Rules, AllocError>
 }
 
 /// The net of a circuit without a reset node.
-fn net_of(alloc: Global, circuit: Circuit) -> Result<Net, AllocError>
+pub fn net_of(alloc: Global, circuit: Circuit) -> Result<Net, AllocError>
     requires { circuit.reset ≡ None }
     ensures { IfOk result (λ net. net ≡ circuit) }
 {

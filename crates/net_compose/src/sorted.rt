@@ -1,16 +1,14 @@
-//! The sites of a program by channel and by variable.
+//! The sites of statements by channel and by variable.
 
-ghost use Rattle.std.specs.Prelude.{◌≡◌, ℕ, ◌<◌, ◌==◌, ◌++◌, [], ◌∷◌, if◌then◌else◌, length, IfOk, OnOk};
-ghost use Rattle.width_check.specs.Typed.{program_of};
-ghost use Rattle.handshake_expand.specs.Sites.{in_body};
-ghost use Rattle.net_compose.specs.Contacts.{every_contact, sent_by, taken_by, written_by};
+ghost use Rattle.std.specs.Prelude.{◌≡◌, ℕ, ◌<◌, ◌==◌, ◌++◌, [], ◌∷◌, if◌then◌else◌, length, All, IfOk, OnOk};
+ghost use Rattle.net_compose.specs.Contacts.{sent_by, taken_by, written_by};
 ghost use Rattle.net_compose.specs.SortedContacts.{listed_at, IsDeclaredContact, HasContactLists, AreSortedContacts};
 
 use crate::contact::{Contact, Meeting, Site};
 use std::alloc::{AllocError, Global};
 use width_check::Typed;
 
-/// What the sites contribute, in text order.
+/// What the sites contribute, in their order.
 #[derive(Debug, Drop)]
 pub(crate) struct Sorted {
     /// Of each channel what each send on it sends.
@@ -22,7 +20,7 @@ pub(crate) struct Sorted {
 }
 
 /// So many empty lists.
-fn no_lists<T: Drop>(alloc: Global, count: usize) -> Result<Vec<Vec<T>>, AllocError>
+pub fn no_lists<T: Drop>(alloc: Global, count: usize) -> Result<Vec<Vec<T>>, AllocError>
     ensures none { IfOk result (λ lists. (k : ℕ) → listed_at lists.items k ≡ []) }
     ensures count { IfOk result (λ lists. length lists.items ≡ count) }
 {
@@ -34,7 +32,7 @@ fn no_lists<T: Drop>(alloc: Global, count: usize) -> Result<Vec<Vec<T>>, AllocEr
 }
 
 /// Appends an item to the list of a number.
-fn add_item<T: Drop>(lists: &mut [Vec<T>], number: u32, item: T) -> Result<(), AllocError>
+pub fn add_item<T: Drop>(lists: &mut [Vec<T>], number: u32, item: T) -> Result<(), AllocError>
     requires { number < length lists.old }
     ensures added { OnOk result ((k : ℕ) → listed_at lists.new k
         ≡ listed_at lists.old k ++ (if number == k then item ∷ [] else [])) }
@@ -63,17 +61,16 @@ fn add_contact(sorted: &mut Sorted, contact: Contact) -> Result<(), AllocError>
     }
 }
 
-/// The sites of a program by channel and by variable.
+/// Sites on the program's channels and variables, by channel and by variable.
 pub(crate) fn sort_contacts(
     alloc: Global,
     program: &Typed,
     contacts: Vec<Contact>,
 ) -> Result<Sorted, AllocError>
-    requires { contacts.items ≡ in_body (program_of program.now) (every_contact (program_of program.now)) }
-    ensures { IfOk result (λ sorted. AreSortedContacts (program_of program.now) sorted) }
+    requires { All (IsDeclaredContact (length program.now.channels) (length program.now.vars)) contacts.items }
+    ensures { IfOk result (λ sorted.
+        AreSortedContacts (length program.now.channels) (length program.now.vars) contacts.items sorted) }
 {
-    // the contract of `body` says what holds of a checked program
-    let _kept = program.body();
     let sent = no_lists(alloc, program.channels().len())?;
     let taken = no_lists(alloc, program.channels().len())?;
     let written = no_lists(alloc, program.vars().len())?;

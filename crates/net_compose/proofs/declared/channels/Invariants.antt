@@ -1,9 +1,8 @@
 use Rattle.std.proofs.Common.{◌≡◌, ◌++◌, drop}
-use Rattle.width_check.specs.Typed.{program_of}
-use Rattle.net_compose.specs.Translation.{channels_rules}
+use Rattle.net_compose.specs.SortedContacts.{listed_at, wires_by}
 use Rattle.net_compose.proofs.declared.channels.Given as goal
 
 abbrev pub invariant-loop-chan : goal.invariant-loop-chan
 invariant-loop-chan l =
-    l.drivers.items ++ channels_rules (program_of l.program) l.chan (drop l.chan l.program.channels) ≡ l.fn.drivers.items
-    ++ channels_rules (program_of l.program) 0 l.program.channels
+    l.drivers.items ++ wires_by (λ k. listed_at l.sorted.sent.items k) (λ k. listed_at l.sorted.taken.items k) l.chan (drop l.chan l.program.channels)
+    ≡ l.fn.drivers.items ++ wires_by (λ k. listed_at l.sorted.sent.items k) (λ k. listed_at l.sorted.taken.items k) 0 l.program.channels

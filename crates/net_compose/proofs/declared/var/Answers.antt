@@ -1,10 +1,9 @@
-use Rattle.std.proofs.Common.{◌∙◌, ◌++◌, ap, arith}
+use Rattle.std.proofs.Common.{◌∙◌, ◌++◌, length, ap, arith}
 use Rattle.std.specs.Prelude.{slice_index_or}
 use Rattle.width_check.specs.Typed.{program_of}
 use Rattle.handshake_expand.specs.Layout.{var_from}
-use Rattle.handshake_expand.specs.Sites.{in_body}
 use Rattle.cell_variable.specs.Variables.{variable_rules}
-use Rattle.net_compose.specs.Translation.{write_site}
+use Rattle.net_compose.specs.SortedContacts.{listed_at}
 use Rattle.net_compose.proofs.BodyWritten.{on_ok}
 use Rattle.net_compose.proofs.EndsReady.{var_some}
 use Rattle.net_compose.proofs.DeclaredRules.{var_wide, var_start, var_starts, block_before_body}
@@ -31,9 +30,12 @@ returns c =
     let wide = var_wide c.vars-vars.result.now p.vars c.args.number c.index-vars-number.result c.vars-vars.ensures c.requires.within c.index-vars-number.is in
     let start = var_start p c.args.firsts.now c.args.number 0 c.requires.firsts c.requires.within in
     let sites = c.deref-sites.ensures.value
-    ∙ written_here p c.args.number c.args.sorted.now c.requires.sorted c.requires.within c.index.result.now c.index.ensures in
+    ∙ written_here c.args.sorted.now (length p.channels) (length p.vars) c.requires.lists c.args.number c.requires.within c.index.result.now
+    c.index.ensures in
     on_ok c.block.result (λ made. made ∙ (ap (λ s. c.args.drivers.now.items ++ variable_rules c.index-vars-number.result.width
     (slice_index_or c.args.firsts.now c.args.number 0) s) sites
-    ∙ (ap (λ n. c.args.drivers.now.items ++ variable_rules c.index-vars-number.result.width n (in_body p (write_site p c.args.number))) start
-    ∙ ap (λ w. c.args.drivers.now.items ++ variable_rules w (var_from p c.args.number) (in_body p (write_site p c.args.number))) wide)))
+    ∙ (ap (λ n. c.args.drivers.now.items ++ variable_rules c.index-vars-number.result.width n
+    (listed_at c.args.sorted.now.written.items c.args.number)) start
+    ∙ ap (λ w. c.args.drivers.now.items ++ variable_rules w (var_from p c.args.number)
+    (listed_at c.args.sorted.now.written.items c.args.number)) wide)))
     c.block.ensures

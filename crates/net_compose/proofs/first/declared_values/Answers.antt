@@ -1,8 +1,7 @@
-use Rattle.std.proofs.Common.{◌≡◌, ◌<◌, ◌∙◌, false, length, ap, subst, arith}
+use Rattle.std.proofs.Common.{◌<◌, ◌∙◌, false, length, ap, subst, arith}
 use Rattle.std.specs.Prelude.{replicate}
 use Rattle.std.proofs.lemmas.List.{length-replicate}
 use Rattle.width_check.specs.Typed.{program_of}
-use Rattle.handshake_expand.specs.Layout.{nodes_of}
 use Rattle.net_compose.specs.Translation.{vars_high}
 use Rattle.net_compose.proofs.Raised.{with_raised}
 use Rattle.net_compose.proofs.DeclaredRules.{var_start, var_starts}
@@ -12,12 +11,10 @@ use Rattle.net_compose.proofs.first.declared_values.Goals as goal
 pub loop-var-init : goal.loop-var-init
 loop-var-init c =
     let p = program_of c.args.program.now in
-    let count : c.count_nodes-count.result ≡ nodes_of p = omega (arith, c.count_nodes-count.ensures, c.requires.few) in
-    let low = c.in_ok-first.ensures ∙ ap (λ n. replicate n false) count in
     record {
-      values = ap (λ xs. with_raised xs (vars_high p 0 c.vars-vars.result.now)) low ∙ ap (λ vs. with_raised (replicate (nodes_of p) false)
-          (vars_high p 0 vs)) c.vars-vars.ensures;
-      count = ap length low ∙ length-replicate (nodes_of p) false;
+      values = ap (λ xs. with_raised xs (vars_high p 0 c.vars-vars.result.now)) c.in_ok-first.ensures
+          ∙ ap (λ vs. with_raised (replicate c.args.count false) (vars_high p 0 vs)) c.vars-vars.ensures;
+      count = ap length c.in_ok-first.ensures ∙ length-replicate c.args.count false;
     }
 
 pub bounds-firsts-var : goal.bounds-firsts-var
@@ -30,7 +27,7 @@ raise-requires-clause-room c =
     let p = program_of c.args.program.now in
     let room = high_room p c.vars-vars.result.now c.loop-var.var _ c.index-vars-var.result c.vars-vars.ensures c.loop-var-test.true c.index-vars-var.is
     (var_start p c.args.firsts.now c.loop-var.var 0 c.requires.firsts (subst (λ vs. c.loop-var.var < length vs) c.vars-vars.ensures c.loop-var-test.true)) in
-    omega (arith, room, ap length c.deref_mut.ensures.value, c.loop-var.invariant.count)
+    omega (arith, room, ap length c.deref_mut.ensures.value, c.loop-var.invariant.count, c.requires.room)
 
 pub loop-var-preserved : goal.loop-var-preserved
 loop-var-preserved c =

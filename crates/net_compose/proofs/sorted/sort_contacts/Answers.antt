@@ -1,10 +1,7 @@
 use Rattle.std.proofs.Common.{length, arith}
 use Rattle.std.proofs.lemmas.Iterator.Adapters.{YieldsList-from_vec}
 use Rattle.std.proofs.lemmas.Iterator.Consumers.{YieldsList-turn, YieldsList-end}
-use Rattle.width_check.specs.Typed.{program_of}
-use Rattle.handshake_expand.specs.Sites.{in_body}
-use Rattle.net_compose.specs.Contacts.{every_contact, sent_by, taken_by, written_by}
-use Rattle.net_compose.proofs.ContactsPicked.{sends_are, takes_are, writes_are}
+use Rattle.net_compose.specs.Contacts.{sent_by, taken_by, written_by}
 use Rattle.net_compose.proofs.ContactsSorted.{contact_within, number_within, picked_more, all_picked, lists_same}
 use Rattle.net_compose.proofs.sorted.sort_contacts.Goals as goal
 
@@ -14,7 +11,7 @@ add_contact-requires-clause-number c =
     let t = YieldsList-turn (YieldsList-from_vec {s = c.into_iter-contact-iterator.result} c.args.contacts.items g.0 (omega
     (arith, g.1, c.args.contacts.ok.0))) c.loop-contact.yielded c.loop-contact.contact-iterator c.loop-contact.yielded_by c.next.result c.next.new.self
     c.in-Some.contact c.in-Some.is c.next.ensures.steps in
-    let declared = contact_within (program_of c.args.program.now) c.body-kept.ensures.typed.body_is c.args.contacts.items c.requires
+    let declared = contact_within (length c.args.program.now.channels) (length c.args.program.now.vars) c.args.contacts.items c.requires
     (length c.loop-contact.yielded) c.in-Some.contact t.0 t.1 in
     number_within c.loop-contact.sorted (length c.args.program.now.channels) (length c.args.program.now.vars) c.in-Some.contact
     c.loop-contact.invariant.lists declared
@@ -31,18 +28,13 @@ loop-contact-preserved c = record {
 
 pub returns : goal.returns
 returns c =
-    let p = program_of c.args.program.now in
-    let of_body = in_body p (every_contact p) in
     let g = c.into_iter-contact-iterator.ensures.into_iter_gives in
     let t = YieldsList-end (YieldsList-from_vec {s = c.into_iter-contact-iterator.result} c.args.contacts.items g.0 (omega
     (arith, g.1, c.args.contacts.ok.0))) c.loop-contact.yielded c.loop-contact.contact-iterator c.loop-contact.yielded_by c.next.result c.next.new.self
     c.in-None.is c.next.ensures.steps in
     record {
       lists = c.loop-contact.invariant.lists;
-      sent = λ k. all_picked (sent_by k) c.args.contacts.items of_body c.loop-contact.yielded _ _ c.requires t.0 (c.loop-contact.invariant.sent k)
-          (sends_are p k);
-      taken = λ k. all_picked (taken_by k) c.args.contacts.items of_body c.loop-contact.yielded _ _ c.requires t.0 (c.loop-contact.invariant.taken k)
-          (takes_are p k);
-      written = λ x. all_picked (written_by x) c.args.contacts.items of_body c.loop-contact.yielded _ _ c.requires t.0 (c.loop-contact.invariant.written x)
-          (writes_are p x);
+      sent = λ k. all_picked (sent_by k) c.args.contacts.items c.loop-contact.yielded _ t.0 (c.loop-contact.invariant.sent k);
+      taken = λ k. all_picked (taken_by k) c.args.contacts.items c.loop-contact.yielded _ t.0 (c.loop-contact.invariant.taken k);
+      written = λ x. all_picked (written_by x) c.args.contacts.items c.loop-contact.yielded _ t.0 (c.loop-contact.invariant.written x);
     }
