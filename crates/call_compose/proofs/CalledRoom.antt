@@ -1,5 +1,5 @@
 -- There is room for each member of a statement with calls where there is room for all of it.
-use Rattle.std.proofs.Common.{◌≡◌, ℕ, ◌+◌, ◌-◌, ◌*◌, ◌^◌, ◌<◌, ◌≤◌, Bool, List, length, get_or, drop, sym, ap, ◌∙◌, subst, arith}
+use Rattle.std.proofs.Common.{◌≡◌, ℕ, ◌+◌, ◌<◌, ◌≤◌, Bool, List, length, get_or, drop, ap, ◌∙◌, subst, arith}
 use Rattle.chp_syntax.specs.declared.tree.Arm.{Arm}
 use Rattle.chp_syntax.specs.declared.tree.Stmt.{Stmt}
 use Rattle.chp_syntax.specs.Trees.{Statement, follows, besides, selects, repeats}
@@ -7,24 +7,22 @@ use Rattle.chp_syntax.specs.View.{expression_of, statement_of}
 use Rattle.width_check.specs.declared.typed.TArm.{TArm}
 use Rattle.width_check.specs.declared.typed.TStmt.{TStmt}
 use Rattle.width_check.specs.Form.{formula_form}
-use Rattle.width_check.specs.Processes.{Process, in_turn, side_by_side, choosing, repeating, member_count, choice_count, TypedProgram}
-use Rattle.width_check.specs.Typing.{IsProcess, AreProcesses, AreChoices}
+use Rattle.width_check.specs.Processes.{Process, in_turn, side_by_side, choosing, repeating, member_count, TypedProgram}
+use Rattle.width_check.specs.Typing.{IsProcess}
 use Rattle.width_check.specs.View.{process_of, members_in, choices_in}
 use Rattle.width_check.specs.Walk.{statements_in, arms_in}
-use Rattle.handshake_expand.specs.Answers.{bodies_from}
-use Rattle.handshake_expand.specs.Layout.{size_of, turn_size, branches_size, bodies_size, guards_size, root_request}
-use Rattle.handshake_expand.specs.PartTree.{own_before}
-use Rattle.handshake_expand.proofs.Branches.{branch_size_here, body_size_here, choosing_size}
+use Rattle.handshake_expand.specs.Layout.{size_of, turn_size, branches_size, bodies_size}
+use Rattle.handshake_expand.proofs.Branches.{branch_size_here, body_size_here}
 use Rattle.handshake_expand.proofs.Turns.{size_here, size_last, some_behind}
-use Rattle.call_map.specs.Calling.{Called, chosen, Calleds, no_calleds, and_called, or_called, inlined, inlined_each, inlined_choices, called_size, called_turn_size, called_branches_size, called_bodies_size}
+use Rattle.call_map.specs.Calling.{Called, chosen, Calleds, no_calleds, and_called, or_called, inlined_each, called_size, called_turn_size, called_branches_size, called_bodies_size}
 use Rattle.call_compose.specs.CalledForm.{called_form, called_forms, called_arms}
 use Rattle.call_compose.specs.Walking.{Copied, with_calls, HasRoom}
 use Rattle.call_compose.proofs.CalledLengths.{called_fewer}
-use Rattle.call_compose.proofs.CopiedMembers.{copied_as, left_of, arms_left, left_here, none_left, arm_here, as_many, as_many_arms, copied_from, member_copied, body_copied, turn_copied, sides_copied, choices_copied, loop_copied}
+use Rattle.call_compose.proofs.CopiedMembers.{TurnCopied, SidesCopied, ChosenCopied, left_of, arms_left, left_here, none_left, arm_here, as_many, as_many_arms, copied_from, member_copied, body_copied, turn_copied, sides_copied, choices_copied, loop_copied}
 
 module _ (names : List (List ℕ)) where
   -- members of a sequence
-  module _ (ss : List TStmt) (ts : List Stmt) (k : Copied names (in_turn (members_in ss)) (follows (statements_in ts))) (i : ℕ) (s : TStmt) (t : Stmt)
+  module _ (ss : List TStmt) (ts : List Stmt) (k : TurnCopied names ss ts) (i : ℕ) (s : TStmt) (t : Stmt)
       (at : s ≡ get_or ss i s) (is : t ≡ get_or ts i t) where
     abbrev pub turn_here : i < length ss → Copied names (process_of s) (statement_of t)
     turn_here within = member_copied names k.bodies k.decls ss ts i s t (turn_copied names ss ts k) within at is
@@ -35,7 +33,8 @@ module _ (names : List (List ℕ)) where
 
     -- others stand behind it
     pub turn_some : i + 1 < length ss → 0 < member_count (inlined_each k.bodies (left_of names k.bodies k.decls ts (i + 1)))
-    turn_some within = subst (λ ms. 0 < member_count ms) (copied_from names k.bodies k.decls ss ts (i + 1) (turn_copied names ss ts k)) (some_behind ss i within)
+    turn_some within =
+        subst (λ ms. 0 < member_count ms) (copied_from names k.bodies k.decls ss ts (i + 1) (turn_copied names ss ts k)) (some_behind ss i within)
 
     -- it is the last one
     pub turn_last : i + 1 ≡ length ss → left_of names k.bodies k.decls ts i ≡ and_called (called_form k.decls names (statement_of t)) no_calleds
@@ -45,7 +44,7 @@ module _ (names : List (List ℕ)) where
         (none_left names k.bodies k.decls ts (i + 1) (omega (arith, end, as_many names k.bodies k.decls ss ts (turn_copied names ss ts k))))
 
   -- branches of a parallel composition
-  module _ (ss : List TStmt) (ts : List Stmt) (k : Copied names (side_by_side (members_in ss)) (besides (statements_in ts))) (i : ℕ) (s : TStmt) (t : Stmt)
+  module _ (ss : List TStmt) (ts : List Stmt) (k : SidesCopied names ss ts) (i : ℕ) (s : TStmt) (t : Stmt)
       (at : s ≡ get_or ss i s) (is : t ≡ get_or ts i t) (within : i < length ss) where
     abbrev pub side_here : Copied names (process_of s) (statement_of t)
     side_here = member_copied names k.bodies k.decls ss ts i s t (sides_copied names ss ts k) within at is
@@ -54,7 +53,7 @@ module _ (names : List (List ℕ)) where
     side_is = left_here names k.bodies k.decls ts i t (omega (arith, within, as_many names k.bodies k.decls ss ts (sides_copied names ss ts k))) is
 
   -- arms of a selection
-  module _ (again : Bool) (cs : List TArm) (xs : List Arm) (k : Copied names (choosing again (choices_in cs)) (selects again (arms_in xs))) (i : ℕ) (c : TArm)
+  module _ (again : Bool) (cs : List TArm) (xs : List Arm) (k : ChosenCopied names again cs xs) (i : ℕ) (c : TArm)
       (x : Arm) (at : c ≡ get_or cs i c) (is : x ≡ get_or xs i x) (within : i < length cs) where
     abbrev pub choice_here : Copied names (process_of c.body) (statement_of x.body)
     choice_here = body_copied names k.bodies k.decls cs xs i c x (choices_copied names again cs xs k) within at is
@@ -79,8 +78,9 @@ module _ (names : List (List ℕ)) (p : TypedProgram) where
   turn_size_more bs x no_calleds some = absurd (omega (arith, some))
   turn_size_more bs x (and_called y more) some = omega arith
 
-  module _ (ss : List TStmt) (ts : List Stmt) (from next count now : ℕ) (room : HasRoom names p (in_turn (members_in ss)) (follows (statements_in ts)) from count)
-      (same : now ≡ count) (i : ℕ) (s : TStmt) (t : Stmt) (at : s ≡ get_or ss i s) (is : t ≡ get_or ts i t)
+  module _ (ss : List TStmt) (ts : List Stmt) (from next count now : ℕ)
+      (room : HasRoom names p (in_turn (members_in ss)) (follows (statements_in ts)) from count) (same : now ≡ count) (i : ℕ) (s : TStmt) (t : Stmt)
+      (at : s ≡ get_or ss i s) (is : t ≡ get_or ts i t)
       (low : from ≤ next) (above : next + turn_size p (members_in (drop i ss)) ≤ from + turn_size p (members_in ss))
       (size : next + called_turn_size room.copied.bodies p (left_of names room.copied.bodies room.copied.decls ts i)
       ≡ from + called_turn_size room.copied.bodies p (called_forms room.copied.decls names (statements_in ts))) where

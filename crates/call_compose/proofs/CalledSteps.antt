@@ -1,5 +1,5 @@
 -- What the walk over a body with calls has made, and what is left, member by member.
-use Rattle.std.proofs.Common.{◌≡◌, ◌∙◌, ℕ, zero, suc, ◌+◌, ◌-◌, ◌*◌, ◌<◌, ◌≤◌, Bool, true, false, List, [], ◌∷◌, ◌++◌, length, refl, sym, ap, subst, arith, append_assoc}
+use Rattle.std.proofs.Common.{◌≡◌, ◌∙◌, ℕ, suc, ◌+◌, ◌<◌, Bool, true, false, List, [], ◌∷◌, ◌++◌, length, refl, sym, ap, subst, arith, append_assoc}
 use Rattle.std.specs.Prelude.{◌==◌, slice_set, if◌then◌else◌}
 use Rattle.std.proofs.lemmas.List.{append-nil, length-append, set-append_left, set-set}
 use Rattle.std.proofs.lemmas.Grind.{flat_map-append}
@@ -208,7 +208,8 @@ module _ (bs : List Process) (p : TypedProgram) (d : ℕ → ℕ) where
   pub record ChoicesLeft (again : Bool) (all rest : CalledChoices) (request from start next : ℕ) (old now : Pieces) (ends : List ℕ) : Type 0 where
     pub made : with_ends again all from (length old.drivers) now.drivers ++ called_bodies_rules bs p d rest start next
         ≡ old.drivers ++ called_rules bs p d (chosen again all) request from
-    pub contacts : now.contacts ++ called_body_sites bs p (every_contact p) rest next ≡ old.contacts ++ called_sites bs p (every_contact p) (chosen again all) from
+    pub contacts : now.contacts ++ called_body_sites bs p (every_contact p) rest next
+        ≡ old.contacts ++ called_sites bs p (every_contact p) (chosen again all) from
     pub first : with_raised now.first (called_body_sites bs p (hidden_high p) rest next)
         ≡ with_raised old.first (called_sites bs p (hidden_high p) (chosen again all) from)
     pub calls : (proc : ℕ) → requests_of proc now.calls ++ called_body_requests bs p proc rest start next
@@ -303,9 +304,9 @@ module _ (bs : List Process) (p : TypedProgram) (d : ℕ → ℕ) where
         size = omega (arith, place);
       }
 
-  pub choice_more : (again : Bool) (all : CalledChoices) (g : Formula) (x : Called) (more : CalledChoices) (request from start next after answer : ℕ) (old now new : Pieces)
-      (ends longer : List ℕ) → length old.drivers + 2 < length now.drivers → after ≡ next + called_size bs p x → longer ≡ ends ++ answer ∷ []
-      → ChoicesLeft again all (or_called g x more) request from start next old now ends → HasAdded bs p d x start next answer now new
+  pub choice_more : (again : Bool) (all : CalledChoices) (g : Formula) (x : Called) (more : CalledChoices) (request from start next after answer : ℕ)
+      (old now new : Pieces) (ends longer : List ℕ) → length old.drivers + 2 < length now.drivers → after ≡ next + called_size bs p x
+      → longer ≡ ends ++ answer ∷ [] → ChoicesLeft again all (or_called g x more) request from start next old now ends → HasAdded bs p d x start next answer now new
       → ChoicesLeft again all more request from (start + 1) after old new longer
   choice_more again all g x more request from start next after answer old now new ends longer within at pushed left h =
       let place = length old.drivers in

@@ -8,14 +8,24 @@ use Rattle.chp_syntax.specs.View.{expression_of, statement_of}
 use Rattle.width_check.specs.declared.typed.TArm.{TArm}
 use Rattle.width_check.specs.declared.typed.TStmt.{TStmt}
 use Rattle.width_check.specs.Form.{formula_form}
-use Rattle.width_check.specs.Processes.{Process, Processes, and_member, Choices, and_choice, in_turn, side_by_side, choosing, repeating}
-use Rattle.width_check.specs.View.{process_of, formula_of, members_in, choices_in}
+use Rattle.width_check.specs.Processes.{Process, in_turn, side_by_side, choosing, repeating}
+use Rattle.width_check.specs.View.{process_of, members_in, choices_in}
 use Rattle.width_check.specs.Walk.{statements_in, arms_in}
 use Rattle.width_check.proofs.Lists.{members_more, members_end, arms_more, arms_end}
 use Rattle.handshake_expand.proofs.Rows.{member_at, arm_at}
 use Rattle.call_map.specs.Calling.{Calleds, no_calleds, and_called, CalledChoices, no_called, or_called, inlined, inlined_each, inlined_choices}
 use Rattle.call_compose.specs.CalledForm.{called_form, called_forms, called_arms}
-use Rattle.call_compose.specs.Walking.{Copied, with_calls}
+use Rattle.call_compose.specs.Walking.{Copied}
+
+-- a sequence, a parallel composition and a selection of these members
+abbrev pub TurnCopied : (names : List (List ℕ)) → List TStmt → List Stmt → Type 0
+TurnCopied names ss ts = Copied names (in_turn (members_in ss)) (follows (statements_in ts))
+
+abbrev pub SidesCopied : (names : List (List ℕ)) → List TStmt → List Stmt → Type 0
+SidesCopied names ss ts = Copied names (side_by_side (members_in ss)) (besides (statements_in ts))
+
+abbrev pub ChosenCopied : (names : List (List ℕ)) (again : Bool) → List TArm → List Arm → Type 0
+ChosenCopied names again cs xs = Copied names (choosing again (choices_in cs)) (selects again (arms_in xs))
 
 -- the same statement, said otherwise
 abbrev pub copied_as : (names : List (List ℕ)) (s r : Process) (t u : Statement) → s ≡ r → t ≡ u → Copied names s t → Copied names r u
@@ -84,42 +94,55 @@ module _ (names : List (List ℕ)) (bs : List Process) (ds : List Decl) where
       arms_from cs xs i (let e : choices_in cs ≡ inlined_choices bs (called_arms ds names (arms_in xs)) = cc h in e)
 
   -- the one at a place
-  abbrev pub member_copied : (ss : List TStmt) (ts : List Stmt) (i : ℕ) (s : TStmt) (t : Stmt) → AreCopied ss ts → i < length ss → s ≡ get_or ss i s → t ≡ get_or ts i t
-      → Copied names (process_of s) (statement_of t)
-  member_copied ss ts i s t h within at is =
-      let both = sym (member_at ss i s within at) ∙ (copied_from ss ts i h ∙ ap (inlined_each bs) (left_here ts i t (omega (arith, within, as_many ss ts h)) is)) in
-      record {
-        bodies = bs;
-        decls = ds;
-        same = let e : process_of s ≡ inlined bs (called_form ds names (statement_of t)) = cc both in e;
-      }
+  pub member_same : (ss : List TStmt) (ts : List Stmt) (i : ℕ) (s : TStmt) (t : Stmt) → AreCopied ss ts → i < length ss → s ≡ get_or ss i s → t ≡ get_or ts i t
+      → process_of s ≡ inlined bs (called_form ds names (statement_of t))
+  member_same ss ts i s t h within at is =
+      let here = left_here ts i t (omega (arith, within, as_many ss ts h)) is in
+      let both = sym (member_at ss i s within at) ∙ (copied_from ss ts i h ∙ ap (inlined_each bs) here) in
+      cc both
 
-  abbrev pub body_copied : (cs : List TArm) (xs : List Arm) (i : ℕ) (c : TArm) (x : Arm) → ArmsCopied cs xs → i < length cs → c ≡ get_or cs i c → x ≡ get_or xs i x
-      → Copied names (process_of c.body) (statement_of x.body)
-  body_copied cs xs i c x h within at is =
-      let both = sym (arm_at cs i c within at) ∙ (arms_from cs xs i h ∙ ap (inlined_choices bs) (arm_here xs i x (omega (arith, within, as_many_arms cs xs h)) is)) in
-      record {
-        bodies = bs;
-        decls = ds;
-        same = let e : process_of c.body ≡ inlined bs (called_form ds names (statement_of x.body)) = cc both in e;
-      }
+  abbrev pub member_copied : (ss : List TStmt) (ts : List Stmt) (i : ℕ) (s : TStmt) (t : Stmt) → AreCopied ss ts → i < length ss → s ≡ get_or ss i s
+      → t ≡ get_or ts i t → Copied names (process_of s) (statement_of t)
+  member_copied ss ts i s t h within at is = record {
+    bodies = bs;
+    decls = ds;
+    same = member_same ss ts i s t h within at is;
+  }
+
+  pub body_same : (cs : List TArm) (xs : List Arm) (i : ℕ) (c : TArm) (x : Arm) → ArmsCopied cs xs → i < length cs → c ≡ get_or cs i c → x ≡ get_or xs i x
+      → process_of c.body ≡ inlined bs (called_form ds names (statement_of x.body))
+  body_same cs xs i c x h within at is =
+      let here = arm_here xs i x (omega (arith, within, as_many_arms cs xs h)) is in
+      let both = sym (arm_at cs i c within at) ∙ (arms_from cs xs i h ∙ ap (inlined_choices bs) here) in
+      cc both
+
+  abbrev pub body_copied : (cs : List TArm) (xs : List Arm) (i : ℕ) (c : TArm) (x : Arm) → ArmsCopied cs xs → i < length cs → c ≡ get_or cs i c
+      → x ≡ get_or xs i x → Copied names (process_of c.body) (statement_of x.body)
+  body_copied cs xs i c x h within at is = record {
+    bodies = bs;
+    decls = ds;
+    same = body_same cs xs i c x h within at is;
+  }
 
 -- what is in a statement
 module _ (names : List (List ℕ)) where
-  pub turn_copied : (ss : List TStmt) (ts : List Stmt) (k : Copied names (in_turn (members_in ss)) (follows (statements_in ts))) → AreCopied names k.bodies k.decls ss ts
+  pub turn_copied : (ss : List TStmt) (ts : List Stmt) (k : TurnCopied names ss ts) → AreCopied names k.bodies k.decls ss ts
   turn_copied ss ts k = let h = k.same in cc h
 
-  pub sides_copied : (ss : List TStmt) (ts : List Stmt) (k : Copied names (side_by_side (members_in ss)) (besides (statements_in ts)))
+  pub sides_copied : (ss : List TStmt) (ts : List Stmt) (k : SidesCopied names ss ts)
       → AreCopied names k.bodies k.decls ss ts
   sides_copied ss ts k = let h = k.same in cc h
 
-  pub choices_copied : (again : Bool) (cs : List TArm) (xs : List Arm) (k : Copied names (choosing again (choices_in cs)) (selects again (arms_in xs)))
+  pub choices_copied : (again : Bool) (cs : List TArm) (xs : List Arm) (k : ChosenCopied names again cs xs)
       → ArmsCopied names k.bodies k.decls cs xs
   choices_copied again cs xs k = let h = k.same in cc h
 
+  pub loop_same : (s : Process) (t : Statement) (k : Copied names (repeating s) (repeats t)) → s ≡ inlined k.bodies (called_form k.decls names t)
+  loop_same s t k = let h = k.same in cc h
+
   abbrev pub loop_copied : (s : Process) (t : Statement) → Copied names (repeating s) (repeats t) → Copied names s t
-  loop_copied s t k = let h = k.same in record {
+  loop_copied s t k = record {
     bodies = k.bodies;
     decls = k.decls;
-    same = let e : s ≡ inlined k.bodies (called_form k.decls names t) = cc h in e;
+    same = loop_same s t k;
   }

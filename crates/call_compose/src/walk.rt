@@ -18,8 +18,10 @@ use crate::inner::{arms_of, branches_of, members_of, repeated};
 use chp_base::{Name, Symbols};
 use chp_syntax::{Arm, Stmt};
 use net_compose::Driver;
-use net_compose::parts::{Contact, Firsts, begin_element, begin_loop, choice, close_element, close_loop};
-use net_compose::parts::{join_answers, own_nodes, statement, tree};
+use net_compose::parts::{
+    Contact, Firsts, begin_element, begin_loop, choice, close_element, close_loop, join_answers,
+    own_nodes, statement, tree,
+};
 use std::alloc::{AllocError, Global};
 use width_check::{TArm, TStmt, Typed};
 
@@ -114,8 +116,8 @@ fn called_sequence(
         let own = next + 3;
         begin_element(asked, next + 1, drivers)?;
         let answer = called_statement(
-            alloc, program, procs, answers, part, member, next, own, firsts, first, contacts, calls,
-            drivers,
+            alloc, program, procs, answers, part, member, next, own, firsts, first, contacts,
+            calls, drivers,
         )?;
         close_element(begun, asked, next + 1, answer, drivers);
         asked = next + 2;
@@ -169,8 +171,8 @@ fn called_parallel(
         let own = next + 3;
         begin_element(request, next + 1, drivers)?;
         let answer = called_statement(
-            alloc, program, procs, answers, part, branch, next, own, firsts, first, contacts, calls,
-            drivers,
+            alloc, program, procs, answers, part, branch, next, own, firsts, first, contacts,
+            calls, drivers,
         )?;
         close_element(begun, request, next + 1, answer, drivers);
         ends.push(next + 2)?;
@@ -212,7 +214,16 @@ fn called_selection(
     ensures count { length first.new ≡ length first.old }
 {
     let whole = drivers.len();
-    choice(alloc, program, again, arms, request, from, &firsts.vars, drivers)?;
+    choice(
+        alloc,
+        program,
+        again,
+        arms,
+        request,
+        from,
+        &firsts.vars,
+        drivers,
+    )?;
     let mut start = from + own_nodes(again) + arms.len() as u32;
     let mut next = node_behind(from, whole, drivers.len());
     let mut ends = Vec::new(alloc);
@@ -274,10 +285,10 @@ fn called_loop(
 }
 
 /// Adds the drivers of a statement with calls whose own nodes are numbered from `from` on and which this node requests,
-/// and returns the node that answers the request. It is given as its text has it, and in its typed form `s` with a copy
-/// of the body in place of each call; `answers` are the nodes that answer the bodies, in order of declaration. Each call
-/// is noted with its request. Sites are listed in text order, and the nodes of hidden variables that are high at first
-/// are raised; those of the bodies aren't among them.
+/// and returns the node that answers the request. The statement is given as its text has it, and as `s` in its typed
+/// form with a copy of the body in place of each call; `answers` are the nodes that answer the bodies, in order of
+/// declaration. Each call is noted with its request. Sites are listed in text order, and the nodes of hidden variables
+/// that are high at first are raised, but none of the bodies.
 #[cycle(called_statements)]
 pub(crate) fn called_statement(
     alloc: Global,
@@ -312,24 +323,34 @@ pub(crate) fn called_statement(
                 alloc, program, s, request, from, firsts, first, contacts, drivers,
             )
         }
-        Stmt::Call { of } => call_node(
-            procs, answers, &of.name, request, from, calls, drivers,
-        ),
-        Stmt::Then { parts } => called_sequence(
-            alloc, program, procs, answers, parts, members_of(s), request, from, firsts, first,
-            contacts, calls, drivers,
-        ),
-        Stmt::Beside { parts } => called_parallel(
-            alloc, program, procs, answers, parts, branches_of(s), request, from, firsts, first,
-            contacts, calls, drivers,
-        ),
-        Stmt::Select { again, arms } => called_selection(
-            alloc, program, procs, answers, *again, arms, arms_of(s), request, from, firsts,
-            first, contacts, calls, drivers,
-        ),
-        Stmt::Repeat { body } => called_loop(
-            alloc, program, procs, answers, body, repeated(s), request, from, firsts, first,
-            contacts, calls, drivers,
-        ),
+        Stmt::Call { of } => call_node(procs, answers, &of.name, request, from, calls, drivers),
+        Stmt::Then { parts } => {
+            let members = members_of(s);
+            called_sequence(
+                alloc, program, procs, answers, parts, members, request, from, firsts, first,
+                contacts, calls, drivers,
+            )
+        }
+        Stmt::Beside { parts } => {
+            let branches = branches_of(s);
+            called_parallel(
+                alloc, program, procs, answers, parts, branches, request, from, firsts, first,
+                contacts, calls, drivers,
+            )
+        }
+        Stmt::Select { again, arms } => {
+            let typed = arms_of(s);
+            called_selection(
+                alloc, program, procs, answers, *again, arms, typed, request, from, firsts, first,
+                contacts, calls, drivers,
+            )
+        }
+        Stmt::Repeat { body } => {
+            let inner = repeated(s);
+            called_loop(
+                alloc, program, procs, answers, body, inner, request, from, firsts, first,
+                contacts, calls, drivers,
+            )
+        }
     }
 }

@@ -1,5 +1,4 @@
 use Rattle.std.proofs.Common.{◌≡◌, sym, ap, ◌∙◌}
-use Rattle.width_check.specs.Processes.{choosing}
 use Rattle.width_check.specs.View.{choices_in}
 use Rattle.handshake_expand.proofs.Rows.{select_is}
 use Rattle.call_compose.proofs.inner.arms_of.Goals as goal

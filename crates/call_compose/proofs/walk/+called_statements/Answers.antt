@@ -1,19 +1,17 @@
-use Rattle.std.proofs.Common.{◌≡◌, ◌+◌, ◌-◌, ◌*◌, ◌<◌, ◌≤◌, ℕ, List, [], ◌∷◌, ◌++◌, length, get_or, drop, refl, sym, ap, ◌∙◌, subst, rules, arith}
+use Rattle.std.proofs.Common.{◌≡◌, ◌+◌, ◌-◌, ◌*◌, ◌<◌, ◌≤◌, ℕ, List, [], ◌∷◌, ◌++◌, length, get_or, refl, sym, ap, ◌∙◌, subst, rules, arith}
 use Rattle.std.proofs.lemmas.List.{get_or_read, length-append}
 use Rattle.std.specs.Prelude.{Bool, true, false, slice_set, if◌then◌else◌}
 use Rattle.prs_core.specs.Nets.{NodeRules}
 use Rattle.prs_core.specs.Pairs.{no_rules}
 use Rattle.cell_parallel.specs.Trees.{tree_rules}
 use Rattle.cell_select.specs.Selections.{joined_answer, select_rules, again_rules}
-use Rattle.chp_syntax.specs.declared.tree.Arm.{Arm}
 use Rattle.chp_syntax.specs.declared.tree.Decl.{Decl}
 use Rattle.chp_syntax.specs.declared.tree.Stmt.{Stmt, the_lemmas}
 use Rattle.chp_syntax.specs.Trees.{Statement, follows, besides, selects, repeats}
 use Rattle.chp_syntax.specs.View.{expression_of, statement_of}
-use Rattle.width_check.specs.declared.typed.TArm.{TArm}
 use Rattle.width_check.specs.declared.typed.TStmt.{TStmt}
-use Rattle.width_check.specs.Form.{formula_form, process_form}
-use Rattle.width_check.specs.Processes.{Process, TypedProgram, Choices, in_turn, side_by_side, choosing, repeating, choice_count}
+use Rattle.width_check.specs.Form.{formula_form}
+use Rattle.width_check.specs.Processes.{Process, TypedProgram, Choices, side_by_side, choosing, choice_count}
 use Rattle.width_check.specs.Typed.{program_of}
 use Rattle.width_check.specs.Typing.{IsProcess}
 use Rattle.width_check.specs.View.{process_of, members_in, choices_in}
@@ -30,12 +28,12 @@ use Rattle.net_compose.proofs.BodyDriven.{element_within, own_some, choice_count
 use Rattle.net_compose.proofs.BodyWritten.{if_ok}
 use Rattle.net_compose.proofs.FlatRules.{counted}
 use Rattle.net_compose.proofs.Sizes.{statement_length, bodies_length}
-use Rattle.call_map.specs.Calling.{Called, atom, no_calleds, inlined, inlined_each, inlined_choices, called_size, called_rules}
+use Rattle.call_map.specs.Calling.{no_calleds, inlined, inlined_each, inlined_choices, called_size, called_rules}
 use Rattle.call_compose.specs.CalledForm.{called_form, called_forms, called_arms}
-use Rattle.call_compose.specs.Walking.{Copied, with_calls, HasRoom, HasAdded, Pieces, answer_at, pieces}
-use Rattle.call_compose.proofs.CalledSteps.{TurnLeft, BranchesLeft, ChoicesLeft, turn_begun, turn_more, turn_done, branches_begun, branch_more, all_ended, branches_made, branches_done, choices_begun, choice_more, choices_done, loop_done, call_done, atom_done, rules_long, ends_long, element_made, element_long, element_counted}
+use Rattle.call_compose.specs.Walking.{with_calls, HasAdded, Pieces, answer_at, pieces}
+use Rattle.call_compose.proofs.CalledSteps.{TurnLeft, BranchesLeft, ChoicesLeft, turn_begun, turn_more, turn_done, branches_begun, branch_more, all_ended, branches_made, branches_done, choices_begun, choice_more, choices_done, loop_done, rules_long, ends_long, element_made, element_long, element_counted}
 use Rattle.call_compose.proofs.CalledRoom.{room_as, turn_here, turn_is, turn_some, turn_last, turn_own, turn_room, turn_above, last_room, side_here, side_is, side_own, side_room, side_above, choice_here, choice_is, choice_own, choice_room, choice_above, loop_room}
-use Rattle.call_compose.proofs.CopiedMembers.{copied_as, left_of, arms_left, none_left, no_arm_left, as_many, as_many_arms, turn_copied, sides_copied, choices_copied, loop_copied}
+use Rattle.call_compose.proofs.CopiedMembers.{TurnCopied, SidesCopied, ChosenCopied, copied_as, left_of, arms_left, none_left, no_arm_left, as_many, as_many_arms, turn_copied, sides_copied, choices_copied, loop_copied}
 use Rattle.call_compose.proofs.walk.+called_statements.Goals as goal
 
 -- sequences
@@ -92,7 +90,8 @@ called_sequence-node_behind-next-requires t c =
     let now = pieces c.loop-place.drivers.items c.loop-place.contacts.items c.loop-place.first c.loop-place.calls.items in
     let new = pieces c.called_statement.new.drivers.items c.called_statement.new.contacts.items c.called_statement.new.first
     c.called_statement.new.calls.items in
-    let long = element_counted k.bodies p d (called_form k.decls names (statement_of c.index-parts-place.result)) c.loop-place.asked c.loop-place.next c.in_ok-answer.answer c.len-begun.result now new
+    let long = element_counted k.bodies p d (called_form k.decls names (statement_of c.index-parts-place.result)) c.loop-place.asked c.loop-place.next
+    c.in_ok-answer.answer c.len-begun.result now new
     c.begin_element.new.drivers.items c.close_element.new.drivers.items (c.len-begun.ensures ∙ c.loop-place.drivers.ok.0) c.in_ok-begin_element.ensures
     (c.in_ok-answer.ensures.added here) c.close_element.ensures (subst (IsProcess p.channels p.vars) here.same typed.0) in
     let own = turn_own names p ss ts c.args.from c.loop-place.next (length c.args.first.now) (length c.loop-place.first) c.requires.room
@@ -124,27 +123,29 @@ called_sequence-loop-place-preserved t c =
     let done = pieces c.close_element.new.drivers.items c.called_statement.new.contacts.items c.called_statement.new.first
     c.called_statement.new.calls.items in
     let old = pieces c.args.drivers.now.items c.args.contacts.now.items c.args.first.now c.args.calls.now.items in
-    let here = λ (k : Copied names (in_turn (members_in ss)) (follows (statements_in ts))). turn_here names ss ts k i _ _ at is (omega (arith, within)) in
-    let element = λ (k : Copied names (in_turn (members_in ss)) (follows (statements_in ts))). element_made k.bodies p d (called_form k.decls names u) asked next
+    let here = λ (k : TurnCopied names ss ts). turn_here names ss ts k i _ _ at is (omega (arith, within)) in
+    let element = λ (k : TurnCopied names ss ts). element_made k.bodies p d (called_form k.decls names u) asked next
     c.in_ok-answer.answer c.len-begun.result now new c.begin_element.new.drivers.items c.close_element.new.drivers.items
     (c.len-begun.ensures ∙ c.loop-place.drivers.ok.0) c.in_ok-begin_element.ensures (c.in_ok-answer.ensures.added (here k)) c.close_element.ensures in
-    let step = λ (k : Copied names (in_turn (members_in ss)) (follows (statements_in ts))).
+    let step = λ (k : TurnCopied names ss ts).
     let long = element_long k.bodies p d (called_form k.decls names u) asked next now done
     (subst (IsProcess p.channels p.vars) (here k).same typed.0) (element k) in
-    let e : after ≡ next + 3 + called_size k.bodies p (called_form k.decls names u) = omega (arith, long, c.len-begun.ensures, c.len.ensures, c.node_behind-next.ensures) in e in
+    let e : after ≡ next + 3 + called_size k.bodies p (called_form k.decls names u) = omega
+    (arith, long, c.len-begun.ensures, c.len.ensures, c.node_behind-next.ensures) in e in
     let k0 = c.requires.room.copied in
-    let left = λ (k : Copied names (in_turn (members_in ss)) (follows (statements_in ts))). turn_more k.bodies p d (called_forms k.decls names (statements_in ts)) (called_form k.decls names u)
-      (left_of names k.bodies k.decls ts (i + 1)) c.args.request c.args.from asked next after old now done (turn_some names ss ts k i _ _ at is within) (step k)
-      (subst (λ r. TurnLeft k.bodies p d (called_forms k.decls names (statements_in ts)) r c.args.request c.args.from asked next old now)
-      (turn_is names ss ts k i _ _ at is (omega (arith, within))) (c.loop-place.invariant.left k)) (element k) in
+    let left = λ (k : TurnCopied names ss ts). turn_more k.bodies p d (called_forms k.decls names (statements_in ts)) (called_form k.decls names u)
+    (left_of names k.bodies k.decls ts (i + 1)) c.args.request c.args.from asked next after old now done (turn_some names ss ts k i _ _ at is within) (step k)
+    (subst (λ r. TurnLeft k.bodies p d (called_forms k.decls names (statements_in ts)) r c.args.request c.args.from asked next old now)
+    (turn_is names ss ts k i _ _ at is (omega (arith, within))) (c.loop-place.invariant.left k)) (element k) in
     record {
       left = left;
       values = omega (arith, c.called_statement.ensures.count, c.loop-place.invariant.values);
       formed = typed.1;
       low = omega (arith, c.loop-place.invariant.low);
       few = omega (arith, (left k0).size, c.requires.room.own, c.requires.room.few);
-      above = turn_above names p ss ts c.args.from next (length c.args.first.now) (length c.loop-place.first) c.requires.room c.loop-place.invariant.values i _ _
-          at is c.loop-place.invariant.low c.loop-place.invariant.above (c.loop-place.invariant.left k0).size within typed.0 after (step k0);
+      above = turn_above names p ss ts c.args.from next (length c.args.first.now) (length c.loop-place.first) c.requires.room
+          c.loop-place.invariant.values i _ _ at is c.loop-place.invariant.low c.loop-place.invariant.above (c.loop-place.invariant.left k0).size within typed.0
+          after (step k0);
       as_many = c.loop-place.invariant.as_many;
     }
 
@@ -179,7 +180,8 @@ called_sequence-returns-clause-added t c =
     let old = pieces c.args.drivers.now.items c.args.contacts.now.items c.args.first.now c.args.calls.now.items in
     if_ok c.called_statement-2.result _ _ (λ answer added k. turn_done k.bodies p d (called_forms k.decls names (statements_in ts))
     (called_form k.decls names (statement_of c.index-parts-last.result)) c.args.request c.args.from c.loop-place.asked c.loop-place.next answer old now new
-    (subst (λ r. TurnLeft k.bodies p d (called_forms k.decls names (statements_in ts)) r c.args.request c.args.from c.loop-place.asked c.loop-place.next old now)
+    (subst
+    (λ r. TurnLeft k.bodies p d (called_forms k.decls names (statements_in ts)) r c.args.request c.args.from c.loop-place.asked c.loop-place.next old now)
     (turn_last names ss ts k i _ _ at is whole) (c.loop-place.invariant.left k))
     (added (turn_here names ss ts k i _ _ at is (omega (arith, whole))))) c.called_statement-2.ensures.added
 
@@ -237,7 +239,8 @@ called_parallel-node_behind-next-requires t c =
     let now = pieces c.loop-place.drivers.items c.loop-place.contacts.items c.loop-place.first c.loop-place.calls.items in
     let new = pieces c.called_statement.new.drivers.items c.called_statement.new.contacts.items c.called_statement.new.first
     c.called_statement.new.calls.items in
-    let long = element_counted k.bodies p d (called_form k.decls names (statement_of c.index-parts-place.result)) c.args.request c.loop-place.next c.in_ok-answer.answer c.len-begun.result now new
+    let long = element_counted k.bodies p d (called_form k.decls names (statement_of c.index-parts-place.result)) c.args.request c.loop-place.next
+    c.in_ok-answer.answer c.len-begun.result now new
     c.begin_element.new.drivers.items c.close_element.new.drivers.items (c.len-begun.ensures ∙ c.loop-place.drivers.ok.0) c.in_ok-begin_element.ensures
     (c.in_ok-answer.ensures.added here) c.close_element.ensures (subst (IsProcess p.channels p.vars) here.same typed.0) in
     let own = side_own names p ss ts c.args.from c.loop-place.next (length c.args.first.now) (length c.loop-place.first) c.requires.room
@@ -268,33 +271,35 @@ called_parallel-loop-place-preserved t c =
     let done = pieces c.close_element.new.drivers.items c.called_statement.new.contacts.items c.called_statement.new.first
     c.called_statement.new.calls.items in
     let old = pieces c.args.drivers.now.items c.args.contacts.now.items c.args.first.now c.args.calls.now.items in
-    let here = λ (k : Copied names (side_by_side (members_in ss)) (besides (statements_in ts))). side_here names ss ts k i _ _ at is within in
-    let element = λ (k : Copied names (side_by_side (members_in ss)) (besides (statements_in ts))). element_made k.bodies p d (called_form k.decls names u)
+    let here = λ (k : SidesCopied names ss ts). side_here names ss ts k i _ _ at is within in
+    let element = λ (k : SidesCopied names ss ts). element_made k.bodies p d (called_form k.decls names u)
     request next c.in_ok-answer.answer c.len-begun.result now new c.begin_element.new.drivers.items c.close_element.new.drivers.items
     (c.len-begun.ensures ∙ c.loop-place.drivers.ok.0) c.in_ok-begin_element.ensures (c.in_ok-answer.ensures.added (here k)) c.close_element.ensures in
-    let step = λ (k : Copied names (side_by_side (members_in ss)) (besides (statements_in ts))).
+    let step = λ (k : SidesCopied names ss ts).
     let long = element_long k.bodies p d (called_form k.decls names u) request next now done
     (subst (IsProcess p.channels p.vars) (here k).same typed.0) (element k) in
-    let e : after ≡ next + 3 + called_size k.bodies p (called_form k.decls names u) = omega (arith, long, c.len-begun.ensures, c.len.ensures, c.node_behind-next.ensures) in e in
+    let e : after ≡ next + 3 + called_size k.bodies p (called_form k.decls names u) = omega
+    (arith, long, c.len-begun.ensures, c.len.ensures, c.node_behind-next.ensures) in e in
     let k0 = c.requires.room.copied in
-    let left = λ (k : Copied names (side_by_side (members_in ss)) (besides (statements_in ts))). branch_more k.bodies p d (called_forms k.decls names (statements_in ts)) (called_form k.decls names u)
-      (left_of names k.bodies k.decls ts (i + 1)) request c.args.from next after old now done c.loop-place.ends.items _ (step k) c.in_ok-push.ensures.items
-      (subst (λ r. BranchesLeft k.bodies p d (called_forms k.decls names (statements_in ts)) r request c.args.from next old now c.loop-place.ends.items)
-      (side_is names ss ts k i _ _ at is within) (c.loop-place.invariant.left k)) (element k) in
+    let left = λ (k : SidesCopied names ss ts). branch_more k.bodies p d (called_forms k.decls names (statements_in ts)) (called_form k.decls names u)
+    (left_of names k.bodies k.decls ts (i + 1)) request c.args.from next after old now done c.loop-place.ends.items _ (step k) c.in_ok-push.ensures.items
+    (subst (λ r. BranchesLeft k.bodies p d (called_forms k.decls names (statements_in ts)) r request c.args.from next old now c.loop-place.ends.items)
+    (side_is names ss ts k i _ _ at is within) (c.loop-place.invariant.left k)) (element k) in
     record {
       left = left;
       values = omega (arith, c.called_statement.ensures.count, c.loop-place.invariant.values);
       formed = typed.1;
       low = omega (arith, c.loop-place.invariant.low);
       few = omega (arith, (left k0).size, c.requires.room.own, c.requires.room.few);
-      above = side_above names p ss ts c.args.from next (length c.args.first.now) (length c.loop-place.first) c.requires.room c.loop-place.invariant.values i _ _
-          at is within c.loop-place.invariant.low c.loop-place.invariant.above (c.loop-place.invariant.left k0).size typed.0 after (step k0);
+      above = side_above names p ss ts c.args.from next (length c.args.first.now) (length c.loop-place.first) c.requires.room
+          c.loop-place.invariant.values i _ _ at is within c.loop-place.invariant.low c.loop-place.invariant.above (c.loop-place.invariant.left k0).size typed.0
+          after (step k0);
       as_many = c.loop-place.invariant.as_many;
     }
 
 -- what is known once no branch is left
 ended_branches : (names : List (List ℕ)) (p : TypedProgram) (d : ℕ → ℕ) (ss : List TStmt) (ts : List Stmt) (i request from next : ℕ) (old now : Pieces)
-    (ends : List ℕ) (k : Copied names (side_by_side (members_in ss)) (besides (statements_in ts))) → length ss ≤ i
+    (ends : List ℕ) (k : SidesCopied names ss ts) → length ss ≤ i
     → BranchesLeft k.bodies p d (called_forms k.decls names (statements_in ts)) (left_of names k.bodies k.decls ts i) request from next old now ends
     → BranchesLeft k.bodies p d (called_forms k.decls names (statements_in ts)) no_calleds request from next old now ends
 ended_branches names p d ss ts i request from next old now ends k over left =
@@ -303,7 +308,7 @@ ended_branches names p d ss ts i request from next old now ends k over left =
 
 -- the drivers with the tree are as many as the layout counts
 parallel_counted : (names : List (List ℕ)) (p : TypedProgram) (d : ℕ → ℕ) (ss : List TStmt) (ts : List Stmt) (i request from next : ℕ) (old now : Pieces)
-    (ends nodes : List ℕ) (new : List NodeRules) (k : Copied names (side_by_side (members_in ss)) (besides (statements_in ts)))
+    (ends nodes : List ℕ) (new : List NodeRules) (k : SidesCopied names ss ts)
     → IsProcess p.channels p.vars (side_by_side (members_in ss)) → length ss ≤ i
     → BranchesLeft k.bodies p d (called_forms k.decls names (statements_in ts)) (left_of names k.bodies k.decls ts i) request from next old now ends
     → nodes ≡ ends → new ≡ now.drivers ++ tree_rules nodes next → length new ≡ length old.drivers + called_size k.bodies p (with_calls k)
@@ -317,8 +322,8 @@ called_parallel-tree-requires t c =
     let k = c.requires.room.copied in
     let p = program_of c.args.program.now in
     let all = called_forms k.decls c.args.procs.now (statements_in c.args.parts.now) in
-    let left = ended_branches c.args.procs.now p (answer_at c.args.answers.now) c.args.branches.now c.args.parts.now c.loop-place.place c.args.request c.args.from
-    c.loop-place.next (pieces c.args.drivers.now.items c.args.contacts.now.items c.args.first.now c.args.calls.now.items)
+    let left = ended_branches c.args.procs.now p (answer_at c.args.answers.now) c.args.branches.now c.args.parts.now c.loop-place.place c.args.request
+    c.args.from c.loop-place.next (pieces c.args.drivers.now.items c.args.contacts.now.items c.args.first.now c.args.calls.now.items)
     (pieces c.loop-place.drivers.items c.loop-place.contacts.items c.loop-place.first c.loop-place.calls.items) c.loop-place.ends.items k (omega arith)
     (c.loop-place.invariant.left k) in
     let leaves = c.deref.ensures.value ∙ all_ended k.bodies p (answer_at c.args.answers.now) all c.args.request c.args.from c.loop-place.next _ _ _ left in
@@ -331,8 +336,7 @@ called_parallel-node_behind-requires t c =
     c.loop-place.place c.args.request c.args.from c.loop-place.next
     (pieces c.args.drivers.now.items c.args.contacts.now.items c.args.first.now c.args.calls.now.items)
     (pieces c.loop-place.drivers.items c.loop-place.contacts.items c.loop-place.first c.loop-place.calls.items) c.loop-place.ends.items c.deref.result.now
-    c.tree.new.drivers.items k c.requires.process (omega arith) (c.loop-place.invariant.left k) c.deref.ensures.value c.in_ok-tree.ensures in
-    (
+    c.tree.new.drivers.items k c.requires.process (omega arith) (c.loop-place.invariant.left k) c.deref.ensures.value c.in_ok-tree.ensures in (
       omega (arith, all, c.len-whole.ensures, c.len-2.ensures),
       omega (arith, all, c.len-whole.ensures, c.len-2.ensures, c.requires.room.own, c.requires.room.few),
     )
@@ -348,10 +352,11 @@ called_parallel-returns-clause-added t c k =
     let now = pieces c.loop-place.drivers.items c.loop-place.contacts.items c.loop-place.first c.loop-place.calls.items in
     let left = ended_branches names p d ss ts c.loop-place.place c.args.request c.args.from c.loop-place.next old now c.loop-place.ends.items k (omega arith)
     (c.loop-place.invariant.left k) in
-    let all = parallel_counted names p d ss ts c.loop-place.place c.args.request c.args.from c.loop-place.next old now c.loop-place.ends.items c.deref.result.now
-    c.tree.new.drivers.items k c.requires.process (omega arith) (c.loop-place.invariant.left k) c.deref.ensures.value c.in_ok-tree.ensures in
+    let all = parallel_counted names p d ss ts c.loop-place.place c.args.request c.args.from c.loop-place.next old now c.loop-place.ends.items
+    c.deref.result.now c.tree.new.drivers.items k c.requires.process (omega arith) (c.loop-place.invariant.left k) c.deref.ensures.value c.in_ok-tree.ensures in
     branches_done k.bodies p d (called_forms k.decls names (statements_in ts)) c.args.request c.args.from c.loop-place.next _ old now c.loop-place.ends.items
-    c.deref.result.now c.tree.new.drivers.items left c.deref.ensures.value c.in_ok-tree.ensures (omega (arith, all, c.len-whole.ensures, c.len-2.ensures, c.node_behind.ensures))
+    c.deref.result.now c.tree.new.drivers.items left c.deref.ensures.value c.in_ok-tree.ensures
+    (omega (arith, all, c.len-whole.ensures, c.len-2.ensures, c.node_behind.ensures))
 
 -- selections
 
@@ -409,9 +414,9 @@ called_selection-loop-place-init t c =
     (arith, arms_counted arms, c.own_nodes.ensures) in
     let next : c.node_behind-next.result ≡ bodies_from cs (own_before again) from = omega
     (arith, all, c.len-whole.ensures, c.len.ensures, c.node_behind-next.ensures) in
-    let begun = λ (k : Copied names (choosing again cs) (selects again (arms_in xs))). choices_begun k.bodies p d again cs
-    (called_arms k.decls names (arms_in xs)) (choices_copied names again arms xs k) c.args.request from _ _ old c.choice.new.drivers.items c.new-ends.result.items
-    c.new-ends.ensures.items start next c.in_ok-choice.ensures.once c.in_ok-choice.ensures.repeated in
+    let begun = λ (k : ChosenCopied names again arms xs). choices_begun k.bodies p d again cs
+    (called_arms k.decls names (arms_in xs)) (choices_copied names again arms xs k) c.args.request from _ _ old c.choice.new.drivers.items
+    c.new-ends.result.items c.new-ends.ensures.items start next c.in_ok-choice.ensures.once c.in_ok-choice.ensures.repeated in
     record {
       left = begun;
       values = refl;
@@ -449,7 +454,8 @@ called_selection-node_behind-next-requires-in-loop-place t c =
     let within : i < length arms = omega arith in
     let typed = arm_typed p arms i _ within at _ _ c.loop-place.invariant.formed in
     let here = choice_here names again arms xs k i _ _ at is within in
-    let long = rules_long k.bodies p d (called_form k.decls names (statement_of c.index-parts-place.result.body)) c.loop-place.start c.loop-place.next c.loop-place.drivers.items c.called_statement.new.drivers.items
+    let long = rules_long k.bodies p d (called_form k.decls names (statement_of c.index-parts-place.result.body)) c.loop-place.start c.loop-place.next
+    c.loop-place.drivers.items c.called_statement.new.drivers.items
     (subst (IsProcess p.channels p.vars) here.same typed.0) (c.in_ok-answer.ensures.added here).made in
     let own = choice_own names p again arms xs c.args.from c.loop-place.next (length c.args.first.now) (length c.loop-place.first) c.requires.room
     c.loop-place.invariant.values i _ _ at is within c.loop-place.invariant.low c.loop-place.invariant.above (c.loop-place.invariant.left k).size in (
@@ -481,18 +487,20 @@ called_selection-loop-place-preserved t c =
     let new = pieces c.called_statement.new.drivers.items c.called_statement.new.contacts.items c.called_statement.new.first
     c.called_statement.new.calls.items in
     let old = pieces c.args.drivers.now.items c.args.contacts.now.items c.args.first.now c.args.calls.now.items in
-    let here = λ (k : Copied names (choosing again (choices_in arms)) (selects again (arms_in xs))). choice_here names again arms xs k i _ _ at is within in
-    let added = λ (k : Copied names (choosing again (choices_in arms)) (selects again (arms_in xs))). c.in_ok-answer.ensures.added (here k) in
-    let long = λ (k : Copied names (choosing again (choices_in arms)) (selects again (arms_in xs))). rules_long k.bodies p d (called_form k.decls names u) start next
+    let here = λ (k : ChosenCopied names again arms xs). choice_here names again arms xs k i _ _ at is within in
+    let added = λ (k : ChosenCopied names again arms xs). c.in_ok-answer.ensures.added (here k) in
+    let long = λ (k : ChosenCopied names again arms xs). rules_long k.bodies p d (called_form k.decls names u) start next
     c.loop-place.drivers.items c.called_statement.new.drivers.items (subst (IsProcess p.channels p.vars) (here k).same typed.0) (added k).made in
-    let step = λ (k : Copied names (choosing again (choices_in arms)) (selects again (arms_in xs))).
-    let e : after ≡ next + called_size k.bodies p (called_form k.decls names u) = omega (arith, long k, c.len-begun.ensures, c.len-in-loop-place.ensures, c.node_behind-next-in-loop-place.ensures) in e in
+    let step = λ (k : ChosenCopied names again arms xs).
+    let e : after ≡ next + called_size k.bodies p (called_form k.decls names u) = omega
+    (arith, long k, c.len-begun.ensures, c.len-in-loop-place.ensures, c.node_behind-next-in-loop-place.ensures) in e in
     let k0 = c.requires.room.copied in
-    let left = λ (k : Copied names (choosing again (choices_in arms)) (selects again (arms_in xs))). choice_more k.bodies p d again (called_arms k.decls names (arms_in xs)) (formula_form k.decls 1 (expression_of x.guard))
-      (called_form k.decls names u) (arms_left names k.bodies k.decls xs (i + 1)) request c.args.from start next after c.in_ok-answer.answer old now new
-      c.loop-place.ends.items _ c.loop-place.invariant.within (step k) c.in_ok-push.ensures.items
-      (subst (λ r. ChoicesLeft k.bodies p d again (called_arms k.decls names (arms_in xs)) r request c.args.from start next old now c.loop-place.ends.items)
-      (choice_is names again arms xs k i _ _ at is within) (c.loop-place.invariant.left k)) (added k) in
+    let left = λ (k : ChosenCopied names again arms xs). choice_more k.bodies p d again (called_arms k.decls names (arms_in xs))
+    (formula_form k.decls 1 (expression_of x.guard))
+    (called_form k.decls names u) (arms_left names k.bodies k.decls xs (i + 1)) request c.args.from start next after c.in_ok-answer.answer old now new
+    c.loop-place.ends.items _ c.loop-place.invariant.within (step k) c.in_ok-push.ensures.items
+    (subst (λ r. ChoicesLeft k.bodies p d again (called_arms k.decls names (arms_in xs)) r request c.args.from start next old now c.loop-place.ends.items)
+    (choice_is names again arms xs k i _ _ at is within) (c.loop-place.invariant.left k)) (added k) in
     record {
       left = left;
       values = omega (arith, c.called_statement.ensures.count, c.loop-place.invariant.values);
@@ -575,8 +583,8 @@ added_as : (bs : List Process) (p : TypedProgram) (d : ℕ → ℕ) (ds : List D
 added_as bs p d ds names t u same request from answer old new h =
     subst (λ x. HasAdded bs p d (called_form ds names x) request from answer old new) (sym same) h
 
-pub called_statement-members_of-requires : goal.called_statement-members_of-requires
-called_statement-members_of-requires t c =
+pub called_statement-members_of-members-requires : goal.called_statement-members_of-members-requires
+called_statement-members_of-members-requires t c =
     let k = c.requires.room.copied in (
       inlined_each k.bodies (called_forms k.decls c.args.procs.now (statements_in c.in-Then.parts.items)),
       k.same ∙ ap (λ u. inlined k.bodies (called_form k.decls c.args.procs.now u)) (then_is _ c.in-Then.parts c.in-Then.is),
@@ -585,7 +593,7 @@ called_statement-members_of-requires t c =
 pub called_statement-called_sequence-requires : goal.called_statement-called_sequence-requires
 called_statement-called_sequence-requires t c =
     let p = program_of c.args.program.now in
-    let as_form = c.members_of.ensures in
+    let as_form = c.members_of-members.ensures in
     let as_text = then_is _ c.in-Then.parts c.in-Then.is ∙ ap (λ xs. follows (statements_in xs)) (sym c.deref.ensures.value) in
     let typed = subst (IsProcess p.channels p.vars) as_form c.requires.process in
     let room = room_as c.args.procs.now p _ _ _ _ c.args.from (length c.args.first.now) as_form as_text c.requires.room in
@@ -595,10 +603,10 @@ pub called_statement-returns-in-Then-clause-added : goal.called_statement-return
 called_statement-returns-in-Then-clause-added t c =
     let as_text = then_is _ c.in-Then.parts c.in-Then.is ∙ ap (λ xs. follows (statements_in xs)) (sym c.deref.ensures.value) in
     if_ok c.called_sequence.result _ _ (λ answer added k. added_as k.bodies _ _ k.decls c.args.procs.now _ _ as_text _ _ _ _ _
-    (added (copied_as c.args.procs.now _ _ _ _ c.members_of.ensures as_text k))) c.called_sequence.ensures.added
+    (added (copied_as c.args.procs.now _ _ _ _ c.members_of-members.ensures as_text k))) c.called_sequence.ensures.added
 
-pub called_statement-branches_of-requires : goal.called_statement-branches_of-requires
-called_statement-branches_of-requires t c =
+pub called_statement-branches_of-branches-requires : goal.called_statement-branches_of-branches-requires
+called_statement-branches_of-branches-requires t c =
     let k = c.requires.room.copied in (
       inlined_each k.bodies (called_forms k.decls c.args.procs.now (statements_in c.in-Beside.parts.items)),
       k.same ∙ ap (λ u. inlined k.bodies (called_form k.decls c.args.procs.now u)) (beside_is _ c.in-Beside.parts c.in-Beside.is),
@@ -607,7 +615,7 @@ called_statement-branches_of-requires t c =
 pub called_statement-called_parallel-requires : goal.called_statement-called_parallel-requires
 called_statement-called_parallel-requires t c =
     let p = program_of c.args.program.now in
-    let as_form = c.branches_of.ensures in
+    let as_form = c.branches_of-branches.ensures in
     let as_text = beside_is _ c.in-Beside.parts c.in-Beside.is ∙ ap (λ xs. besides (statements_in xs)) (sym c.deref-in-Beside.ensures.value) in
     let typed = subst (IsProcess p.channels p.vars) as_form c.requires.process in
     let room = room_as c.args.procs.now p _ _ _ _ c.args.from (length c.args.first.now) as_form as_text c.requires.room in
@@ -617,10 +625,10 @@ pub called_statement-returns-in-Beside-clause-added : goal.called_statement-retu
 called_statement-returns-in-Beside-clause-added t c =
     let as_text = beside_is _ c.in-Beside.parts c.in-Beside.is ∙ ap (λ xs. besides (statements_in xs)) (sym c.deref-in-Beside.ensures.value) in
     if_ok c.called_parallel.result _ _ (λ answer added k. added_as k.bodies _ _ k.decls c.args.procs.now _ _ as_text _ _ _ _ _
-    (added (copied_as c.args.procs.now _ _ _ _ c.branches_of.ensures as_text k))) c.called_parallel.ensures.added
+    (added (copied_as c.args.procs.now _ _ _ _ c.branches_of-branches.ensures as_text k))) c.called_parallel.ensures.added
 
-pub called_statement-arms_of-requires : goal.called_statement-arms_of-requires
-called_statement-arms_of-requires t c =
+pub called_statement-arms_of-typed-requires : goal.called_statement-arms_of-typed-requires
+called_statement-arms_of-typed-requires t c =
     let k = c.requires.room.copied in (
       c.in-Select.again,
       inlined_choices k.bodies (called_arms k.decls c.args.procs.now (arms_in c.in-Select.arms.items)),
@@ -634,7 +642,7 @@ called_statement-called_selection-requires t c =
     let again = c.in-Select.again in
     let is = select_is _ again c.in-Select.arms c.in-Select.is in
     let form = k.same ∙ ap (λ u. inlined k.bodies (called_form k.decls c.args.procs.now u)) is in
-    let as_form = form ∙ ap (choosing again) (c.arms_of.ensures again _ form) in
+    let as_form = form ∙ ap (choosing again) (c.arms_of-typed.ensures again _ form) in
     let as_text = is ∙ ap (λ xs. selects again (arms_in xs)) (sym c.deref-in-Select.ensures.value) in
     let typed = subst (IsProcess p.channels p.vars) as_form c.requires.process in
     let room = room_as c.args.procs.now p _ _ _ _ c.args.from (length c.args.first.now) as_form as_text c.requires.room in
@@ -646,13 +654,13 @@ called_statement-returns-in-Select-clause-added t c =
     let is = select_is _ again c.in-Select.arms c.in-Select.is in
     let k = c.requires.room.copied in
     let form = k.same ∙ ap (λ u. inlined k.bodies (called_form k.decls c.args.procs.now u)) is in
-    let as_form = form ∙ ap (choosing again) (c.arms_of.ensures again _ form) in
+    let as_form = form ∙ ap (choosing again) (c.arms_of-typed.ensures again _ form) in
     let as_text = is ∙ ap (λ xs. selects again (arms_in xs)) (sym c.deref-in-Select.ensures.value) in
     if_ok c.called_selection.result _ _ (λ answer added k. added_as k.bodies _ _ k.decls c.args.procs.now _ _ as_text _ _ _ _ _
     (added (copied_as c.args.procs.now _ _ _ _ as_form as_text k))) c.called_selection.ensures.added
 
-pub called_statement-repeated-requires : goal.called_statement-repeated-requires
-called_statement-repeated-requires t c =
+pub called_statement-repeated-inner-requires : goal.called_statement-repeated-inner-requires
+called_statement-repeated-inner-requires t c =
     let k = c.requires.room.copied in (
       inlined k.bodies (called_form k.decls c.args.procs.now (statement_of c.in-Repeat.body.value)),
       k.same ∙ ap (λ b. inlined k.bodies (called_form k.decls c.args.procs.now (statement_of b))) c.in-Repeat.is,
@@ -661,7 +669,7 @@ called_statement-repeated-requires t c =
 pub called_statement-called_loop-requires : goal.called_statement-called_loop-requires
 called_statement-called_loop-requires t c =
     let p = program_of c.args.program.now in
-    let as_form = c.repeated.ensures in
+    let as_form = c.repeated-inner.ensures in
     let as_text = ap statement_of c.in-Repeat.is ∙ ap (λ b. repeats (statement_of b)) (sym c.deref-in-Repeat.ensures) in
     let typed = subst (IsProcess p.channels p.vars) as_form c.requires.process in
     let room = room_as c.args.procs.now p _ _ _ _ c.args.from (length c.args.first.now) as_form as_text c.requires.room in
@@ -671,4 +679,4 @@ pub called_statement-returns-in-Repeat-clause-added : goal.called_statement-retu
 called_statement-returns-in-Repeat-clause-added t c =
     let as_text = ap statement_of c.in-Repeat.is ∙ ap (λ b. repeats (statement_of b)) (sym c.deref-in-Repeat.ensures) in
     if_ok c.called_loop.result _ _ (λ answer added k. added_as k.bodies _ _ k.decls c.args.procs.now _ _ as_text _ _ _ _ _
-    (added (copied_as c.args.procs.now _ _ _ _ c.repeated.ensures as_text k))) c.called_loop.ensures.added
+    (added (copied_as c.args.procs.now _ _ _ _ c.repeated-inner.ensures as_text k))) c.called_loop.ensures.added

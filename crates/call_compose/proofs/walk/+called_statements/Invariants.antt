@@ -1,14 +1,13 @@
 use Rattle.std.proofs.Common.{◌≡◌, ◌+◌, ◌-◌, ◌<◌, ◌≤◌, length, drop}
-use Rattle.chp_syntax.specs.Trees.{follows, besides, selects}
-use Rattle.width_check.specs.Processes.{in_turn, side_by_side, choosing}
+use Rattle.width_check.specs.Processes.{choosing}
 use Rattle.width_check.specs.Typed.{program_of}
 use Rattle.width_check.specs.Typing.{AreProcesses, AreChoices}
 use Rattle.width_check.specs.View.{members_in, choices_in}
 use Rattle.width_check.specs.Walk.{statements_in, arms_in}
 use Rattle.handshake_expand.specs.Layout.{size_of, turn_size, branches_size, bodies_size}
 use Rattle.call_compose.specs.CalledForm.{called_forms, called_arms}
-use Rattle.call_compose.specs.Walking.{Copied, answer_at, pieces}
-use Rattle.call_compose.proofs.CopiedMembers.{left_of, arms_left}
+use Rattle.call_compose.specs.Walking.{answer_at, pieces}
+use Rattle.call_compose.proofs.CopiedMembers.{TurnCopied, SidesCopied, ChosenCopied, left_of, arms_left}
 use Rattle.call_compose.proofs.CalledSteps.{TurnLeft, BranchesLeft, ChoicesLeft}
 use Rattle.call_compose.proofs.walk.+called_statements.Given as goal
 
@@ -17,7 +16,7 @@ invariant-called_sequence-loop-place l =
     let p = program_of l.program in
     let behind = members_in (drop l.place l.members) in
     record {
-      left : (k : Copied l.procs (in_turn (members_in l.members)) (follows (statements_in l.parts)))
+      left : (k : TurnCopied l.procs l.members l.parts)
           → TurnLeft k.bodies p (answer_at l.answers) (called_forms k.decls l.procs (statements_in l.parts))
           (left_of l.procs k.bodies k.decls l.parts l.place) l.fn.request l.fn.from l.asked l.next
           (pieces l.fn.drivers.items l.fn.contacts.items l.fn.first l.fn.calls.items) (pieces l.drivers.items l.contacts.items l.first l.calls.items);
@@ -34,7 +33,7 @@ invariant-called_parallel-loop-place l =
     let p = program_of l.program in
     let behind = members_in (drop l.place l.branches) in
     record {
-      left : (k : Copied l.procs (side_by_side (members_in l.branches)) (besides (statements_in l.parts)))
+      left : (k : SidesCopied l.procs l.branches l.parts)
           → BranchesLeft k.bodies p (answer_at l.answers) (called_forms k.decls l.procs (statements_in l.parts))
           (left_of l.procs k.bodies k.decls l.parts l.place) l.request l.fn.from l.next
           (pieces l.fn.drivers.items l.fn.contacts.items l.fn.first l.fn.calls.items) (pieces l.drivers.items l.contacts.items l.first l.calls.items)
@@ -52,7 +51,7 @@ invariant-called_selection-loop-place l =
     let p = program_of l.program in
     let behind = choices_in (drop l.place l.arms) in
     record {
-      left : (k : Copied l.procs (choosing l.again (choices_in l.arms)) (selects l.again (arms_in l.parts)))
+      left : (k : ChosenCopied l.procs l.again l.arms l.parts)
           → ChoicesLeft k.bodies p (answer_at l.answers) l.again (called_arms k.decls l.procs (arms_in l.parts))
           (arms_left l.procs k.bodies k.decls l.parts l.place) l.request l.fn.from l.start l.next
           (pieces l.fn.drivers.items l.fn.contacts.items l.fn.first l.fn.calls.items) (pieces l.drivers.items l.contacts.items l.first l.calls.items)
