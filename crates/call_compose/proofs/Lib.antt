@@ -11,3 +11,7 @@ pub mod CallsSorted
 pub mod InnerDriven
 pub mod SharedFacts
 pub mod SharedCircuits
+pub mod CalledLengths
+pub mod CopiedMembers
+pub mod CalledSteps
+pub mod CalledRoom

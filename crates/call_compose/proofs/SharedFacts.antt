@@ -72,6 +72,10 @@ split_count : (decls : List Decl) (names : List (List ℕ)) (n : ℕ) (qs : List
 split_count decls names n [] = refl
 split_count decls names n (q ∷ qs) = ap suc (split_count decls names (n + length (own_readers decls q.body)) qs)
 
+pub each_counted : (p : TypedProgram) (bs : List Process) → length bs ≤ procs_size p bs
+each_counted p [] = omega arith
+each_counted p (b ∷ bs) = let rest = each_counted p bs in omega (arith, rest)
+
 pub procs_count : (P : ProgramTree) (p : TypedProgram) (h : AreInlined P p) → length (shared_of h).procs ≡ length P.procs
 procs_count P p h =
     length-map (split_procedures P.decls (own_names h.inlined.vars) 0 P.procs) (λ (q : Procedure). process_form (P.decls ++ h.inlined.vars) q.body)

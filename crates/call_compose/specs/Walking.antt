@@ -23,7 +23,8 @@ abbrev pub with_calls : {names : List (List ℕ)} {s : Process} {t : Statement} 
 with_calls {names} {s} {t} k = called_form k.decls names t
 
 -- its nodes, with one for each call, are among so many, and those with copies can be numbered
-pub record HasRoom (names : List (List ℕ)) (p : TypedProgram) (s : Process) (t : Statement) (from count : ℕ) : Type 0 where
+pub record HasRoom (names : List (List ℕ)) (p : TypedProgram) (s : Process) (t : Statement)
+    (from count : ℕ) : Type 0 where
   pub copied : Copied names s t
   pub own : from + called_size copied.bodies p (with_calls copied) ≤ count
   pub few : count ≤ 65536
@@ -54,7 +55,8 @@ pieces drivers contacts first calls = record {
 }
 
 -- what a statement with calls adds to them, where d gives the answers of the bodies
-pub record HasAdded (bodies : List Process) (p : TypedProgram) (d : ℕ → ℕ) (x : Called) (request from answer : ℕ) (old new : Pieces) : Type 0 where
+pub record HasAdded (bodies : List Process) (p : TypedProgram) (d : ℕ → ℕ) (x : Called) (request from answer : ℕ)
+    (old new : Pieces) : Type 0 where
   pub made : new.drivers ≡ old.drivers ++ called_rules bodies p d x request from
   pub answered : answer ≡ called_answer bodies p x from
   pub contacts : new.contacts ≡ old.contacts ++ called_sites bodies p (every_contact p) x from

@@ -8,6 +8,7 @@ ghost use Rattle.call_compose.specs.CallsCarried.{CallsAsked, CallsCarried, Call
 
 mod bodies;
 mod circuit;
+mod inner;
 mod nodes;
 mod procs;
 mod walk;

@@ -19,7 +19,7 @@ use Rattle.call_compose.specs.Placing.{shared_of, answers_from, requests_from, u
 use Rattle.call_compose.specs.Walking.{requests_of}
 use Rattle.call_compose.proofs.BodiesPlaced.{requests_within, unasked_count, answers_count}
 use Rattle.call_compose.proofs.InnerDriven.{IsDrawn, IsListed, inner_long}
-use Rattle.call_compose.proofs.SharedFacts.{same_program, bodies_typed, count_is, copied, room, procs_count}
+use Rattle.call_compose.proofs.SharedFacts.{same_program, bodies_typed, count_is, copied, room, each_counted, procs_count}
 use Rattle.call_compose.proofs.SharedCircuits.{inner_drawn, inner_listed, inner_raised}
 use Rattle.call_compose.proofs.circuit.inner_drivers.Goals as goal
 
@@ -68,8 +68,12 @@ called_statement-requires-clause-numbers c =
     let p = program_of c.args.typed.now in
     let bs = map (λ b. process_of b.now) c.args.bodies.now in
     let h = c.requires.inlined in
-    omega (arith, ap length c.deref.ensures.value, ap length c.in_ok-placed.ensures.answers, answers_count p bs c.args.from,
-    ap length (c.requires.bodies h), procs_count P p h, length-map P.procs (λ (q : Procedure). q.name.name), ap length c.requires.names)
+    let listed : length c.args.names.now ≡ length (shared_of h).procs =
+    omega (arith, procs_count P p h, length-map P.procs (λ (q : Procedure). q.name.name), ap length c.requires.names) in (
+      omega (arith, ap length c.deref.ensures.value, ap length c.in_ok-placed.ensures.answers, answers_count p bs c.args.from,
+          ap length (c.requires.bodies h), listed),
+      omega (arith, listed, each_counted p (shared_of h).procs, count_is P p h, c.requires.own h, c.requires.few),
+    )
 
 pub called_statement-requires-clause-room : goal.called_statement-requires-clause-room
 called_statement-requires-clause-room c =
