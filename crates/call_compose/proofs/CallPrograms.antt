@@ -38,7 +38,7 @@ there_at ms [] k name all is = absurd (cc is)
 there_at ms (n ∷ ns) zero name all is = let same : n ≡ name = cc is in subst (λ (m : List ℕ). list_any (bytes_eq m) ms ≡ true) same all.0
 there_at ms (n ∷ ns) (suc k) name all is = there_at ms ns k name all.1 is
 
-bodies_counted : (p : ProgramTree) (vars : List Decl) → length (call_program p vars).procs ≡ length (procedure_names p.procs)
+pub bodies_counted : (p : ProgramTree) (vars : List Decl) → length (call_program p vars).procs ≡ length (procedure_names p.procs)
 bodies_counted p vars =
     let qs = split_procedures p.decls (own_names vars) 0 p.procs in
     length-map qs (λ (q : Procedure). process_form (p.decls ++ vars) q.body)

@@ -15,3 +15,5 @@ pub mod CalledLengths
 pub mod CopiedMembers
 pub mod CalledSteps
 pub mod CalledRoom
+pub mod Noting
+pub mod CalledCounts

@@ -1,7 +1,9 @@
 pub mod CalledForm
+pub mod Inlined
 pub mod CallsMeant
 pub mod CallsCarried
 pub mod CallsCounted
-pub mod Inlined
+pub mod Noted
+pub mod CalledNodes
 pub mod Walking
 pub mod Placing

@@ -9,11 +9,13 @@ ghost use Rattle.call_compose.specs.CallsCarried.{CallsAsked, CallsCarried, Call
 mod bodies;
 mod circuit;
 mod inner;
+mod insides;
 mod nodes;
 mod procs;
 mod walk;
 
 pub use circuit::{call_circuit_of, translate_calls};
+pub use nodes::count_calls;
 
 use call_map::{shared_bodies_carry, shared_bodies_carry_reset, shared_bodies_hold};
 use width_check::laws::form_is_typed;
