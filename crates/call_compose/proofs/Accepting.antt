@@ -43,7 +43,7 @@ use Rattle.call_compose.proofs.Unread.{AreNotOwn, unread}
 -- the bodies of called procedures are typed, where the program with copies is
 
 mutual
-  called_typed : (chs : List Channel) (vs : List Var) (ps : List Process) (c : Called) (q : ℕ) → IsProcess chs vs (inlined ps c) → Calls c q
+  pub called_typed : (chs : List Channel) (vs : List Var) (ps : List Process) (c : Called) (q : ℕ) → IsProcess chs vs (inlined ps c) → Calls c q
       → IsProcess chs vs (slice_index_or ps q skipping)
   called_typed chs vs ps (calling k) q typed h = subst (λ i. IsProcess chs vs (slice_index_or ps i skipping)) h typed
   called_typed chs vs ps (atom s) q typed h = absurd h

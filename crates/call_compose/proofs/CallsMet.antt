@@ -146,6 +146,19 @@ number_is (n ∷ ns) (suc k) name distinct is =
     let rest = number_is ns k name (IsDistinct-tail bytes_eq n ns distinct) is in
     rw test (one_more (procedure_number ns name) ∙ ap suc rest)
 
+-- and of a name that isn't there
+
+not_there : (b : Bool) → ¬ (b ≡ true) → b ≡ false
+not_there true h = absurd (h refl)
+not_there false h = refl
+
+pub number_past : (ns : List (List ℕ)) (name : List ℕ) → ¬ Contains ns name → procedure_number ns name ≡ length ns
+number_past [] name none = refl
+number_past (n ∷ ns) name none =
+    let test = not_there (bytes_eq n name) (λ t. none (0, omega arith, (bytes_eq-Decides n name).0 t)) in
+    let rest = number_past ns name (λ h. none (suc h.0, omega (arith, h.1), h.2)) in
+    rw test (one_more (procedure_number ns name) ∙ ap suc rest)
+
 -- no two branches call one procedure
 
 pub channel_alike : (qs : List Procedure) (name : List ℕ) → channel_number (map call_channel qs) name ≡ procedure_number (procedure_names qs) name

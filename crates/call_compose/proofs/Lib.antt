@@ -4,5 +4,16 @@ pub mod Unread
 pub mod CallPrograms
 pub mod Accepting
 pub mod SizesAlike
+pub mod BodiesPlaced
+pub mod CallsAsked
+pub mod CallsDriven
+pub mod CallsSorted
+pub mod InnerDriven
+pub mod SharedFacts
+pub mod SharedCircuits
+pub mod CalledLengths
+pub mod CopiedMembers
+pub mod CalledSteps
+pub mod CalledRoom
 pub mod Noting
 pub mod CalledCounts

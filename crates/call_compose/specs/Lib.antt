@@ -5,3 +5,5 @@ pub mod CallsCarried
 pub mod CallsCounted
 pub mod Noted
 pub mod CalledNodes
+pub mod Walking
+pub mod Placing

@@ -7,10 +7,15 @@ ghost use Rattle.call_compose.specs.CallsMeant.{CallsMeant};
 ghost use Rattle.call_compose.specs.CallsCarried.{CallsAsked, CallsCarried, CallsHold, CallsCarriedReset};
 
 mod bodies;
+mod circuit;
+mod inner;
 mod insides;
 mod nodes;
+mod procs;
+mod walk;
 
 use call_map::{shared_bodies_carry, shared_bodies_carry_reset, shared_bodies_hold};
+pub use circuit::{call_circuit_of, translate_calls};
 pub use nodes::count_calls;
 use width_check::laws::form_is_typed;
 

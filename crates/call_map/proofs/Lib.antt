@@ -17,7 +17,7 @@ mod ItemsAlike
 mod PlacedAlike
 mod Picks
 mod PickSites
-mod CallNodes
+pub mod CallNodes
 mod Requests
 mod Merged
 mod CallNet
