@@ -9,7 +9,7 @@ use Rattle.prs_file.specs.Reading.{IsRefused}
 use Rattle.width_check.specs.Form.{typed_form}
 use Rattle.command_words.specs.declared.grow_words.Growth.{Growth}
 use Rattle.command_answers.specs.Answers.{Given, Answer, OneAnswer}
-use Rattle.program_commands.specs.Checking.{AcceptedReport, AcceptedText, ChecksProgram}
+use Rattle.program_commands.specs.Checking.{AcceptedReport, ChecksProgram}
 use Rattle.command_words.specs.CommandWords.{Asked, compiles, migrates, checks, expands, simulates, times, benches, traces, unwaves, runs, grows}
 use Rattle.chp_cli.specs.Commands.{IsAnswer}
 use Rattle.program_commands.specs.Compiling.{CompilesNet, CompilesProgram, FromBuilt}
@@ -30,6 +30,7 @@ use Rattle.simulation_commands.specs.Tracing.{Traces}
 use Rattle.simulation_commands.specs.Unwaving.{Unwaves}
 use Rattle.command_steps.specs.Steps.{FromChecks, FromNodes}
 use Rattle.command_steps.proofs.OneAnswers.{file_once, program_once, net_once, nodes_once, buffer_once}
+use Rattle.program_commands.proofs.Counted.{report_once}
 use Rattle.program_commands.proofs.OneWritten.{built_once, compile_once, migrate_once}
 
 module _ (cause : (text : List ℕ) (k j : FaultCode) (s t : Span) → IsRefusedText text k s → IsRefusedText text j t → k ≡ j)
@@ -52,8 +53,7 @@ module _ (cause : (text : List ℕ) (k j : FaultCode) (s t : Span) → IsRefused
       (λ p. built_once program c.buffer _ (nodes_once p (CompilesNet c.reset) (compile_once c.reset p))))) (cause text) (place text))
   command_once (migrates file) given handed told = file_once given file _ _ told (λ text. net_once text MigratesNet migrate_once (once text))
   command_once (checks file) given handed told = file_once given file _ _ told
-      (λ text. program_once text ChecksProgram (λ program. checked program (AcceptedReport program)
-      (λ plain. built_once program None (AcceptedText plain) (λ a b is are. is ∙ sym are))) (cause text) (place text))
+      (λ text. program_once text ChecksProgram (λ program. checked program (AcceptedReport program) (report_once program)) (cause text) (place text))
   command_once (expands file) given handed told = file_once given file _ _ told
       (λ text. program_once text ExpandsProgram
       (λ program. checked program (λ plain. FromNodes (typed_form plain) TreeReport)

@@ -19,7 +19,7 @@ use Rattle.command_words.specs.declared.grow_words.Growth.{Growth}
 use Rattle.command_answers.specs.declared.status.Status.TheVariants as statuses
 use Rattle.command_answers.specs.Answers.{Given, Answer, writes, status_of, status_with}
 use Rattle.command_steps.specs.BufferSteps.{FromBuffer}
-use Rattle.program_commands.specs.Checking.{Checks, AcceptedReport, AcceptedText}
+use Rattle.program_commands.specs.Checking.{Checks, AcceptedReport}
 use Rattle.command_words.specs.CommandWords.{Asked, compiles, migrates, checks, expands, simulates, times, benches, traces, unwaves, runs, grows}
 use Rattle.chp_cli.specs.Commands.{IsAnswer}
 use Rattle.program_commands.specs.Expanding.{Expands, TreeReport}
@@ -46,7 +46,7 @@ use Rattle.command_words.specs.WavesWords.{AskedWaves}
 use Rattle.simulation_commands.specs.Tracing.{Traces, TracesFile, TracesNet, trace_for}
 use Rattle.simulation_commands.specs.Unwaving.{FromWave, PrintsChanges, Unwaves, no_wave, a_wave, most_of_wave}
 use Rattle.chp_cli.proofs.RunsWritten.{simulate_writes, whole_report}
-use Rattle.chp_cli.proofs.StepsPassed.{file_passed, nodes_passed, buffer_passed, built_passed, net_passed, order_passed, peer_passed, power_passed, script_passed, delays_passed, text_passed, reference_passed}
+use Rattle.chp_cli.proofs.StepsPassed.{file_passed, nodes_passed, buffer_passed, net_passed, order_passed, peer_passed, power_passed, script_passed, delays_passed, text_passed, reference_passed}
 use Rattle.chp_cli.proofs.Written.{compile_writes, migrate_writes}
 
 -- the command ends well, or the whole output is written
@@ -102,7 +102,7 @@ module _ (no_fault : (program : ProgramTree) (f : Fault) → IsAccepted program 
   check_written : (file : List ℕ) → IsToCheck given file → (a : Answer) → Checks given file a → IsDone a
   check_written file t =
       text_passed IsDone no_fault given told file t.source.text t.program t.plain t.source.held t.source.reads t.source.means t.source.accepted
-      AcceptedReport (built_passed IsDone t.program None t.built (AcceptedText t.plain) (done _))
+      AcceptedReport (λ a is. done _ a is.told)
 
   expand_written : (file : List ℕ) → IsToExpand given file → (a : Answer) → Expands given file a → IsDone a
   expand_written file t =

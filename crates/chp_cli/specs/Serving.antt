@@ -27,7 +27,7 @@ use Rattle.command_words.specs.BenchWords.{AskedBench}
 use Rattle.command_steps.specs.BufferSteps.{IsBuffered}
 use Rattle.command_words.specs.CommandWords.{Asked, compiles, migrates, checks, expands, simulates, times, benches, traces, unwaves, runs, grows}
 use Rattle.command_steps.specs.Inlined.{Means}
-use Rattle.program_commands.specs.Compiling.{IsBuilt, IsToCompile}
+use Rattle.program_commands.specs.Compiling.{IsToCompile}
 use Rattle.program_commands.specs.Migrating.{IsToMigrate}
 use Rattle.command_steps.specs.Orders.{Played, place_named}
 use Rattle.command_steps.specs.References.{IsToReferTo}
@@ -85,12 +85,11 @@ HasDelays given (Some file) names delays = IsDelayFile given file names delays
 
 -- ---- what a command is served with
 
--- an accepted program, whose nodes can be counted
+-- an accepted program
 pub record IsToCheck (given : Given) (file : List ℕ) : Type 0 where
   pub program : ProgramTree
   pub plain : ProgramTree
   pub source : IsSource given file program plain
-  pub built : IsBuilt program None
 
 -- one whose circuit isn't too large
 pub record IsToExpand (given : Given) (file : List ℕ) : Type 0 where

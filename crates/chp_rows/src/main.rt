@@ -18,9 +18,9 @@ use bench::Bench;
 use cases::obey;
 use std::{fs, io};
 
-const TOPICS: [&str; 16] = [
+const TOPICS: [&str; 17] = [
     "texts", "compile", "stream", "check", "expand", "grow", "migrate", "simulate", "rounds",
-    "buffers", "edge", "against", "delays", "waves", "unwave", "bench",
+    "buffers", "procedures", "edge", "against", "delays", "waves", "unwave", "bench",
 ];
 
 fn main(rt: HostRuntime) -> io::Result<()> {

@@ -68,11 +68,6 @@ pub unbuilt : (program : ProgramTree) (buffer : Option (Bor (List ℕ))) → is_
 unbuilt program None none calls free = calls free
 unbuilt program (Some t) none calls free = cc none
 
-pub built_goes : {program : ProgramTree} {buffer : Option (List ℕ)} {Next : Answer → Type 0} {a : Answer} → FromBuilt program buffer (Never program) a →
-    FromBuilt program buffer Next a
-built_goes (not_built not) = not_built not
-built_goes (built may never) = absurd never
-
 -- the checks behind which the net is made
 pub checks_stop : (c : AskedCompilation) (program : ProgramTree) (a : Answer) →
     FromChecks program (λ plain. FromBuffer plain c.buffer Never) a → CompilesProgram c program a

@@ -1,4 +1,5 @@
 pub mod NamedReset
 pub mod Compiled
+pub mod Counted
 pub mod Pouring
 pub mod OneWritten

@@ -62,7 +62,7 @@ fn compile_accepted<'a>(alloc: Global, program: &Disjoint, reset: bool) -> Resul
 }
 
 /// Refuses a program with procedures or calls that gets no buffer: no net is made for it yet.
-pub(crate) fn built<'a>(program: &Program, buffer: Option<&str>) -> Result<(), Stop<'a>>
+fn built<'a>(program: &Program, buffer: Option<&str>) -> Result<(), Stop<'a>>
     ensures built { OnOk result (IsBuilt (program_tree program.now) (option_map (λ t. t.now) buffer.entry)) }
     ensures stopped { IfErr result (Halts (FromBuilt (program_tree program.now) (option_map (λ t. t.now) buffer.entry)
         (Never (program_tree program.now)))) }
