@@ -19,8 +19,23 @@ use cases::obey;
 use std::{fs, io};
 
 const TOPICS: [&str; 17] = [
-    "texts", "compile", "stream", "check", "expand", "grow", "migrate", "simulate", "rounds",
-    "buffers", "procedures", "edge", "against", "delays", "waves", "unwave", "bench",
+    "texts",
+    "compile",
+    "stream",
+    "check",
+    "expand",
+    "grow",
+    "migrate",
+    "simulate",
+    "rounds",
+    "buffers",
+    "procedures",
+    "edge",
+    "against",
+    "delays",
+    "waves",
+    "unwave",
+    "bench",
 ];
 
 fn main(rt: HostRuntime) -> io::Result<()> {
