@@ -10,20 +10,21 @@ import subprocess
 from typing import NamedTuple
 
 # Besides 0; 2 and 3 come only where the words are changed, and 4 and 6 not at all.
-STATUSES = {"check": {1, 7, 19}, "compile": {1, 7, 16, 19}, "expand": {1, 7, 19}, "run": {1, 7, 8, 16, 19}, "simulate": {5, 7, 8, 9},
+STATUSES = {"check": {1, 7}, "compile": {1, 7, 16}, "expand": {1, 7}, "run": {1, 7, 8, 16}, "simulate": {5, 7, 8, 9},
             "bench": {5, 7, 8, 9, 17}, "waves": {5, 7, 8}, "unwave": {7, 8}, "migrate": {7, 8}, "grow": set()}
-AGAINST, OF_WORDS, WITH_OUTPUT = {1, 10, 19}, {2, 3}, {0, 5, 10}
+AGAINST, OF_WORDS, WITH_OUTPUT = {1, 10}, {2, 3}, {0, 5, 10}
 LINES = {0: rb"", 1: rb"chp: (\d+) (\w+) at (\d+)\.\.(\d+)(?: and (\d+)\.\.(\d+))?\n", 2: rb"chp: 2 usage\n", 3: rb"chp: 3 read .*\n",
-         5: rb"chp: 5 hazard\n", 7: rb"chp: 7 (bytes .* over \d+|nodes \d+|values over 1048576)\n",
+         5: rb"chp: 5 hazard\n", 7: rb"chp: 7 (bytes .* over \d+|forms \d+|nodes \d+|values over 1048576)\n",
          8: rb"chp: 8 (\d+) (\w+) at line (\d+)\n", 9: rb"chp: 9 order .*\n", 10: rb"chp: 10 differs\n", 16: rb"chp: 16 channel .*\n",
-         17: rb"chp: 17 peer .*\n", 19: rb"chp: 19 not built\n"}
+         17: rb"chp: 17 peer .*\n"}
 NAME, NUMBER = rb"[A-Za-z]\w*", rb"\d\w*"
 # The causes for which a program is refused, and what may stand at their places.
 CAUSES = {10: ("BadToken", rb"\w+|\W"), 11: ("Syntax", rb".+"), 12: ("TooDeep", rb"[(\[{]"), 13: ("Probe", rb"#"),
           14: ("Arbiter", rb"\[\|"), 15: ("TooManyGuards", rb"\[\]"), 20: ("DoubleName", NAME), 21: ("Undeclared", NAME),
           22: ("WrongKind", NAME), 23: ("Direction", NAME), 24: ("Width", rb".+"), 25: ("ConstantTooWide", NUMBER),
           26: ("UnknownWidth", rb".+"), 27: ("BadSlice", rb"[A-Za-z].*\]"), 28: ("WidthRange", NUMBER),
-          30: ("SharedVariable", NAME), 31: ("SharedSend", NAME), 32: ("SharedReceive", NAME)}
+          30: ("SharedVariable", NAME), 31: ("SharedSend", NAME), 32: ("SharedReceive", NAME), 33: ("SharedProcedure", NAME),
+          34: ("DoubleProcedure", NAME), 35: ("UnknownProcedure", NAME), 36: ("UnusedProcedure", NAME), 37: ("NestedCall", NAME)}
 # Those of other files, by the tens of their numbers.
 FAULTS = {4: "BadLine UnknownNode DoubleRule DrivenWire TooMany BadVersion OutOfOrder DoubleName BadFirst NoReset",
           5: "BadLine NoSuchChannel TooWide DoubleChannel TooManyValues", 6: "BadLine UnknownNode TooLarge DoubleNode",
@@ -125,7 +126,7 @@ def is_cause(told, text):
     """Whether a line tells a cause by its name, with places where it may stand in the text."""
     number, start, end = int(told[1]), int(told[3]), int(told[4])
     name, form = CAUSES.get(number, ("", b""))
-    if told[2].decode() != name or (told[5] is not None) != (number >= 30) or not start <= end <= len(text):
+    if told[2].decode() != name or (told[5] is not None) != (30 <= number <= 33) or not start <= end <= len(text):
         return False
     if told[5] and not (end <= int(told[5]) and text[start:end] == text[int(told[5]) : int(told[6])]):
         return False

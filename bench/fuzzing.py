@@ -16,17 +16,23 @@ PARALLEL, SEQUENCE, BOTH, ATOM = range(4)
 
 
 class Rights(NamedTuple):
-    """What a statement may use, each name with its width: variables to write and to read, channels to send and receive on."""
+    """What a statement may use, each name with its width: variables to write and to read, channels to send and receive on; and
+    procedures to call, each with the rights that its body uses."""
     writes: dict
     reads: dict
     sends: dict
     receives: dict
+    calls: dict = {}
+
+
+ENDS = ("writes", "reads", "sends", "receives")
 
 
 def split(draw, rights, count):
-    """The rights of so many branches, so that these share nothing but variables that none of them writes."""
+    """The rights of so many branches, so that these share nothing but variables that none of them writes. A procedure goes to a
+    branch that may do what its body does, if there is one."""
     only_read = {name: width for name, width in rights.reads.items() if name not in rights.writes}
-    parts = [Rights({}, dict(only_read), {}, {}) for _ in range(count)]
+    parts = [Rights({}, dict(only_read), {}, {}, {}) for _ in range(count)]
     for name, width in rights.writes.items():
         is_read_by_all, owner = draw.random() < 0.2, draw.choice(parts)
         for part in parts if is_read_by_all else [owner]:
@@ -36,6 +42,10 @@ def split(draw, rights, count):
     for ends in ("sends", "receives"):
         for name, width in getattr(rights, ends).items():
             getattr(draw.choice(parts), ends)[name] = width
+    for name, used in rights.calls.items():
+        able = [part for part in parts if all(set(getattr(used, ends)) <= set(getattr(part, ends)) for ends in ENDS)]
+        if able:
+            draw.choice(able).calls[name] = used
     return parts
 
 
@@ -133,6 +143,8 @@ class Statements:
             texts += [lambda: self.send(*self.draw.choice(list(rights.sends.items())), rights.reads)] * 2
         if received:
             texts += [lambda: "{} ? {}".format(*self.draw.choice(received))] * 2
+        if rights.calls:
+            texts += [lambda: f"call {self.draw.choice(list(rights.calls))}"] * 4
         return ATOM, self.draw.choice(texts[1:] or texts)()
 
     def assignment(self, name, width, reads):
@@ -187,39 +199,75 @@ def declared(draw, kind, name, width):
     return f"{kind} {name} : {width}{first} ;\n"
 
 
+def used_by(body, rights):
+    """Those of the rights that a body uses."""
+    words = set(re.findall(r"[A-Za-z]\w*", body))
+    written = set(re.findall(r"(\w+) :=", body)) | set(re.findall(r"\? (\w+)", body))
+    sent, received = set(re.findall(r"(\w+) !(?!=)", body)), set(re.findall(r"(\w+) \?", body))
+    kept = (written, words, sent, received)
+    return Rights(*({name: width for name, width in getattr(rights, ends).items() if name in some} for ends, some in zip(ENDS, kept)))
+
+
+def procedures(draw, rights, chosen):
+    """Bodies of procedures by their names, and the rights with their calls."""
+    bodies = {name: bracketed(Statements(draw).made(rights, draw.choice((0, 1, 1, 2, 3))), ATOM) for name in chosen}
+    return bodies, rights._replace(calls={name: used_by(body, rights) for name, body in bodies.items()})
+
+
+def with_procedures(draw, lines, bodies, body):
+    """The declarations of a program, those of the procedures that its body calls among them."""
+    for name, own in bodies.items():
+        if re.search(rf"\bcall {name}\b", body):
+            lines.insert(draw.randint(0, len(lines)), f"proc {name} = {own} ;\n")
+    return "".join(lines)
+
+
 def any_program(draw):
-    """A program of any form over a few names."""
+    """A program of any form over a few names; one in three has procedures."""
     widths = draw.choices((1, 2, 3, 4, 8, draw.randint(1, 64), draw.choice((1, 64))), k=2) + [1]
     parts = [(draw.choice(("in", "out", "chan", "var", "var")), name, draw.choice(widths)) for name in names(draw, draw.randint(1, 9))]
     kinds = {kind: {name: width for is_kind, name, width in parts if is_kind == kind} for kind in ("in", "out", "chan", "var")}
     rights = Rights(kinds["var"], kinds["var"], kinds["out"] | kinds["chan"], kinds["in"] | kinds["chan"])
+    chosen = names(draw, draw.randint(1, 3)) if draw.random() < 1 / 3 else []
+    bodies, rights = procedures(draw, rights, chosen)
     _, body = Statements(draw).made(rights, draw.choice((0, 1, 2, 3, 3, 4, 4, 5)))
-    return "".join(declared(draw, *part) for part in parts) + f"begin\n{body}\nend\n"
+    return with_procedures(draw, [declared(draw, *part) for part in parts], bodies, body) + f"begin\n{body}\nend\n"
 
 
 def stages(draw):
-    """A pipeline, so that values pass: each stage takes one, does something with it, and sends one on."""
-    count, chosen, statements = draw.randint(1, 4), names(draw, 13), Statements(draw)
+    """A pipeline, so that values pass: each stage takes one, does something with it, which may be a procedure that it calls once or
+    twice, and sends one on."""
+    count, chosen, statements, bodies = draw.randint(1, 4), names(draw, 13), Statements(draw), {}
     channels, variables = chosen[: count + 1], chosen[count + 1 : 2 * count + 1]
     widths = [draw.choice((1, 2, 4, 8, draw.randint(1, 64))) for _ in channels]
     kinds = ["in"] + ["chan"] * (count - 1) + ["out"]
-    text = "".join(declared(draw, *part) for part in zip(kinds, channels, widths))
-    text += "".join(declared(draw, "var", *part) for part in zip(variables, widths))
+    lines = [declared(draw, *part) for part in zip(kinds, channels, widths)]
+    lines += [declared(draw, "var", *part) for part in zip(variables, widths)]
     parts = []
     for place, name in enumerate(variables):
         own = {name: widths[place]}
         work = bracketed(statements.made(Rights(own, own, {}, {}), draw.randint(0, 3)), BOTH)
+        if draw.random() < 0.2:
+            bodies[f"do{place}"] = f"({work})"
+            work = draw.choice((f"call do{place}", f"call do{place} ; call do{place}"))
         sent = statements.send(channels[place + 1], widths[place + 1], own)
         parts.append(f"* [{channels[place]} ? {name} ; {work} ; {sent}]")
-    return f"{text}begin\n" + "\n|| ".join(parts) + "\nend\n"
+    body = "\n|| ".join(parts)
+    return with_procedures(draw, lines, bodies, body) + f"begin\n{body}\nend\n"
 
 
 def program(draw):
-    """A program text, which is mostly accepted; one in some has a procedure."""
+    """A program text, which is mostly accepted; in one in some calls stand where they may not."""
     text = draw.choice((any_program, stages))(draw)
-    if draw.random() < 0.02:
-        text = text.replace("begin", "proc p0 = skip ;\nbegin", 1).replace("skip", "call p0", draw.randint(0, 2))
+    if draw.random() < 0.04:
+        text = re.sub(r"\bskip\b", lambda _: draw.choice(("skip", "call p0", "call p0", "call p1")), text)
+        text = text.replace("begin", draw.choice(("", "proc p1 = skip ;\n")) + "proc p0 = skip ;\nbegin", 1)
     return text
+
+
+def has_procedures(text):
+    """Whether an accepted program, in bytes, declares a procedure."""
+    return re.search(rb"\bproc\b", re.sub(rb"//[^\n]*", b"", text)) is not None
 
 
 def spread(draw, text):

@@ -6,11 +6,13 @@ from __future__ import annotations
 from dataclasses import dataclass, field
 
 from companion import options, program
+from companion.calls import shared_tree
 from companion.chp_reader import read_program
 from companion.chp_tokens import Unread
 from companion.chp_tree import Program, Stmt
 from companion.parts import Part, Tree, tree_of
 from companion.places import Text
+from companion.program import Refusal
 from companion.rules import Net, read_net
 
 
@@ -50,26 +52,45 @@ def fitted(data: bytes, name: str, tree: Tree, net: Net | None) -> Fit:
     fit = Fit(Text(name, data))
     try:
         fit.program = read_program(data)
+        for part in tree.procs:
+            pair(fit.program.procs[part.name], part.children[0], fit.statements)
         pair(fit.program.body, tree.root.children[0], fit.statements)
         if net is not None:
             for part, statement in fit.statements.items():
                 compare_name(part, statement, tree, net)
-    except (Unread, Misfit, IndexError) as error:
+    except (Unread, Misfit, IndexError, KeyError) as error:
         fit.statements.clear()
         why = "its text as it is read here and its parts don't fit"
         fit.why = f"no places in {fit.text.name} are told, since {why}: {error}"
     return fit
 
 
+def tree_for(name: str, net: Net) -> Tree:
+    """The parts of the program in a file, as its net has them: of one with procedures with bodies that calls share."""
+    tree, data = tree_of(name), options.read(name)
+    try:
+        it = read_program(data)
+        tree = shared_tree(it, data) if it.procs else tree
+    except Unread:
+        pass
+    if tree.count() != len([node for node in net.first if node != "reset"]):
+        raise Refusal(f"which nodes the parts of {name} have can't be told: its text can't be read here")
+    return tree
+
+
 def circuit_of(name: str) -> tuple[Tree, Net, Fit]:
     """The parts of the program in a file, its net, and how its text fits them."""
-    tree = tree_of(name)
     net = read_net(program.wanted(["compile", name]).out.decode("latin-1"), name)
+    tree = tree_for(name, net)
     return tree, net, fitted(options.read(name), name, tree, net)
 
 
 def pair(statement: Stmt, part: Part, found: dict[Part, Stmt]) -> None:
-    """Pairs a statement with a part, and all in them."""
+    """Pairs a statement with a part, and all in them. In the body of a procedure an assignment that reads its own
+    target is a sequence of two parts."""
+    if statement.kind == "through" and part.kind == "sequence" and len(part.children) == 2:
+        found.update(dict.fromkeys((part, *part.children), statement))
+        return
     if statement.kind != part.kind or len(statement.children) != len(part.children):
         raise Misfit(f"a {statement.kind} of {len(statement.children)} against a {part.kind} of {len(part.children)}")
     found[part] = statement
@@ -80,7 +101,8 @@ def pair(statement: Stmt, part: Part, found: dict[Part, Stmt]) -> None:
 def compare_name(part: Part, statement: Stmt, tree: Tree, net: Net) -> None:
     """Compares the name of a channel or a variable with the one that the part's rule tells, where it tells one."""
     told = name_of(part, tree, net)
-    if told and told != statement.name:
+    is_own = part.kind == "assign" and statement.kind == "through"
+    if told and told != statement.name and not is_own:
         raise Misfit(f"{statement.name} against {told}")
 
 

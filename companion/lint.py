@@ -45,16 +45,18 @@ def unused(it: Program) -> Iterator[Finding]:
             yield decl.start, decl.end, f"nothing is sent on {decl.name}, so a receive on it waits for ever"
 
 
-def is_endless(stmt: Stmt, tried: dict[int, Choice]) -> bool:
+def is_endless(it: Program, stmt: Stmt, tried: dict[int, Choice]) -> bool:
     """Whether a statement can never end, whatever the values are: a loop `*[S]`, a guarded repetition of which for all
     values some guard is true, or a statement that has to run such a one."""
+    if stmt.kind == "call":
+        return is_endless(it, it.procs[stmt.name], tried)
     if stmt.kind == "again" and id(stmt) in tried and all(tried[id(stmt)].true):
         return True
     if stmt.kind == "loop":
         return True
     if stmt.kind in ("sequence", "parallel"):
-        return any(is_endless(child, tried) for child in stmt.children)
-    return stmt.kind == "select" and all(is_endless(child, tried) for child in stmt.children)
+        return any(is_endless(it, child, tried) for child in stmt.children)
+    return stmt.kind == "select" and all(is_endless(it, child, tried) for child in stmt.children)
 
 
 def choices_tried(it: Program, text: Text, folder: str) -> dict[int, Choice]:
@@ -71,7 +73,7 @@ def unreached(it: Program, text: Text, tried: dict[int, Choice]) -> Iterator[Fin
         if stmt.kind != "sequence":
             continue
         for child, after in zip(stmt.children, stmt.children[1:]):
-            if is_endless(child, tried):
+            if is_endless(it, child, tried):
                 where = text.place(after.start)
                 follows = f"what follows at {where.line}:{where.column}"
                 yield child.start, child.end, f"this never ends, so {follows} is never reached"

@@ -22,13 +22,14 @@ class Block:
 @dataclass(eq=False)
 class Part:
     """The part of a statement: its kind, the names of the node that asks it and of the one by which it answers, its
-    first node and how many nodes it has with all parts in it."""
+    first node and how many nodes it has with all parts in it; of a procedure, and of a call, the procedure's name."""
 
     kind: str
     request: str
     answer: str
     first: int
     count: int
+    name: str = ""
     parent: Part | None = None
     children: list[Part] = field(default_factory=list)
 
@@ -53,10 +54,17 @@ class Part:
 
 @dataclass(frozen=True)
 class Tree:
-    """All parts under the root, and the blocks of channels and of variables."""
+    """All parts under the root, the blocks of channels and of variables, and the procedures, whose bodies calls
+    share."""
 
     root: Part
     blocks: list[Block]
+    procs: list[Part] = field(default_factory=list)
+
+    def walk(self) -> Iterator[Part]:
+        """All parts, in the order of their nodes."""
+        for part in (*self.procs, self.root):
+            yield from part.walk()
 
     def channels(self) -> list[Block]:
         """The blocks of channels, in order of declaration."""

@@ -36,11 +36,12 @@ class Drawing:
         self.net = net
         self.places: dict[Part, tuple[int, float]] = {}
         self.ends: dict[str, list[Part]] = {}  # by channel the sends and receives on it
-        for part in tree.root.walk():
+        for part in tree.walk():
             if part.kind in ("send", "receive"):
                 self.ends.setdefault(name_of(part, tree, net), []).append(part)
         self.rows = 0
-        self.lay(tree.root, 0)
+        for part in (*tree.procs, tree.root):
+            self.lay(part, 0)
         self.depth = max(column for column, _ in self.places.values()) + 1
 
     def lay(self, part: Part, column: int) -> float:
@@ -81,7 +82,7 @@ class Drawing:
         if part.kind in ("select", "again") and part in self.fit.statements:
             guards = self.fit.statements[part].guards
             return f"{part.kind} of {len(guards)}: {self.fit.cut(guards[0].start, guards[0].end, 16)} .."
-        return f"{part.kind} {name_of(part, self.tree, self.net)}".strip()
+        return f"{part.kind} {part.name or name_of(part, self.tree, self.net)}".strip()
 
     def box(self, part: Part) -> list[str]:
         """A part's box, and the line to its parent."""
@@ -133,7 +134,7 @@ class Drawing:
             '<g font-family="monospace" font-size="11" fill="black">',
         ]
         lines += self.joints() + self.blocks()
-        for part in self.tree.root.walk():
+        for part in self.tree.walk():
             lines += self.box(part)
         return "\n".join([*lines, "</g>", "</svg>"]) + "\n"
 

@@ -76,11 +76,11 @@ def by_kind(net: Net, tree: Tree) -> tuple[list[str], list[tuple[str, Size]]]:
         size = size_of(net, names[block.first : block.first + block.count])
         kinds.setdefault(block.what, Size()).add(size)
         sizes.append((f"{block.what} {block.name}", size))
-    for part in tree.root.walk():
+    for part in tree.walk():
         nodes = [names[number] for stretch in part.own_nodes() for number in stretch]
         size = size_of(net, [*nodes, *(["go", "done"] if part is tree.root else [])])
         kinds.setdefault(part.kind, Size()).add(size)
-        sizes.append((part.kind, size))
+        sizes.append((f"{part.kind} {part.name}" if part.kind == "procedure" else part.kind, size))
     rows = [["kind", "parts", "nodes", "rules", "literals", "series"]]
     rows += [[kind, str(size.parts), *size.row()] for kind, size in sorted(kinds.items(), key=lambda it: -it[1].nodes)]
     return aligned(rows, 1), sizes
@@ -93,7 +93,7 @@ def by_part(tree: Tree, fit: Fit, sizes: list[tuple[str, Size]]) -> list[str]:
     for block, (name, size) in zip(tree.blocks, sizes):
         place = f"  {fit.text.told(declared[block.name].start)}" if block.name in declared else ""
         rows.append([*size.row(), name + place])
-    for part, (name, size) in zip(tree.root.walk(), sizes[len(tree.blocks) :]):
+    for part, (name, size) in zip(tree.walk(), sizes[len(tree.blocks) :]):
         place, source = fit.place(part), fit.source(part, 50)
         rows.append([*size.row(), "  " * (len(part.path()) - 1) + name + (f"  {place}  {source}" if place else "")])
     return joined(rows)

@@ -2,14 +2,12 @@
 
 from __future__ import annotations
 
-import functools
 from collections.abc import Iterator
 from dataclasses import dataclass, field
 
-from companion.fit import Fit, name_of
-from companion.parts import Part, Tree, width_of
-from companion.rules import Net
-from companion.waves import Report, bits
+from companion.fit import name_of
+from companion.parts import Part, width_of
+from companion.scene import Scene
 
 
 @dataclass
@@ -22,60 +20,6 @@ class Wait:
     on: list[Part] = field(default_factory=list)
     outside: bool = False
     blocked: bool = False
-
-
-@dataclass(frozen=True)
-class Scene:
-    """All that is known where a run stops: the net with the values of its nodes, the parts with their places, and the
-    report."""
-
-    net: Net
-    values: dict[str, str]
-    tree: Tree
-    fit: Fit
-    report: Report
-
-    def is_active(self, part: Part) -> bool:
-        """Whether a part's request is high and its answer low."""
-        return self.values.get(part.request) == "1" and self.values.get(part.answer) == "0"
-
-    def leaves(self, part: Part) -> list[Part]:
-        """The parts under way in this one, itself too, that have none under way in them."""
-        if not self.is_active(part):
-            return []
-        return [leaf for child in part.children for leaf in self.leaves(child)] or [part]
-
-    def held(self, part: Part, target: Part) -> list[Part]:
-        """What is under way and has to end before the target, which lies in this part, comes to its turn."""
-        path = target.path()
-        if part is target:
-            return self.leaves(part)
-        child = path[path.index(part) + 1]
-        return self.held(child, target) if self.is_active(child) else self.leaves(part)
-
-    @functools.cached_property
-    def sites(self) -> dict[tuple[str, str], list[Part]]:
-        """The sends and the receives on each channel, by their kind and its name."""
-        found: dict[tuple[str, str], list[Part]] = {}
-        for part in self.tree.root.walk():
-            if part.kind in ("send", "receive"):
-                found.setdefault((part.kind, name_of(part, self.tree, self.net)), []).append(part)
-        return found
-
-    def is_still(self) -> bool:
-        """Whether the run has come to rest, so that what waits waits for ever unless the environment goes on."""
-        return self.report.end == ["rest"]
-
-    def called(self, part: Part) -> str:
-        """A part for people: its place and its text, or its kind and its nodes."""
-        if part in self.fit.statements:
-            return f"{self.fit.place(part)}: {self.fit.source(part)}"
-        return f"{part.kind} {name_of(part, self.tree, self.net)} ({part.request}, {part.answer})".replace("  ", " ")
-
-    def value(self, name: str, width: int) -> str:
-        """The value of a channel or a variable, in decimal; `between values` where not each bit has one."""
-        digits = bits(self.values, name, width)
-        return str(int(digits, 2)) if set(digits) <= {"0", "1"} else f"between values ({digits})"
 
 
 def waits_of(scene: Scene) -> list[Wait]:
@@ -120,15 +64,16 @@ def wait_on_channel(scene: Scene, wait: Wait) -> None:
     if not sites:
         wait.blocked = True
         wait.lines.append(f"it waits for ever: nothing is {other} on {name} in this program")
-    for site in sites:
-        path, own = site.path(), part.path()
+    own = scene.path(part)
+    for path in (path for site in sites for path in scene.paths(site)):
+        site = path[-1]
         at = next(at for at, it in enumerate(path) if at >= len(own) or it is not own[at])
-        where = scene.called(site)
+        where = scene.called_on(path)
         if path[at - 1].kind != "parallel":
             wait.on.append(part)
             wait.lines.append(f"{name} is {other} at {where}, which isn't beside it: it waits for itself")
             continue
-        held = scene.held(path[at], site)
+        held = scene.held(path[at:])
         wait.on += [it for it in held if it not in wait.on]
         behind = f"which waits for {' and '.join(scene.called(it) for it in held if it is not site)}"
         ended = "whose branch isn't under way any more"

@@ -6,13 +6,14 @@ import sys
 from collections.abc import Sequence
 
 from companion import options, program
-from companion.fit import fitted
+from companion.fit import fitted, tree_for
 from companion.options import Parser
-from companion.parts import tree_of, width_of
+from companion.parts import width_of
 from companion.program import Refusal
 from companion.rules import Net, net_in, read_net
+from companion.scene import Scene
 from companion.terminal import Paint, Progress
-from companion.waits import Scene, Wait, cycles, waits_of
+from companion.waits import Wait, cycles, waits_of
 from companion.waves import Report, read_report, run_words, wave_of
 
 ABOUT = """\
@@ -58,9 +59,10 @@ def told(scene: Scene, waits: list[Wait], paint: Paint, with_all: bool) -> list[
     """What is under way, in lines."""
     lines = [paint.bold("under way")] if waits else []
     for wait in waits:
-        lines.append(f"  {scene.called(wait.part)}")
+        path = scene.path(wait.part)
+        lines.append(f"  {scene.called_on(path)}")
         lines += [f"      {line}" for line in wait.lines]
-        above = [it for it in wait.part.path()[1:-1]] if with_all else []
+        above = path[1:-1] if with_all else []
         lines += [f"      in {scene.called(part)}" for part in reversed(above)]
     names = scene.tree.variables()
     if names:
@@ -95,7 +97,7 @@ def main(words: Sequence[str]) -> int:
     given = parser().parse_args(words)
     with Progress(f"the run of {given.rules}"):
         net, note = compared(given.rules, given.program)
-        tree = tree_of(given.program)
+        tree = tree_for(given.program, net)
         delays = given.delays
         if delays is None:
             delays = f"{options.room()}/delays"

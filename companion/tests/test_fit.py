@@ -4,8 +4,9 @@ from __future__ import annotations
 
 import glob
 import os
+from unittest import mock
 
-from companion import fit, parts
+from companion import fit, parts, program
 from companion.chp_reader import read_program
 from companion.chp_tokens import Unread
 from companion.rules import net_in
@@ -23,14 +24,43 @@ class Fits(Case):
             return fit.fitted(text.encode() or file.read(), f"{name}.chp", tree, net_in(self.compiled(name)))
 
     def test_examples(self) -> None:
+        """Those with procedures too, whose calls share a body."""
         for path in sorted(glob.glob(os.path.join(EXAMPLES, "*.chp"))):
-            name = os.path.basename(path)[:-4]
-            self.example(f"{name}.chp")
-            with self.subTest(name):
-                it = self.fitted(name)
-                self.assertEqual(it.why, "")
+            name = self.example(os.path.basename(path))
+            with self.subTest(name), mock.patch.object(program, "answer", recorded.answer):
+                tree, net, it = fit.circuit_of(name)
+                self.assertEqual((it.why, tree.count()), ("", len(net.first)))
+                told = [part for part in tree.walk() if part.kind not in ("root", "procedure")]
+                self.assertEqual(set(it.statements), set(told))
                 for part, statement in it.statements.items():
-                    self.assertIn(part.kind, statement.kind)
+                    halved = ("sequence", "assign") if part.path()[0].kind == "procedure" else ()
+                    self.assertIn(part.kind, (statement.kind, *(halved if statement.kind == "through" else ())))
+
+    def test_calls(self) -> None:
+        """Where the parts of a circuit begin in which calls share a body, of one program by hand."""
+        text = "var x : 1; proc p = x := ~x; proc q = (skip, skip);\nbegin call p; (call q); call p end"
+        name = self.write("f.chp", text)
+        with mock.patch.object(program, "answer", recorded.answer):
+            tree, _, it = fit.circuit_of(name)
+        self.assertEqual([(block.name, block.first) for block in tree.blocks], [("x", 2), ("h0", 7)])
+        self.assertEqual(
+            [(part.kind, part.name, part.request, part.answer, part.first, part.count) for part in tree.walk()], [
+                ("procedure", "p", "n12", "n19", 12, 10),
+                ("sequence", "", "n12", "n19", 13, 9),
+                ("assign", "", "n13", "n16", 16, 3),
+                ("assign", "", "n15", "n19", 19, 3),
+                ("procedure", "q", "n22", "n31", 22, 10),
+                ("parallel", "", "n22", "n31", 23, 9),
+                ("skip", "", "n23", "n26", 26, 1),
+                ("skip", "", "n27", "n30", 30, 1),
+                ("root", "", "go", "done", 32, 11),
+                ("sequence", "", "n32", "n42", 34, 9),
+                ("call", "p", "n34", "n37", 37, 1),
+                ("call", "q", "n38", "n41", 41, 1),
+                ("call", "p", "n40", "n42", 42, 1),
+            ]
+        )
+        self.assertEqual([it.source(part) for part in tree.root.children[0].children], ["call p", "call q", "call p"])
 
     def test_brackets(self) -> None:
         self.write(

@@ -61,3 +61,5 @@ class Lint(Case):
         self.assertEqual(self.found(always), ["f.chp:1:29: this never ends, so what follows at 1:43 is never reached"])
         inner = "var x : 1; begin *[[x = 1 -> *[skip] [] x = 0 -> (skip || *[skip])]; x := 0] end"
         self.assertEqual(self.found(inner), ["f.chp:1:20: this never ends, so what follows at 1:70 is never reached"])
+        called = "out R : 1; proc p = *[R!1]; begin call p; R!0 end"
+        self.assertEqual(self.found(called), ["f.chp:1:35: this never ends, so what follows at 1:43 is never reached"])

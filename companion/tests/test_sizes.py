@@ -13,7 +13,7 @@ class Sizes(Case):
     """How large a circuit is, and its picture."""
 
     def test_stat(self) -> None:
-        self.example("merge.chp"), self.compiled_text()
+        self.example("merge.chp"), self.compiled_text("merge")
         ran = self.chpx("stat", "merge.chp")
         self.assertEqual((ran.status, ran.err), (0, ""))
         rules = [line for line in self.text.split("\n") if line.startswith("rule ")]
@@ -28,15 +28,28 @@ class Sizes(Case):
                 "merge.chp:9:20  A?x\n",
             ],
         )
-        kinds, parts = ran.out.split("\n\n")[1:]
+        self.sums(ran.out)
+
+    def test_stat_of_calls(self) -> None:
+        self.example("lanes.chp"), self.compiled_text("lanes")
+        ran = self.chpx("stat", "lanes.chp")
+        self.has(ran.out, ["nodes 265\nrules 492\n", "procedure up\n", "call  lanes.chp:15:37  call up\n"])
+        self.sums(ran.out)
+
+    def sums(self, told: str) -> None:
+        """The sizes add up to those of the rule file."""
+        rules = [line for line in self.text.split("\n") if line.startswith("rule ")]
+        literals = sum(len(re.findall(r"[&|]", line)) + 1 for line in rules)
+        nodes = self.text.count("\nnode ")
+        kinds, parts = told.split("\n\n")[1:]
         rows = [line.split() for line in kinds.splitlines()[1:]]
         self.assertEqual([sum(int(row[at]) for row in rows) for at in (2, 3, 4)], [nodes, len(rules), literals])
         columns = [line.split() for line in parts.splitlines()[1:]]
         self.assertEqual([sum(int(row[at]) for row in columns) for at in (0, 1, 2)], [nodes, len(rules), literals])
 
-    def compiled_text(self) -> None:
+    def compiled_text(self, name: str) -> None:
         """The text of the rule file."""
-        with open(self.compiled("merge"), encoding="ascii") as file:
+        with open(self.compiled(name), encoding="ascii") as file:
             self.text = file.read()
 
     def test_skip(self) -> None:

@@ -128,7 +128,7 @@ class Statuses(Case):
 
     def test_others(self) -> None:
         for line, status in (
-            ("chp: 6 no memory", 6), ("chp: 19 not built", 19), ("chpc: broken off", 130), ("chpc: not proved", 70)
+            ("chp: 6 no memory", 6), ("chpc: broken off", 130), ("chpc: not proved", 70)
         ):
             if status in causes.statuses():
                 ran = self.fake(line, status)

@@ -50,6 +50,27 @@ class Why(Case):
             "  f.chp:7:5: p!x\n  f.chp:8:8: q!y + 1\n",
         ])
 
+    def test_procedures(self) -> None:
+        """Statements of a body are told with the call that is under way."""
+        text = "chan p : 4;\nchan q : 4;\nvar x : 4 = 5;\nvar y : 4 = 9;\nproc a = p!x;\nproc up = (y := y + 1; q!y);\n"
+        ran = self.why(text + "begin\n  *[call a; q?x; call a]\n  || *[call up; p?y]\nend\n", "", "--all")
+        self.has(ran.out, [
+            "  f.chp:5:10: p!x, in f.chp:8:5: call a\n      it offers 5 on p\n",
+            "      p is received at f.chp:9:17: p?y, which waits for f.chp:6:24: q!y\n",
+            "      in f.chp:8:5: call a\n      in f.chp:8:5: call a; q?x; call a\n",
+            "  f.chp:6:24: q!y, in f.chp:9:8: call up\n      it offers 10 on q\n",
+            "      q is received at f.chp:8:13: q?x, which waits for f.chp:5:10: p!x\n",
+            "variables\n  x = 5\n  y = 10\n  h0 = 10\n",
+            "a deadlock: each of these waits for the next one, the last one for the first\n",
+            "  f.chp:5:10: p!x\n  f.chp:6:24: q!y\n",
+        ])
+        text = "chan X : 1; var v : 1; proc p = X!1; begin (call p; call p) || X?v end"
+        ran = self.why(text, "")
+        self.has(ran.out, ["f.chp:1:33: X!1, in f.chp:1:53: call p\n", "whose branch isn't under way any more"])
+        text = "chan X : 1; var v : 1; proc get = X?v; begin X!1; call get; call get end"
+        ran = self.why(text, "")
+        self.has(ran.out, ["X is received at f.chp:1:35: X?v, in f.chp:1:51: call get, which isn't beside it"])
+
     def test_waits_for_itself(self) -> None:
         self.has(
             self.why(SELF, "").out,

@@ -1,5 +1,5 @@
 -- From the checks of the program without procedures to what the laws of shared bodies ask.
-use Rattle.std.proofs.Common.{◌≡◌, ◌≢◌, ℕ, zero, suc, ◌+◌, ◌<◌, ◌≤◌, List, [], ◌∷◌, ◌++◌, length, map, Some, refl, sym, ap, ◌∙◌, subst, inl, inr, arith, length-append}
+use Rattle.std.proofs.Common.{◌≡◌, ◌≢◌, ℕ, zero, suc, ◌+◌, ◌<◌, ◌≤◌, Bool, List, [], ◌∷◌, ◌++◌, length, map, Some, refl, sym, ap, ◌∙◌, subst, inl, inr, arith, length-append}
 use Rattle.std.specs.Prelude.{slice_get, slice_index_or, Contains}
 use Rattle.std.specs.List.{AllByRecursion, IsDistinct, flat_map}
 use Rattle.std.specs.Str.{bytes_eq}
@@ -23,8 +23,10 @@ use Rattle.chp_meaning.specs.Halves.{ReadsNoTarget}
 use Rattle.reset_net.specs.Resets.{reset_of}
 use Rattle.net_compose.specs.Carries.{Carries, CarriesReset}
 use Rattle.net_compose.specs.Points.{IsTranslated}
+use Rattle.net_compose.specs.Progress.{ProgressesFrom}
 use Rattle.call_map.specs.Calling.{Called, calling, atom, turned, abreast, chosen, looped, Calleds, no_calleds, and_called, CalledChoices, no_called, or_called, inlined, inlined_each, inlined_choices}
 use Rattle.call_map.specs.CallNet.{SharedBodiesCarry, SharedBodiesHold, SharedBodiesCarryReset, inlined_program, call_net, call_names}
+use Rattle.call_map.specs.CallPace.{SharedBodiesProgress, SharedBodiesProgressReset, call_most_moves}
 use Rattle.call_map.specs.CallsApart.{Calls, OneCalls, ChoiceCalls}
 use Rattle.call_merge.specs.CallSplits.{own_readers, split_procedures, own_names, all_own_readers, all_uses, all_names, program_names, AreOwnVars}
 use Rattle.call_merge.specs.CallSites.{all_calls}
@@ -34,7 +36,7 @@ use Rattle.call_merge.proofs.OwnCounts.{distinct_names}
 use Rattle.call_merge.proofs.SplitSteps.{readers_of}
 use Rattle.call_merge.proofs.Whole.{own_counted}
 use Rattle.call_compose.specs.CalledForm.{body_forms, call_program}
-use Rattle.call_compose.specs.CallsCarried.{CallsAsked, CallsCarried, CallsHold, CallsCarriedReset}
+use Rattle.call_compose.specs.CallsCarried.{CallsAsked, CallsCarried, CallsHold, CallsCarriedReset, CallsProgress, CallsProgressReset}
 use Rattle.call_compose.proofs.CallPrograms.{calls_meant}
 use Rattle.call_compose.proofs.CallsMet.{front_all, rest_all}
 use Rattle.call_compose.proofs.FormsAlike.{calls_alike}
@@ -176,3 +178,17 @@ calls_carried_reset form carry p r h meets shaped accepted few =
     subst (λ (t : TypedProgram). CarriesReset (reset_of (call_net (call_program p h.vars) (call_names (call_program p h.vars)))) t)
     (calls_alike p h.vars ∙ sym (ap typed_form h.tree))
     (carry (call_program p h.vars) (calls_asked form p r h meets shaped accepted) (copies_typed form p r h shaped accepted) few)
+
+pub calls_progress : FormIsTyped → SharedBodiesProgress → CallsProgress
+calls_progress form progress p r h meets shaped accepted names =
+    let C = call_program p h.vars in
+    let net = call_net C names in
+    subst (λ (t : TypedProgram). ProgressesFrom net t (call_most_moves C) net.first) (calls_alike p h.vars ∙ sym (ap typed_form h.tree))
+    (progress C (calls_asked form p r h meets shaped accepted) (copies_typed form p r h shaped accepted) names)
+
+pub calls_progress_reset : FormIsTyped → SharedBodiesProgressReset → CallsProgressReset
+calls_progress_reset form progress p r h meets shaped accepted few values powered =
+    let C = call_program p h.vars in
+    subst (λ (t : TypedProgram). ProgressesFrom (reset_of (call_net C (call_names C))) t (call_most_moves C) values)
+    (calls_alike p h.vars ∙ sym (ap typed_form h.tree))
+    (progress C (calls_asked form p r h meets shaped accepted) (copies_typed form p r h shaped accepted) few values powered)

@@ -4,7 +4,7 @@
 ghost use Rattle.call_compose.specs.CalledForm.{CallsTyped};
 ghost use Rattle.call_compose.specs.CallsCounted.{CallsCounted};
 ghost use Rattle.call_compose.specs.CallsMeant.{CallsMeant};
-ghost use Rattle.call_compose.specs.CallsCarried.{CallsAsked, CallsCarried, CallsHold, CallsCarriedReset};
+ghost use Rattle.call_compose.specs.CallsCarried.{CallsAsked, CallsCarried, CallsHold, CallsCarriedReset, CallsProgress, CallsProgressReset};
 
 mod bodies;
 mod circuit;
@@ -14,7 +14,10 @@ mod nodes;
 mod procs;
 mod walk;
 
-use call_map::{shared_bodies_carry, shared_bodies_carry_reset, shared_bodies_hold};
+use call_map::{
+    shared_bodies_carry, shared_bodies_carry_reset, shared_bodies_hold, shared_bodies_progress,
+    shared_bodies_progress_reset,
+};
 pub use circuit::{call_circuit_of, translate_calls};
 pub use nodes::count_calls;
 use width_check::laws::form_is_typed;
@@ -68,4 +71,21 @@ pub fn calls_carried_reset()
 {
     form_is_typed();
     shared_bodies_carry_reset();
+}
+
+/// Law: it keeps pace with that program: what a run of it has passed, some run of the program has passed; and where the
+/// program comes to rest, each run goes on to one at rest.
+pub fn calls_progress()
+    ensures { CallsProgress }
+{
+    form_is_typed();
+    shared_bodies_progress();
+}
+
+/// Law: and so it does with a reset node, from every power-up state.
+pub fn calls_progress_reset()
+    ensures { CallsProgressReset }
+{
+    form_is_typed();
+    shared_bodies_progress_reset();
 }

@@ -35,20 +35,20 @@ module _ (net : NetValue) (script : List OfferValue) where
   abbrev pub Reached : RunState → Type 0
   Reached st = (ns : List ℕ) × IsRun net script (begin_at net net.first) ns × (after net (begin_at net net.first) ns ≡ st)
 
-  reached_next : (st : RunState) (n : ℕ) → Reached st → move_enabled net script st n ≡ true → Reached (moved net st n)
+  pub reached_next : (st : RunState) (n : ℕ) → Reached st → move_enabled net script st n ≡ true → Reached (moved net st n)
   reached_next st n r on = (
     r.0 ++ n ∷ [],
     run_on r.0 (begin_at net net.first) n r.1 (ap (λ x. move_enabled net script x n) r.2 ∙ on),
     after_on r.0 (begin_at net net.first) n ∙ ap (λ x. moved net x n) r.2,
   )
 
-  reached_safe : SafeAlong net script → (st : RunState) → Reached st → IsSafeAt net script st
+  pub reached_safe : SafeAlong net script → (st : RunState) → Reached st → IsSafeAt net script st
   reached_safe all st r = subst (IsSafeAt net script) r.2 (record {
     apart = apart_last r.0 (begin_at net net.first) (all r.0 r.1);
     each = λ n on. safe_last r.0 (begin_at net net.first) n (all (r.0 ++ n ∷ []) (run_on r.0 (begin_at net net.first) n r.1 on));
   })
 
-  reached_keeps : (S : Sharing) → CopiesKeepAlong net S script → (st : RunState) → Reached st → CopiesKeep net S script st
+  pub reached_keeps : (S : Sharing) → CopiesKeepAlong net S script → (st : RunState) → Reached st → CopiesKeep net S script st
   reached_keeps S all st r = subst (CopiesKeep net S script) r.2 (all r.0 r.1)
 
 module _ (names more_names : List (List ℕ)) (first more_first : List Bool) (rules more_rules : RulesValue) (ws : List Wires) (S : Sharing) where
@@ -59,7 +59,7 @@ module _ (names more_names : List (List ℕ)) (first more_first : List Bool) (ru
   B = net_of more_names more_first more_rules ws None
 
   module _ (is : SharesBodies A B S) (script : List OfferValue) (safe : SafeAlong B script) (keep : CopiesKeepAlong B S script) where
-    abbrev mapping : Mapping
+    abbrev pub mapping : Mapping
     mapping = record {
       names = names;
       more_names = more_names;

@@ -9,6 +9,11 @@ mod MapOwed
 mod MapWent
 mod MapStable
 mod MapRuns
+pub mod LayerMoves
+mod MapBegins
+mod MapPairs
+mod MapLayers
+mod MapDoubled
 mod Along
 mod Carried
 mod AtomsAlike
@@ -38,4 +43,5 @@ mod CallWithin
 mod CallHolds
 mod CallReset
 mod CallProgress
+mod CallLayers
 mod CallExamples

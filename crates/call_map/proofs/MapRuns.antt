@@ -166,7 +166,7 @@ module _ (M : Mapping) where
         by now (giving rq dq aq o) =
             absurd (true_false (may M st (answers c)) (answers_owed M st c h.0 (rq ∙ sym dq) (aq ∙ ap not (sym dq))) (rest (S.here (answers c))))
 
-    past_there_still : (n : ℕ) → S.count_there ≤ n → move_enabled B script far n ≡ false
+    pub past_there_still : (n : ℕ) → S.count_there ≤ n → move_enabled B script far n ≡ false
     past_there_still n le =
         unruled_still M.more_names more_firsts M.more_rules far n (let w = is.within_there in omega (arith, w, le)) (is.past_there n le)
 

@@ -1,8 +1,12 @@
 -- The net with shared bodies keeps pace with its program, and comes to rest where that does.
-use Rattle.std.specs.Prelude.{ℕ, ◌+◌, ◌*◌, List, length}
+use Rattle.std.specs.Prelude.{ℕ, ◌+◌, ◌*◌, ◌≤◌, Bool, List, length}
+use Rattle.reset_net.specs.Resets.{reset_of}
+use Rattle.env_script.specs.Runs.{IsPowered}
+use Rattle.net_compose.specs.Translation.{translation}
 use Rattle.net_compose.specs.Points.{IsTranslated}
 use Rattle.net_compose.specs.Progress.{ProgressesFrom, most_moves}
-use Rattle.call_map.specs.CallNet.{CallProgram, IsCallProgram, inlined_program, call_net}
+use Rattle.net_compose.specs.Time.{HasLayers}
+use Rattle.call_map.specs.CallNet.{CallProgram, IsCallProgram, inlined_program, call_count, call_names, call_net}
 
 -- For each move of the net with copies there is at most one more, a call's request or the answer of a body; and at the
 -- end at most one of each procedure whose move of that net is still to come.
@@ -14,3 +18,18 @@ abbrev pub SharedBodiesProgress : Type 0
 SharedBodiesProgress = (C : CallProgram) → IsCallProgram C → IsTranslated (inlined_program C)
     → (names : List (List ℕ))
     → ProgressesFrom (call_net C names) (inlined_program C) (call_most_moves C) (call_net C names).first
+
+-- and with a reset node so does every run from power-up, where only moves count that come after reset has fallen
+abbrev pub SharedBodiesProgressReset : Type 0
+SharedBodiesProgressReset = (C : CallProgram) → IsCallProgram C → IsTranslated (inlined_program C)
+    → call_count C ≤ 65536
+    → (values : List Bool) → IsPowered (reset_of (call_net C (call_names C))) values
+    → ProgressesFrom (reset_of (call_net C (call_names C))) (inlined_program C) (call_most_moves C) values
+
+-- Where the net with copies has a run of so many layers for each round, that with shared bodies has one of twice as
+-- many.
+abbrev pub SharedBodiesLayers : Type 0
+SharedBodiesLayers = (C : CallProgram) → IsCallProgram C → IsTranslated (inlined_program C)
+    → (names : List (List ℕ)) (layers : ℕ)
+    → HasLayers (translation (inlined_program C)) (inlined_program C) layers
+    → HasLayers (call_net C names) (inlined_program C) (2 * layers)

@@ -4,10 +4,10 @@
 ghost use Rattle.call_map.specs.Carrying.{SharedRuns, SharedCarries};
 ghost use Rattle.call_map.specs.CallNet.{SharedBodiesCarry, SharedBodiesCounted, SharedBodiesWithin, SharedBodiesHold};
 ghost use Rattle.call_map.specs.CallNet.{SharedBodiesCarryReset};
-ghost use Rattle.call_map.specs.CallPace.{SharedBodiesProgress};
+ghost use Rattle.call_map.specs.CallPace.{SharedBodiesProgress, SharedBodiesProgressReset, SharedBodiesLayers};
 
 use chp_meaning::laws::{rounds_hold, steps_taken};
-use net_compose::laws::{carries, carries_reset, parts_in_turns, runs_end};
+use net_compose::laws::{carries, carries_reset, parts_in_turns, runs_end, runs_end_reset};
 
 /// Law: let one net be another one with one body for all calls of a procedure in place of a copy for each call, and let
 /// that other net be free of hazards, and each copy keep its handshake there. Then each run of the one is a run of the
@@ -79,4 +79,25 @@ pub fn shared_bodies_progress()
     carries();
     parts_in_turns();
     runs_end();
+}
+
+/// Law: it does with a reset node too, from every power-up state. `Shared.antt` and `Carrying.antt` aren't needed to
+/// read this.
+pub fn shared_bodies_progress_reset()
+    ensures { SharedBodiesProgressReset }
+{
+    shared_bodies_progress();
+    shared_bodies_hold();
+    runs_end_reset();
+}
+
+/// Law: where, for any number of rounds, the net with copies has a run of so many layers for each of them that passes
+/// what they pass, the net with shared bodies has one of twice as many. A layer makes moves that are enabled where it
+/// begins, and none twice; the layer more is that of the bodies' requests and of the calls' answers. `Shared.antt` and
+/// `Carrying.antt` aren't needed to read this.
+pub fn shared_bodies_layers()
+    ensures { SharedBodiesLayers }
+{
+    carries();
+    parts_in_turns();
 }

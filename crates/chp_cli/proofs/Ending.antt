@@ -37,7 +37,6 @@ refusing_status refusal.NoReset = refl
 refusing_status (refusal.NoOrder name) = refl
 refusing_status (refusal.NoChannel name) = refl
 refusing_status (refusal.NoPeer name) = refl
-refusing_status refusal.NotBuilt = refl
 
 -- the statuses of whole outputs and of refusals are none of the call's own
 own_status : (end : Ending) → (status_with end ≢ Usage) × (status_with end ≢ Read) × (status_with end ≢ Write)

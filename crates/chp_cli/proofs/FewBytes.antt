@@ -12,16 +12,20 @@ use Rattle.chp_base.specs.Names.{IsNodeName}
 use Rattle.chp_base.specs.declared.channel.Channel.{Channel}
 use Rattle.chp_base.specs.declared.channel.Kind.{Kind}
 use Rattle.chp_base.specs.declared.channel.Kind.TheVariants.{In, Out, Chan}
-use Rattle.handshake_expand.specs.Named.{node_names, wire_names, wires_named, block_names, numbered_from}
+use Rattle.handshake_expand.specs.Named.{wire_names, wires_named, block_names, numbered_from}
 use Rattle.handshake_expand.specs.Layout.{vars_from, root_request, size_of}
-use Rattle.net_compose.specs.Translation.{translation, wires_from}
+use Rattle.net_compose.specs.NamesTo.{names_to}
+use Rattle.net_compose.specs.Translation.{wires_from}
+use Rattle.call_map.specs.Calling.{called_size}
+use Rattle.call_map.specs.CallNet.{inlined_program, procs_size}
+use Rattle.call_compose.specs.Placing.{shared_of}
 use Rattle.prs_core.specs.declared.rule.Literal.{Literal}
 use Rattle.prs_core.specs.declared.wires.Wires.{Wires}
 use Rattle.prs_core.specs.Nets.{GuardValue, NetValue, IsNet, IsChannel, IsFilled, guard_literals, literals_of, name_at, first_at, up_of, down_of, rail_names, ack_name}
 use Rattle.prs_file.specs.Spelling.{NetText, version_of, head_spelling, value_spelling, node_spelling, kind_spelling, channel_spelling, sign_spelling, literal_spelling, term_spelling, guard_spelling, end_spelling, rule_spelling, rules_spelling, spelling}
 use Rattle.reset_net.specs.Resets.{reset_literal, held, forced, reset_guard, has_rules, reset_up, reset_down, reset_of}
 use Rattle.width_check.specs.Processes.{TypedProgram}
-use Rattle.program_commands.specs.Compiling.{IsFaithful, net_for}
+use Rattle.program_commands.specs.Bodies.{Bodies, copied, shared, IsFaithful, net_for, net_with}
 use Rattle.command_steps.specs.Steps.{most_of_net}
 
 -- ---- lists
@@ -280,7 +284,7 @@ module _ (n : NetValue) (kept : IsNet n) where
           own_literals plain.down (length n.first) 0,
         )
 
--- ---- the two nets of a program
+-- ---- the nets of a program
 
 -- each channel has a node
 few_wires : (p : TypedProgram) (k : ℕ) (cs : List Channel) → length (wires_from p k cs) ≤ length (wire_names cs)
@@ -293,10 +297,16 @@ few_wires p k (c ∷ cs) =
       length-append (wires_named c) (wire_names cs),
     )
 
-few_channels : (p : TypedProgram) → length (translation p).channels ≤ length (node_names p)
-few_channels p =
-    let others = block_names p.vars (vars_from p) ++ numbered_from (root_request p) (2 + size_of p p.body) in
+few_channels : (p : TypedProgram) (count : ℕ) → length (wires_from p 0 p.channels) ≤ length (names_to p count)
+few_channels p count =
+    let others = block_names p.vars (vars_from p) ++ numbered_from (root_request p) count in
     omega (arith, few_wires p 0 p.channels, length-append (wire_names p.channels) others)
+
+channels_named : {p : TypedProgram} (bodies : Bodies p) → length (net_with bodies).channels ≤ length (net_with bodies).names
+channels_named {p} copied = few_channels p (2 + size_of p p.body)
+channels_named (shared h) =
+    let C = shared_of h in
+    few_channels (inlined_program C) (procs_size (inlined_program C) C.procs + (2 + called_size C.procs (inlined_program C) C.body))
 
 none_filled : IsFilled []
 none_filled = All-nil (λ (t : List Literal). 0 < length t)
@@ -352,15 +362,24 @@ reset_text n plain kept few small channels =
     (down_of n k) (each_filled n.down plain.down_filled k)))
     few (omega (arith, length_push n.first true)) channels
 
-pub few_bytes : (reset : Bool) (p : TypedProgram) (file : List ℕ) → NetText file (net_for reset p) → IsFaithful reset p → length file ≤ most_of_net
-few_bytes reset p file spells is =
-    let plain = is.plain in
-    let few : literals_of (translation p) ≤ 4194304 = plain.literals in
-    let small : length (translation p).first ≤ 65536 = plain.most in
-    let channels : length (translation p).channels ≤ 65536 = omega (arith, few_channels p, plain.named) in
-    omega (arith, ap (λ (x : List ℕ). length x) spells, by_reset reset is.kept plain few small channels)
-  where
-    by_reset : (reset : Bool) → IsNet (net_for reset p) → IsNet (translation p) → literals_of (translation p) ≤ 4194304 →
-        length (translation p).first ≤ 65536 → length (translation p).channels ≤ 65536 → length (spelling (net_for reset p)) ≤ 268435456
-    by_reset false kept plain few small channels = plain_text (translation p) plain few (omega arith) channels
-    by_reset true kept plain few small channels = reset_text (translation p) plain kept few small channels
+-- without a reset node it has as many nodes and literals as such a net may have
+nodes_within : {p : TypedProgram} (bodies : Bodies p) → IsNet (net_with bodies) → length (net_with bodies).first ≤ 65536
+nodes_within copied net = net.most
+nodes_within (shared h) net = net.most
+
+literals_within : {p : TypedProgram} (bodies : Bodies p) → IsNet (net_with bodies) → literals_of (net_with bodies) ≤ 4194304
+literals_within copied net = net.literals
+literals_within (shared h) net = net.literals
+
+net_text : (reset : Bool) {p : TypedProgram} (bodies : Bodies p) → IsNet (net_with bodies) → IsNet (net_for reset bodies)
+    → length (net_with bodies).channels ≤ 65536 → length (spelling (net_for reset bodies)) ≤ 268435456
+net_text false bodies plain kept channels =
+    plain_text (net_with bodies) plain (literals_within bodies plain) (omega (arith, nodes_within bodies plain)) channels
+net_text true bodies plain kept channels =
+    reset_text (net_with bodies) plain kept (literals_within bodies plain) (nodes_within bodies plain) channels
+
+pub few_bytes : (reset : Bool) {p : TypedProgram} (bodies : Bodies p) (file : List ℕ) → NetText file (net_for reset bodies) → IsFaithful reset bodies
+    → length file ≤ most_of_net
+few_bytes reset bodies file spells is =
+    let channels : length (net_with bodies).channels ≤ 65536 = omega (arith, channels_named bodies, is.plain.named, nodes_within bodies is.plain) in
+    omega (arith, ap (λ (x : List ℕ). length x) spells, net_text reset bodies is.plain is.kept channels)

@@ -1,5 +1,5 @@
 -- Each command has at most one answer.
-use Rattle.std.proofs.Common.{◌≡◌, ◌∙◌, ℕ, List, None, true, sym}
+use Rattle.std.proofs.Common.{◌≡◌, ◌∙◌, ℕ, List, true, sym}
 use Rattle.chp_base.specs.declared.span.Span.{Span}
 use Rattle.chp_base.specs.declared.fault.FaultCode.{FaultCode}
 use Rattle.chp_syntax.specs.Trees.{ProgramTree}
@@ -12,7 +12,7 @@ use Rattle.command_answers.specs.Answers.{Given, Answer, OneAnswer}
 use Rattle.program_commands.specs.Checking.{AcceptedReport, ChecksProgram}
 use Rattle.command_words.specs.CommandWords.{Asked, compiles, migrates, checks, expands, simulates, times, benches, traces, unwaves, runs, grows}
 use Rattle.chp_cli.specs.Commands.{IsAnswer}
-use Rattle.program_commands.specs.Compiling.{CompilesNet, CompilesProgram, FromBuilt}
+use Rattle.program_commands.specs.Compiling.{CompilesForm, CompilesProgram}
 use Rattle.program_commands.specs.Expanding.{ExpandsProgram, TreeReport}
 use Rattle.grown_commands.specs.Growing.{Grows}
 use Rattle.program_commands.specs.Migrating.{MigratesNet}
@@ -31,7 +31,7 @@ use Rattle.simulation_commands.specs.Unwaving.{Unwaves}
 use Rattle.command_steps.specs.Steps.{FromChecks, FromNodes}
 use Rattle.command_steps.proofs.OneAnswers.{file_once, program_once, net_once, nodes_once, buffer_once}
 use Rattle.program_commands.proofs.Counted.{report_once}
-use Rattle.program_commands.proofs.OneWritten.{built_once, compile_once, migrate_once}
+use Rattle.program_commands.proofs.OneWritten.{form_once, migrate_once}
 
 module _ (cause : (text : List ℕ) (k j : FaultCode) (s t : Span) → IsRefusedText text k s → IsRefusedText text j t → k ≡ j)
     (place : (text : List ℕ) (k j : FaultCode) (s t : Span) → IsRefusedText text k s → IsRefusedText text j t → s ≡ t)
@@ -49,8 +49,7 @@ module _ (cause : (text : List ℕ) (k j : FaultCode) (s t : Span) → IsRefused
   command_once (compiles c) given handed told = file_once given c.file _ _ told
       (λ text. program_once text (CompilesProgram c)
       (λ program. checked program _
-      (λ plain. buffer_once plain c.buffer (λ p. FromBuilt program c.buffer (FromNodes p (CompilesNet c.reset)))
-      (λ p. built_once program c.buffer _ (nodes_once p (CompilesNet c.reset) (compile_once c.reset p))))) (cause text) (place text))
+      (λ plain. buffer_once plain c.buffer (CompilesForm c program) (form_once c program))) (cause text) (place text))
   command_once (migrates file) given handed told = file_once given file _ _ told (λ text. net_once text MigratesNet migrate_once (once text))
   command_once (checks file) given handed told = file_once given file _ _ told
       (λ text. program_once text ChecksProgram (λ program. checked program (AcceptedReport program) (report_once program)) (cause text) (place text))

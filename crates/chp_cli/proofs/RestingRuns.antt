@@ -23,18 +23,14 @@ use Rattle.chp_meaning.specs.Rounds.{rounds}
 use Rattle.chp_meaning.specs.Steps.{Configuration}
 use Rattle.prs_file.specs.Spelling.{NetText}
 use Rattle.reset_net.specs.Resets.{reset_of}
-use Rattle.handshake_expand.specs.Layout.{nodes_of}
-use Rattle.net_compose.specs.Points.{IsTranslated}
 use Rattle.net_compose.specs.Progress.{RestsAfter, IsLevel}
-use Rattle.net_compose.specs.Time.{HasPassed, sweeps_for_round}
-use Rattle.net_compose.specs.Translation.{translation}
+use Rattle.net_compose.specs.Time.{HasPassed}
 use Rattle.net_pace.specs.Lasting.{HasLasted}
 use Rattle.net_pace.specs.Pace.{TimedPace, TimedPaceReset}
 use Rattle.net_compose.proofs.HalvedCarried.{scaled}
 use Rattle.net_compose.proofs.OnceEach.{run_length}
-use Rattle.net_compose.proofs.Sizes.{first_length}
 use Rattle.command_answers.specs.Answers.{Given, Answer}
-use Rattle.program_commands.specs.Compiling.{IsFaithful, NetCarries, NetProgresses, net_for}
+use Rattle.program_commands.specs.Bodies.{Bodies, copied, shared, IsFaithful, NetCarries, NetProgresses, net_for, net_with, sweeps_with}
 use Rattle.command_steps.specs.Orders.{Played}
 use Rattle.chp_cli.specs.Resting.{RestsInTime, TimedRests, delays_for, most_in_run}
 use Rattle.chp_cli.specs.Simulated.{IsFileSimulated, HoldsCarrying, HoldsCompiled, SimulatedRests}
@@ -46,7 +42,8 @@ use Rattle.chp_cli.specs.TracedFiles.{IsFileTraced, TracedRests}
 use Rattle.command_words.specs.WavesWords.{AskedWaves}
 use Rattle.grown_commands.proofs.SafeRuns.{all_safe, safe_calm}
 use Rattle.chp_cli.proofs.CalmRuns.{file_carries, rest_empties}
-use Rattle.chp_cli.proofs.FilesCompiled.{AreCompiled, AreTranslated}
+use Rattle.chp_cli.proofs.FilesCompiled.{AreCompiled, firsts_counted, same_channels}
+use Rattle.chp_cli.proofs.FilesPaced.{ArePaced, ArePacedReset}
 use Rattle.command_steps.proofs.OneAnswers.{same_text}
 
 -- a run that isn't so long as allowed, and ends without a hazard, rests
@@ -57,64 +54,61 @@ calm_rest (x ∷ xs) l steps e less is = absurd (cc (short, is))
     short : (l == steps) ≡ false
     short = grind (arith, nat_tests)
 
-same_channels : (reset : Bool) (p : TypedProgram) → NetCarries reset p → net_channels (net_for reset p) ≡ p.channels
-same_channels false p carries = carries.channels
-same_channels true p carries = carries.channels
-
 abbrev Powered : Type 0
 Powered = (net : NetValue) (high : Bool) → IsNet net → IsSome net.reset → IsPowered net (power_of net high)
 
 -- ---- a run of a program's net
 
-abbrev RunsWithin : Bool → TypedProgram → NetValue → Type 0
-RunsWithin reset p n =
+abbrev RunsWithin : Bool → {p : TypedProgram} → Bodies p → NetValue → Type 0
+RunsWithin reset {p} bodies n =
     (script : List OfferValue) (high : Bool) (ns : List ℕ) → IsNet n → IsScript p.channels script → IsRun n script (begin_at n (power_of n high)) ns
-    → (m : ℕ) (c : Configuration) → RestsAfter p script m c → length ns ≤ most_in_run reset p m
+    → (m : ℕ) (c : Configuration) → RestsAfter p script m c → length ns ≤ most_in_run reset bodies m
 
-runs_within : Powered → (reset : Bool) (p : TypedProgram) → NetCarries reset p → NetProgresses reset p → RunsWithin reset p (net_for reset p)
-runs_within powered false p carries progresses script high ns net fits run m c over = progresses.bounded script fits m c over ns run
-runs_within powered true p carries progresses script high ns net fits run m c over =
-    let n = net_for true p in
+runs_within : Powered → (reset : Bool) {p : TypedProgram} (bodies : Bodies p) → NetCarries reset bodies → NetProgresses reset bodies
+    → RunsWithin reset bodies (net_for reset bodies)
+runs_within powered false copied carries progresses script high ns net fits run m c over = progresses.bounded script fits m c over ns run
+runs_within powered false (shared h) carries progresses script high ns net fits run m c over = progresses.bounded script fits m c over ns run
+runs_within powered true bodies carries progresses script high ns net fits run m c over =
+    let n = net_for true bodies in
     let values = power_of n high in
     let up : IsPowered n values = powered n high net refl in
-    let long : length n.first ≡ suc (length (translation p).first) = length-append (translation p).first (true ∷ []) ∙ omega arith in
-    let count = first_length p in
-    let all = run_length n script (length (translation p).first) long net (begin_at n values) ns run (carries.runs script fits values up ns run).1 in
+    let long : length n.first ≡ suc (length (net_with bodies).first) = length-append (net_with bodies).first (true ∷ []) ∙ omega arith in
+    let count = firsts_counted bodies in
+    let all = run_length n script (length (net_with bodies).first) long net (begin_at n values) ns run (carries.runs script fits values up ns run).1 in
     let most = (progresses values up).bounded script fits m c over ns run in
     omega (arith, all, count, most)
 
-abbrev RestsLevel : Bool → TypedProgram → NetValue → Type 0
-RestsLevel reset p n =
+abbrev RestsLevel : TypedProgram → NetValue → Type 0
+RestsLevel p n =
     (script : List OfferValue) (high : Bool) (ns : List ℕ) → IsNet n → IsScript p.channels script → IsRun n script (begin_at n (power_of n high)) ns
     → (m : ℕ) (c : Configuration) → RestsAfter p script m c → IsAtRest n script (after n (begin_at n (power_of n high)) ns)
     → IsLevel (after n (begin_at n (power_of n high)) ns) c
 
-rests_level : Powered → (reset : Bool) (p : TypedProgram) → NetProgresses reset p → RestsLevel reset p (net_for reset p)
-rests_level powered false p progresses script high ns net fits run m c over = progresses.level script fits m c over ns run
-rests_level powered true p progresses script high ns net fits run m c over =
-    (progresses (power_of (net_for true p) high) (powered (net_for true p) high net refl)).level script fits m c over ns run
+rests_level : Powered → (reset : Bool) {p : TypedProgram} (bodies : Bodies p) → NetProgresses reset bodies → RestsLevel p (net_for reset bodies)
+rests_level powered false copied progresses script high ns net fits run m c over = progresses.level script fits m c over ns run
+rests_level powered false (shared h) progresses script high ns net fits run m c over = progresses.level script fits m c over ns run
+rests_level powered true bodies progresses script high ns net fits run m c over =
+    let n = net_for true bodies in
+    (progresses (power_of n high) (powered n high net refl)).level script fits m c over ns run
 
 -- ---- a timed run of it
 
-abbrev NetsPaced : Type 0
-NetsPaced = (p : TypedProgram) → IsTranslated p → nodes_of p ≤ 65536 → TimedPace (translation p) p (2 * sweeps_for_round p)
-
-abbrev ResetPaced : Type 0
-ResetPaced = (p : TypedProgram) → IsTranslated p → nodes_of p ≤ 65536 → TimedPaceReset (reset_of (translation p)) p (2 * sweeps_for_round p)
-
-abbrev PassesInTime : Bool → TypedProgram → NetValue → Type 0
-PassesInTime reset p n =
+abbrev PassesInTime : Bool → {p : TypedProgram} → Bodies p → NetValue → Type 0
+PassesInTime reset {p} bodies n =
     (script : List OfferValue) (high : Bool) (longest : ℕ) (d : DelayTable) (ms : List NotedMove) → IsNet n → IsScript p.channels script
     → TakesAtMost longest d → IsTimedRun d n script (begin_at n (power_of n high)) ms → (k : ℕ)
-    → HasLasted n script (begin_at n (power_of n high)) ms (delays_for reset p k * longest)
+    → HasLasted n script (begin_at n (power_of n high)) ms (delays_for reset bodies k * longest)
     → HasPassed (after n (begin_at n (power_of n high)) (moved_nodes ms)) (rounds p script k)
 
-passes_in_time : Powered → NetsPaced → ResetPaced → (reset : Bool) (p : TypedProgram) → IsTranslated p → nodes_of p ≤ 65536
-    → PassesInTime reset p (net_for reset p)
-passes_in_time powered paced reset_paced false p is few script high longest d ms net fits slow run k lasted =
-    paced p is few script fits longest d slow ms run k lasted
-passes_in_time powered paced reset_paced true p is few script high longest d ms net fits slow run k lasted =
-    reset_paced p is few script fits (power_of (net_for true p) high) (powered (net_for true p) high net refl) longest d slow ms run k lasted
+passes_in_time : Powered → (reset : Bool) {p : TypedProgram} (bodies : Bodies p) → TimedPace (net_with bodies) p (sweeps_with bodies)
+    → TimedPaceReset (reset_of (net_with bodies)) p (sweeps_with bodies) → PassesInTime reset bodies (net_for reset bodies)
+passes_in_time powered false copied paced reset_paced script high longest d ms net fits slow run k lasted =
+    paced script fits longest d slow ms run k lasted
+passes_in_time powered false (shared h) paced reset_paced script high longest d ms net fits slow run k lasted =
+    paced script fits longest d slow ms run k lasted
+passes_in_time powered true bodies paced reset_paced script high longest d ms net fits slow run k lasted =
+    let n = net_for true bodies in
+    reset_paced script fits (power_of n high) (powered n high net refl) longest d slow ms run k lasted
 
 -- ---- a run of the net of a file that `compile` wrote
 
@@ -124,26 +118,26 @@ module _ (powered : Powered) (law : (net : NetValue) (script : List OfferValue) 
   module _ (given : Given) (file : List ℕ) (p : TypedProgram) (holds : HoldsCompiled given file p) (rules : List ℕ) (net : NetValue)
       (held : given.files file ≡ Some rules) (is : IsFileOf rules net) (script : List OfferValue) (suits : IsScript (net_channels net) script) (high : Bool)
       (ns : List ℕ) (run : IsRun net script (begin_at net (power_of net high)) ns) where
-    it : IsFaithful holds.reset p
+    it : IsFaithful holds.reset holds.bodies
     it = promised given file p holds
 
-    same : net_for holds.reset p ≡ net
+    same : net_for holds.reset holds.bodies ≡ net
     same =
-        is.only (net_for holds.reset p) it.kept
-        (subst (λ x. NetText x (net_for holds.reset p)) (same_text holds.held held) holds.spells)
+        is.only (net_for holds.reset holds.bodies) it.kept
+        (subst (λ x. NetText x (net_for holds.reset holds.bodies)) (same_text holds.held held) holds.spells)
 
     fits : IsScript p.channels script
     fits =
-        subst (λ cs. IsScript cs script) (same_channels holds.reset p it.carries)
+        subst (λ cs. IsScript cs script) (same_channels holds.reset holds.bodies it.carries)
         (subst (λ n. IsScript (net_channels n) script) (sym same) suits)
 
-    file_within : (m : ℕ) (c : Configuration) → RestsAfter p script m c → length ns ≤ most_in_run holds.reset p m
+    file_within : (m : ℕ) (c : Configuration) → RestsAfter p script m c → length ns ≤ most_in_run holds.reset holds.bodies m
     file_within =
-        subst (RunsWithin holds.reset p) same (runs_within powered holds.reset p it.carries it.progresses) script high ns is.kept fits
-        run
+        subst (RunsWithin holds.reset holds.bodies) same (runs_within powered holds.reset holds.bodies it.carries it.progresses) script high ns is.kept
+        fits run
 
     file_rests : (steps : ℕ) (end : End) → EndsSo net script steps (begin_at net (power_of net high)) ns end
-        → RestsInTime holds.reset p net script steps (begin_at net (power_of net high)) ns end
+        → RestsInTime holds.reset holds.bodies net script steps (begin_at net (power_of net high)) ns end
     file_rests steps end ended m c over few =
         let st = begin_at net (power_of net high) in
         let safe = all_safe powered net p script high is.kept suits (file_carries (carry given file p holds) held is) in
@@ -153,7 +147,7 @@ module _ (powered : Powered) (law : (net : NetValue) (script : List OfferValue) 
         let within = file_within m c over in
         let r = calm_rest (enabled_moves net script (after net st ns)) (length ns) steps end (omega (arith, within, few)) so in (
           r.0,
-          subst (RestsLevel holds.reset p) same (rests_level powered holds.reset p it.progresses) script high ns is.kept fits run m c over
+          subst (RestsLevel p) same (rests_level powered holds.reset holds.bodies it.progresses) script high ns is.kept fits run m c over
               (rests net script (after net st ns) is.kept r.1),
         )
 
@@ -168,25 +162,25 @@ module _ (powered : Powered) (law : (net : NetValue) (script : List OfferValue) 
 
   module _ (in_time : (longest : ℕ) (t : TimedValue) (ms : List NotedMove) (r : RanValue) (time : ℕ) → TakesAtMost longest t.delays → IsTimedRan t ms r time →
       time ≤ longest * length ms)
-      (translated : AreTranslated) (paced : NetsPaced) (reset_paced : ResetPaced) where
+      (paced : ArePaced) (reset_paced : ArePacedReset) where
     file_timed : (given : Given) (file : List ℕ) (p : TypedProgram) (holds : HoldsCompiled given file p) (rules : List ℕ) (net : NetValue)
         → given.files file ≡ Some rules → IsFileOf rules net → (script : List OfferValue) → IsScript (net_channels net) script
         → (high : Bool) (steps : ℕ) (delays : DelayTable) (ms : List NotedMove) (r : RanValue) (time : ℕ)
         → IsTimedRan (timed_value net script steps delays high) ms r time
-        → TimedRests holds.reset p (timed_value net script steps delays high) ms r.end time
+        → TimedRests holds.reset holds.bodies (timed_value net script steps delays high) ms r.end time
     file_timed given file p holds rules net held is script suits high steps delays ms r time ran = record {
       rests = file_rests given file p holds rules net held is script suits high (moved_nodes ms) ran.run steps r.end ran.ends;
       in_time = λ longest m c few over.
           let within = file_within given file p holds rules net held is script suits high (moved_nodes ms) ran.run m c over in
           let count = length-map ms (λ (x : NotedMove). x.node) in
           let soon = in_time longest (timed_value net script steps delays high) ms r time few ran in
-          let most = scaled (length ms) (most_in_run holds.reset p m) longest (omega (arith, within, count)) in
+          let most = scaled (length ms) (most_in_run holds.reset holds.bodies m) longest (omega (arith, within, count)) in
           omega (arith, soon, most);
       keeps_up = λ longest k slow lasted.
-          subst (PassesInTime holds.reset p) (same given file p holds rules net held is script suits high (moved_nodes ms) ran.run)
-          (passes_in_time powered paced reset_paced holds.reset p (translated given file p holds) holds.few) script high longest delays ms is.kept
+          subst (PassesInTime holds.reset holds.bodies) (same given file p holds rules net held is script suits high (moved_nodes ms) ran.run)
+          (passes_in_time powered holds.reset holds.bodies (paced given file p holds) (reset_paced given file p holds)) script high longest delays ms is.kept
           (fits given file p holds rules net held is script suits high (moved_nodes ms) ran.run) slow ran.timed k
-          (has_lasted (delays_for holds.reset p k * longest) lasted);
+          (has_lasted (delays_for holds.reset holds.bodies k * longest) lasted);
     }
       where
         st : RunState

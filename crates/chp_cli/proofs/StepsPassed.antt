@@ -28,7 +28,6 @@ use Rattle.command_steps.specs.Steps.{FromFile, FromProgram, FromChecks, FromNod
 use Rattle.command_steps.specs.DelaySteps.{FromDelays, delays_refused, delays_read}
 use Rattle.command_steps.proofs.OneAnswers.{same_text, too_long, not_there, needs_channel, one_buffered}
 use Rattle.command_steps.proofs.OneMeaning.{bad_or_meant, large_or_meant, means_once}
-use Rattle.program_commands.specs.Compiling.{FromBuilt, IsBuilt, not_built, built}
 
 module _ (P : Answer → Type 0) where
   pub file_passed : (given : Given) → given.tells ≡ true → (name text : List ℕ) (most : ℕ) → HoldsText given name most text
@@ -53,11 +52,6 @@ module _ (P : Answer → Type 0) where
   buffer_passed p made chan buffered Next next a (no_channel {name = x} named not) = needs_channel p chan x made named not buffered
   buffer_passed p made chan buffered Next next a (has_channel other also is) =
       next a (subst (λ (t : ProgramTree). Next (typed_form t) a) (one_buffered p chan other made also buffered) is)
-
-  pub built_passed : (program : ProgramTree) (chan : Option (List ℕ)) → IsBuilt program chan → (Next : Answer → Type 0) → ((a : Answer) → Next a → P a)
-      → (a : Answer) → FromBuilt program chan Next a → P a
-  built_passed program chan is Next next a (not_built not) = absurd (not is)
-  built_passed program chan is Next next a (built also goes) = next a goes
 
   pub net_passed : (text : List ℕ) (net : NetValue) → IsNet net → NetText text net → (Next : NetValue → Answer → Type 0) → ((a : Answer) → Next net a → P a)
       → (a : Answer) → FromNet text Next a → P a

@@ -1,9 +1,8 @@
 -- Where nothing speaks against it, a command writes.
-use Rattle.std.proofs.Common.{◌≡◌, ◌∙◌, ℕ, Bool, List, true, refl, ap, subst}
+use Rattle.std.proofs.Common.{◌≡◌, ◌∙◌, ℕ, ◌≤◌, Bool, List, true, refl, ap, subst, arith}
 use Rattle.chp_base.specs.declared.fault.Fault.{Fault}
 use Rattle.chp_syntax.specs.Trees.{ProgramTree}
 use Rattle.width_check.specs.Accepted.{IsAccepted}
-use Rattle.width_check.specs.Form.{typed_form}
 use Rattle.width_check.specs.Processes.{TypedProgram}
 use Rattle.prs_core.specs.Nets.{NetValue}
 use Rattle.prs_file.specs.Spelling.{NetText}
@@ -11,37 +10,44 @@ use Rattle.command_answers.specs.declared.status.Status.TheVariants.{Done}
 use Rattle.command_answers.specs.declared.answer.Ending.{Ending}
 use Rattle.command_answers.specs.Answers.{Given, Answer, writes, status_of}
 use Rattle.command_steps.specs.BufferSteps.{FromBuffer, has_channel}
-use Rattle.program_commands.specs.Compiling.{Compiles, CompilesNet, FromBuilt, IsFileCompiled, IsToCompile, built, compiled}
+use Rattle.program_commands.specs.Bodies.{Bodies, HasBodies, counted_with, net_for}
+use Rattle.program_commands.specs.Compiling.{Compiles, CompilesForm, CompilesNet, IsFileCompiled, IsToCompile, compiled, too_large}
 use Rattle.command_words.specs.CompileWords.{AskedCompilation}
 use Rattle.program_commands.specs.Migrating.{Migrates, IsToMigrate, named_reset, taken, migrated}
-use Rattle.command_steps.specs.Steps.{FromNodes, IsFaulty, accepted, no_file, long_file, a_file, a_program, few_enough, no_net, a_net}
+use Rattle.command_steps.specs.Steps.{IsFaulty, accepted, no_file, long_file, a_file, a_program, no_net, a_net, most_of_nodes}
 use Rattle.command_steps.proofs.OneAnswers.{same_text, too_long, not_there}
-use Rattle.chp_cli.proofs.StepsPassed.{buffer_passed, built_passed, nodes_passed, text_passed}
+use Rattle.program_commands.proofs.OneWritten.{bodies_once}
+use Rattle.chp_cli.proofs.StepsPassed.{buffer_passed, text_passed}
 
 abbrev IsDone : Answer → Type 0
 IsDone a = status_of a ≡ Done
 
-net_written : (reset : Bool) (p : TypedProgram) (a : Answer) → CompilesNet reset p a → IsDone a
-net_written reset p a (compiled spells) = refl
+net_written : (reset : Bool) {p : TypedProgram} (bodies : Bodies p) → counted_with bodies ≤ most_of_nodes → (a : Answer) → CompilesNet reset bodies a → IsDone a
+net_written reset bodies few a (too_large many) = absurd (omega (arith, few, many))
+net_written reset bodies few a (compiled small spells) = refl
 
--- to a program for which a net is made, and which means an accepted one that can have its buffer, whose circuit isn't too large then
+net_spelled : (reset : Bool) {p : TypedProgram} (bodies : Bodies p) (end : Ending) (text : List ℕ) → CompilesNet reset bodies (writes end text)
+    → (counted_with bodies ≤ most_of_nodes) × NetText text (net_for reset bodies)
+net_spelled reset bodies end text (compiled few spells) = (few, spells)
+
+-- to a program which means an accepted one that can have its buffer, and whose net isn't too large then
 module _ (c : AskedCompilation) (no_fault : (program : ProgramTree) (f : Fault) → IsAccepted program → ¬ IsFaulty program f) where
-  abbrev Builds : (program plain : ProgramTree) → Answer → Type 0
-  Builds program plain = FromBuffer plain c.buffer (λ p. FromBuilt program c.buffer (FromNodes p (CompilesNet c.reset)))
+  form_written : (program : ProgramTree) {p : TypedProgram} (bodies : Bodies p) → HasBodies program c.buffer bodies → counted_with bodies ≤ most_of_nodes
+      → (a : Answer) → CompilesForm c program p a → IsDone a
+  form_written program bodies has few a form =
+      net_written c.reset form.bodies (subst (λ n. n ≤ most_of_nodes) (bodies_once program c.buffer bodies form.bodies has form.has).counted few) a form.net
 
   pub compile_writes : (given : Given) → given.tells ≡ true → IsToCompile c given → (a : Answer) → Compiles c given a → status_of a ≡ Done
   compile_writes given told t =
-      let p = typed_form t.made in
-      text_passed IsDone no_fault given told c.file t.text t.program t.plain (record { held = t.held; short = t.short }) t.reads t.means t.accepted Builds
-      (buffer_passed IsDone t.plain t.made c.buffer t.buffered (λ q. FromBuilt t.program c.buffer (FromNodes q (CompilesNet c.reset)))
-      (built_passed IsDone t.program c.buffer t.built (FromNodes p (CompilesNet c.reset))
-      (nodes_passed IsDone p t.few (CompilesNet c.reset) (net_written c.reset p))))
+      text_passed IsDone no_fault given told c.file t.text t.program t.plain (record { held = t.held; short = t.short }) t.reads t.means t.accepted
+      (λ program plain. FromBuffer plain c.buffer (CompilesForm c program))
+      (buffer_passed IsDone t.plain t.made c.buffer t.buffered (CompilesForm c t.program) (form_written t.program t.bodies t.has t.few))
 
 -- what is written is the text of the program's net
 module _ (c : AskedCompilation) (given : Given) (told : given.tells ≡ true) where
   pub written_right : (end : Ending) (text : List ℕ) → Compiles c given (writes end text) → IsFileCompiled c given text
-  written_right end text (a_file {text = x} gives short (a_program {program = p} is (accepted {plain = r} means are (has_channel q buffered
-      (built may (few_enough few (compiled d))))))) = record {
+  written_right end text (a_file {text = x} gives short (a_program {program = p} is (accepted {plain = r} means are (has_channel q buffered form)))) =
+      let spelled = net_spelled c.reset form.bodies end text form.net in record {
         text = x;
         program = p;
         plain = r;
@@ -49,10 +55,12 @@ module _ (c : AskedCompilation) (given : Given) (told : given.tells ≡ true) wh
         held = gives told;
         reads = is;
         means = means;
-        built = may;
+        bodies = form.bodies;
         accepted = are;
         buffered = buffered;
-        spells = d;
+        has = form.has;
+        few = spelled.0;
+        spells = spelled.1;
       }
 
 module _ (given : Given) (file : List ℕ) (told : given.tells ≡ true) where

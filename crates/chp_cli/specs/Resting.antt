@@ -7,46 +7,48 @@ use Rattle.env_script.specs.Runs.{RunState, after}
 use Rattle.env_script.specs.Scripts.{OfferValue}
 use Rattle.event_sim.specs.declared.ran.End.{End}
 use Rattle.event_sim.specs.declared.ran.End.TheVariants.{AtRest}
-use Rattle.handshake_expand.specs.Layout.{nodes_of}
 use Rattle.chp_meaning.specs.Rounds.{rounds}
 use Rattle.chp_meaning.specs.Steps.{Configuration}
-use Rattle.net_compose.specs.Progress.{RestsAfter, IsLevel, most_moves}
-use Rattle.net_compose.specs.Time.{HasPassed, sweeps_for_round}
+use Rattle.net_compose.specs.Progress.{RestsAfter, IsLevel}
+use Rattle.net_compose.specs.Time.{HasPassed}
 use Rattle.prs_core.specs.Nets.{NetValue}
 use Rattle.width_check.specs.Processes.{TypedProgram}
+use Rattle.program_commands.specs.Bodies.{Bodies, most_with, nodes_with, sweeps_with}
 
 -- the most moves of a run of the net that is written for a program, where that makes m steps: with a reset node each
 -- node moves once at most before reset has fallen
-abbrev pub most_in_run : (reset : Bool) → TypedProgram → (m : ℕ) → ℕ
-most_in_run false p m = most_moves p m
-most_in_run true p m = suc (nodes_of p) + most_moves p m
+abbrev pub most_in_run : (reset : Bool) → {p : TypedProgram} → Bodies p → (m : ℕ) → ℕ
+most_in_run false bodies m = most_with bodies m
+most_in_run true bodies m = suc (nodes_with bodies) + most_with bodies m
 
 -- Where the program goes no further after m steps under the script, and more moves are allowed than its net can make
 -- till then, the run ends at rest: it has passed what the program has, and `done` is high exactly where that has ended.
-abbrev pub RestsInTime : (reset : Bool) → TypedProgram → NetValue → List OfferValue → (steps : ℕ)
+abbrev pub RestsInTime : (reset : Bool) → {p : TypedProgram} → Bodies p → NetValue → List OfferValue → (steps : ℕ)
     → (start : RunState) → (moves : List ℕ) → End → Type 0
-RestsInTime reset p net script steps start moves end =
-    (m : ℕ) (c : Configuration) → RestsAfter p script m c → most_in_run reset p m < steps →
+RestsInTime reset {p} bodies net script steps start moves end =
+    (m : ℕ) (c : Configuration) → RestsAfter p script m c → most_in_run reset bodies m < steps →
     (end ≡ AtRest) × IsLevel (after net start moves) c
 
--- how many delays are enough for what n rounds of the program pass: two for each node and one more for a round, twice
--- that where an assignment reads its own target; with a reset node two at the beginning besides
-abbrev pub delays_for : (reset : Bool) → TypedProgram → (n : ℕ) → ℕ
-delays_for false p n = n * (2 * sweeps_for_round p)
-delays_for true p n = suc (suc (n * (2 * sweeps_for_round p)))
+-- how many delays are enough for what n rounds of the program pass: for a round twice as many as two for each node and
+-- one more, also where no assignment reads its own target, and twice that where bodies are shared, by the nodes of the
+-- net with copies; with a reset node two at the beginning besides
+abbrev pub delays_for : (reset : Bool) → {p : TypedProgram} → Bodies p → (n : ℕ) → ℕ
+delays_for false bodies n = n * sweeps_with bodies
+delays_for true bodies n = suc (suc (n * sweeps_with bodies))
 
 -- Where no move takes longer than some time, a timed run whose last move comes later than so many of these times, or
 -- that comes to rest, has passed all that n rounds of the program pass.
-abbrev pub KeepsUp : (reset : Bool) → TypedProgram → TimedValue → List NotedMove → End → (time : ℕ) → Type 0
-KeepsUp reset p t moves end time = (longest n : ℕ) → TakesAtMost longest t.delays →
-    (delays_for reset p n * longest < time) ⊎ (end ≡ AtRest)
+abbrev pub KeepsUp : (reset : Bool) → {p : TypedProgram} → Bodies p → TimedValue → List NotedMove → End →
+    (time : ℕ) → Type 0
+KeepsUp reset {p} bodies t moves end time = (longest n : ℕ) → TakesAtMost longest t.delays →
+    (delays_for reset bodies n * longest < time) ⊎ (end ≡ AtRest)
     → HasPassed (after t.net (timed_start t) (moved_nodes moves)) (rounds p t.script n)
 
 -- So does a timed run: it comes to rest where the program does, where no move takes longer than some time its last move
 -- comes by that time multiplied by the most moves, and it keeps up with the rounds of the program.
-pub record TimedRests (reset : Bool) (p : TypedProgram) (t : TimedValue) (moves : List NotedMove) (end : End)
-    (time : ℕ) : Type 0 where
-  pub rests : RestsInTime reset p t.net t.script t.steps (timed_start t) (moved_nodes moves) end
+pub record TimedRests (reset : Bool) {p : TypedProgram} (bodies : Bodies p) (t : TimedValue) (moves : List NotedMove)
+    (end : End) (time : ℕ) : Type 0 where
+  pub rests : RestsInTime reset bodies t.net t.script t.steps (timed_start t) (moved_nodes moves) end
   pub in_time : (longest m : ℕ) (c : Configuration) → TakesAtMost longest t.delays → RestsAfter p t.script m c →
-      time ≤ longest * most_in_run reset p m
-  pub keeps_up : KeepsUp reset p t moves end time
+      time ≤ longest * most_in_run reset bodies m
+  pub keeps_up : KeepsUp reset bodies t moves end time

@@ -50,7 +50,8 @@ pub record HoldsText (given : Given) (name : List ℕ) (most : ℕ) (text : List
   pub held : given.files name ≡ Some text
   pub short : length text ≤ most
 
--- the text of this program, which means that one without procedures and calls, which is accepted
+-- the text of this program, which means that one without procedures and calls, in which an assignment of a procedure
+-- that reads its own target is two; and that one is accepted
 pub record IsSource (given : Given) (file : List ℕ) (program plain : ProgramTree) : Type 0 where
   pub text : List ℕ
   pub held : HoldsText given file most_of_text text

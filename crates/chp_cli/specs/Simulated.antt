@@ -6,7 +6,6 @@ use Rattle.env_script.specs.Scripts.{OfferValue}
 use Rattle.env_script.specs.ScriptText.{IsScriptText}
 use Rattle.event_sim.specs.declared.ran.End.TheVariants.{AtRest}
 use Rattle.event_sim.specs.Simulating.{picked_moves, start_at}
-use Rattle.handshake_expand.specs.Layout.{nodes_of}
 use Rattle.net_compose.specs.Carries.{Carries, CarriesReset}
 use Rattle.prs_core.specs.Nets.{NetValue, IsNet}
 use Rattle.prs_file.specs.Spelling.{NetText}
@@ -18,7 +17,7 @@ use Rattle.width_check.specs.Processes.{TypedProgram}
 use Rattle.command_answers.specs.declared.answer.Ending.{Ending}
 use Rattle.command_answers.specs.declared.answer.Ending.TheVariants.{Hazard}
 use Rattle.command_answers.specs.Answers.{Given, Answer, writes}
-use Rattle.program_commands.specs.Compiling.{net_for}
+use Rattle.program_commands.specs.Bodies.{Bodies, counted_with, net_for}
 use Rattle.command_steps.specs.Orders.{OrderState, Played, place_named}
 use Rattle.chp_cli.specs.Resting.{RestsInTime}
 use Rattle.command_steps.specs.References.{HoldsReference, IsToReferTo}
@@ -61,18 +60,21 @@ pub record HoldsCarrying (given : Given) (file : List ℕ) (p : TypedProgram) : 
   pub spelled : NetText rules net
   pub carries : ((net.reset ≡ None) × Carries net p) ⊎ CarriesReset net p
 
--- The file holds what `compile` writes for the program, with a reset node or without: the one text of its net. The
--- program is the typed form of an accepted one that has the shape of the grammar, and its circuit isn't too large.
+-- The file holds the one text of a net of the program, in which bodies are copied or shared, with a reset node or
+-- without. The program is the typed form of an accepted one that has the shape of the grammar, and the count of nodes
+-- is within the limit. Each file that `compile` writes is such a one (the law `written_files_hold`); of a program with
+-- calls so is that of the other net, which it doesn't write. So what is said of these files is more than is needed.
 pub record HoldsCompiled (given : Given) (file : List ℕ) (p : TypedProgram) : Type 0 where
   pub reset : Bool
   pub text : List ℕ
   pub program : ProgramTree
+  pub bodies : Bodies p
   pub held : given.files file ≡ Some text
   pub shaped : IsShaped program
   pub accepted : IsAccepted program
   pub form : p ≡ typed_form program
-  pub few : nodes_of p ≤ most_of_nodes
-  pub spells : NetText text (net_for reset p)
+  pub few : counted_with bodies ≤ most_of_nodes
+  pub spells : NetText text (net_for reset bodies)
 
 -- the files hold what can be simulated: a rule file within its limit, of a net that can have the power that is asked
 -- for, a script of its channels within its own, and an accepted program, if one is wanted; and there is an order of the
@@ -94,15 +96,15 @@ pub record IsToSimulate (s : AskedRun) (given : Given) (played : Played) : Type 
   pub referable : IsToReferTo given s.against
   pub named : place_named played.before s.order ≡ Some place
 
--- The files hold what `compile` writes for the program, with a reset node if a power is asked for, a script of the
--- program's channels within its limit, and an accepted program, if one is wanted; and there is an order of the wanted
--- name.
+-- The files hold such a rule file of the program (`HoldsCompiled`), with a reset node if a power is asked for, a script
+-- of the program's channels within its limit, and an accepted program, if one is wanted; and there is an order of the
+-- wanted name.
 pub record IsCompiledToSimulate (s : AskedRun) (given : Given) (played : Played) (p : TypedProgram) : Type 0 where
   pub told : List ℕ
   pub script : List OfferValue
   pub place : ℕ
   pub holds : HoldsCompiled given s.net p
-  pub powered : lacks_reset s.power (net_for holds.reset p).reset ≡ false
+  pub powered : lacks_reset s.power (net_for holds.reset holds.bodies).reset ≡ false
   pub held_script : given.files s.script ≡ Some told
   pub short_script : length told ≤ most_of_script
   pub says : IsScriptText p.channels told script
@@ -122,7 +124,8 @@ abbrev pub SimulatedRests : (s : AskedRun) (given : Given) (played : Played) (p 
     HoldsCompiled given s.net p → {answer : Answer} → IsFileSimulated s given played answer → Type 0
 SimulatedRests s given played p holds f =
     let sim = simulation_for f.net f.script s.steps s.power in
-    RestsInTime holds.reset p f.net f.script s.steps (start_at sim) (picked_moves sim f.was.log f.is.log) f.plays.end
+    RestsInTime holds.reset holds.bodies f.net f.script s.steps (start_at sim) (picked_moves sim f.was.log f.is.log)
+    f.plays.end
 
 -- The report is that of a run without a hazard; where it says rest, no order makes more moves; and where a program
 -- comes to rest for which `compile` writes this rule file, so does the run, if its limit is high enough.

@@ -42,7 +42,8 @@ pub record IsFileTimed (t : AskedTiming) (given : Given) (answer : Answer) : Typ
 abbrev pub TimedRunRests : (t : AskedTiming) (given : Given) (p : TypedProgram) → HoldsCompiled given t.net p →
     {answer : Answer} → IsFileTimed t given answer → Type 0
 TimedRunRests t given p holds f =
-    TimedRests holds.reset p (timing_for t f.net f.script f.delays) f.timed.moves f.timed.ran.end f.timed.time
+    TimedRests holds.reset holds.bodies (timing_for t f.net f.script f.delays) f.timed.moves f.timed.ran.end
+    f.timed.time
 
 -- The report is that of a timed run without a hazard. Where a program comes to rest for which `compile` writes this
 -- rule file, so does the run in time, if its limit is high enough; and it keeps up with the rounds of that program.

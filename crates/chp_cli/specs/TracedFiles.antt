@@ -36,7 +36,8 @@ pub record IsFileTraced (w : AskedWaves) (given : Given) (answer : Answer) : Typ
 abbrev pub TracedRests : (w : AskedWaves) (given : Given) (p : TypedProgram) → HoldsCompiled given w.net p →
     {answer : Answer} → IsFileTraced w given answer → Type 0
 TracedRests w given p holds f =
-    TimedRests holds.reset p (trace_for w f.net f.script f.delays) f.traced.moves f.traced.ran.end f.traced.time
+    TimedRests holds.reset holds.bodies (trace_for w f.net f.script f.delays) f.traced.moves f.traced.ran.end
+    f.traced.time
 
 -- The text is the wave of a timed run without a hazard, or the causes of its last move. Where a program comes to rest
 -- for which `compile` writes this rule file, so does the run in time, if its limit is high enough; and it keeps up with

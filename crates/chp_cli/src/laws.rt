@@ -1,11 +1,12 @@
 //! Laws of what commands answer.
 
-ghost use Rattle.std.specs.Prelude.{◌≡◌, ◌≢◌, ℕ, List, true};
+ghost use Rattle.std.specs.Prelude.{◌≡◌, ◌≢◌, ℕ, List, Some, true};
 ghost use Rattle.command_answers.specs.declared.answer.Ending.{Ending};
 ghost use Rattle.command_answers.specs.declared.answer.Ending.TheVariants as ending;
 ghost use Rattle.command_answers.specs.declared.status.Status.TheVariants.{Done};
 ghost use Rattle.command_answers.specs.Answers.{Answer, Given, OneAnswer, status_of, writes};
-ghost use Rattle.program_commands.specs.Compiling.{Compiles, IsFaithful, IsFileCompiled, IsToCompile};
+ghost use Rattle.program_commands.specs.Bodies.{IsFaithful};
+ghost use Rattle.program_commands.specs.Compiling.{Compiles, IsFaithfulFile, IsFileCompiled, IsToCompile};
 ghost use Rattle.command_words.specs.CompileWords.{AskedCompilation};
 ghost use Rattle.program_commands.specs.Migrating.{Migrates, IsToMigrate};
 ghost use Rattle.command_words.specs.CommandWords.{Asked};
@@ -26,13 +27,16 @@ ghost use Rattle.simulation_commands.specs.Timing.{SimulatesTimed};
 ghost use Rattle.chp_cli.specs.TracedFiles.{IsFileTraced, TracedRests};
 ghost use Rattle.command_words.specs.WavesWords.{AskedWaves};
 ghost use Rattle.simulation_commands.specs.Tracing.{Traces};
+ghost use Rattle.width_check.specs.Form.{typed_form};
 ghost use Rattle.width_check.specs.Processes.{TypedProgram};
 
+use call_compose::{calls_asked, calls_typed};
 use delay_script::laws::timed_runs_end_in_time;
 use event_sim::laws::{passed_are_histories, power_is_powered, safe_moves_bring_no_hazard};
 use net_compose::laws::{carries, carries_reset, runs_end, runs_end_reset, whole_nets};
-use net_pace::{keeps_timed_pace, keeps_timed_pace_reset};
+use net_pace::{keeps_timed_pace, keeps_timed_pace_reset, shared_bodies_keep_time};
 use peer_bench::laws::{bench_rests_are_rests, bench_runs_are_calm};
+use program_commands::laws::shared_nets_are_faithful;
 
 /// Law: to the same files of an observable shelf, and with the same orders and devices before and after, a command has
 /// at most one answer.
@@ -51,12 +55,20 @@ pub fn one_answer()
 }
 
 /// Law: what `compile` writes for a file is the one text of the net of what the one program means that its text reads
-/// as: of this program itself, where it has neither procedures nor calls. It is accepted. Where a buffer is asked for,
-/// that is said of the program with the buffer, which keeps what passes on each channel. (That the net carries the
-/// program is a clause of the call that compiles.)
+/// as: of this program itself, where it has neither procedures nor calls. What it means is accepted. Of a text with
+/// procedures it is the net in which all calls of a procedure share one body. Where a buffer is asked for, it is that
+/// of what the program means with the buffer, in which each call has a copy of its own; and the buffer keeps what
+/// passes on each channel. (That the net carries the program is a clause of the call that compiles.)
 pub fn compiled_right()
     ensures { (c : AskedCompilation) (given : Given) → given.tells ≡ true → (end : Ending) (text : List ℕ) →
         Compiles c given (writes end text) → IsFileCompiled c given text }
+{}
+
+/// Law: a file that holds what `compile` wrote, on whatever shelf, is as is premised of files that `compile` wrote. So
+/// what is said of their simulations, timed runs, waves and benches holds of it.
+pub fn written_files_hold()
+    ensures { (c : AskedCompilation) (given more : Given) (file written : List ℕ) (is : IsFaithfulFile c given written) →
+        more.files file ≡ Some written → HoldsCompiled more file (typed_form is.file.made) }
 {}
 
 /// Law: the only answer of `compile` to a file that holds what is to be compiled is to write.
@@ -136,11 +148,12 @@ pub fn carried_runs_have_one_length()
     safe_moves_bring_no_hazard();
 }
 
-/// Law: the net of the typed form of an accepted program, whose circuit isn't too large, is as is promised of what
-/// `compile` writes: it is one that a rule file can hold, it carries the program, and it keeps pace with it.
+/// Law: the net of the typed form of an accepted program, be it that in which each call has a copy of its procedure's
+/// body or that in which all calls of a procedure share one, is as is promised of what `compile` writes, if it isn't
+/// too large: it is one that a rule file can hold, it carries the program, and it keeps pace with it.
 pub fn files_as_promised()
     ensures { (given : Given) (file : List ℕ) (p : TypedProgram) (holds : HoldsCompiled given file p) →
-        IsFaithful holds.reset p }
+        IsFaithful holds.reset holds.bodies }
 {
     width_check::laws::form_is_typed();
     whole_nets();
@@ -148,6 +161,7 @@ pub fn files_as_promised()
     runs_end();
     carries_reset();
     runs_end_reset();
+    shared_nets_are_faithful();
 }
 
 /// Law: what `compile` writes for a program is the rule file of a net that carries it, so what holds of simulations of
@@ -251,7 +265,8 @@ pub fn benched_runs_follow()
 /// by whatever delays. It has passed what the program has, and `done` is high exactly where that has ended. Where no
 /// move takes longer than some time, the last one comes no later than the most moves at that time each; and a timed run
 /// whose last move comes later than 2 · (2 nodes + 1) of these times for each of n rounds of the program, with a reset
-/// node two more, or that rests, has passed all that these rounds pass.
+/// node two more, or that rests, has passed all that these rounds pass. In a net with shared bodies it is twice as many
+/// for each round, and the nodes are those of the net with copies.
 pub fn compiled_runs_rest()
     ensures simulated { (s : AskedRun) (given : Given) (played : Played) (p : TypedProgram)
         (holds : HoldsCompiled given s.net p) (answer : Answer) (f : IsFileSimulated s given played answer) →
@@ -269,4 +284,8 @@ pub fn compiled_runs_rest()
     width_check::laws::form_is_typed();
     keeps_timed_pace();
     keeps_timed_pace_reset();
+    shared_nets_are_faithful();
+    shared_bodies_keep_time();
+    calls_asked();
+    calls_typed();
 }

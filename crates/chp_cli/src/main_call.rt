@@ -138,17 +138,22 @@ fn run<'a, S: Shelf, K: Sink>(
 /// `say` change neither the status nor the output.
 ///
 /// What is answered, written and said is the command's answer to its files, of which there is at most one where the
-/// shelf is observable. Three things may come between: the shelf fails at a file of the command (`Read`), the output
-/// fails before its end (`Write`), or it is out of memory (`NoMemory`), which may come at any point and has a status of
-/// its own. Where the files hold what the command is served with, and the order and the device that it asks for are
-/// there, the answer is to write.
+/// shelf is observable, for the same orders and devices before and after. Three things may come between: the shelf
+/// fails at a file of the command (`Read`), the output fails before its end (`Write`), or it is out of memory
+/// (`NoMemory`), which may come at any point and has a status of its own. Where the files hold what the command is
+/// served with, and the order and the device that it asks for are there, the answer is to write.
 ///
-/// The rule file that `compile` writes is the one text of a net that carries the file's program and keeps pace with it.
+/// The rule file that `compile` writes is the one text of a net that carries the file's program, with `--buffer` the
+/// program with the buffer, and keeps pace with it. This is said where the shelf is observable and the status is 0; and
+/// that it is this file which was written, where the output is observable.
+///
 /// A run of a rule file that `compile` wrote, by an order, by delays or told as a wave, finds no hazard under whatever
-/// script, and where it reports rest no order makes more moves. Where its program comes to rest under the script, so
-/// does the run, if the limit is high enough. With delays of at most some time it does so no later than the most moves
-/// at that time each; and where its last move comes later than 2 · (2 nodes + 1) of these times for each of n rounds of
-/// the program, with a reset node two more, or it rests, it has passed what these rounds pass.
+/// script, and compared with its own program it agrees. Where one by an order reports rest, no order makes more moves.
+/// Where its program comes to rest under the script, so does the run, if the limit is high enough. With delays of at
+/// most some time it does so no later than the most moves at that time each; and where its last move comes later than
+/// 2 · (2 nodes + 1) of these times for each of n rounds of the program, with a reset node two more, or it rests, it
+/// has passed what these rounds pass. (Where calls share bodies, twice as many for each round, by the nodes of the net
+/// in which each call has a copy.)
 ///
 /// A run of such a file on a bench finds no hazard against whatever device. What has passed is a prefix of what its
 /// program passes under the script of all that the device offered and took, and all of it where it reports rest.

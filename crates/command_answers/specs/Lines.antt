@@ -97,10 +97,6 @@ refused_line f = concat (
     codes "chp: " ∷ decimal (number_of f.code) ∷ codes " " ∷ fault_name f.code ∷ codes " at " ∷ span_text f.at
     ∷ (if has_two_places f.code then codes " and " ++ span_text f.other else []) ∷ codes "\n" ∷ [])
 
--- the program has procedures or calls, of which no net is made yet
-abbrev pub not_built_line : List ℕ
-not_built_line = codes "chp: 19 not built\n"
-
 -- ---- of a circuit, a program and a file that are too large, and of a refused rule file
 
 -- the circuit of the program has so many nodes

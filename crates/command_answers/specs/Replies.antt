@@ -3,7 +3,7 @@ use Rattle.std.specs.Prelude.{ℕ, List, Contains, ◌⊎◌}
 use Rattle.chp_edge.specs.Faults.{Rose, IsReadFault}
 use Rattle.command_answers.specs.declared.answer.Output.{Output}
 use Rattle.command_answers.specs.declared.answer.Refusal.{Refusal}
-use Rattle.command_answers.specs.declared.answer.Refusal.TheVariants.{Text, TooLong, TooManyNodes, TooManyForms, TooManyValues, BadNet, BadScript, BadDelays, BadWave, NoReset, NoOrder, NoChannel, NoPeer, NotBuilt}
+use Rattle.command_answers.specs.declared.answer.Refusal.TheVariants.{Text, TooLong, TooManyNodes, TooManyForms, TooManyValues, BadNet, BadScript, BadDelays, BadWave, NoReset, NoOrder, NoChannel, NoPeer}
 use Rattle.command_answers.specs.declared.answer.Stop.{Stop}
 use Rattle.command_answers.specs.declared.answer.Stop.TheVariants.{Refused, Unread, NoMemory}
 use Rattle.command_answers.specs.declared.answer.End.{End}
@@ -11,7 +11,7 @@ use Rattle.command_answers.specs.declared.answer.End.TheVariants.{Whole, CutOff,
 use Rattle.command_answers.specs.declared.status.Status.{Status}
 use Rattle.command_answers.specs.declared.status.Status.TheVariants as status
 use Rattle.command_answers.specs.Answers.{Given, Answer, writes, refuses, misses, status_with, line_with}
-use Rattle.command_answers.specs.Lines.{usage_line, read_line, write_line, no_memory_line, refused_line, too_long_line, nodes_line, forms_line, values_line, bad_net_line, bad_script_line, bad_delays_line, bad_wave_line, no_reset_line, no_order_line, no_channel_line, no_peer_line, not_built_line}
+use Rattle.command_answers.specs.Lines.{usage_line, read_line, write_line, no_memory_line, refused_line, too_long_line, nodes_line, forms_line, values_line, bad_net_line, bad_script_line, bad_delays_line, bad_wave_line, no_reset_line, no_order_line, no_channel_line, no_peer_line}
 
 abbrev pub told_answer : Output → Answer
 told_answer output = writes output.end output.text.items
@@ -30,7 +30,6 @@ refusal_status NoReset = status.BadFile
 refusal_status (NoOrder name) = status.NoOrder
 refusal_status (NoChannel name) = status.NoChannel
 refusal_status (NoPeer name) = status.NoPeer
-refusal_status NotBuilt = status.NotBuilt
 
 abbrev pub refusal_line : Refusal → List ℕ
 refusal_line (Text fault) = refused_line fault
@@ -46,7 +45,6 @@ refusal_line NoReset = no_reset_line
 refusal_line (NoOrder name) = no_order_line name.now
 refusal_line (NoChannel name) = no_channel_line name.now
 refusal_line (NoPeer name) = no_peer_line name.now
-refusal_line NotBuilt = not_built_line
 
 abbrev pub refusing : Refusal → Answer
 refusing refusal = refuses (refusal_status refusal) (refusal_line refusal)

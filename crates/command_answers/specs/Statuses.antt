@@ -1,7 +1,7 @@
 -- The number of each status, and what it means.
 use Rattle.std.specs.Prelude.{ℕ, Bool, true, false}
 use Rattle.command_answers.specs.declared.status.Status.{Status}
-use Rattle.command_answers.specs.declared.status.Status.TheVariants.{Done, RefusedText, Usage, Read, Write, Hazard, NoMemory, TooLarge, BadFile, NoOrder, NoChannel, NoPeer, Differs, NotBuilt}
+use Rattle.command_answers.specs.declared.status.Status.TheVariants.{Done, RefusedText, Usage, Read, Write, Hazard, NoMemory, TooLarge, BadFile, NoOrder, NoChannel, NoPeer, Differs}
 
 abbrev pub status_number : Status → ℕ
 status_number Done = 0
@@ -17,7 +17,6 @@ status_number NoOrder = 9
 status_number Differs = 10
 status_number NoChannel = 16
 status_number NoPeer = 17
-status_number NotBuilt = 19
 
 -- the statuses with which the whole output was written
 abbrev pub is_whole : Status → Bool
@@ -34,5 +33,4 @@ is_refusing BadFile = true
 is_refusing NoOrder = true
 is_refusing NoChannel = true
 is_refusing NoPeer = true
-is_refusing NotBuilt = true
 is_refusing _ = false

@@ -71,8 +71,6 @@ pub enum Refusal<'a> {
     NoChannel(&'a str),
     /// There is no device of this name.
     NoPeer(&'a str),
-    /// The program has procedures or calls, of which no net is made yet.
-    NotBuilt,
 }
 
 impl Refusal<'_> {
@@ -93,7 +91,6 @@ impl Refusal<'_> {
             Refusal::NoOrder(_) => Status::NoOrder,
             Refusal::NoChannel(_) => Status::NoChannel,
             Refusal::NoPeer(_) => Status::NoPeer,
-            Refusal::NotBuilt => Status::NotBuilt,
         }
     }
 }

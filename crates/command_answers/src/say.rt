@@ -266,7 +266,6 @@ fn say_refusal<W: Sink>(say: &mut W, refusal: &Refusal)
         Refusal::NoOrder(name) => say_pieces(say, &["chp: 9 order ", name, "\n"]),
         Refusal::NoChannel(name) => say_pieces(say, &["chp: 16 channel ", name, "\n"]),
         Refusal::NoPeer(name) => say_pieces(say, &["chp: 17 peer ", name, "\n"]),
-        Refusal::NotBuilt => say_pieces(say, &["chp: 19 not built\n"]),
     }
 }
 

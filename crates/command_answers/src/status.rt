@@ -35,8 +35,6 @@ pub enum Status {
     NoChannel,
     /// No handed-in device has the wanted name.
     NoPeer,
-    /// The program has procedures or calls, of which no net is made yet.
-    NotBuilt,
 }
 
 impl Status {
@@ -58,7 +56,6 @@ impl Status {
             Status::Differs => 10,
             Status::NoChannel => 16,
             Status::NoPeer => 17,
-            Status::NotBuilt => 19,
         }
     }
 }

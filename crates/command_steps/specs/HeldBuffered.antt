@@ -1,5 +1,6 @@
 -- The program with which a command continues, whose file holds an accepted one.
 use Rattle.std.specs.Prelude.{◌≡◌, ℕ, ◌≤◌, List, length, Option}
+use Rattle.chp_syntax.specs.Shape.{IsShaped}
 use Rattle.chp_syntax.specs.Trees.{ProgramTree}
 use Rattle.width_check.specs.Accepted.{IsAccepted}
 use Rattle.width_check.specs.Form.{typed_form}
@@ -9,10 +10,12 @@ use Rattle.command_steps.specs.BufferSteps.{IsBuffered}
 use Rattle.command_steps.specs.Inlined.{Means}
 use Rattle.command_steps.specs.Steps.{IsTextOf, most_of_text}
 
--- this is the typed form of the program, or of the program with a buffer on the channel that is named
+-- this is the typed form of the program, or of the program with a buffer on the channel that is named, which has the
+-- shape of the grammar
 pub record IsBufferedForm (tree : ProgramTree) (chan : Option (List ℕ)) (program : TypedProgram) : Type 0 where
   pub made : ProgramTree
   pub buffered : IsBuffered tree chan made
+  pub shaped : IsShaped made
   pub form : program ≡ typed_form made
 
 -- the program that the tree means is accepted, and this is its typed form so buffered

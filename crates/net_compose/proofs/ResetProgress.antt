@@ -15,7 +15,7 @@ use Rattle.chp_meaning.specs.Steps.{Configuration, Leads, no_step, start_of}
 use Rattle.net_compose.proofs.OnceEach.{run_length}
 use Rattle.net_compose.proofs.ResetCarried.{no_history}
 use Rattle.net_compose.proofs.RunsOn.{goes_on}
-use Rattle.net_compose.specs.Progress.{RestsAfter, KeepsPace, WhereItRests, IsLevel, ProgressesFrom, ResetProgresses, counted_moves, most_moves}
+use Rattle.net_compose.specs.Progress.{RestsAfter, KeepsPace, WhereItRests, IsLevel, ProgressesFrom, ResetProgresses, counted_moves}
 
 level_low : (st : RunState) (c : Configuration) → IsLevel st c → IsLevel (with_low st) c
 level_low st c is =
@@ -99,6 +99,7 @@ module _ (net : NetValue) (p : TypedProgram) (most : ℕ → ℕ) (from_first : 
     level = level;
   }
 
-pub reset_progresses : ((net : NetValue) → IsNet net → net.reset ≡ None → EachFromPower net) → (net : NetValue) (p : TypedProgram) → ResetProgresses net p
-reset_progresses each net p from_first is plain free values powered =
-    from_power net p (most_moves p) from_first plain (reset_is_net net is plain free) (each net is plain) values powered
+pub reset_progresses : ((net : NetValue) → IsNet net → net.reset ≡ None → EachFromPower net) → (net : NetValue) (p : TypedProgram) (most : ℕ → ℕ)
+    → ResetProgresses net p most
+reset_progresses each net p most from_first is plain free values powered =
+    from_power net p most from_first plain (reset_is_net net is plain free) (each net is plain) values powered

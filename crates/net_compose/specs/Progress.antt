@@ -75,9 +75,10 @@ abbrev pub ProgressesReset : NetValue → TypedProgram → Type 0
 ProgressesReset net p = (values : List Bool) → IsPowered net values → ProgressesFrom net p (most_moves p) values
 
 -- what holds of the runs of a net holds of those that it has with a reset node
-abbrev pub ResetProgresses : NetValue → TypedProgram → Type 0
-ResetProgresses net p = Progresses net p → IsNet net → net.reset ≡ None →
-    All (λ (name : List ℕ). name ≢ codes "reset") net.names → ProgressesReset (reset_of net) p
+abbrev pub ResetProgresses : NetValue → TypedProgram → (most : ℕ → ℕ) → Type 0
+ResetProgresses net p most = ProgressesFrom net p most net.first → IsNet net → net.reset ≡ None →
+    All (λ (name : List ℕ). name ≢ codes "reset") net.names →
+    (values : List Bool) → IsPowered (reset_of net) values → ProgressesFrom (reset_of net) p most values
 
 -- the net of each typed program that meets the sharing rule
 abbrev pub TranslationProgresses : Type 0

@@ -1,6 +1,6 @@
 //! Laws of nets and the programs that they carry.
 
-ghost use Rattle.std.specs.Prelude.{◌↔◌, ◌≤◌};
+ghost use Rattle.std.specs.Prelude.{◌↔◌, ◌≤◌, ℕ};
 ghost use Rattle.prs_core.specs.Nets.{NetValue, IsRules, IsNet};
 ghost use Rattle.width_check.specs.Processes.{TypedProgram};
 ghost use Rattle.width_check.specs.Typing.{IsTyped};
@@ -127,7 +127,7 @@ pub fn carries_reset()
 /// Law: where a net that a rule file can hold makes progress with a program, so it does with a reset node, from every
 /// power-up state: only moves after the fall of reset count.
 pub fn runs_end_reset()
-    ensures { (net : NetValue) (p : TypedProgram) → ResetProgresses net p }
+    ensures { (net : NetValue) (p : TypedProgram) (most : ℕ → ℕ) → ResetProgresses net p most }
 {
     reset_runs();
 }

@@ -2,6 +2,8 @@ pub mod SweepLemmas
 pub mod TimedKept
 pub mod ResetSweeps
 pub mod ResetKept
+pub mod SweepLayers
+pub mod SharedKept
 pub mod RoundParts
 pub mod HalfPlaces
 pub mod HalfSteps

@@ -11,9 +11,11 @@ ghost use Rattle.net_compose.specs.Translation.{translation};
 ghost use Rattle.net_compose.specs.Carries.{Carries};
 ghost use Rattle.net_compose.specs.Points.{IsTranslated};
 ghost use Rattle.net_compose.specs.Time.{KeepsTime, sweeps_for_round};
+ghost use Rattle.call_map.specs.CallNet.{CallProgram, IsCallProgram, inlined_program, call_count, call_names, call_net};
 ghost use Rattle.net_pace.specs.HalvedRounds.{TwoRoundsForOne};
 ghost use Rattle.net_pace.specs.Pace.{TimedPace, KeepsTimeReset, TimedPaceReset};
 
+use call_map::{shared_bodies_carry, shared_bodies_hold, shared_bodies_layers};
 use cell_parallel::laws::tree_settles;
 use chp_meaning::laws::halves_are_plain;
 use function_blocks::laws::expressions_hold;
@@ -40,6 +42,22 @@ pub fn keeps_time()
     tree_settles();
     expressions_hold();
     halves_keep_rounds();
+}
+
+/// Law: the net in which all calls of a procedure share one body keeps time with the program in which each call is a
+/// copy, in twice as many sweeps as the net with copies: 4 · (2 nodes + 1) for each round, where the nodes counted are
+/// those of that net. What the clauses `net` of the laws below say of any net then holds of it.
+pub fn shared_bodies_keep_time()
+    ensures { (C : CallProgram) → IsCallProgram C → IsTranslated (inlined_program C) →
+        nodes_of (inlined_program C) ≤ 65536 → call_count C ≤ 65536 →
+        KeepsTime (call_net C (call_names C)) (inlined_program C) (2 * (2 * sweeps_for_round (inlined_program C))) }
+{
+    carries();
+    whole_nets();
+    keeps_time();
+    shared_bodies_layers();
+    shared_bodies_carry();
+    shared_bodies_hold();
 }
 
 /// Law: so it does by time. Each timed run, under every script, with delays of at most D, the environment's too, that

@@ -39,20 +39,6 @@ impl Model for Streamer {
     ghost invariant = { λ s. IsCursor s.net s.cursor };
 }
 
-/// The streamer of the circuit's file.
-fn stream(alloc: Global, net: Circuit) -> Result<Streamer, AllocError>
-    ensures { IfOk result (λ s. NetText s net) }
-{
-    let _net = net.first();
-    let line = line_buffer(alloc, &net)?;
-    let cursor = Cursor {
-        line,
-        given: 0,
-        place: Place::Head,
-    };
-    Ok(Streamer { net, cursor })
-}
-
 /// The streamer of the program's file, with a reset node where one is asked for.
 fn stream_program(alloc: Global, program: &Disjoint, reset: bool) -> Result<Streamer, NetError>
     ensures text { IfOk result (λ s. NetText s (if reset then reset_of (translation (program_of program.now))
@@ -68,13 +54,27 @@ fn stream_program(alloc: Global, program: &Disjoint, reset: bool) -> Result<Stre
     runs_end();
     whole_nets();
     let net = circuit_of(alloc, program, reset)?;
-    match stream(alloc, net) {
+    match Streamer::of_circuit(alloc, net) {
         Ok(streamer) => Ok(streamer),
         Err(e) => Err(NetError::NoMemory(e)),
     }
 }
 
 impl Streamer {
+    /// The streamer of the one text of the circuit's net.
+    pub fn of_circuit(alloc: Global, net: Circuit) -> Result<Streamer, AllocError>
+        ensures { IfOk result (λ s. NetText s net) }
+    {
+        let _net = net.first();
+        let line = line_buffer(alloc, &net)?;
+        let cursor = Cursor {
+            line,
+            given: 0,
+            place: Place::Head,
+        };
+        Ok(Streamer { net, cursor })
+    }
+
     /// The streamer of the program's rule file: of the one text of the net that `translate` returns, which carries the
     /// program. A program whose circuit has more than 65,536 nodes is refused with their number.
     pub fn new(alloc: Global, program: &Disjoint) -> Result<Streamer, NetError>

@@ -4,6 +4,7 @@
 pub mod check;
 pub mod compile;
 pub mod expand;
+pub mod laws;
 pub mod migrate;
 mod reply;
 

@@ -1,31 +1,26 @@
-use Rattle.std.proofs.Common.{◌≡◌, Bool, true, false, sym, subst}
-use Rattle.env_script.specs.Environment.{net_channels}
+use Rattle.std.proofs.Common.{sym, subst}
 use Rattle.env_script.specs.ScriptText.{IsScriptText}
-use Rattle.width_check.specs.Processes.{TypedProgram}
-use Rattle.program_commands.specs.Compiling.{NetCarries, net_for}
+use Rattle.program_commands.specs.Bodies.{net_for}
 use Rattle.chp_cli.proofs.FewBytes.{few_bytes}
+use Rattle.chp_cli.proofs.FilesCompiled.{same_channels}
 use Rattle.chp_cli.proofs.laws.compiled_files_are_simulated.Goals as goal
-
-same_channels : (reset : Bool) (p : TypedProgram) → NetCarries reset p → net_channels (net_for reset p) ≡ p.channels
-same_channels false p carries = carries.channels
-same_channels true p carries = carries.channels
 
 pub returns : goal.returns
 returns c = λ s given played p h.
     let is = c.files_as_promised.ensures given s.net p h.holds in record {
       rules = h.holds.text;
-      net = net_for h.holds.reset p;
+      net = net_for h.holds.reset h.holds.bodies;
       told = h.told;
       script = h.script;
       place = h.place;
       held = h.holds.held;
-      short = few_bytes h.holds.reset p h.holds.text h.holds.spells is;
+      short = few_bytes h.holds.reset h.holds.bodies h.holds.text h.holds.spells is;
       kept = is.kept;
       spelled = h.holds.spells;
       powered = h.powered;
       held_script = h.held_script;
       short_script = h.short_script;
-      says = subst (λ channels. IsScriptText channels h.told h.script) (sym (same_channels h.holds.reset p is.carries)) h.says;
+      says = subst (λ channels. IsScriptText channels h.told h.script) (sym (same_channels h.holds.reset h.holds.bodies is.carries)) h.says;
       referable = h.referable;
       named = h.named;
     }

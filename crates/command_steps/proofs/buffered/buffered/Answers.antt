@@ -9,7 +9,12 @@ use Rattle.command_steps.proofs.Buffering.{form_as, no_name, that_name}
 use Rattle.command_steps.proofs.buffered.buffered.Goals as goal
 
 pub returns-in_default-clause-goes_on : goal.returns-in_default-clause-goes_on
-returns-in_default-clause-goes_on c = rw c.in_default.is (record { made = program_tree c.args.program.now; buffered = refl; form = c.requires.form })
+returns-in_default-clause-goes_on c = rw c.in_default.is (record {
+  made = program_tree c.args.program.now;
+  buffered = refl;
+  shaped = c.requires.shaped;
+  form = c.requires.form;
+})
 
 -- what was asked for
 named : (o : Option (Bor (List ℕ))) (text : Bor (List ℕ)) → o ≡ Some text → option_map (λ (t : Bor (List ℕ)). t.now) o ≡ Some text.now

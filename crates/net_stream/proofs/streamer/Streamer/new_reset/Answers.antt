@@ -1,6 +1,7 @@
 use Rattle.std.proofs.Common.{refl}
 use Rattle.std.specs.Prelude.{Result, Ok, Err, OnOk}
 use Rattle.width_check.specs.Typed.{program_of}
+use Rattle.net_compose.specs.Progress.{most_moves}
 use Rattle.net_compose.specs.Translation.{translation}
 use Rattle.net_compose.proofs.NamesFree.{names_free}
 use Rattle.net_stream.proofs.streamer.Streamer.new_reset.Goals as goal
@@ -18,5 +19,5 @@ returns-clause-carries c =
 pub returns-clause-progresses : goal.returns-clause-progresses
 returns-clause-progresses c =
     let p = program_of c.args.program.now in
-    on_both c.stream_program.result (λ progresses whole. c.runs_end_reset.ensures (translation p) p progresses whole refl (names_free p))
+    on_both c.stream_program.result (λ progresses whole. c.runs_end_reset.ensures (translation p) p (most_moves p) progresses whole refl (names_free p))
     c.stream_program.ensures.progresses c.stream_program.ensures.net

@@ -1,0 +1,88 @@
+"""What is known where a run stops: which parts are under way, and the values of nodes."""
+
+from __future__ import annotations
+
+import functools
+from dataclasses import dataclass
+
+from companion.fit import Fit, name_of
+from companion.parts import Part, Tree
+from companion.rules import Net
+from companion.waves import Report, bits
+
+
+@dataclass(frozen=True)
+class Scene:
+    """All that is known where a run stops: the net with the values of its nodes, the parts with their places, and the
+    report."""
+
+    net: Net
+    values: dict[str, str]
+    tree: Tree
+    fit: Fit
+    report: Report
+
+    def is_active(self, part: Part) -> bool:
+        """Whether a part's request is high and its answer low."""
+        return self.values.get(part.request) == "1" and self.values.get(part.answer) == "0"
+
+    def inside(self, part: Part) -> list[Part]:
+        """The parts in this one; in a call the body of its procedure."""
+        if part.kind != "call":
+            return part.children
+        return [child for it in self.tree.procs if it.name == part.name for child in it.children]
+
+    def leaves(self, part: Part) -> list[Part]:
+        """The parts under way in this one, itself too, that have none under way in them."""
+        if not self.is_active(part):
+            return []
+        return [leaf for child in self.inside(part) for leaf in self.leaves(child)] or [part]
+
+    def held(self, path: list[Part]) -> list[Part]:
+        """What is under way in the first part of a path and has to end before its last one comes to its turn."""
+        if len(path) > 1 and self.is_active(path[1]):
+            return self.held(path[1:])
+        return self.leaves(path[0])
+
+    def paths(self, part: Part) -> list[list[Part]]:
+        """The parts from the root down to this one; where it lies in a procedure, by each call of that."""
+        path = part.path()
+        if path[0].kind != "procedure":
+            return [path]
+        calls = [it for it in self.tree.root.walk() if it.kind == "call" and it.name == path[0].name]
+        return [[*call.path(), *path[1:]] for call in calls]
+
+    def path(self, part: Part) -> list[Part]:
+        """The same of a part under way, by the call that is under way."""
+        paths = self.paths(part)
+        return next((path for path in paths if all(self.is_active(it) for it in path[1:])), paths[0])
+
+    def called_on(self, path: list[Part]) -> str:
+        """The last part of a path for people; in a procedure with the call."""
+        calls = [f", in {self.called(it)}" for it in path if it.kind == "call"]
+        return "".join([self.called(path[-1]), *calls])
+
+    @functools.cached_property
+    def sites(self) -> dict[tuple[str, str], list[Part]]:
+        """The sends and the receives on each channel, by their kind and its name."""
+        found: dict[tuple[str, str], list[Part]] = {}
+        for part in self.tree.walk():
+            if part.kind in ("send", "receive"):
+                found.setdefault((part.kind, name_of(part, self.tree, self.net)), []).append(part)
+        return found
+
+    def is_still(self) -> bool:
+        """Whether the run has come to rest, so that what waits waits for ever unless the environment goes on."""
+        return self.report.end == ["rest"]
+
+    def called(self, part: Part) -> str:
+        """A part for people: its place and its text, or its kind and its nodes."""
+        if part in self.fit.statements:
+            return f"{self.fit.place(part)}: {self.fit.source(part)}"
+        name = part.name or name_of(part, self.tree, self.net)
+        return f"{part.kind} {name} ({part.request}, {part.answer})".replace("  ", " ")
+
+    def value(self, name: str, width: int) -> str:
+        """The value of a channel or a variable, in decimal; `between values` where not each bit has one."""
+        digits = bits(self.values, name, width)
+        return str(int(digits, 2)) if set(digits) <= {"0", "1"} else f"between values ({digits})"
