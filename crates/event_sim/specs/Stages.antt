@@ -2,6 +2,7 @@
 use Rattle.std.specs.Prelude.{◌≡◌, ℕ, ◌+◌, ◌<◌, ◌≤◌, Bool, true, false, List, [], length, take, map, All, Option, Some, None}
 use Rattle.prs_core.specs.Nets.{NetValue, IsNet}
 use Rattle.prs_core.specs.Moves.{high, both_ways}
+use Rattle.guard_rows.specs.Places.{RowsValue, AreRows}
 use Rattle.env_script.specs.Scripts.{OfferValue, IsScript}
 use Rattle.env_script.specs.Environment.{net_channels}
 use Rattle.env_script.specs.Runs.{RunState, move_enabled, moved, after}
@@ -33,13 +34,16 @@ now_of s = record { values = s.values; histories = channel_histories (length s.n
 abbrev pub moves_now : StageValue → List ℕ
 moves_now s = enabled_moves s.net s.script (now_of s)
 
--- what is also kept: the counts of completed values, the set of the enabled moves, and the least node with interference
-pub record IsKeptBeside (s : StageValue) (counts : List ℕ) (moves : List Bool) (pulled : Option ℕ) : Type 0 where
+-- what is also kept: the counts of completed values, the rows of the guards, the set of the enabled moves, and the
+-- least node with interference
+pub record IsKeptBeside (s : StageValue) (counts : List ℕ) (rows : RowsValue) (moves : List Bool)
+    (pulled : Option ℕ) : Type 0 where
   pub net : IsNet s.net
   pub script : IsScript (net_channels s.net) s.script
   pub values : length s.values ≡ length s.net.first
   pub counts_are : counts ≡ map (λ (h : List ℕ). length h) (now_of s).histories
   pub passed : All (λ (p : ℕ × ℕ). p.0 < length s.net.channels) s.passed
+  pub rows_are : AreRows s.net s.values rows
   pub moves_are : IsPassing (length s.net.first) (move_enabled s.net s.script (now_of s)) moves
   pub pulled_is : pulled ≡ least_below (length s.net.first) (both_ways s.net (high s.values))
 

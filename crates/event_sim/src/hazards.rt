@@ -4,11 +4,13 @@ ghost use Rattle.std.specs.Prelude.{◌≡◌, ℕ, ◌<◌, List, Bool, All, le
 ghost use Rattle.std.specs.List.{find};
 ghost use Rattle.prs_core.specs.Moves.{high, both_ways, fired};
 ghost use Rattle.env_script.specs.Hazards.{least_below};
+ghost use Rattle.guard_rows.specs.Places.{AreRows};
 ghost use Rattle.event_sim.specs.Stages.{worst_cause};
 
 use crate::indexed::IndexedNet;
 use env_script::Hazard;
-use prs_core::{Net, State, enabled, holds, pulled_both_ways};
+use guard_rows::GuardRows;
+use prs_core::{Net, State, pulled_both_ways};
 
 /// The least node with interference (both guards hold).
 pub(crate) fn first_pulled(net: &Net, state: &State) -> Option<u32>
@@ -21,24 +23,15 @@ pub(crate) fn first_pulled(net: &Net, state: &State) -> Option<u32>
     }
 }
 
-/// Whether the node has interference. Most nodes have no enabled rule, and then the other guard is not evaluated.
-fn is_pulled(net: &Net, state: &State, node: u32) -> bool
-    requires state { length state.now ≡ length net.now.first }
-    requires node { node < length net.now.first }
-    ensures { result ≡ both_ways net.now (high state.now) node }
-{
-    let _net = net.first();
-    enabled(net, state, node) && holds(net.up(node), state) && holds(net.down(node), state)
-}
-
 /// The first of these nodes that has interference.
-fn pulled_among(net: &Net, state: &State, nodes: &[u32]) -> Option<u32>
+fn pulled_among(net: &Net, rows: &GuardRows, state: &State, nodes: &[u32]) -> Option<u32>
+    requires rows { AreRows net.now state.now rows.now }
     requires state { length state.now ≡ length net.now.first }
     requires nodes { All (λ n. n < length net.now.first) nodes.now }
     ensures { result ≡ find (both_ways net.now (high state.now)) nodes.now }
 {
     for node in nodes {
-        if is_pulled(net, state, *node) {
+        if rows.both_ways(net, state, *node) {
             return Some(*node);
         }
     }
@@ -48,10 +41,12 @@ fn pulled_among(net: &Net, state: &State, nodes: &[u32]) -> Option<u32>
 /// The least node with interference after a move of the node, where this was the least before it.
 pub(crate) fn pulled_behind(
     indexed: &IndexedNet,
+    rows: &GuardRows,
     state: &State,
     node: u32,
     pulled: Option<u32>,
 ) -> Option<u32>
+    requires rows { AreRows indexed.now.net state.now rows.now }
     requires state { length state.now ≡ length indexed.now.net.first }
     requires node { node < length indexed.now.net.first }
     ensures { (before : List Bool)
@@ -60,7 +55,7 @@ pub(crate) fn pulled_behind(
         → result ≡ least_below (length indexed.now.net.first) (both_ways indexed.now.net (high state.now)) }
 {
     match pulled {
-        None => pulled_among(indexed.net(), state, indexed.readers(node)),
+        None => pulled_among(indexed.net(), rows, state, indexed.readers(node)),
         Some(_) => first_pulled(indexed.net(), state),
     }
 }

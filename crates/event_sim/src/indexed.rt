@@ -7,6 +7,7 @@ ghost use Rattle.prs_core.specs.Fans.{readers_below};
 ghost use Rattle.env_script.specs.Scripts.{IsScript, offer_at};
 ghost use Rattle.env_script.specs.Environment.{net_channels, channels_move};
 ghost use Rattle.env_script.specs.Phases.{phase_fault};
+ghost use Rattle.guard_rows.specs.Places.{AreRows};
 ghost use Rattle.event_sim.specs.Passing.{channel_acknowledged, completion};
 ghost use Rattle.event_sim.specs.Locality.{is_ready, IsHome, IsShared};
 ghost use Rattle.event_sim.specs.Standings.{number_of, is_done, script_and};
@@ -15,7 +16,8 @@ use crate::homes::homes_of;
 use crate::moves::{completes, in_reset};
 use crate::offers::Offers;
 use env_script::{Script, phases_keep};
-use prs_core::{Fan, Net, State, enabled, fan_of};
+use guard_rows::GuardRows;
+use prs_core::{Fan, Net, State, fan_of};
 use std::alloc::{AllocError, Global};
 use std::marker::Model;
 
@@ -122,13 +124,14 @@ impl IndexedNet {
 
     /// Whether a rule of the node is enabled, or the environment may move it while no reset is on, where so many values
     /// are completed on each channel.
-    pub(crate) fn is_ready(&self, done: &[u64], state: &State, node: u32) -> bool
+    pub(crate) fn is_ready(&self, rows: &GuardRows, done: &[u64], state: &State, node: u32) -> bool
+        requires rows { AreRows self.now.net state.now rows.now }
         requires done { length done.now ≡ length self.now.net.channels }
         requires state { length state.now ≡ length self.now.net.first }
         requires node { node < length self.now.net.first }
         ensures { result ≡ is_ready self.now done.now state.now node }
     {
-        enabled(&self.net, state, node)
+        rows.enabled(&self.net, state, node)
             || (!in_reset(&self.net, state)
                 && ((node == 0 && !state.is_high(node)) || self.is_offered(done, state, node)))
     }

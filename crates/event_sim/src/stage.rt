@@ -17,6 +17,7 @@ use crate::moves::{in_reset, is_reset};
 use crate::node_set::NodeSet;
 use crate::ran::{End, Ran};
 use env_script::{Hazard, Script};
+use guard_rows::GuardRows;
 use prs_core::{Net, State, fire};
 use std::alloc::{AllocError, Global};
 use std::marker::Model;
@@ -33,11 +34,13 @@ pub struct Concerned<'a> {
 }
 
 /// How far a run has come: its net and script, the values of the nodes, and what has passed. It also keeps how many
-/// values are completed on each channel, the list of the enabled moves, and the least node with interference.
+/// values are completed on each channel, what the guards of the nodes say, the list of the enabled moves, and the least
+/// node with interference.
 #[derive(Debug, Drop)]
 pub struct Stage {
     indexed: IndexedNet,
     state: State,
+    rows: GuardRows,
     done: Vec<u64>,
     passed: Vec<(u32, u64)>,
     moves: NodeSet,
@@ -55,7 +58,7 @@ impl Model for Stage {
 
     ghost invariant = { λ s. IsKeptBeside
         (stage_with s.indexed.net s.indexed.script s.state s.passed.items
-        (vec_capacity s.passed - length s.passed.items)) s.done.items s.moves s.pulled };
+        (vec_capacity s.passed - length s.passed.items)) s.done.items s.rows s.moves s.pulled };
 }
 
 fn no_counts(alloc: Global, channels: usize) -> Result<Vec<u64>, AllocError>
@@ -118,12 +121,14 @@ impl Stage {
         let passed = Vec::with_capacity(alloc, room as usize)?;
         let mut moves = NodeSet::new(alloc, nodes)?;
         let pulled = first_pulled(&net, &state);
+        let rows = GuardRows::new(alloc, &net, &state)?;
         let indexed = IndexedNet::new(alloc, net, script)?;
-        list_ready(&indexed, &done, &state, &mut moves);
+        list_ready(&indexed, &rows, &done, &state, &mut moves);
         add_reset(&indexed, &state, &mut moves);
         Ok(Stage {
             indexed,
             state,
+            rows,
             done,
             passed,
             moves,
@@ -223,15 +228,17 @@ impl Stage {
         let broken = self.indexed.broken_phases(&self.state, node);
         let completed = self.indexed.completion(&self.state, node);
         note(&mut self.done, &mut self.passed, completed);
+        self.rows.turn(self.indexed.net(), &self.state, node);
         fire(&mut self.state, node);
         let lost = relist(
             &self.indexed,
+            &self.rows,
             &self.done,
             &self.state,
             node,
             &mut self.moves,
         );
-        self.pulled = pulled_behind(&self.indexed, &self.state, node, self.pulled);
+        self.pulled = pulled_behind(&self.indexed, &self.rows, &self.state, node, self.pulled);
         worst_cause(self.pulled, lost, broken)
     }
 
@@ -278,6 +285,7 @@ impl Stage {
         self.indexed.add(chan, value);
         retest_channel(
             &self.indexed,
+            &self.rows,
             &self.done,
             &self.state,
             chan,

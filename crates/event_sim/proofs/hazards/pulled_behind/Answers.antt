@@ -15,6 +15,9 @@ pulled_among-requires-clause-nodes c =
     rw (c.net.ensures.net, c.readers.ensures)
     (All-filter (is_reader net c.args.node) (λ n. n < length net.first) (range_with_len 0 (length net.first)) (range_below (length net.first)))
 
+pub pulled_among-requires-clause-rows : goal.pulled_among-requires-clause-rows
+pulled_among-requires-clause-rows c = rw c.net.ensures.net c.requires.rows
+
 pub returns-in-None : goal.returns-in-None
 returns-in-None c = λ before is was.
     let net = c.args.indexed.now.net in

@@ -7,6 +7,7 @@ use Rattle.env_script.specs.Runs.{RunState, completed}
 use Rattle.event_sim.specs.Locality.{IndexedValue}
 use Rattle.event_sim.specs.Passing.{channel_histories}
 use Rattle.event_sim.specs.Standings.{is_idle, script_and, IsRetestedOn}
+use Rattle.guard_rows.specs.Places.{AreRows}
 use Rattle.event_sim.specs.Stages.{StageValue, stage_with, now_of, IsKeptBeside}
 use Rattle.event_sim.proofs.Histories.{counts_whole, count_few}
 use Rattle.event_sim.proofs.Staged.{counts_are}
@@ -35,6 +36,11 @@ retest_channel-requires-clause-done c =
     ap length c.deref.ensures.value ∙ counts_whole (length s.indexed.net.channels) s.passed.items s.done.items c.self.invariant.counts_are
     ∙ sym (ap (λ (x : IndexedValue). length x.net.channels) c.add.ensures)
 
+pub retest_channel-requires-clause-rows : goal.retest_channel-requires-clause-rows
+retest_channel-requires-clause-rows c =
+    let s = c.self.inside in
+    subst (λ (x : IndexedValue). AreRows x.net s.state s.rows) (sym c.add.ensures) c.self.invariant.rows_are
+
 pub invariant_of-self : goal.invariant_of-self
 invariant_of-self c =
     let s = c.self.inside in
@@ -50,13 +56,15 @@ invariant_of-self c =
     let retested : IsRetestedOn later s.done.items s.state k s.moves c.retest_channel.new.moves =
     subst (λ (ks : List ℕ). IsRetestedOn later ks s.state k s.moves c.retest_channel.new.moves) c.deref.ensures.value
     (subst (λ (y : IndexedValue). IsRetestedOn y c.deref.result.now s.state k s.moves c.retest_channel.new.moves) c.add.ensures c.retest_channel.ensures) in
-    subst (λ (y : IndexedValue). IsKeptBeside (stage_with y.net y.script s.state s.passed.items room) s.done.items c.retest_channel.new.moves s.pulled)
+    subst (λ (y : IndexedValue). IsKeptBeside (stage_with y.net y.script s.state s.passed.items room) s.done.items s.rows c.retest_channel.new.moves
+    s.pulled)
     (sym c.add.ensures) (record {
       net = c.self.invariant.net;
       script = subst (λ (v : StageValue). IsScript (net_channels v.net) (script_and k value v.script)) (sym c.self.view_is) c.requires.script;
       values = c.self.invariant.values;
       counts_are = c.self.invariant.counts_are;
       passed = c.self.invariant.passed;
+      rows_are = c.self.invariant.rows_are;
       moves_are = passing_added x.net x.script st s.done.items k value s.moves c.retest_channel.new.moves c.self.invariant.counts_are off within
           c.self.invariant.moves_are retested;
       pulled_is = c.self.invariant.pulled_is;

@@ -2,7 +2,9 @@ use Rattle.std.proofs.Common.{◌≡◌, ◌∙◌, ◌++◌, refl, sym, ap, sub
 use Rattle.std.specs.Prelude.{Option, option_to_list}
 use Rattle.std.proofs.lemmas.List.{length-set}
 use Rattle.std.proofs.lemmas.List.FromFn.{length-map-range_with_len}
+use Rattle.prs_core.specs.Nets.{NetValue}
 use Rattle.prs_core.specs.Moves.{high, both_ways, fired}
+use Rattle.guard_rows.specs.Places.{AreRows}
 use Rattle.env_script.specs.Runs.{RunState, move_enabled, histories_after}
 use Rattle.env_script.specs.Hazards.{least_below}
 use Rattle.event_sim.specs.Passing.{channel_histories, values_through}
@@ -28,6 +30,23 @@ relist-lost-requires-clause-done c =
     let s = c.self.inside in
     ap length c.deref.ensures.value ∙ counts_whole (length s.done.items) c.note.new.passed.items c.note.new.done.items c.note.ensures.counts
     ∙ counts_whole (length s.indexed.net.channels) s.passed.items s.done.items c.self.invariant.counts_are
+
+pub turn-requires-clause-rows : goal.turn-requires-clause-rows
+turn-requires-clause-rows c =
+    let s = c.self.inside in
+    subst (λ (net : NetValue). AreRows net s.state s.rows) (sym c.net.ensures.net) c.self.invariant.rows_are
+
+pub relist-lost-requires-clause-rows : goal.relist-lost-requires-clause-rows
+relist-lost-requires-clause-rows c =
+    let s = c.self.inside in
+    subst (λ (vs : List Bool). AreRows s.indexed.net vs c.turn.new.self) (sym c.fire.ensures)
+    (subst (λ (net : NetValue). AreRows net (fired s.state c.args.node) c.turn.new.self) c.net.ensures.net c.turn.ensures)
+
+pub pulled_behind-self-inside-requires-clause-rows : goal.pulled_behind-self-inside-requires-clause-rows
+pulled_behind-self-inside-requires-clause-rows c =
+    let s = c.self.inside in
+    subst (λ (vs : List Bool). AreRows s.indexed.net vs c.turn.new.self) (sym c.fire.ensures)
+    (subst (λ (net : NetValue). AreRows net (fired s.state c.args.node) c.turn.new.self) c.net.ensures.net c.turn.ensures)
 
 pub invariant_of-self : goal.invariant_of-self
 invariant_of-self c =
@@ -60,6 +79,8 @@ invariant_of-self c =
       passed = passed_within channels s.passed.items c.note.new.passed.items c.completion-completed.result c.self.invariant.passed
           (completion_within x.net (high s.state) n c.completion-completed.result channels c.completion-completed.ensures.completion refl)
           c.note.ensures.passed;
+      rows_are = subst (λ (vs : List Bool). AreRows x.net vs c.turn.new.self) (sym c.fire.ensures)
+          (subst (λ (net : NetValue). AreRows net (fired s.state n) c.turn.new.self) c.net.ensures.net c.turn.ensures);
       moves_are = passing_same x.net x.script now c.deref.result.now c.relist-lost.new.moves (c.deref.ensures.value ∙ counts) relisted.set_is;
       pulled_is = c.pulled_behind-self-inside.ensures s.state c.fire.ensures c.self.invariant.pulled_is;
     }

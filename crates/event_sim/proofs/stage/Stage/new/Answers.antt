@@ -25,13 +25,15 @@ invariant_of-result c =
     let passing = passing_same x.net x.script st c.deref.result.now c.add_reset.new.moves (c.deref.ensures.value ∙ counted)
     (c.add_reset.ensures c.deref.result.now c.list_ready.ensures) in
     let room = vec_capacity c.in_ok-passed.passed - length c.in_ok-passed.passed.items in
-    subst (λ (passed : List (ℕ × ℕ)). IsKeptBeside (stage_with x.net x.script c.args.state passed room) done c.add_reset.new.moves c.first_pulled-pulled.result)
+    subst (λ (passed : List (ℕ × ℕ)). IsKeptBeside (stage_with x.net x.script c.args.state passed room) done c.in_ok-rows.rows c.add_reset.new.moves
+    c.first_pulled-pulled.result)
     (sym c.in_ok-passed.ensures.items) (record {
       net = rw made c.first-nodes.ensures.net;
       script = rw made c.requires.script;
       values = rw made c.requires.state;
       counts_are = counted;
       passed = All-nil (λ (p : ℕ × ℕ). p.0 < length x.net.channels);
+      rows_are = rw made c.in_ok-rows.ensures;
       moves_are = passing;
       pulled_is = c.first_pulled-pulled.ensures ∙ ap (λ (y : IndexedValue). least_below (length y.net.first) (both_ways y.net (high c.args.state))) (sym made);
     })

@@ -1,0 +1,5 @@
+mod Indexes
+mod Masks
+mod Totals
+mod Turns
+mod Made

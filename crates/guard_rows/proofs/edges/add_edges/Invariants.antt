@@ -1,0 +1,14 @@
+use Rattle.std.proofs.Common.{◌≡◌, ℕ, ◌+◌, ◌<◌, ◌^◌, cond, [], length, get_or, take}
+use Rattle.std.specs.Prelude.{◌==◌, All}
+use Rattle.guard_rows.specs.Places.{total_to, weight_of}
+use Rattle.guard_rows.proofs.edges.add_edges.Given as goal
+
+abbrev pub invariant-loop-input : goal.invariant-loop-input
+invariant-loop-input l = record {
+  count : length l.edges.items ≡ length l.fn.edges.items;
+  weight : l.weight ≡ 2 ^ l.input-index;
+  total : (m r : ℕ) → m < length l.fn.edges.items → total_to r (get_or l.edges.items m []) ≡
+      total_to r (get_or l.fn.edges.items m []) + cond (l.row == r) (weight_of m (take l.input-index l.inputs)) 0;
+  within : (count m : ℕ) → l.row < count → m < length l.fn.edges.items →
+      All (λ (e : ℕ × ℕ). e.0 < count) (get_or l.fn.edges.items m []) → All (λ (e : ℕ × ℕ). e.0 < count) (get_or l.edges.items m []);
+}

@@ -1,0 +1,21 @@
+use Rattle.std.proofs.Common.{ℕ, ◌<◌, [], List, length, sym, ap, subst, arith}
+use Rattle.std.specs.Prelude.{All, Bool}
+use Rattle.std.proofs.lemmas.List.Elements.{All-nil}
+use Rattle.prs_core.specs.Nets.{GuardValue, IsBelow}
+use Rattle.guard_rows.proofs.rows.GuardRows.new.Goals as goal
+
+pub add-requires-clause-inputs : goal.add-requires-clause-inputs
+add-requires-clause-inputs c =
+    let net = c.args.net.now in
+    let count = length net.first in
+    let is = c.first-nodes.ensures.net in
+    let n = c.loop-node.node in
+    let within : n < count = omega (arith, c.loop-node-test.true, ap (λ (bs : List Bool). length bs) c.first-nodes.ensures.first) in
+    let raises : IsBelow count c.up.result.now =
+    subst (λ (g : GuardValue). IsBelow count g) (sym c.up.ensures) (is.up_within n [] (omega (arith, within, is.ups))) in
+    let lowers : IsBelow count c.down.result.now =
+    subst (λ (g : GuardValue). IsBelow count g) (sym c.down.ensures) (is.down_within n [] (omega (arith, within, is.downs))) in
+    let none : All (λ k. k < count) c.clear.new.self.items =
+    subst (λ (ks : List ℕ). All (λ k. k < count) ks) (sym c.clear.ensures.items) (All-nil (λ k. k < count)) in
+    subst (λ (ks : List ℕ). All (λ k. k < count) ks) (sym c.deref.ensures.value)
+    (c.in_ok-note_guard-2.ensures.within count lowers (c.in_ok-note_guard.ensures.within count raises none))

@@ -1,0 +1,69 @@
+//! For each node the rows that read it.
+
+ghost use Rattle.std.specs.Prelude.{◌≡◌, ℕ, ◌+◌, ◌<◌, ◌≤◌, ◌==◌, [], ◌∷◌, ◌++◌, if◌then◌else◌, length, vec_len, slice_index_or, All, replicate, IfOk, OnOk};
+ghost use Rattle.guard_rows.specs.Places.{weight_of, total_to};
+
+use std::alloc::{AllocError, Global};
+use std::marker::Model;
+
+/// The rows that read one node, each with what a turn of the node adds to the row's place.
+#[derive(Debug, Drop)]
+pub(crate) struct Edges {
+    list: Vec<(u32, u8)>,
+}
+
+impl Model for Edges {
+    ghost use Rattle.std.specs.Prelude.{List, ℕ};
+
+    ghost Value = { List (ℕ × ℕ) };
+
+    ghost view = { λ e. e.list.items };
+}
+
+impl Edges {
+    /// The rows, each with what a turn adds.
+    pub(crate) fn list(&self) -> &[(u32, u8)]
+        ensures { result.now ≡ self.now }
+    {
+        &self.list
+    }
+
+    fn push(&mut self, row: u32, weight: u8) -> Result<(), AllocError>
+        ensures { OnOk result (self.new ≡ self.old ++ (row, weight) ∷ []) }
+    {
+        self.list.push((row, weight))?;
+        Ok(())
+    }
+}
+
+pub(crate) fn no_edges(alloc: Global, nodes: usize) -> Result<Vec<Edges>, AllocError>
+    ensures { IfOk result (λ v. v.items ≡ replicate nodes []) }
+{
+    let mut edges = Vec::with_capacity(alloc, nodes)?;
+    for _node in 0..nodes {
+        edges.push(Edges {
+            list: Vec::new(alloc),
+        })?;
+    }
+    Ok(edges)
+}
+
+/// The row reads these nodes, the first of them as the lowest bit of its place.
+pub(crate) fn add_edges(edges: &mut Vec<Edges>, inputs: &[u32], row: u32) -> Result<(), AllocError>
+    requires few { length inputs.now ≤ 6 }
+    requires within { All (λ n. n < vec_len edges.old) inputs.now }
+    ensures count { vec_len edges.new ≡ vec_len edges.old }
+    ensures total { OnOk result ((m r : ℕ) → m < vec_len edges.old →
+        total_to r (slice_index_or edges.new.items m []) ≡
+        total_to r (slice_index_or edges.old.items m []) + (if row == r then weight_of m inputs.now else 0)) }
+    ensures within { OnOk result ((count m : ℕ) → row < count → m < vec_len edges.old
+        → All (λ (e : ℕ × ℕ). e.0 < count) (slice_index_or edges.old.items m [])
+        → All (λ (e : ℕ × ℕ). e.0 < count) (slice_index_or edges.new.items m [])) }
+{
+    let mut weight = 1;
+    for input in inputs {
+        edges[*input as usize].push(row, weight)?;
+        weight *= 2;
+    }
+    Ok(())
+}

@@ -1,0 +1,8 @@
+//! Rows of a table in place of guards: what the two guards of a node say for each choice of the values that they read.
+#![tactic(auto)]
+
+mod edges;
+mod rows;
+mod words;
+
+pub use rows::GuardRows;
