@@ -2,6 +2,7 @@ pub mod Loops
 pub mod Wires
 pub mod Numerals
 pub mod Places
+pub mod NameTables
 pub mod OneMore
 pub mod MadeScripts
 pub mod ReadLines

@@ -76,10 +76,11 @@ place_is channels name k c found is =
 abbrev Answers : List Channel → List ℕ → Option ℕ → Type 0
 Answers channels bytes answer = answer ≡ position (λ (c : Channel). bytes_eq c.name bytes) channels
 
-pub is_place : (channels : List Channel) (bytes name : List ℕ) (answer : Option ℕ) (k : ℕ) (c : Channel) → bytes ≡ name → Answers channels bytes answer →
-    answer ≡ Some k → c ≡ get_or channels k c → IsPlace channels name k c
-is_place channels bytes name answer k c same answers found is =
-    subst (λ (n : List ℕ). IsPlace channels n k c) same (place_is channels bytes k c (sym answers ∙ found) is)
+pub is_place : (channels listed : List Channel) (bytes name : List ℕ) (answer : Option ℕ) (k : ℕ) (c : Channel) → bytes ≡ name →
+    Answers channels bytes answer → answer ≡ Some k → listed ≡ channels → c ≡ get_or listed k c → IsPlace channels name k c
+is_place channels listed bytes name answer k c same answers found all is =
+    subst (λ (n : List ℕ). IsPlace channels n k c) same
+    (place_is channels bytes k c (sym answers ∙ found) (is ∙ ap (λ (cs : List Channel). get_or cs k c) all))
 
 pub no_place : (channels : List Channel) (bytes name : List ℕ) (answer : Option ℕ) → bytes ≡ name → Answers channels bytes answer → answer ≡ None →
     channel_named channels name ≡ None

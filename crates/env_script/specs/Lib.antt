@@ -12,3 +12,4 @@ pub mod Cutting
 pub mod ScriptText
 pub mod Faults
 pub mod LineSteps
+pub mod NamePlaces

@@ -1,6 +1,7 @@
 //! Scripts of the environment, the moves that it makes by them, and the phases of channels.
 #![tactic(auto)]
 
+mod channel_index;
 mod environment;
 mod fault;
 mod hazard;

@@ -6,6 +6,7 @@ ghost use Rattle.env_script.specs.Scripts.{IsScript};
 ghost use Rattle.env_script.specs.Offers.{offered};
 ghost use Rattle.env_script.specs.ScriptText.{offer_of, script_of, is_told, IsScriptText, IsOnlyScript, IsNoScript, IsScriptRefused, IsOnlyRefusal, OfScriptRefusal};
 
+use crate::channel_index::ChannelIndex;
 use crate::fault::ScriptError;
 use crate::script::{Count, Offer, Script};
 use crate::step::{Step, Taken, step_of};
@@ -74,11 +75,12 @@ pub fn read_script(alloc: Global, text: &[u8], channels: &[Channel]) -> Result<S
     ensures none { IfErr result (OfScriptRefusal (λ fault line. IsNoScript channels.now text.now)) }
 {
     let lines = lines_of(alloc, text)?;
+    let index = ChannelIndex::from_channels(alloc, channels)?;
     let mut offers = first_offers(alloc, channels)?;
     let mut told = none_told(alloc, channels)?;
     let mut values = 0;
     for (at, line) in lines.iter().enumerate() {
-        match step_of(alloc, channels, &told, values, line)? {
+        match step_of(alloc, &index, &told, values, line)? {
             Step::Skip => {}
             Step::Refused(fault) => {
                 let line = at as u32 + 1;

@@ -1,6 +1,6 @@
 //! What a line of a script does.
 
-ghost use Rattle.std.specs.Prelude.{◌≡◌, ◌<◌, ◌≤◌, ◌^◌, nat_lt, ℕ, All, length, position, bytes_eq, Some, None, IfOk, IfSome, IfNone};
+ghost use Rattle.std.specs.Prelude.{◌≡◌, ◌<◌, ◌≤◌, ◌^◌, nat_lt, ℕ, All, length, Some, None, IfOk, IfSome, IfNone};
 ghost use Rattle.std.specs.List.{list_all};
 ghost use Rattle.chp_base.specs.declared.channel.Channel.{Channel};
 ghost use Rattle.env_script.specs.Cutting.{words_of};
@@ -9,6 +9,7 @@ ghost use Rattle.env_script.specs.Offers.{offered};
 ghost use Rattle.env_script.specs.ScriptText.{is_inside, suits, fits, values_in, fault_on, offer_of, channel_named};
 ghost use Rattle.env_script.specs.LineSteps.{IsPlace, IsStepOf, told_at};
 
+use crate::channel_index::ChannelIndex;
 use crate::fault::ScriptFault;
 use crate::line::{Said, line_in};
 use crate::script::{Count, Offer};
@@ -142,23 +143,10 @@ fn offer_of(alloc: Global, kind: Kind, said: Said) -> Offer
     }
 }
 
-fn is_named(channel: &Channel, name: &[u8]) -> bool
-    ensures { result ≡ bytes_eq channel.now.name name.now }
-{
-    channel.name.bytes() == name
-}
-
-/// The number of the channel with the name, or None where there is none.
-fn place_of(channels: &[Channel], name: &[u8]) -> Option<usize>
-    ensures { result ≡ position (λ (c : Channel). bytes_eq c.name name.now) channels.now }
-{
-    channels.iter().position(|channel| is_named(channel, name))
-}
-
 /// What the line does, where the marked channels already had a line and so many values came before.
 pub fn step_of(
     alloc: Global,
-    channels: &[Channel],
+    channels: &ChannelIndex,
     told: &[bool],
     values: usize,
     line: &[u8],
@@ -175,10 +163,10 @@ pub fn step_of(
     let Some(line) = line_in(alloc, &words)? else {
         return Ok(Step::Refused(ScriptFault::BadLine));
     };
-    let Some(place) = place_of(channels, line.name.bytes()) else {
+    let Some(place) = channels.find(line.name.bytes()) else {
         return Ok(Step::Refused(ScriptFault::NoSuchChannel));
     };
-    let channel = &channels[place];
+    let channel = &channels.channels()[place];
     if let Some(fault) = fault_on(channel, told[place], values, &line.said) {
         return Ok(Step::Refused(fault));
     }

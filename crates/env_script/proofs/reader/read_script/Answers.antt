@@ -29,17 +29,17 @@ pub returns-in-Refused-clause-refused : goal.returns-in-Refused-clause-refused
 returns-in-Refused-clause-refused c =
     refused_at c.args.channels.now c.args.text.now c.deref-line-items.result.now c.loop-at.at _ _ c.loop-at.told.items _ _ c.in-Refused.fault
     (ap texts c.deref-line-items.ensures.value ∙ c.in_ok-lines.ensures) c.loop-at-test.true c.loop-at.invariant c.deref.ensures.value
-    (rw c.in-Refused.is at c.in_ok-step_of.ensures)
+    (rw (c.in-Refused.is, c.in_ok-index.ensures) at c.in_ok-step_of.ensures)
 
 pub note-requires-clause-offers : goal.note-requires-clause-offers
 note-requires-clause-offers c =
-    let step = rw c.in-Take.is at c.in_ok-step_of.ensures in
+    let step = rw (c.in-Take.is, c.in_ok-index.ensures) at c.in_ok-step_of.ensures in
     let same : length c.deref_mut.result.now ≡ length c.loop-at.offers.items = ap length c.deref_mut.ensures.value in
     omega (arith, step.place.within, same, length-map c.loop-at.offers.items offered, one_offer_each _ _ _ _ _ _ c.loop-at.invariant.1)
 
 pub loop-at-preserved : goal.loop-at-preserved
 loop-at-preserved c =
-    elim c.match-branch-5.branch [
+    elim c.match-branch-6.branch [
       | in-Skip w ↦ rw (
         w.offers-is,
         w.told-is,
@@ -51,7 +51,7 @@ loop-at-preserved c =
           let told_kept : length w.note.new.told ≡ c.loop-at.told.len = search rules in
           rw (w.offers-is, w.told-is, w.values-is) (take_line c.args.channels.now c.deref-line-items.result.now c.loop-at.at _ _ _ c.loop-at.told.items _ _
           c.loop-at.values w.in-Take.taken c.requires.distinct c.loop-at-test.true c.loop-at.invariant c.deref.ensures.value
-          (rw w.in-Take.is at c.in_ok-step_of.ensures)
+          (rw (w.in-Take.is, c.in_ok-index.ensures) at c.in_ok-step_of.ensures)
           (ap (map offered) (with_items_is c.loop-at.offers w.note.new.offers offers_kept) ∙ w.note.ensures.offers
           ∙ ap (λ os. slice_set (map offered os) w.in-Take.taken.place (offered w.in-Take.taken.offer)) w.deref_mut.ensures.value)
           (with_items_is c.loop-at.told w.note.new.told told_kept ∙ w.note.ensures.told
