@@ -12,7 +12,8 @@ use Rattle.clap.specs.Simple.{index_after, with_index}
 use Rattle.clap.specs.Takes.{is_given}
 use Rattle.clap.specs.declared.parser.matches.ValueSource.TheVariants.{DefaultValue}
 use Rattle.command_words.specs.PlainForms.{Argument, ArgumentKind, ArgumentsMet, a_word, a_flag, an_option, told_text, text_met, told_texts}
-use Rattle.command_words.proofs.FormRules.{both_true, filled_rule, is_needed, of, rule_for, rules_from}
+use Rattle.command_words.specs.BuiltForms.{is_needed, rule_for}
+use Rattle.command_words.proofs.FormRules.{both_true, filled_rule, of, rules_from}
 use Rattle.command_words.proofs.FormRows.{made, made_found, unmet}
 
 abbrev pub row_at : Text → List Row → Option Row

@@ -6,36 +6,12 @@ use Rattle.std.specs.Str.{bytes_eq}
 use Rattle.std.proofs.lemmas.Bool.Decides.{nat_tests}
 use Rattle.clap.specs.Lexer.{usize_max}
 use Rattle.clap.specs.Walk.{Rule, Text, arg_by_id, arg_by_index, arg_by_long, arg_by_short, is_early_multiple}
-use Rattle.clap.specs.Simple.{App, filled, filled_from, index_after, is_in_order, new_rule, on_top, with_index}
-use Rattle.clap.specs.declared.builder.ArgAction.{ArgAction}
-use Rattle.clap.specs.declared.builder.ArgAction.TheVariants.{Set, SetTrue}
+use Rattle.clap.specs.Simple.{filled, filled_from, index_after, is_in_order, with_index}
 use Rattle.clap.specs.Takes.{default_passes}
 use Rattle.command_words.specs.PlainForms.{Argument, ArgumentKind, a_word, a_flag, an_option, argument_called, is_a_word, word_names}
-use Rattle.command_words.specs.SimulateWords.{bare_form}
+use Rattle.command_words.specs.BuiltForms.{rule_for}
 
 -- ---- arguments
-
-abbrev pub is_needed : ArgumentKind → Bool
-is_needed a_word = true
-is_needed a_flag = false
-is_needed (an_option needed) = needed
-
-abbrev pub action_for : ArgumentKind → ArgAction
-action_for a_flag = SetTrue
-action_for _ = Set
-
--- a flag and an option are called by their names
-abbrev pub called : ArgumentKind → Text → Option Text
-called a_word name = None
-called _ name = Some name
-
--- what the argument is to `clap`
-abbrev pub rule_for : Argument → Rule
-rule_for a = record (new_rule a.name) { long = called a.kind a.name; action = Some (action_for a.kind); required = is_needed a.kind }
-
--- the form of these arguments
-abbrev pub form_of : Text → List Argument → App
-form_of name arguments = on_top (λ s. record s { rules = map rule_for arguments }) (bare_form name)
 
 abbrev pub of : Text → ArgumentKind → Argument
 of name kind = record { name = name; kind = kind }

@@ -16,7 +16,8 @@ use Rattle.clap.specs.Takes.{default_passes, entered_passes, is_valid, level_pas
 use Rattle.command_words.specs.Forms.{texts_of}
 use Rattle.command_words.specs.PlainForms.{Argument, ArgumentKind, ArgumentsMet, WordPlace, a_word, a_flag, an_option, anywhere, argument_called, before_value, after_dashes, is_a_word, was_met, meets_argument, plain_words, read_words, told_texts, with_argument, with_name, with_kind, with_word, word_names}
 use Rattle.command_words.specs.Words.{is_flag}
-use Rattle.command_words.proofs.FormRules.{Comes, all_found, all_simple, both_true, comes_from, defaults_pass, filled_free, filled_rule, filled_simple, form_of, found_passes, in_order, of, rules_from}
+use Rattle.command_words.specs.BuiltForms.{form_of}
+use Rattle.command_words.proofs.FormRules.{Comes, all_found, all_simple, both_true, comes_from, defaults_pass, filled_free, filled_rule, filled_simple, found_passes, in_order, of, rules_from}
 use Rattle.command_words.proofs.FormRows.{made}
 use Rattle.command_words.proofs.FormEnds.{tells_flags, values_told}
 use Rattle.command_words.proofs.FormWalk.{AreRules, Stands, any_turn, any_walked, are_rules, at, attached_turn, attached_twice, attached_walked, awaits, dashes, dashes_turn, dashes_walked, doomed_turn, flag_turn, flag_twice, flag_valued, flag_walked, full_any, full_turn, holds, holds_passes, holds_stands, is_own, lost_any, lost_turn, option_turn, option_walked, plain_word, reacts_stands, shape_with, short_turn, short_word, strange_turn, value_turn, value_walked, word_turn, word_walked}

@@ -5,7 +5,8 @@ pub mod FormWalk
 pub mod FormTaken
 pub mod Written
 pub mod PlainCommands
-pub mod Asked
+pub mod FormsBuilt
+pub mod FormsRead
 pub mod Taken
 pub mod GivenTexts
 pub mod Results

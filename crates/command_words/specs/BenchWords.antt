@@ -3,7 +3,7 @@ use Rattle.std.specs.Prelude.{ℕ, true, if◌then◌else◌, List, [], ◌∷�
 use Rattle.clap.specs.Words.{App, Rule, Text, first_of, matches_of, new_rule, takes, with_rule}
 use Rattle.clap.specs.declared.builder.ArgAction.TheVariants.{Set}
 use Rattle.command_words.specs.declared.bench_words.Benching.{Benching}
-use Rattle.command_words.specs.PlainForms.{Argument, needed_named, option_named, plain_words, word_named}
+use Rattle.command_words.specs.PlainForms.{Argument, needed_named, option_named, word_named}
 use Rattle.command_words.specs.SimulateWords.{bare_form, word_rule, option_rule, number_or, order_or, most_of_seed, most_of_steps}
 
 -- an option of this name with a value, which has to be there, and is given once
@@ -49,6 +49,7 @@ bench_of name words = if takes (bench_form name) words
 
 -- ---- the same in plain words
 
+-- a rule file and `--peer NAME`, and beside them `--order NAME`, `--seed N` and `--steps N`
 abbrev pub bench_arguments : List Argument
 bench_arguments = word_named (codes "PRS") ∷ needed_named (codes "peer")
     ∷ option_named (codes "order") ∷ option_named (codes "seed") ∷ option_named (codes "steps") ∷ []
@@ -56,7 +57,3 @@ bench_arguments = word_named (codes "PRS") ∷ needed_named (codes "peer")
 abbrev pub bench_by : List (Option Text) → Option AskedBench
 bench_by (net ∷ peer ∷ order ∷ seed ∷ steps ∷ []) = bench_with net peer order seed steps
 bench_by _ = None
-
--- a rule file and `--peer NAME`, and beside them `--order NAME`, `--seed N` and `--steps N`
-unfoldable pub plain_bench : List Text → Option AskedBench
-plain_bench words = option_and_then bench_by (plain_words bench_arguments words)

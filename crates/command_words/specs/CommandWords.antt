@@ -4,12 +4,12 @@ use Rattle.std.specs.Borrow.{Bor}
 use Rattle.std.specs.Str.{bytes_eq}
 use Rattle.std.specs.declared.alloc.Global.{Global}
 use Rattle.std.specs.declared.string.String.{String}
-use Rattle.command_words.specs.BenchWords.{AskedBench, bench_asked, bench_of, plain_bench}
-use Rattle.command_words.specs.CompileWords.{AskedCompilation, compilation_asked, compile_of, plain_compile}
-use Rattle.command_words.specs.GrowWords.{IsGrowable, growth_of, plain_growth}
-use Rattle.command_words.specs.RoundsWords.{AskedRounds, plain_rounds, rounds_of}
-use Rattle.command_words.specs.SimulateWords.{AskedRun, AskedSimulation, AskedTiming, bare_form, by_order, by_delays, most_of_steps, plain_simulate, simulate_of, word_rule}
-use Rattle.command_words.specs.WavesWords.{AskedWaves, plain_waves, waves_of}
+use Rattle.command_words.specs.BenchWords.{AskedBench, bench_arguments, bench_asked, bench_by, bench_of}
+use Rattle.command_words.specs.CompileWords.{AskedCompilation, compilation_asked, compile_arguments, compile_by, compile_of}
+use Rattle.command_words.specs.GrowWords.{IsGrowable, grow_arguments, grow_by, growth_of}
+use Rattle.command_words.specs.RoundsWords.{AskedRounds, rounds_by, rounds_of, run_arguments}
+use Rattle.command_words.specs.SimulateWords.{AskedRun, AskedSimulation, AskedTiming, bare_form, by_order, by_delays, most_of_steps, simulate_arguments, simulate_by, simulate_of, word_rule}
+use Rattle.command_words.specs.WavesWords.{AskedWaves, waves_arguments, waves_by, waves_of}
 use Rattle.command_words.specs.Forms.{texts_of}
 use Rattle.command_words.specs.PlainForms.{Argument, plain_words, word_named}
 use Rattle.clap.specs.Words.{App, Text, first_of, matches_of, takes, with_rule}
@@ -19,8 +19,6 @@ use Rattle.command_words.specs.declared.rounds_words.Rounds.{Rounds}
 use Rattle.command_words.specs.declared.waves_words.Waves.{Waves as WavesWanted}
 use Rattle.command_words.specs.declared.simulation.Simulation.{Simulation}
 use Rattle.command_words.specs.declared.simulation.Timing.{Timing}
-use Rattle.command_words.specs.declared.simulation.Choosing.{Choosing}
-use Rattle.command_words.specs.declared.simulation.Choosing.TheVariants.{ByOrder, ByDelays}
 use Rattle.command_words.specs.declared.command.Verb.{Verb}
 use Rattle.command_words.specs.declared.grow_words.Growth.{Growth}
 use Rattle.command_words.specs.declared.command.Verb.TheVariants as verb
@@ -90,10 +88,6 @@ timing_asked t = record {
   against = option_map (λ file. file.now) t.against;
 }
 
-abbrev pub simulation_asked : Choosing → AskedSimulation
-simulation_asked (ByOrder run) = by_order (run_asked run)
-simulation_asked (ByDelays timing) = by_delays (timing_asked timing)
-
 abbrev pub waves_asked : WavesWanted → AskedWaves
 waves_asked w = record {
   net = w.net.now;
@@ -141,11 +135,6 @@ IsWithinBounds (Waves w) = w.steps ≤ most_of_steps
 IsWithinBounds (Grow growth) = IsGrowable growth
 IsWithinBounds _ = Unit {0}
 
--- no more moves are asked for than may be
-abbrev pub HasFewSteps : Choosing → Type 0
-HasFewSteps (ByOrder run) = run.steps ≤ most_of_steps
-HasFewSteps (ByDelays timing) = timing.steps ≤ most_of_steps
-
 abbrev pub simulate_asked : AskedSimulation → Asked
 simulate_asked (by_order run) = simulates run
 simulate_asked (by_delays timing) = times timing
@@ -170,6 +159,7 @@ command_of (word ∷ rest) = option_and_then (λ v. command_with v word rest) (v
 
 -- ---- the same in plain words
 
+-- a file, with nothing beside it
 abbrev pub file_arguments : List Argument
 file_arguments = word_named (codes "FILE") ∷ []
 
@@ -177,21 +167,34 @@ abbrev pub file_by : List (Option Text) → Option Text
 file_by (file ∷ []) = file
 file_by _ = None
 
--- a file, with nothing beside it
-unfoldable pub plain_file : List Text → Option Text
-plain_file words = option_and_then file_by (plain_words file_arguments words)
+-- the arguments of a command
+abbrev pub arguments_of : Verb → List Argument
+arguments_of verb.Compile = compile_arguments
+arguments_of verb.Simulate = simulate_arguments
+arguments_of verb.Bench = bench_arguments
+arguments_of verb.Waves = waves_arguments
+arguments_of verb.Run = run_arguments
+arguments_of verb.Grow = grow_arguments
+arguments_of verb.Migrate = file_arguments
+arguments_of verb.Check = file_arguments
+arguments_of verb.Expand = file_arguments
+arguments_of verb.Unwave = file_arguments
+
+-- what it asks for by their texts
+abbrev pub asks_by : Verb → List (Option Text) → Option Asked
+asks_by verb.Compile texts = option_map compiles (compile_by texts)
+asks_by verb.Migrate texts = option_map migrates (file_by texts)
+asks_by verb.Check texts = option_map checks (file_by texts)
+asks_by verb.Expand texts = option_map expands (file_by texts)
+asks_by verb.Simulate texts = option_map simulate_asked (simulate_by texts)
+asks_by verb.Bench texts = option_map benches (bench_by texts)
+asks_by verb.Waves texts = option_map traces (waves_by texts)
+asks_by verb.Unwave texts = option_map unwaves (file_by texts)
+asks_by verb.Run texts = option_map runs (rounds_by texts)
+asks_by verb.Grow texts = option_map grows (grow_by texts)
 
 abbrev pub plain_with : Verb → List Text → Option Asked
-plain_with verb.Compile rest = option_map compiles (plain_compile rest)
-plain_with verb.Migrate rest = option_map migrates (plain_file rest)
-plain_with verb.Check rest = option_map checks (plain_file rest)
-plain_with verb.Expand rest = option_map expands (plain_file rest)
-plain_with verb.Simulate rest = option_map simulate_asked (plain_simulate rest)
-plain_with verb.Bench rest = option_map benches (plain_bench rest)
-plain_with verb.Waves rest = option_map traces (plain_waves rest)
-plain_with verb.Unwave rest = option_map unwaves (plain_file rest)
-plain_with verb.Run rest = option_map runs (plain_rounds rest)
-plain_with verb.Grow rest = option_map grows (plain_growth rest)
+plain_with v rest = option_and_then (asks_by v) (plain_words (arguments_of v) rest)
 
 abbrev pub plain_command : List Text → Option Asked
 plain_command [] = None

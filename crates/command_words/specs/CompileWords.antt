@@ -1,10 +1,10 @@
 -- The words of `compile`: a file, the flag `--reset`, and the option `--buffer` with the name of a channel.
-use Rattle.std.specs.Prelude.{Bool, List, [], ◌∷◌, Option, None, codes, option_and_then, option_map, if◌then◌else◌}
+use Rattle.std.specs.Prelude.{Bool, List, [], ◌∷◌, Option, None, codes, option_map, if◌then◌else◌}
 use Rattle.std.specs.Borrow.{Bor}
 use Rattle.clap.specs.Words.{App, Text, first_of, matches_of, takes, with_rule}
 use Rattle.command_words.specs.declared.compile_words.Compilation.{Compilation}
 use Rattle.command_words.specs.SimulateWords.{bare_form, flag_rule, word_rule, option_rule}
-use Rattle.command_words.specs.PlainForms.{Argument, flag_named, option_named, plain_words, word_named}
+use Rattle.command_words.specs.PlainForms.{Argument, flag_named, option_named, word_named}
 use Rattle.command_words.specs.Words.{is_set}
 
 -- what `compile` is asked for: the name of its file, whether the net has a reset node, and the channel that gets a
@@ -41,6 +41,7 @@ compile_of name words = if takes (compile_form name) words
 
 -- ---- the same in plain words
 
+-- a file, and beside it `--reset` and `--buffer X`
 abbrev pub compile_arguments : List Argument
 compile_arguments =
     word_named (codes "FILE") ∷ flag_named (codes "reset") ∷ option_named (codes "buffer") ∷ []
@@ -48,7 +49,3 @@ compile_arguments =
 abbrev pub compile_by : List (Option Text) → Option AskedCompilation
 compile_by (file ∷ reset ∷ buffer ∷ []) = compile_with file reset buffer
 compile_by _ = None
-
--- a file, and beside it `--reset` and `--buffer X`
-unfoldable pub plain_compile : List Text → Option AskedCompilation
-plain_compile words = option_and_then compile_by (plain_words compile_arguments words)

@@ -3,7 +3,7 @@ use Rattle.std.specs.Prelude.{ℕ, ◌≤◌, nat_le, Bool, List, [], ◌∷◌,
 use Rattle.clap.specs.Words.{App, Text, first_of, matches_of, takes, with_rule}
 use Rattle.command_words.specs.declared.grow_words.Growth.{Growth}
 use Rattle.command_words.specs.SimulateWords.{bare_form, flag_rule, most_of_seed, number_up_to, word_rule}
-use Rattle.command_words.specs.PlainForms.{Argument, flag_named, plain_words, word_named}
+use Rattle.command_words.specs.PlainForms.{Argument, flag_named, word_named}
 use Rattle.command_words.specs.Words.{is_set}
 
 -- the form: both numbers and the flag
@@ -41,6 +41,7 @@ growth_of name words = if takes (grow_form name) words
 
 -- ---- the same in plain words
 
+-- two numbers, and beside them `--sum`
 abbrev pub grow_arguments : List Argument
 grow_arguments =
     word_named (codes "SEED") ∷ word_named (codes "STAGES") ∷ flag_named (codes "sum") ∷ []
@@ -48,7 +49,3 @@ grow_arguments =
 abbrev pub grow_by : List (Option Text) → Option Growth
 grow_by (seed ∷ stages ∷ sum ∷ []) = growth_with seed stages sum
 grow_by _ = None
-
--- two numbers, and beside them `--sum`
-unfoldable pub plain_growth : List Text → Option Growth
-plain_growth words = option_and_then grow_by (plain_words grow_arguments words)

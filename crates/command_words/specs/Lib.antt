@@ -7,6 +7,7 @@ pub mod Forms
 pub mod Words
 pub mod PlainForms
 pub mod WrittenForms
+pub mod BuiltForms
 pub mod GrowWords
 pub mod CommandWords
 pub mod WrittenCommands

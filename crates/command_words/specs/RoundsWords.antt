@@ -1,7 +1,7 @@
 -- The words of `run`.
-use Rattle.std.specs.Prelude.{ℕ, if◌then◌else◌, List, [], ◌∷◌, Option, Some, None, codes, option_and_then, option_map}
+use Rattle.std.specs.Prelude.{ℕ, if◌then◌else◌, List, [], ◌∷◌, Option, Some, None, codes, option_map}
 use Rattle.clap.specs.Words.{App, Text, first_of, matches_of, takes, with_rule}
-use Rattle.command_words.specs.PlainForms.{Argument, option_named, plain_words, word_named}
+use Rattle.command_words.specs.PlainForms.{Argument, option_named, word_named}
 use Rattle.command_words.specs.SimulateWords.{bare_form, word_rule, option_rule, number_or}
 
 -- what a run of rounds is asked for: the names of its program text and of its script, how many rounds, and the channel
@@ -36,6 +36,7 @@ rounds_of name words = if takes (rounds_form name) words
 
 -- ---- the same in plain words
 
+-- a program text and a script, and beside them `--rounds N` and `--buffer X`
 abbrev pub run_arguments : List Argument
 run_arguments = word_named (codes "FILE") ∷ word_named (codes "SCRIPT")
     ∷ option_named (codes "rounds") ∷ option_named (codes "buffer") ∷ []
@@ -43,7 +44,3 @@ run_arguments = word_named (codes "FILE") ∷ word_named (codes "SCRIPT")
 abbrev pub rounds_by : List (Option Text) → Option AskedRounds
 rounds_by (file ∷ script ∷ rounds ∷ buffer ∷ []) = rounds_with file script rounds buffer
 rounds_by _ = None
-
--- a program text and a script, and beside them `--rounds N` and `--buffer X`
-unfoldable pub plain_rounds : List Text → Option AskedRounds
-plain_rounds words = option_and_then rounds_by (plain_words run_arguments words)

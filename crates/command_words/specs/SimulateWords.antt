@@ -8,7 +8,7 @@ use Rattle.clap.specs.Words.{App, Row, Rule, Text, first_of, matches_of, new_app
 use Rattle.clap.specs.Simple.{on_top}
 use Rattle.clap.specs.declared.builder.ArgAction.TheVariants.{Set, SetTrue}
 use Rattle.std.specs.Borrow.{Bor}
-use Rattle.command_words.specs.PlainForms.{Argument, option_named, plain_words, word_named}
+use Rattle.command_words.specs.PlainForms.{Argument, option_named, word_named}
 use Rattle.command_words.specs.declared.run_words.Texts.{Texts}
 
 -- ---- numbers in words
@@ -178,6 +178,7 @@ simulate_of name words = if takes (simulate_form name) words
 
 -- ---- the same in plain words
 
+-- a rule file and a script, and beside them an option for each of the others
 abbrev pub simulate_arguments : List Argument
 simulate_arguments = word_named (codes "PRS") ∷ word_named (codes "SCRIPT") ∷ option_named (codes "order")
     ∷ option_named (codes "seed") ∷ option_named (codes "steps") ∷ option_named (codes "power")
@@ -195,7 +196,3 @@ simulate_by (net ∷ script ∷ order ∷ seed ∷ steps ∷ power ∷ against �
   delays = delays;
 })
 simulate_by _ = None
-
--- a rule file and a script, and beside them an option for each of the others
-unfoldable pub plain_simulate : List Text → Option AskedSimulation
-plain_simulate words = option_and_then simulate_by (plain_words simulate_arguments words)

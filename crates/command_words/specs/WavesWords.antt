@@ -1,7 +1,7 @@
 -- The words of `waves`.
-use Rattle.std.specs.Prelude.{if◌then◌else◌, List, [], ◌∷◌, Option, Some, None, codes, option_and_then, option_map, ℕ, Bool}
+use Rattle.std.specs.Prelude.{if◌then◌else◌, List, [], ◌∷◌, Option, Some, None, codes, option_map, ℕ, Bool}
 use Rattle.clap.specs.Words.{App, Text, first_of, matches_of, takes, with_rule}
-use Rattle.command_words.specs.PlainForms.{Argument, flag_named, option_named, plain_words, word_named}
+use Rattle.command_words.specs.PlainForms.{Argument, flag_named, option_named, word_named}
 use Rattle.command_words.specs.SimulateWords.{bare_form, flag_rule, word_rule, option_rule, number_or, most_of_steps}
 use Rattle.command_words.specs.Words.{is_set}
 
@@ -40,6 +40,7 @@ waves_of name words = if takes (waves_form name) words
 
 -- ---- the same in plain words
 
+-- a rule file and a script, and beside them `--steps N`, `--delays FILE` and `--causes`
 abbrev pub waves_arguments : List Argument
 waves_arguments = word_named (codes "PRS") ∷ word_named (codes "SCRIPT") ∷ option_named (codes "steps")
     ∷ option_named (codes "delays") ∷ flag_named (codes "causes") ∷ []
@@ -47,7 +48,3 @@ waves_arguments = word_named (codes "PRS") ∷ word_named (codes "SCRIPT") ∷ o
 abbrev pub waves_by : List (Option Text) → Option AskedWaves
 waves_by (net ∷ script ∷ steps ∷ delays ∷ causes ∷ []) = waves_with net script steps delays causes
 waves_by _ = None
-
--- a rule file and a script, and beside them `--steps N`, `--delays FILE` and `--causes`
-unfoldable pub plain_waves : List Text → Option AskedWaves
-plain_waves words = option_and_then waves_by (plain_words waves_arguments words)

@@ -1,27 +1,26 @@
 //! The words of a command.
 
-ghost use Rattle.std.specs.Prelude.{◌≡◌, IfOk, IfSome, Some, is_some, option_map, true};
-ghost use Rattle.clap.specs.Words.{app_of, found_of, matches_of, rows_of, takes};
-ghost use Rattle.command_words.specs.CommandWords.{IsWithinBounds, asked, asked_of, benches, command_of, command_with, compiles, file_form, file_of, grows, plain_command, plain_file, plain_with, runs, simulate_asked, traces, verb_of};
-ghost use Rattle.command_words.specs.SimulateWords.{plain_simulate, simulate_of};
-ghost use Rattle.command_words.specs.BenchWords.{bench_of, plain_bench};
-ghost use Rattle.command_words.specs.CompileWords.{compile_of, plain_compile};
-ghost use Rattle.command_words.specs.Forms.{is_form, texts_of};
-ghost use Rattle.command_words.specs.GrowWords.{growth_of, plain_growth};
-ghost use Rattle.command_words.specs.RoundsWords.{plain_rounds, rounds_of};
-ghost use Rattle.command_words.specs.WavesWords.{plain_waves, waves_of};
-ghost use Rattle.command_words.specs.Words.{is_set};
+ghost use Rattle.std.specs.Prelude.{◌≡◌, IfOk, IfSome, map, option_map};
+ghost use Rattle.clap.specs.Words.{found_of};
+ghost use Rattle.command_words.specs.BuiltForms.{argument_of, texts_found};
+ghost use Rattle.command_words.specs.CommandWords.{IsWithinBounds, arguments_of, asked, asked_of, asks_by, command_of, file_arguments, file_by, plain_command, plain_with, verb_of};
+ghost use Rattle.command_words.specs.Forms.{texts_of};
+ghost use Rattle.command_words.specs.PlainForms.{plain_words};
 
-use crate::bench_words::{Benching, benching_in};
-use crate::compile_words::{Compilation, compilation_of};
-use crate::grow_words::{Growth, growth_of};
-use crate::rounds_words::{Rounds, rounds_in};
-use crate::run_words::{bare_form, simulation_in, word_arg};
-use crate::simulation::{Choosing, Simulation, Timing};
-use crate::waves_words::{Waves, waves_in};
+use crate::arguments::{Argument, form_of, matches_in};
+use crate::bench_words::{BENCH, Benching, bench_with};
+use crate::compile_words::{COMPILE, Compilation, compile_with};
+use crate::grow_words::{GROW, Growth, grow_with};
+use crate::laws::words_ask_plainly;
+use crate::rounds_words::{RUN, Rounds, run_with};
+use crate::run_words::{SIMULATE, simulate_with};
+use crate::simulation::{Simulation, Timing};
+use crate::waves_words::{WAVES, Waves, waves_with};
 use clap::ArgMatches;
-use clap::error::ErrorKind;
 use std::alloc::{AllocError, Global};
+
+/// The arguments of a command with one file and nothing besides.
+const ONE_FILE: &[Argument<'static>] = &[Argument::Word("FILE")];
 
 /// What the words ask for. The commands are this project's own.
 #[derive(Clone, Copy)]
@@ -95,6 +94,7 @@ pub fn command_in<'a>(alloc: Global, words: &'a [String]) -> Result<Option<Comma
         option_map asked found ≡ plain_command (texts_of words.now)) }
     ensures bounds { IfOk result (λ found. IfSome found IsWithinBounds) }
 {
+    words_ask_plainly();
     let [first, rest @ ..] = words else {
         return Ok(None);
     };
@@ -111,23 +111,62 @@ fn command_with<'a>(
     word: &'a str,
     rest: &'a [String],
 ) -> Result<Option<Command<'a>>, AllocError>
-    ensures form { IfOk result (λ found.
-        option_map asked found ≡ command_with verb word.entry.now (texts_of rest.entry.now)) }
     ensures plain { IfOk result (λ found.
         option_map asked found ≡ plain_with verb (texts_of rest.entry.now)) }
     ensures bounds { IfOk result (λ found. IfSome found IsWithinBounds) }
 {
+    match matches_with(alloc, verb, word, rest) {
+        Ok(Some(matches)) => Ok(asked_with(verb, &matches)),
+        Ok(None) => Ok(None),
+        Err(error) => Err(error),
+    }
+}
+
+/// What the words give each argument of this command, where they are its form.
+fn matches_with<'a>(
+    alloc: Global,
+    verb: Verb,
+    word: &'a str,
+    rest: &'a [String],
+) -> Result<Option<ArgMatches<'a>>, AllocError>
+    ensures { IfOk result (λ found. option_map (λ m. texts_found (arguments_of verb) (found_of m)) found
+        ≡ plain_words (arguments_of verb) (texts_of rest.entry.now)) }
+{
+    let form = form_of(alloc, word, arguments_of(verb))?;
+    matches_in(form, rest)
+}
+
+/// The arguments of this command.
+fn arguments_of(verb: Verb) -> &'static [Argument<'static>]
+    ensures { map argument_of result.now ≡ arguments_of verb }
+{
     match verb {
-        Verb::Compile => compile_in(alloc, word, rest),
-        Verb::Migrate => file_command_in(alloc, FileVerb::Migrate, word, rest),
-        Verb::Check => file_command_in(alloc, FileVerb::Check, word, rest),
-        Verb::Expand => file_command_in(alloc, FileVerb::Expand, word, rest),
-        Verb::Simulate => simulate_in(alloc, word, rest),
-        Verb::Bench => bench_in(alloc, word, rest),
-        Verb::Waves => trace_in(alloc, word, rest),
-        Verb::Unwave => file_command_in(alloc, FileVerb::Unwave, word, rest),
-        Verb::Run => run_in(alloc, word, rest),
-        Verb::Grow => grow_in(alloc, word, rest),
+        Verb::Compile => COMPILE,
+        Verb::Migrate | Verb::Check | Verb::Expand | Verb::Unwave => ONE_FILE,
+        Verb::Simulate => SIMULATE,
+        Verb::Bench => BENCH,
+        Verb::Waves => WAVES,
+        Verb::Run => RUN,
+        Verb::Grow => GROW,
+    }
+}
+
+/// What the matches of this command's form ask for.
+fn asked_with<'a>(verb: Verb, matches: &ArgMatches<'a>) -> Option<Command<'a>>
+    ensures asked { option_map asked result ≡ asks_by verb (texts_found (arguments_of verb) (found_of matches.now)) }
+    ensures bounds { IfSome result IsWithinBounds }
+{
+    match verb {
+        Verb::Compile => compile_with(matches),
+        Verb::Migrate => file_with(FileVerb::Migrate, matches),
+        Verb::Check => file_with(FileVerb::Check, matches),
+        Verb::Expand => file_with(FileVerb::Expand, matches),
+        Verb::Simulate => simulate_with(matches),
+        Verb::Bench => bench_with(matches),
+        Verb::Waves => waves_with(matches),
+        Verb::Unwave => file_with(FileVerb::Unwave, matches),
+        Verb::Run => run_with(matches),
+        Verb::Grow => grow_with(matches),
     }
 }
 
@@ -150,43 +189,14 @@ fn verb_in(word: &str) -> Option<Verb>
     }
 }
 
-/// What the words after `compile` ask for, where they are its form.
-fn compile_in<'a>(
-    alloc: Global,
-    name: &'a str,
-    words: &'a [String],
-) -> Result<Option<Command<'a>>, AllocError>
-    ensures form { IfOk result (λ found. option_map asked found
-        ≡ option_map compiles (compile_of name.entry.now (texts_of words.entry.now))) }
-    ensures plain { IfOk result (λ found. option_map asked found
-        ≡ option_map compiles (plain_compile (texts_of words.entry.now))) }
-    ensures bounds { IfOk result (λ found. IfSome found IsWithinBounds) }
+/// What the matches of a command with one file ask for.
+fn file_with<'a>(verb: FileVerb, matches: &ArgMatches<'a>) -> Option<Command<'a>>
+    ensures asked { option_map asked result
+        ≡ option_map (asked_of verb) (file_by (texts_found file_arguments (found_of matches.now))) }
+    ensures bounds { IfSome result IsWithinBounds }
 {
-    match compilation_of(alloc, name, words) {
-        Ok(Some(asked)) => Ok(Some(Command::Compile(asked))),
-        Ok(None) => Ok(None),
-        Err(error) => Err(error),
-    }
-}
-
-/// What the words after a command's name ask for, where they are the form of this one with one file.
-fn file_command_in<'a>(
-    alloc: Global,
-    verb: FileVerb,
-    name: &'a str,
-    words: &'a [String],
-) -> Result<Option<Command<'a>>, AllocError>
-    ensures form { IfOk result (λ found. option_map asked found
-        ≡ option_map (asked_of verb) (file_of name.entry.now (texts_of words.entry.now))) }
-    ensures plain { IfOk result (λ found. option_map asked found
-        ≡ option_map (asked_of verb) (plain_file (texts_of words.entry.now))) }
-    ensures bounds { IfOk result (λ found. IfSome found IsWithinBounds) }
-{
-    match file_in(alloc, name, words) {
-        Ok(Some(file)) => Ok(Some(command_on(verb, file))),
-        Ok(None) => Ok(None),
-        Err(error) => Err(error),
-    }
+    let file = matches.get_str("FILE")?;
+    Some(command_on(verb, file))
 }
 
 /// This command on this file.
@@ -199,156 +209,5 @@ fn command_on<'a>(verb: FileVerb, file: &'a str) -> Command<'a>
         FileVerb::Check => Command::Check { file },
         FileVerb::Expand => Command::Expand { file },
         FileVerb::Unwave => Command::Unwave { file },
-    }
-}
-
-/// What the words after `simulate` ask for, where they are its form.
-fn simulate_in<'a>(
-    alloc: Global,
-    name: &'a str,
-    words: &'a [String],
-) -> Result<Option<Command<'a>>, AllocError>
-    ensures form { IfOk result (λ found. option_map asked found
-        ≡ option_map simulate_asked (simulate_of name.entry.now (texts_of words.entry.now))) }
-    ensures plain { IfOk result (λ found. option_map asked found
-        ≡ option_map simulate_asked (plain_simulate (texts_of words.entry.now))) }
-    ensures bounds { IfOk result (λ found. IfSome found IsWithinBounds) }
-{
-    match simulation_in(alloc, name, words) {
-        Ok(Some(Choosing::ByOrder(run))) => Ok(Some(Command::Simulate(run))),
-        Ok(Some(Choosing::ByDelays(timing))) => Ok(Some(Command::Time(timing))),
-        Ok(None) => Ok(None),
-        Err(error) => Err(error),
-    }
-}
-
-/// What the words after `bench` ask for, where they are its form.
-fn bench_in<'a>(
-    alloc: Global,
-    name: &'a str,
-    words: &'a [String],
-) -> Result<Option<Command<'a>>, AllocError>
-    ensures form { IfOk result (λ found. option_map asked found
-        ≡ option_map benches (bench_of name.entry.now (texts_of words.entry.now))) }
-    ensures plain { IfOk result (λ found. option_map asked found
-        ≡ option_map benches (plain_bench (texts_of words.entry.now))) }
-    ensures bounds { IfOk result (λ found. IfSome found IsWithinBounds) }
-{
-    match benching_in(alloc, name, words) {
-        Ok(Some(asked)) => Ok(Some(Command::Bench(asked))),
-        Ok(None) => Ok(None),
-        Err(error) => Err(error),
-    }
-}
-
-/// What the words after `waves` ask for, where they are its form.
-fn trace_in<'a>(
-    alloc: Global,
-    name: &'a str,
-    words: &'a [String],
-) -> Result<Option<Command<'a>>, AllocError>
-    ensures form { IfOk result (λ found. option_map asked found
-        ≡ option_map traces (waves_of name.entry.now (texts_of words.entry.now))) }
-    ensures plain { IfOk result (λ found. option_map asked found
-        ≡ option_map traces (plain_waves (texts_of words.entry.now))) }
-    ensures bounds { IfOk result (λ found. IfSome found IsWithinBounds) }
-{
-    match waves_in(alloc, name, words) {
-        Ok(Some(asked)) => Ok(Some(Command::Waves(asked))),
-        Ok(None) => Ok(None),
-        Err(error) => Err(error),
-    }
-}
-
-/// What the words after `run` ask for, where they are its form.
-fn run_in<'a>(
-    alloc: Global,
-    name: &'a str,
-    words: &'a [String],
-) -> Result<Option<Command<'a>>, AllocError>
-    ensures form { IfOk result (λ found. option_map asked found
-        ≡ option_map runs (rounds_of name.entry.now (texts_of words.entry.now))) }
-    ensures plain { IfOk result (λ found. option_map asked found
-        ≡ option_map runs (plain_rounds (texts_of words.entry.now))) }
-    ensures bounds { IfOk result (λ found. IfSome found IsWithinBounds) }
-{
-    match rounds_in(alloc, name, words) {
-        Ok(Some(asked)) => Ok(Some(Command::Run(asked))),
-        Ok(None) => Ok(None),
-        Err(error) => Err(error),
-    }
-}
-
-/// What the words after `grow` ask for, where they are its form.
-fn grow_in<'a>(
-    alloc: Global,
-    name: &'a str,
-    words: &'a [String],
-) -> Result<Option<Command<'a>>, AllocError>
-    ensures form { IfOk result (λ found. option_map asked found
-        ≡ option_map grows (growth_of name.entry.now (texts_of words.entry.now))) }
-    ensures plain { IfOk result (λ found. option_map asked found
-        ≡ option_map grows (plain_growth (texts_of words.entry.now))) }
-    ensures bounds { IfOk result (λ found. IfSome found IsWithinBounds) }
-{
-    match growth_of(alloc, name, words) {
-        Ok(Some(growth)) => Ok(Some(Command::Grow(growth))),
-        Ok(None) => Ok(None),
-        Err(error) => Err(error),
-    }
-}
-
-/// Whether the text that `clap` keeps for a flag says that it was given.
-pub fn is_set(text: Option<&str>) -> bool
-    ensures { result ≡ is_set (option_map (λ t. t.now) text.entry) }
-{
-    match text {
-        Some(text) => text == "true",
-        None => false,
-    }
-}
-
-/// The file that the words after a command's name give, where they are the form of a command with one file.
-fn file_in<'a>(
-    alloc: Global,
-    name: &'a str,
-    words: &'a [String],
-) -> Result<Option<&'a str>, AllocError>
-    ensures form { IfOk result (λ found. option_map (λ file. file.now) found
-        ≡ file_of name.entry.now (texts_of words.entry.now)) }
-    ensures plain { IfOk result (λ found. option_map (λ file. file.now) found
-        ≡ plain_file (texts_of words.entry.now)) }
-{
-    let form = file_form(alloc, name)?;
-    match matches_in(form, words) {
-        Ok(Some(matches)) => Ok(matches.get_str("FILE")),
-        Ok(None) => Ok(None),
-        Err(error) => Err(error),
-    }
-}
-
-/// The form of a command of this name with one file and no flag, not even for help.
-pub(crate) fn file_form<'a>(alloc: Global, name: &'a str) -> Result<clap::Command<'a>, AllocError>
-    ensures { IfOk result (λ form. app_of form ≡ file_form name.entry.now) }
-{
-    bare_form(alloc, name).arg(word_arg(alloc, "FILE"))
-}
-
-/// What the words give each argument of the form, or `None` where the form doesn't take them, for whatever cause. It
-/// serves every form without commands below it.
-pub(crate) fn matches_in<'a>(
-    form: clap::Command<'a>,
-    words: &'a [String],
-) -> Result<Option<ArgMatches<'a>>, AllocError>
-    requires { is_form (app_of form) ≡ true }
-    ensures taken { IfOk result (λ found.
-        is_some found ≡ takes (app_of form.entry) (texts_of words.entry.now)) }
-    ensures matches { IfOk result (λ found. IfSome found (λ m.
-        rows_of (found_of m) ≡ matches_of (app_of form.entry) (texts_of words.entry.now))) }
-{
-    match form.try_get_matches_from(words) {
-        Ok(matches) => Ok(Some(matches)),
-        Err(error) if error.kind() == ErrorKind::OutOfMemory => Err(AllocError),
-        Err(_) => Ok(None),
     }
 }

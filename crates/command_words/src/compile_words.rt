@@ -1,15 +1,22 @@
 //! The words of `compile`.
 
-ghost use Rattle.std.specs.Prelude.{◌≡◌, codes, IfOk, option_map};
-ghost use Rattle.clap.specs.Matches.{first_value, found_of};
-ghost use Rattle.clap.specs.Words.{app_of};
-ghost use Rattle.command_words.specs.CompileWords.{compilation_asked, compile_form, compile_of, compile_with, plain_compile};
-ghost use Rattle.command_words.specs.Forms.{texts_of};
+ghost use Rattle.std.specs.Prelude.{◌≡◌, IfSome, option_map};
+ghost use Rattle.clap.specs.Words.{found_of};
+ghost use Rattle.command_words.specs.BuiltForms.{texts_found};
+ghost use Rattle.command_words.specs.CommandWords.{IsWithinBounds, asked, compiles};
+ghost use Rattle.command_words.specs.CompileWords.{compile_arguments, compile_by};
 
-use crate::command::{file_form, is_set, matches_in};
-use crate::run_words::{flag_arg, option_arg};
-use clap::{ArgMatches, Command};
-use std::alloc::{AllocError, Global};
+use crate::arguments::Argument;
+use crate::command::Command;
+use crate::run_words::is_set;
+use clap::ArgMatches;
+
+/// The arguments of `compile`.
+pub(crate) const COMPILE: &[Argument<'static>] = &[
+    Argument::Word("FILE"),
+    Argument::Flag("reset"),
+    Argument::Value("buffer"),
+];
 
 /// What `compile` is asked for.
 #[derive(Clone, Copy)]
@@ -22,44 +29,16 @@ pub struct Compilation<'a> {
     pub buffer: Option<&'a str>,
 }
 
-/// What the words after `compile` ask for, where they are its form: the name of a program text, the flag `--reset`
-/// and the option `--buffer`, each at most once.
-pub fn compilation_of<'a>(
-    alloc: Global,
-    name: &'a str,
-    words: &'a [String],
-) -> Result<Option<Compilation<'a>>, AllocError>
-    ensures form { IfOk result (λ found.
-        option_map compilation_asked found ≡ compile_of name.entry.now (texts_of words.entry.now)) }
-    ensures plain { IfOk result (λ found.
-        option_map compilation_asked found ≡ plain_compile (texts_of words.entry.now)) }
-{
-    let form = compile_form(alloc, name)?;
-    match matches_in(form, words) {
-        Ok(Some(matches)) => Ok(compilation_with(&matches)),
-        Ok(None) => Ok(None),
-        Err(error) => Err(error),
-    }
-}
-
-/// What the matches of the form give.
-fn compilation_with<'a>(matches: &ArgMatches<'a>) -> Option<Compilation<'a>>
-    ensures { option_map compilation_asked result ≡ compile_with (first_value (found_of matches.now) (codes "FILE"))
-        (first_value (found_of matches.now) (codes "reset")) (first_value (found_of matches.now) (codes "buffer")) }
+/// What the matches of `compile` ask for.
+pub(crate) fn compile_with<'a>(matches: &ArgMatches<'a>) -> Option<Command<'a>>
+    ensures asked { option_map asked result
+        ≡ option_map compiles (compile_by (texts_found compile_arguments (found_of matches.now))) }
+    ensures bounds { IfSome result IsWithinBounds }
 {
     let file = matches.get_str("FILE")?;
-    Some(Compilation {
+    Some(Command::Compile(Compilation {
         file,
         reset: is_set(matches.get_str("reset")),
         buffer: matches.get_str("buffer"),
-    })
-}
-
-/// The form of `compile` under this name: one file, a flag and an option with a value, and no flag for help.
-fn compile_form<'a>(alloc: Global, name: &'a str) -> Result<Command<'a>, AllocError>
-    ensures { IfOk result (λ form. app_of form ≡ compile_form name.entry.now) }
-{
-    file_form(alloc, name)?
-        .arg(flag_arg(alloc, "reset"))?
-        .arg(option_arg(alloc, "buffer"))
+    }))
 }

@@ -1,6 +1,7 @@
 //! The words of a command, and what they ask for.
 #![tactic(auto)]
 
+mod arguments;
 mod bench_words;
 mod command;
 mod compile_words;

@@ -1,16 +1,23 @@
 //! The words of `run`.
 
-ghost use Rattle.std.specs.Prelude.{◌≡◌, codes, IfOk, option_map};
-ghost use Rattle.clap.specs.Matches.{first_value, found_of};
-ghost use Rattle.clap.specs.Words.{app_of};
-ghost use Rattle.command_words.specs.CommandWords.{rounds_asked};
-ghost use Rattle.command_words.specs.Forms.{texts_of};
-ghost use Rattle.command_words.specs.RoundsWords.{plain_rounds, rounds_form, rounds_of, rounds_with};
+ghost use Rattle.std.specs.Prelude.{◌≡◌, IfSome, option_map};
+ghost use Rattle.clap.specs.Words.{found_of};
+ghost use Rattle.command_words.specs.BuiltForms.{texts_found};
+ghost use Rattle.command_words.specs.CommandWords.{IsWithinBounds, asked, runs};
+ghost use Rattle.command_words.specs.RoundsWords.{rounds_by, run_arguments};
 
-use crate::command::matches_in;
-use crate::run_words::{number_or, two_words_form, with_two_options};
-use clap::{ArgMatches, Command};
-use std::alloc::{AllocError, Global};
+use crate::arguments::Argument;
+use crate::command::Command;
+use crate::run_words::number_or;
+use clap::ArgMatches;
+
+/// The arguments of `run`.
+pub(crate) const RUN: &[Argument<'static>] = &[
+    Argument::Word("FILE"),
+    Argument::Word("SCRIPT"),
+    Argument::Value("rounds"),
+    Argument::Value("buffer"),
+];
 
 /// How many rounds are made where no number is given.
 const ROUNDS: u64 = 1000;
@@ -31,50 +38,20 @@ pub struct Rounds<'a> {
     pub buffer: Option<&'a str>,
 }
 
-/// What the words after `run` ask for, where they are its form: the names of a program text and of a script, and the
-/// options `--rounds` and `--buffer`, each at most once.
-pub fn rounds_in<'a>(
-    alloc: Global,
-    name: &'a str,
-    words: &'a [String],
-) -> Result<Option<Rounds<'a>>, AllocError>
-    ensures form { IfOk result (λ found.
-        option_map rounds_asked found ≡ rounds_of name.entry.now (texts_of words.entry.now)) }
-    ensures plain { IfOk result (λ found.
-        option_map rounds_asked found ≡ plain_rounds (texts_of words.entry.now)) }
-{
-    let form = rounds_form(alloc, name)?;
-    match matches_in(form, words) {
-        Ok(Some(matches)) => Ok(rounds_with(&matches)),
-        Ok(None) => Ok(None),
-        Err(error) => Err(error),
-    }
-}
-
-/// What the matches of the form give, where both files are given and the number is one of rounds.
-fn rounds_with<'a>(matches: &ArgMatches<'a>) -> Option<Rounds<'a>>
-    ensures { option_map rounds_asked result ≡ rounds_with (first_value (found_of matches.now) (codes "FILE"))
-        (first_value (found_of matches.now) (codes "SCRIPT")) (first_value (found_of matches.now) (codes "rounds"))
-        (first_value (found_of matches.now) (codes "buffer")) }
+/// What the matches of `run` ask for, where both files are given and the number is one of rounds.
+pub(crate) fn run_with<'a>(matches: &ArgMatches<'a>) -> Option<Command<'a>>
+    ensures asked { option_map asked result
+        ≡ option_map runs (rounds_by (texts_found run_arguments (found_of matches.now))) }
+    ensures bounds { IfSome result IsWithinBounds }
 {
     let (Some(file), Some(script)) = (matches.get_str("FILE"), matches.get_str("SCRIPT")) else {
         return None;
     };
-    match number_or(matches.get_str("rounds"), ROUNDS, MOST_OF_ROUNDS) {
-        Some(rounds) => Some(Rounds {
-            file,
-            script,
-            rounds: rounds as u32,
-            buffer: matches.get_str("buffer"),
-        }),
-        None => None,
-    }
-}
-
-/// The form of `run` under this name: two files, and two options with a value each.
-fn rounds_form<'a>(alloc: Global, name: &'a str) -> Result<Command<'a>, AllocError>
-    ensures { IfOk result (λ form. app_of form ≡ rounds_form name.entry.now) }
-{
-    let files = two_words_form(alloc, name, "FILE", "SCRIPT")?;
-    with_two_options(alloc, files, "rounds", "buffer")
+    let rounds = number_or(matches.get_str("rounds"), ROUNDS, MOST_OF_ROUNDS)?;
+    Some(Command::Run(Rounds {
+        file,
+        script,
+        rounds: rounds as u32,
+        buffer: matches.get_str("buffer"),
+    }))
 }

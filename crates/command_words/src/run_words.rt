@@ -1,18 +1,31 @@
 //! The words of `simulate`.
 
-ghost use Rattle.std.specs.Prelude.{◌≡◌, ◌≤◌, ◌^◌, IfNone, IfOk, IfSome, false, option_map, true};
+ghost use Rattle.std.specs.Prelude.{◌≡◌, ◌≤◌, ◌^◌, IfNone, IfSome, option_map, true};
 ghost use Rattle.std.specs.List.{list_all};
 ghost use Rattle.chp_base.specs.Names.{digit};
-ghost use Rattle.clap.specs.Words.{app_of, rule_of, with_rule};
+ghost use Rattle.clap.specs.Words.{found_of};
 ghost use Rattle.env_script.specs.Numbers.{digit_of_word, number_of_word};
-ghost use Rattle.command_words.specs.CommandWords.{HasFewSteps, run_asked, simulation_asked, timing_asked};
-ghost use Rattle.command_words.specs.Forms.{texts_of};
-ghost use Rattle.command_words.specs.SimulateWords.{bare_form, flag_rule, number_or, number_up_to, option_rule, order_or, plain_simulate, power_of_words, run_with, simulate_form, simulate_of, simulation_with, timing_with, word_rule};
+ghost use Rattle.command_words.specs.BuiltForms.{texts_found};
+ghost use Rattle.command_words.specs.CommandWords.{IsWithinBounds, asked, simulate_asked, simulates, times};
+ghost use Rattle.command_words.specs.SimulateWords.{number_or, number_up_to, order_or, power_of_words, run_with, simulate_arguments, simulate_by, simulation_with, timing_with};
+ghost use Rattle.command_words.specs.Words.{is_set};
 
-use crate::command::matches_in;
-use crate::simulation::{Choosing, Simulation, Timing};
-use clap::{Arg, ArgAction, ArgMatches, Command};
-use std::alloc::{AllocError, Global};
+use crate::arguments::Argument;
+use crate::command::Command;
+use crate::simulation::{Simulation, Timing};
+use clap::ArgMatches;
+
+/// The arguments of `simulate`.
+pub(crate) const SIMULATE: &[Argument<'static>] = &[
+    Argument::Word("PRS"),
+    Argument::Word("SCRIPT"),
+    Argument::Value("order"),
+    Argument::Value("seed"),
+    Argument::Value("steps"),
+    Argument::Value("power"),
+    Argument::Value("against"),
+    Argument::Value("delays"),
+];
 
 /// The most digits of a number.
 const MOST_OF_DIGITS: usize = 20;
@@ -26,26 +39,13 @@ pub(crate) const MOST_OF_STEPS: u64 = 1_000_000;
 /// The most moves, where no number is given.
 pub(crate) const STEPS: u64 = 100_000;
 
-/// What the words after `simulate` ask for, where they are its form: the names of a rule file and of a script, and the
-/// options `--order`, `--seed`, `--steps`, `--power`, `--against` and `--delays`, each at most once. With `--delays`
-/// there is no `--order` and no `--seed`.
-pub(crate) fn simulation_in<'a>(
-    alloc: Global,
-    name: &'a str,
-    words: &'a [String],
-) -> Result<Option<Choosing<'a>>, AllocError>
-    ensures form { IfOk result (λ found.
-        option_map simulation_asked found ≡ simulate_of name.entry.now (texts_of words.entry.now)) }
-    ensures plain { IfOk result (λ found.
-        option_map simulation_asked found ≡ plain_simulate (texts_of words.entry.now)) }
-    ensures few { IfOk result (λ found. IfSome found HasFewSteps) }
+/// What the matches of `simulate` ask for. With delays there is no order and no seed.
+pub(crate) fn simulate_with<'a>(matches: &ArgMatches<'a>) -> Option<Command<'a>>
+    ensures asked { option_map asked result
+        ≡ option_map simulate_asked (simulate_by (texts_found simulate_arguments (found_of matches.now))) }
+    ensures bounds { IfSome result IsWithinBounds }
 {
-    let form = simulate_form(alloc, name)?;
-    match matches_in(form, words) {
-        Ok(Some(matches)) => Ok(Texts::of(&matches).choosing()),
-        Ok(None) => Ok(None),
-        Err(error) => Err(error),
-    }
+    Texts::of(matches).asked()
 }
 
 /// The texts that the words give, each if it is given.
@@ -62,11 +62,11 @@ struct Texts<'a> {
 }
 
 impl<'a> Texts<'a> {
-    ghost use Rattle.clap.specs.Words.{found_of, rows_of};
-    ghost use Rattle.command_words.specs.SimulateWords.{given_texts, texts_given};
+    ghost use Rattle.command_words.specs.SimulateWords.{texts_given};
 
     fn of(matches: &ArgMatches<'a>) -> Texts<'a>
-        ensures { texts_given result ≡ given_texts (rows_of (found_of matches.now)) }
+        ensures { simulation_with (texts_given result)
+            ≡ simulate_by (texts_found simulate_arguments (found_of matches.now)) }
     {
         Texts {
             net: matches.get_str("PRS"),
@@ -81,21 +81,23 @@ impl<'a> Texts<'a> {
     }
 
     /// What they ask for.
-    fn choosing(self) -> Option<Choosing<'a>>
-        ensures asked { option_map simulation_asked result ≡ simulation_with (texts_given self.entry) }
-        ensures few { IfSome result HasFewSteps }
+    fn asked(self) -> Option<Command<'a>>
+        ensures asked { option_map asked result
+            ≡ option_map simulate_asked (simulation_with (texts_given self.entry)) }
+        ensures bounds { IfSome result IsWithinBounds }
     {
         match self.delays {
-            None => Some(Choosing::ByOrder(self.simulation()?)),
-            Some(delays) => Some(Choosing::ByDelays(self.timing(delays)?)),
+            None => self.simulation(),
+            Some(delays) => self.timing(delays),
         }
     }
 
     /// What they ask for with these delays, where both other files are given, each option has a value of its kind, and
     /// no order and no seed is given.
-    fn timing(self, delays: &'a str) -> Option<Timing<'a>>
-        ensures asked { option_map timing_asked result ≡ timing_with (texts_given self.entry) delays.entry.now }
-        ensures few { IfSome result (λ timing. timing.steps ≤ 1000000) }
+    fn timing(self, delays: &'a str) -> Option<Command<'a>>
+        ensures asked { option_map asked result
+            ≡ option_map times (timing_with (texts_given self.entry) delays.entry.now) }
+        ensures bounds { IfSome result IsWithinBounds }
     {
         if self.order.is_some() || self.seed.is_some() {
             return None;
@@ -105,20 +107,20 @@ impl<'a> Texts<'a> {
         };
         let steps = number_or(self.steps, STEPS, MOST_OF_STEPS)?;
         let power = power_of(self.power)?;
-        Some(Timing {
+        Some(Command::Time(Timing {
             net,
             script,
             delays,
             steps: steps as u32,
             power,
             against: self.against,
-        })
+        }))
     }
 
     /// What they ask for where no delays are given, if both files are given and each option has a value of its kind.
-    fn simulation(self) -> Option<Simulation<'a>>
-        ensures asked { option_map run_asked result ≡ run_with (texts_given self.entry) }
-        ensures few { IfSome result (λ run. run.steps ≤ 1000000) }
+    fn simulation(self) -> Option<Command<'a>>
+        ensures asked { option_map asked result ≡ option_map simulates (run_with (texts_given self.entry)) }
+        ensures bounds { IfSome result IsWithinBounds }
     {
         let (Some(net), Some(script)) = (self.net, self.script) else {
             return None;
@@ -126,7 +128,7 @@ impl<'a> Texts<'a> {
         let seed = number_or(self.seed, 0, u64::MAX)?;
         let steps = number_or(self.steps, STEPS, MOST_OF_STEPS)?;
         let power = power_of(self.power)?;
-        Some(Simulation {
+        Some(Command::Simulate(Simulation {
             net,
             script,
             order: order_or_lowest(self.order),
@@ -134,7 +136,17 @@ impl<'a> Texts<'a> {
             steps: steps as u32,
             power,
             against: self.against,
-        })
+        }))
+    }
+}
+
+/// Whether the text that `clap` keeps for a flag says that it was given.
+pub(crate) fn is_set(text: Option<&str>) -> bool
+    ensures { result ≡ is_set (option_map (λ t. t.now) text.entry) }
+{
+    match text {
+        Some(text) => text == "true",
+        None => false,
     }
 }
 
@@ -219,76 +231,4 @@ fn value_of(digits: &[u8]) -> Option<u64>
         value = shifted.checked_add(u64::from(value_of_digit(*digit)))?;
     }
     Some(value)
-}
-
-/// A positional that is required, and is given once.
-pub(crate) fn word_arg<'a>(alloc: Global, id: &'a str) -> Arg<'a>
-    ensures rule { rule_of result ≡ word_rule id.entry.now }
-    ensures local { result.global ≡ false }
-{
-    Arg::new(alloc, id).required(true).action(ArgAction::Set)
-}
-
-/// An option of this name with a value, which may be given once.
-pub(crate) fn option_arg<'a>(alloc: Global, id: &'a str) -> Arg<'a>
-    ensures rule { rule_of result ≡ option_rule id.entry.now }
-    ensures local { result.global ≡ false }
-{
-    Arg::new(alloc, id).long(id).action(ArgAction::Set)
-}
-
-/// A flag of this name, which may be given once.
-pub(crate) fn flag_arg<'a>(alloc: Global, id: &'a str) -> Arg<'a>
-    ensures rule { rule_of result ≡ flag_rule id.entry.now }
-    ensures local { result.global ≡ false }
-{
-    Arg::new(alloc, id).long(id).action(ArgAction::SetTrue)
-}
-
-/// A form that takes nothing, not even a flag for help.
-pub(crate) fn bare_form<'a>(alloc: Global, name: &'a str) -> Command<'a>
-    ensures { app_of result ≡ bare_form name.entry.now }
-{
-    Command::new(alloc, name)
-        .no_binary_name(true)
-        .disable_help_flag(true)
-}
-
-/// A form with two words, which have to be there, in this order.
-pub(crate) fn two_words_form<'a>(
-    alloc: Global,
-    name: &'a str,
-    first: &'a str,
-    second: &'a str,
-) -> Result<Command<'a>, AllocError>
-    ensures { IfOk result (λ form. app_of form ≡ with_rule (with_rule (bare_form name.entry.now)
-        (word_rule first.entry.now)) (word_rule second.entry.now)) }
-{
-    bare_form(alloc, name)
-        .arg(word_arg(alloc, first))?
-        .arg(word_arg(alloc, second))
-}
-
-/// The form with two options of these names more, each with a value.
-pub(crate) fn with_two_options<'a>(
-    alloc: Global,
-    form: Command<'a>,
-    first: &'a str,
-    second: &'a str,
-) -> Result<Command<'a>, AllocError>
-    ensures { IfOk result (λ more. app_of more ≡ with_rule (with_rule (app_of form.entry)
-        (option_rule first.entry.now)) (option_rule second.entry.now)) }
-{
-    form.arg(option_arg(alloc, first))?
-        .arg(option_arg(alloc, second))
-}
-
-/// The form of `simulate`: two files, and six options, each with a value.
-fn simulate_form<'a>(alloc: Global, name: &'a str) -> Result<Command<'a>, AllocError>
-    ensures { IfOk result (λ form. app_of form ≡ simulate_form name.entry.now) }
-{
-    let files = two_words_form(alloc, name, "PRS", "SCRIPT")?;
-    let ordered = with_two_options(alloc, files, "order", "seed")?;
-    let limited = with_two_options(alloc, ordered, "steps", "power")?;
-    with_two_options(alloc, limited, "against", "delays")
 }

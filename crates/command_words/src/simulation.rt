@@ -35,10 +35,3 @@ pub struct Timing<'a> {
     /// The name of the program text with whose rounds the run is compared, where one is given.
     pub against: Option<&'a str>,
 }
-
-/// By what the moves of a simulation are chosen.
-#[derive(Clone, Copy)]
-pub enum Choosing<'a> {
-    ByOrder(Simulation<'a>),
-    ByDelays(Timing<'a>),
-}

@@ -4,7 +4,7 @@ use Rattle.clap.proofs.WalkLemmas.{both}
 use Rattle.clap.specs.declared.error.kind.ErrorKind.TheVariants.{OutOfMemory}
 use Rattle.command_words.specs.Forms.{texts_of}
 use Rattle.command_words.proofs.Taken.{no_fault_takes, simple_of}
-use Rattle.command_words.proofs.command.matches_in.Goals as goal
+use Rattle.command_words.proofs.arguments.matches_in.Goals as goal
 
 pub returns-in-Ok-clause-taken : goal.returns-in-Ok-clause-taken
 returns-in-Ok-clause-taken c =
