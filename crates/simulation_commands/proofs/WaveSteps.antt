@@ -1,4 +1,4 @@
--- The step to a wave by itself and within `unwave`, which has at most one answer.
+-- The step to a wave within `unwave`, which has at most one answer.
 use Rattle.std.proofs.Common.{◌≡◌, ◌∙◌, ℕ, true, List, sym, ap, subst}
 use Rattle.wave_file.specs.declared.fault.WaveFault.{WaveFault}
 use Rattle.wave_file.specs.WaveReading.{IsWaveRefused}
@@ -6,13 +6,8 @@ use Rattle.wave_file.specs.Waves.{WaveValue}
 use Rattle.command_answers.specs.declared.status.Status.TheVariants.{BadFile}
 use Rattle.command_answers.specs.Answers.{Given, Answer, refuses, OneAnswer}
 use Rattle.command_answers.specs.Lines.{bad_wave_line}
-use Rattle.command_steps.specs.Steps.{Never}
 use Rattle.simulation_commands.specs.Unwaving.{FromWave, no_wave, a_wave, PrintsChanges, Unwaves}
 use Rattle.command_steps.proofs.OneAnswers.{file_once}
-
-pub wave_goes : {text : List ℕ} {Next : WaveValue → Answer → Type 0} {a : Answer} → FromWave text Never a → FromWave text Next a
-wave_goes (no_wave none) = no_wave none
-wave_goes (a_wave is never) = absurd never
 
 module _ (once : (text : List ℕ) (f g : WaveFault) (l m : ℕ) → IsWaveRefused text f l → IsWaveRefused text g m → (f ≡ g) × (l ≡ m)) where
   wave_once : (text : List ℕ) (Next : WaveValue → Answer → Type 0) → ((wave : WaveValue) → OneAnswer (Next wave)) → (a b : Answer) → FromWave text Next a →

@@ -1,35 +1,19 @@
 //! `unwave FILE`: from a wave file to the changes that it reports.
 
 ghost use Rattle.std.specs.Prelude.{◌≡◌, ◌≤◌, ◌∷◌, [], length, IfOk, IfErr};
-ghost use Rattle.wave_file.specs.WaveTold.{kept_wave};
 ghost use Rattle.command_answers.specs.Answers.{given_by};
 ghost use Rattle.command_answers.specs.Replies.{Halts, Stops, told_answer};
-ghost use Rattle.command_steps.specs.Steps.{Never};
-ghost use Rattle.simulation_commands.specs.Unwaving.{FromWave, IsWaveIn, PrintsChanges, Unwaves, most_of_wave};
+ghost use Rattle.simulation_commands.specs.Unwaving.{FromWave, PrintsChanges, Unwaves, most_of_wave};
 
 use chp_edge::Shelf;
 use command_answers::{Ending, Output, Refusal, Stop};
 use command_steps::text_of_file;
 use std::alloc::Global;
-use wave_file::{Wave, WaveError, read_wave, unwave_text};
+use wave_file::laws::{one_wave, one_wave_refusal};
+use wave_file::{WaveError, changes_text};
 
 /// The most bytes of a wave file.
 const MOST_OF_WAVE: usize = 268_435_456;
-
-/// The wave whose text this is.
-fn wave_of_text<'a>(alloc: Global, text: &[u8]) -> Result<Wave, Stop<'a>>
-    requires { length text.now ≤ most_of_wave }
-    ensures read { IfOk result (λ wave. IsWaveIn text.now (kept_wave wave)) }
-    ensures stopped { IfErr result (Halts (FromWave text.now Never)) }
-{
-    match read_wave(alloc, text) {
-        Ok(wave) => Ok(wave),
-        Err(WaveError::Refused { fault, line }) => {
-            Err(Stop::Refused(Refusal::BadWave { fault, line }))
-        }
-        Err(WaveError::NoMemory(_)) => Err(Stop::NoMemory),
-    }
-}
 
 /// The changes of the wave whose text this is.
 fn told_text<'a>(alloc: Global, text: &[u8]) -> Result<Output, Stop<'a>>
@@ -37,13 +21,17 @@ fn told_text<'a>(alloc: Global, text: &[u8]) -> Result<Output, Stop<'a>>
     ensures answered { IfOk result (λ output. FromWave text.now PrintsChanges (told_answer output)) }
     ensures stopped { IfErr result (Halts (FromWave text.now PrintsChanges)) }
 {
-    let wave = wave_of_text(alloc, text)?;
-    match unwave_text(alloc, &wave) {
+    one_wave();
+    one_wave_refusal();
+    match changes_text(alloc, text) {
         Ok(text) => Ok(Output {
             text,
             end: Ending::Done,
         }),
-        Err(_) => Err(Stop::NoMemory),
+        Err(WaveError::Refused { fault, line }) => {
+            Err(Stop::Refused(Refusal::BadWave { fault, line }))
+        }
+        Err(WaveError::NoMemory(_)) => Err(Stop::NoMemory),
     }
 }
 

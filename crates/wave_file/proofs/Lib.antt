@@ -9,6 +9,7 @@ mod KeptWaves
 mod Namings
 mod Numbers
 mod OneReading
+mod Printing
 mod Reached
 mod Readings
 mod Stepping

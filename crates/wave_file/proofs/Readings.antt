@@ -1,5 +1,5 @@
 -- How a text is told line by line, and where it is refused.
-use Rattle.std.proofs.Common.{◌≡◌, ◌≢◌, ℕ, Some, None, inl, inr, ◌+◌, ◌*◌, ◌<◌, ◌≤◌, ◌^◌, Bool, true, false, Option, Result, Ok, Err, IfOk, IfErr, List, [], ◌∷◌, ◌++◌, length, take, drop, refl, ap, sym, ◌∙◌, subst, arith, length-append}
+use Rattle.std.proofs.Common.{◌≡◌, ◌≢◌, ℕ, Some, None, inl, inr, ◌+◌, ◌*◌, ◌<◌, ◌≤◌, ◌^◌, Bool, true, false, Result, Ok, Err, IfOk, IfErr, List, [], ◌∷◌, ◌++◌, length, take, drop, refl, ap, sym, ◌∙◌, subst, arith, length-append}
 use Rattle.std.specs.Prelude.{◌==◌, ◌⊎◌, not, nat_le, if◌then◌else◌}
 use Rattle.std.specs.Borrow.{Bor}
 use Rattle.std.specs.Result.{IsErrAnd}
@@ -9,15 +9,15 @@ use Rattle.std.proofs.lemmas.Result.{err_from_is_err_and}
 use Rattle.chp_base.specs.Names.{IsNodeName}
 use Rattle.prs_core.specs.Moves.{fired, high}
 use Rattle.wave_file.specs.declared.fault.WaveFault.{WaveFault}
-use Rattle.wave_file.specs.declared.fault.WaveFault.TheVariants.{BadLine, UnknownId, NoChange, TooMany}
+use Rattle.wave_file.specs.declared.fault.WaveFault.TheVariants.{BadLine, UnknownId, TimeBack, NoChange, TooMany}
 use Rattle.wave_file.specs.declared.fault.WaveError.{WaveError}
 use Rattle.wave_file.specs.declared.fault.WaveError.TheVariants.{Refused, NoMemory}
-use Rattle.wave_file.specs.declared.wave.Wave.{Wave}
+use Rattle.wave_file.specs.declared.read.Told.{Told}
 use Rattle.wave_file.specs.Waves.{WaveValue, wave_of, wave_spelling, var_spelling, id_of, value_spelling_of, time_mark, change_lines, naming_lines, first_lines, mark_before}
 use Rattle.wave_file.specs.WaveFaults.{OfWaveRefusal}
 use Rattle.wave_file.specs.WaveLines.{GoesOnWithChange, is_id, id_value}
-use Rattle.wave_file.specs.WaveReading.{WavePlace, at_timescale, at_scope, at_names, at_definitions, at_start, at_values, at_changes, timescale_line, scope_line, upscope_line, definitions_line, start_line, front_of_values, last_time, front_at, WaveLine, stock, named, valued, turned, BeginsWith, begins_timescale, begins_scope, begins_name, begins_upscope, begins_definitions, begins_start, begins_value, begins_time, begins_turn, values_behind, has_value, wave_line_fault, MayEndAt, IsFaultAt, no_line, bad_line, IsToldTo, IsWaveRefused, IsWaveText, place_behind}
-use Rattle.wave_file.specs.WaveTold.{kept_wave, ComesOn, IsRefusedFrom}
+use Rattle.wave_file.specs.WaveReading.{WavePlace, at_timescale, at_scope, at_names, at_definitions, at_start, at_values, at_changes, timescale_line, scope_line, upscope_line, definitions_line, start_line, front_of_values, last_time, front_at, WaveLine, stock, named, valued, timed, turned, BeginsWith, begins_timescale, begins_scope, begins_name, begins_upscope, begins_definitions, begins_start, begins_value, begins_time, begins_turn, values_behind, has_value, turn_fault, wave_line_fault, MayEndAt, IsFaultAt, no_line, bad_line, IsToldTo, IsWaveRefused, IsWaveText, place_behind}
+use Rattle.wave_file.specs.WaveTold.{IsLineOn, IsRefusedFrom, IsSoFar, with_turn, ComesOn}
 use Rattle.wave_file.proofs.Stepping.{step, same_mark}
 use Rattle.wave_file.proofs.WaveTexts.{values_push}
 
@@ -44,10 +44,10 @@ line_short line rest behind is = omega (arith, ap length is, length-append line 
 
 -- a refusal that is handed on
 
-handed_on : {T : Type 0} (r : Result T WaveError) (e : WaveError) (Q : WaveError → Type 0) → IsErrAnd r (λ x. x ≡ e) → Q e → IfErr r Q
-handed_on {T} r e Q h is =
+pub handed_on : {T E : Type 0} (r : Result T E) (e : E) (Q : E → Type 0) → IsErrAnd r (λ x. x ≡ e) → Q e → IfErr r Q
+handed_on {T} {E} r e Q h is =
     let p = err_from_is_err_and r h in
-    subst (λ (s : Result T WaveError). IfErr s Q) (sym p.1) (subst Q (sym p.2) is)
+    subst (λ (s : Result T E). IfErr s Q) (sym p.1) (subst Q (sym p.2) is)
 
 pub refused_on : {T : Type 0} (r : Result T WaveError) (e : WaveError) (whole : List ℕ) → IsErrAnd r (λ x. x ≡ e) →
     OfWaveRefusal (IsWaveRefused whole) e → IfErr r (OfWaveRefusal (IsWaveRefused whole))
@@ -64,10 +64,10 @@ pub refused_whole : {T : Type 0} (r : Result T WaveError) (lines : ℕ) (p : Wav
 refused_whole (Ok x) lines p rest text so_far h = tt
 refused_whole (Err e) lines p rest text so_far h = h text so_far
 
-pub read_whole : (r : Result Wave WaveError) (lines : ℕ) (p : WavePlace) (rest text : List ℕ) → IsToldTo text lines p rest →
-    IfOk r (λ w. (whole : List ℕ) → IsToldTo whole lines p rest → IsWaveText whole (kept_wave w)) → IfOk r (λ w. IsWaveText text (kept_wave w))
-read_whole (Ok w) lines p rest text so_far h = h text so_far
-read_whole (Err e) lines p rest text so_far h = tt
+pub read_whole : {T : Type 0} (r : Result T WaveError) (lines : ℕ) (p : WavePlace) (rest text : List ℕ) (Q : List ℕ → T → Type 0) →
+    IsToldTo text lines p rest → IfOk r (λ x. (whole : List ℕ) → IsToldTo whole lines p rest → Q whole x) → IfOk r (Q text)
+read_whole (Ok x) lines p rest text Q so_far h = h text so_far
+read_whole (Err e) lines p rest text Q so_far h = tt
 
 -- a line that is no other than one
 
@@ -290,65 +290,83 @@ shorter rest behind p l (begins_time {time = time} small goes_on whole) = omega 
 shorter rest behind p l (begins_turn {value = true} {id = id} is whole) = omega (arith, ap length whole, length-append (value_spelling_of true id) behind)
 shorter rest behind p l (begins_turn {value = false} {id = id} is whole) = omega (arith, ap length whole, length-append (value_spelling_of false id) behind)
 
-pub begin_changes : (text rest : List ℕ) (names : List (List ℕ)) (first : List Bool) (changes : List (ℕ × ℕ)) (n : ℕ) → changes ≡ [] →
-    n ≡ length names → IsToldTo text (2 * length names + 5) (at_changes (wave_of names first []) 0) rest →
-    IsToldTo text (2 * n + 5) (at_changes (wave_of names first changes) 0) rest
-begin_changes text rest names first changes n none count so_far =
-    subst (λ k. IsToldTo text (2 * k + 5) (at_changes (wave_of names first changes) 0) rest) (sym count)
-    (subst (λ (cs : List (ℕ × ℕ)). IsToldTo text (2 * length names + 5) (at_changes (wave_of names first cs) 0) rest) (sym none) so_far)
-
 -- a change
 
 pub has_same : (vs ws : List Bool) (node n : ℕ) (value : Bool) → vs ≡ ws → node ≡ n → has_value vs node value ≡ has_value ws n value
 has_same vs ws node n value e f = ap (λ (v : List Bool). has_value v node value) e ∙ ap (λ (k : ℕ). has_value ws k value) f
 
-pub turn_unknown : (w : WaveValue) (now : ℕ) (value : Bool) (id : List ℕ) → length w.names ≤ id_value id →
-    Some UnknownId ≡ wave_line_fault (at_changes w now) (turned value id)
-turn_unknown w now value id many =
-    sym (ap (λ b. if b then Some UnknownId else (if has_value (values_behind w.first w.changes) (id_value id) value then Some NoChange else None))
-    (at_most (length w.names) (id_value id) many))
+pub turn_unknown : (nodes : ℕ) (values : List Bool) (value : Bool) (id : List ℕ) → nodes ≤ id_value id →
+    turn_fault nodes values value id ≡ Some UnknownId
+turn_unknown nodes values value id many =
+    ap (λ b. if b then Some UnknownId else (if has_value values (id_value id) value then Some NoChange else None)) (at_most nodes (id_value id) many)
   where
     at_most : (m n : ℕ) → m ≤ n → nat_le m n ≡ true
     at_most m n less = grind arith
 
-pub turn_known : (w : WaveValue) (now : ℕ) (value : Bool) (id : List ℕ) (has : Bool) → id_value id < length w.names →
-    has_value (values_behind w.first w.changes) (id_value id) value ≡ has →
-    (if has then Some NoChange else None) ≡ wave_line_fault (at_changes w now) (turned value id)
-turn_known w now value id has few is =
-    sym (ap (λ b. if b then Some UnknownId else (if has_value (values_behind w.first w.changes) (id_value id) value then Some NoChange else None))
-    (below (length w.names) (id_value id) few)
-    ∙ ap (λ b. if b then Some NoChange else None) is)
+pub turn_known : (nodes : ℕ) (values : List Bool) (value : Bool) (id : List ℕ) (node : ℕ) (has : Bool) → node ≡ id_value id → node < nodes →
+    has_value values node value ≡ has → turn_fault nodes values value id ≡ (if has then Some NoChange else None)
+turn_known nodes values value id node has at few is =
+    ap (λ b. if b then Some UnknownId else (if has_value values (id_value id) value then Some NoChange else None))
+    (below nodes (id_value id) (omega (arith, at, few)))
+    ∙ ap (λ b. if b then Some NoChange else None) (ap (λ (k : ℕ). has_value values k value) (sym at) ∙ is)
   where
     below : (m n : ℕ) → n < m → nat_le m n ≡ false
     below m n less = grind arith
 
-pub turn_place : (names : List (List ℕ)) (first : List Bool) (cs more : List (ℕ × ℕ)) (now node n : ℕ) → more ≡ cs ++ (now, node) ∷ [] → node ≡ n →
-    at_changes (wave_of names first more) now ≡ at_changes (wave_of names first (cs ++ (now, n) ∷ [])) now
-turn_place names first cs more now node n e f =
-    ap (λ (c : List (ℕ × ℕ)). at_changes (wave_of names first c) now) (e ∙ ap (λ (k : ℕ). cs ++ (now, k) ∷ []) f)
-
 -- what is left of the values, where their slice was written
-written_back : (n : ℕ) (xs new : List Bool) → n ≡ length xs → length new ≡ length xs → take n (new ++ drop (length new) xs) ≡ new
-written_back n xs new all same =
+pub written_back : (n : ℕ) (xs new : List Bool) (node : ℕ) → n ≡ length xs → new ≡ fired xs node → take n (new ++ drop (length new) xs) ≡ fired xs node
+written_back n xs new node all is =
+    let same : length new ≡ length xs = ap length is ∙ length-set xs node (not (high xs node)) in
     ap (λ (t : List Bool). take n (new ++ t)) (drop_all (length new) xs (omega (arith, same))) ∙ ap (take n) (append-nil new)
-    ∙ take_all n new (omega (arith, all, same))
+    ∙ take_all n new (omega (arith, all, same)) ∙ is
 
-pub turn_values : (n : ℕ) (vs new first : List Bool) (cs more : List (ℕ × ℕ)) (now node : ℕ) → n ≡ length vs → new ≡ fired vs node →
-    vs ≡ values_behind first cs → more ≡ cs ++ (now, node) ∷ [] → take n (new ++ drop (length new) vs) ≡ values_behind first more
-turn_values n vs new first cs more now node all e h g =
-    written_back n vs new all (ap length e ∙ length-set vs node (not (high vs node))) ∙ e ∙ ap (λ (v : List Bool). fired v node) h
-    ∙ sym (ap (values_behind first) g ∙ values_push first cs (now, node))
+-- of a wave so far
 
-pub line_told : (p q : WavePlace) (text rest : List ℕ) (l : WaveLine) (o : Option WaveFault) (r : Result (Bor (List ℕ)) WaveFault) →
-    BeginsWith text rest p l → o ≡ wave_line_fault p l → (o ≡ None → q ≡ place_behind p l) → IfOk r (λ x. o ≡ None) → IfOk r (λ x. x.now ≡ rest) →
-    IfOk r (λ x. (k : WaveLine) × BeginsWith text x.now p k × (wave_line_fault p k ≡ None) × (q ≡ place_behind p k))
-line_told p q text rest l o (Ok x) begins e told none is = (l, subst (λ t. BeginsWith text t p l) (sym is) begins, sym e ∙ none, told none)
-line_told p q text rest l o (Err f) begins e told none is = tt
+pub nothing_yet : (t : Told) (first : List Bool) (changes : List (ℕ × ℕ)) → first ≡ t.values.items → changes ≡ [] →
+    IsSoFar t (wave_of t.names.items first changes)
+nothing_yet t first changes same none = record {
+  names = refl;
+  values = sym same ∙ ap (values_behind first) (sym none);
+}
 
-pub line_wrong : (p : WavePlace) (text rest : List ℕ) (l : WaveLine) (o : Option WaveFault) (r : Result (Bor (List ℕ)) WaveFault) →
-    BeginsWith text rest p l → o ≡ wave_line_fault p l → IfErr r (λ f. o ≡ Some f) → IfErr r (IsFaultAt p text)
-line_wrong p text rest l o (Ok x) begins e some = tt
-line_wrong p text rest l o (Err f) begins e some = bad_line {l = l} {behind = rest} begins (sym e ∙ some)
+pub turn_of : (t : Told) (w : WaveValue) (value : Bool) (id : List ℕ) → IsSoFar t w →
+    wave_line_fault (at_changes w t.time) (turned value id) ≡ turn_fault (length t.names.items) t.values.items value id
+turn_of t w value id is =
+    ap (λ (ns : List (List ℕ)). turn_fault (length ns) (values_behind w.first w.changes) value id) (sym is.names)
+    ∙ ap (λ (vs : List Bool). turn_fault (length t.names.items) vs value id) (sym is.values)
+
+pub turn_on : (t u : Told) (w : WaveValue) (text rest : List ℕ) (value : Bool) (id : List ℕ) (node : ℕ) → IsSoFar t w → u.time ≡ t.time →
+    node ≡ id_value id → BeginsWith text rest (at_changes w t.time) (turned value id) →
+    turn_fault (length t.names.items) t.values.items value id ≡ None →
+    IsLineOn text rest (at_changes w t.time) (at_changes (with_turn w u.time (Some node)) u.time)
+turn_on t u w text rest value id node is now at begins none = (
+  turned value id,
+  begins,
+  turn_of t w value id is ∙ none,
+  ap (λ (k : ℕ). at_changes (with_turn w k (Some node)) k) now ∙ ap (λ (k : ℕ). at_changes (with_turn w t.time (Some k)) t.time) at,
+)
+
+pub turn_kept : (t u : Told) (w : WaveValue) (node : ℕ) → IsSoFar t w → u.names.items ≡ t.names.items → u.values.items ≡ fired t.values.items node →
+    IsSoFar u (with_turn w u.time (Some node))
+turn_kept t u w node is names values = record {
+  names = names ∙ is.names;
+  values = values ∙ ap (λ (v : List Bool). fired v node) is.values ∙ sym (values_push w.first w.changes (u.time, node));
+}
+
+pub mark_on : (t u : Told) (w : WaveValue) (text rest : List ℕ) (time : ℕ) → u.time ≡ time → t.time < time →
+    BeginsWith text rest (at_changes w t.time) (timed time) → IsLineOn text rest (at_changes w t.time) (at_changes (with_turn w u.time None) u.time)
+mark_on t u w text rest time now later begins = (
+  timed time,
+  begins,
+  ap (λ b. if b then None else Some TimeBack) (lt-ltb t.time time later),
+  ap (λ (k : ℕ). at_changes w k) now,
+)
+
+pub mark_back : (w : WaveValue) (text rest : List ℕ) (now time : ℕ) (fault : WaveFault) → BeginsWith text rest (at_changes w now) (timed time) →
+    (fault ≡ TimeBack) × (time ≤ now) → IsFaultAt (at_changes w now) text fault
+mark_back w text rest now time fault begins back =
+    subst (IsFaultAt (at_changes w now) text) (sym back.0)
+    (bad_line {l = timed time} {behind = rest} begins (ap (λ b. if b then None else Some TimeBack) (le-ltb now time back.1)))
 
 pub change_wrong : (w : WaveValue) (now : ℕ) (text : List ℕ) → 0 < length text →
     ((value : Bool) (id rest : List ℕ) → is_id id ≡ true → text ≢ value_spelling_of value id ++ rest) →
@@ -393,6 +411,14 @@ whole_is w now whole rest lines so_far over = by_mark so_far.reached.2
 
 -- one change after another
 
+pub begin_changes : (names : List (List ℕ)) (values first : List Bool) (changes : List (ℕ × ℕ)) (time n : ℕ) (rest : List ℕ) → first ≡ values →
+    changes ≡ [] → n ≡ length names → ComesOn (2 * length names + 5) (at_changes (wave_of names values []) time) rest
+    (2 * n + 5) (at_changes (wave_of names first changes) time) rest
+begin_changes names values first changes time n rest same none count = λ whole so_far.
+    subst (λ (k : ℕ). IsToldTo whole (2 * k + 5) (at_changes (wave_of names first changes) time) rest) (sym count)
+    (subst (λ (cs : List (ℕ × ℕ)). IsToldTo whole (2 * length names + 5) (at_changes (wave_of names first cs) time) rest) (sym none)
+    (subst (λ (vs : List Bool). IsToldTo whole (2 * length names + 5) (at_changes (wave_of names vs []) time) rest) (sym same) so_far))
+
 pub some_left : (rest : List ℕ) (empty : Bool) → empty ≡ (length rest == 0) → empty ≡ false → 0 < length rest
 some_left [] empty is more = absurd (cc (is, more))
 some_left (b ∷ rest) empty is more = omega arith
@@ -400,11 +426,6 @@ some_left (b ∷ rest) empty is more = omega arith
 pub none_left : (rest : List ℕ) (empty : Bool) → empty ≡ (length rest == 0) → empty ≡ true → rest ≡ []
 none_left [] empty is over = refl
 none_left (b ∷ rest) empty is over = absurd (omega (arith, eqb-true (length (b ∷ rest)) 0 (sym is ∙ over)))
-
--- a line without a fault
-abbrev pub IsLineOn : (rest behind : List ℕ) → (p q : WavePlace) → Type 0
-IsLineOn rest behind p q =
-    (l : WaveLine) × BeginsWith rest behind p l × (wave_line_fault p l ≡ None) × (q ≡ place_behind p l)
 
 pub changes_more : (rest behind : List ℕ) (lines : ℕ) (p q : WavePlace) → IsLineOn rest behind p q → ComesOn lines p rest (lines + 1) q behind
 changes_more rest behind lines p q on = λ whole so_far.

@@ -118,13 +118,18 @@ values_behind values (c ∷ cs) = values_behind (fired values c.1) cs
 abbrev pub has_value : List Bool → ℕ → Bool → Bool
 has_value values node value = if value then high values node else not (high values node)
 
+-- of a change to a value by the identifier, where so many nodes have these values
+abbrev pub turn_fault : (nodes : ℕ) → List Bool → Bool → List ℕ → Option WaveFault
+turn_fault nodes values value id =
+    if nat_le nodes (id_value id) then Some UnknownId
+    else (if has_value values (id_value id) value then Some NoChange else None)
+
 -- of a line that is allowed at a position: the first cause that holds
 abbrev pub wave_line_fault : WavePlace → WaveLine → Option WaveFault
 wave_line_fault (at_names names) (named name) = if nat_lt (length names) 65537 then None else Some TooMany
 wave_line_fault (at_changes w now) (timed time) = if nat_lt now time then None else Some TimeBack
 wave_line_fault (at_changes w now) (turned value id) =
-    if nat_le (length w.names) (id_value id) then Some UnknownId
-    else (if has_value (values_behind w.first w.changes) (id_value id) value then Some NoChange else None)
+    turn_fault (length w.names) (values_behind w.first w.changes) value id
 wave_line_fault place l = None
 
 -- a text may end here

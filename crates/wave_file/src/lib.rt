@@ -19,6 +19,6 @@ pub use causes::causes_text;
 pub use fault::{WaveError, WaveFault};
 pub use of_run::run_wave;
 pub use read::read_wave;
-pub use unwave::unwave_text;
+pub use unwave::{changes_text, unwave_text};
 pub use wave::Wave;
 pub use write::write_wave;

@@ -1,11 +1,12 @@
 //! Reading a wave.
 
-ghost use Rattle.std.specs.Prelude.{◌≡◌, ◌≢◌, ◌≤◌, ◌<◌, ◌+◌, ◌*◌, ◌^◌, ◌++◌, ℕ, List, [], None, Some, true, length, IfOk, IfErr};
-ghost use Rattle.wave_file.specs.declared.fault.WaveFault.TheVariants.{BadLine};
+ghost use Rattle.std.specs.Prelude.{◌≡◌, ◌≢◌, ◌≤◌, ◌<◌, ◌+◌, ◌*◌, ◌^◌, ◌++◌, ℕ, List, [], None, Some, true, length, IfOk, IfErr, IfSome, OnOk};
+ghost use Rattle.prs_core.specs.Moves.{fired};
+ghost use Rattle.wave_file.specs.declared.fault.WaveFault.TheVariants.{BadLine, TimeBack};
 ghost use Rattle.wave_file.specs.WaveFaults.{OfWaveRefusal};
-ghost use Rattle.wave_file.specs.WaveLines.{is_id};
-ghost use Rattle.wave_file.specs.WaveReading.{BeginsWith, IsFaultAt, IsToldTo, IsWaveRefused, IsWaveText, WaveLine, at_changes, at_definitions, at_names, at_values, has_value, place_behind, timed, turned, values_behind, wave_line_fault};
-ghost use Rattle.wave_file.specs.WaveTold.{kept_wave, place_told, ComesOn, IsRefusedFrom};
+ghost use Rattle.wave_file.specs.WaveLines.{id_value, is_id};
+ghost use Rattle.wave_file.specs.WaveReading.{IsFaultAt, IsToldTo, IsWaveRefused, IsWaveText, at_changes, at_definitions, at_names, at_values, has_value, turn_fault};
+ghost use Rattle.wave_file.specs.WaveTold.{changes_with, kept_wave, with_turn, ComesOn, IsLineOn, IsRefusedFrom, IsSoFar};
 ghost use Rattle.wave_file.specs.Waves.{WaveValue, wave_of};
 
 use crate::fault::{WaveError, WaveFault};
@@ -113,14 +114,36 @@ fn read_values<'a>(
     Ok((first, rest))
 }
 
-/// The wave so far.
+/// What is kept of the wave so far. Its changes aren't: a long text has many.
 #[derive(Drop)]
-struct Told {
-    wave: Wave,
+pub(crate) struct Told {
+    pub names: Vec<Name>,
     /// The values of the nodes after the changes.
-    values: Vec<bool>,
+    pub values: Vec<bool>,
     /// The time of the last mark.
-    now: u64,
+    pub time: u64,
+}
+
+/// The nodes with their first values, and what follows these.
+pub(crate) fn read_nodes(alloc: Global, text: &[u8]) -> Result<(Told, &[u8]), WaveError>
+    requires { length text.now ≤ 268435456 }
+    ensures told { IfOk result (λ r. IsToldTo text.now (2 * length r.0.names.items + 5)
+        (at_changes (wave_of r.0.names.items r.0.values.items []) r.0.time) r.1.now) }
+    ensures few { IfOk result (λ r. length r.0.names.items ≤ 65537) }
+    ensures count { IfOk result (λ r. length r.0.values.items ≡ length r.0.names.items) }
+    ensures short { IfOk result (λ r. length r.1.now ≤ 268435456) }
+    ensures refused { IfErr result (OfWaveRefusal (IsWaveRefused text.now)) }
+{
+    let behind_head = read_head(text)?;
+    let (names, behind_names) = read_names(alloc, behind_head)?;
+    let behind_start = read_start(&names, behind_names)?;
+    let (values, rest) = read_values(alloc, &names, behind_start)?;
+    let told = Told {
+        names,
+        values,
+        time: 0,
+    };
+    Ok((told, rest))
 }
 
 /// Whether the node has the value.
@@ -131,111 +154,123 @@ fn has_value(values: &[bool], node: u32, value: bool) -> bool
     values[node as usize] == value
 }
 
-/// Applies a change, or returns why it is refused.
-fn turn(told: &mut Told, value: bool, id: &[u8]) -> Result<Option<WaveFault>, AllocError>
+/// Applies a change and returns its node, or why it is refused.
+fn turn(told: &mut Told, value: bool, id: &[u8]) -> Result<u32, WaveFault>
     requires id { is_id id.now ≡ true }
-    requires few { length told.old.wave.names.items ≤ 65537 }
-    requires count { length told.old.values.items ≡ length told.old.wave.names.items }
-    requires values { told.old.values.items
-        ≡ values_behind told.old.wave.first.items told.old.wave.changes.items }
-    ensures names { told.new.wave.names.items ≡ told.old.wave.names.items }
-    ensures first { told.new.wave.first.items ≡ told.old.wave.first.items }
-    ensures nodes { length told.new.values.items ≡ length told.old.values.items }
-    ensures fault { IfOk result (λ fault. fault ≡ wave_line_fault (place_told told.old) (turned value id.now)) }
-    ensures told { IfOk result (λ fault. fault ≡ None →
-        place_told told.new ≡ place_behind (place_told told.old) (turned value id.now)) }
-    ensures values { IfOk result (λ fault. fault ≡ None → told.new.values.items
-        ≡ values_behind told.new.wave.first.items told.new.wave.changes.items) }
+    requires few { length told.old.names.items ≤ 65537 }
+    requires count { length told.old.values.items ≡ length told.old.names.items }
+    ensures names { told.new.names.items ≡ told.old.names.items }
+    ensures time { told.new.time ≡ told.old.time }
+    ensures node { IfOk result (λ node. node ≡ id_value id.now) }
+    ensures below { IfOk result (λ node. node < length told.old.names.items) }
+    ensures values { IfOk result (λ node. told.new.values.items ≡ fired told.old.values.items node) }
+    ensures told { IfOk result (λ _node.
+        turn_fault (length told.old.names.items) told.old.values.items value id.now ≡ None) }
+    ensures refused { IfErr result (λ fault.
+        turn_fault (length told.old.names.items) told.old.values.items value id.now ≡ Some fault) }
 {
-    let Some(node) = node_of(id, told.wave.names.len()) else {
-        return Ok(Some(WaveFault::UnknownId));
+    let Some(node) = node_of(id, told.names.len()) else {
+        return Err(WaveFault::UnknownId);
     };
     if has_value(&told.values, node, value) {
-        return Ok(Some(WaveFault::NoChange));
+        return Err(WaveFault::NoChange);
     }
-    told.wave.changes.push((told.now, node))?;
     write::turn(&mut told.values, node);
-    Ok(None)
+    Ok(node)
 }
 
 /// Goes on to the time of a mark, or returns why it is refused.
-fn go_on(told: &mut Told, time: u64) -> Option<WaveFault>
-    ensures wave { told.new.wave ≡ told.old.wave }
-    ensures values { told.new.values ≡ told.old.values }
-    ensures fault { result ≡ wave_line_fault (place_told told.old) (timed time) }
-    ensures told { result ≡ None → place_told told.new ≡ place_behind (place_told told.old) (timed time) }
+fn go_on(told: &mut Told, time: u64) -> Result<(), WaveFault>
+    ensures names { told.new.names.items ≡ told.old.names.items }
+    ensures values { told.new.values.items ≡ told.old.values.items }
+    ensures time { IfOk result (λ _done. told.new.time ≡ time) }
+    ensures later { IfOk result (λ _done. told.old.time < time) }
+    ensures refused { IfErr result (λ fault. (fault ≡ TimeBack) × (time ≤ told.old.time)) }
 {
-    if time <= told.now {
-        return Some(WaveFault::TimeBack);
+    if time <= told.time {
+        return Err(WaveFault::TimeBack);
     }
-    told.now = time;
-    None
+    told.time = time;
+    Ok(())
 }
 
-/// The rest, unless there is a fault.
-fn unless(fault: Option<WaveFault>, rest: &[u8]) -> Result<&[u8], WaveFault>
-    ensures rest { IfOk result (λ r. r.now ≡ rest.now) }
-    ensures none { IfOk result (λ r. fault ≡ None) }
-    ensures some { IfErr result (λ f. fault ≡ Some f) }
-{
-    match fault {
-        None => Ok(rest),
-        Some(fault) => Err(fault),
-    }
-}
-
-/// Applies a line, and returns what follows it, or why it is refused.
-fn change_line<'a>(
+/// Applies a line, and returns the node that it turns over, if it is a change, and what follows it; or why it is
+/// refused.
+pub(crate) fn change_line<'a>(
     told: &mut Told,
     text: &'a [u8],
-) -> Result<Result<&'a [u8], WaveFault>, AllocError>
+) -> Result<(Option<u32>, &'a [u8]), WaveFault>
     requires some { 0 < length text.now }
-    requires few { length told.old.wave.names.items ≤ 65537 }
-    requires count { length told.old.values.items ≡ length told.old.wave.names.items }
-    requires values { told.old.values.items
-        ≡ values_behind told.old.wave.first.items told.old.wave.changes.items }
-    ensures names { told.new.wave.names.items ≡ told.old.wave.names.items }
-    ensures first { told.new.wave.first.items ≡ told.old.wave.first.items }
-    ensures nodes { length told.new.values.items ≡ length told.old.values.items }
-    ensures told { IfOk result (λ r. IfOk r (λ rest. (l : WaveLine) ×
-        BeginsWith text.now rest.now (place_told told.old) l × (wave_line_fault (place_told told.old) l ≡ None)
-        × (place_told told.new ≡ place_behind (place_told told.old) l))) }
-    ensures values { IfOk result (λ r. IfOk r (λ rest. told.new.values.items
-        ≡ values_behind told.new.wave.first.items told.new.wave.changes.items)) }
-    ensures refused { IfOk result (λ r. IfErr r (IsFaultAt (place_told told.old) text.now)) }
+    requires few { length told.old.names.items ≤ 65537 }
+    requires count { length told.old.values.items ≡ length told.old.names.items }
+    ensures names { told.new.names.items ≡ told.old.names.items }
+    ensures nodes { IfOk result (λ r. length told.new.values.items ≡ length told.old.values.items) }
+    ensures below { IfOk result (λ r. IfSome r.0 (λ node. node < length told.old.names.items)) }
+    ensures told { IfOk result (λ r. (w : WaveValue) → IsSoFar told.old w →
+        IsLineOn text.now r.1.now (at_changes w told.old.time)
+        (at_changes (with_turn w told.new.time r.0) told.new.time)) }
+    ensures so_far { IfOk result (λ r. (w : WaveValue) → IsSoFar told.old w →
+        IsSoFar told.new (with_turn w told.new.time r.0)) }
+    ensures refused { IfErr result (λ fault. (w : WaveValue) → IsSoFar told.old w →
+        IsFaultAt (at_changes w told.old.time) text.now fault) }
 {
     if let Some((value, id, rest)) = turned_in(text) {
-        let fault = turn(told, value, id)?;
-        return Ok(unless(fault, rest));
+        let node = turn(told, value, id)?;
+        return Ok((Some(node), rest));
     }
     let Some((time, rest)) = mark_in(text) else {
-        return Ok(Err(WaveFault::BadLine));
+        return Err(WaveFault::BadLine);
     };
-    let fault = go_on(told, time);
-    Ok(unless(fault, rest))
+    go_on(told, time)?;
+    Ok((None, rest))
 }
 
-/// The wave whose changes the text lists, after so many lines.
-fn read_changes(told: Told, text: &[u8], lines: u32) -> Result<Wave, WaveError>
-    requires few { length told.wave.names.items ≤ 65537 }
-    requires count { length told.values.items ≡ length told.wave.names.items }
-    requires values { told.values.items ≡ values_behind told.wave.first.items told.wave.changes.items }
-    requires short { lines + length text.now ≤ 2 ^ 31 }
-    ensures read { IfOk result (λ w. (whole : List ℕ) → IsToldTo whole lines (place_told told) text.now →
+/// Adds the change of the node, if there is one.
+fn keep_turn(changes: &mut Vec<(u64, u32)>, now: u64, node: Option<u32>) -> Result<(), AllocError>
+    ensures { OnOk result (changes.new.items ≡ changes_with changes.old.items now node) }
+{
+    match node {
+        Some(node) => {
+            changes.push((now, node))?;
+            Ok(())
+        }
+        None => Ok(()),
+    }
+}
+
+/// The wave of these nodes whose changes the text lists.
+fn read_changes(alloc: Global, told: Told, text: &[u8]) -> Result<Wave, WaveError>
+    requires few { length told.names.items ≤ 65537 }
+    requires count { length told.values.items ≡ length told.names.items }
+    requires short { length text.now ≤ 268435456 }
+    ensures read { IfOk result (λ w. (whole : List ℕ) →
+        IsToldTo whole (2 * length told.names.items + 5)
+        (at_changes (wave_of told.names.items told.values.items []) told.time) text.now →
         IsWaveText whole (kept_wave w)) }
-    ensures refused { IfErr result (IsRefusedFrom lines (place_told told) text.now) }
+    ensures refused { IfErr result (IsRefusedFrom (2 * length told.names.items + 5)
+        (at_changes (wave_of told.names.items told.values.items []) told.time) text.now) }
 {
     let mut told = told;
-    let mut lines = lines;
+    let first = Vec::from_slice(alloc, &told.values)?;
+    let mut changes = Vec::new(alloc);
+    let mut lines = 2 * told.names.len() as u32 + 5;
     let mut rest = text;
     while !rest.is_empty() {
         lines += 1;
-        match change_line(&mut told, rest)? {
-            Ok(after) => rest = after,
+        match change_line(&mut told, rest) {
+            Ok((node, after)) => {
+                keep_turn(&mut changes, told.time, node)?;
+                rest = after;
+            }
             Err(fault) => return Err(WaveError::Refused { fault, line: lines }),
         }
     }
-    Ok(told.wave)
+    let names = told.names;
+    Ok(Wave {
+        names,
+        first,
+        changes,
+    })
 }
 
 /// The wave that the text spells, read part by part.
@@ -244,24 +279,8 @@ fn read_in_parts(alloc: Global, text: &[u8]) -> Result<Wave, WaveError>
     ensures read { IfOk result (λ w. IsWaveText text.now (kept_wave w)) }
     ensures refused { IfErr result (OfWaveRefusal (IsWaveRefused text.now)) }
 {
-    let behind_head = read_head(text)?;
-    let (names, behind_names) = read_names(alloc, behind_head)?;
-    let behind_start = read_start(&names, behind_names)?;
-    let (first, rest) = read_values(alloc, &names, behind_start)?;
-    let lines = 2 * names.len() as u32 + 5;
-    let values = first.clone()?;
-    let changes = Vec::new(alloc);
-    let wave = Wave {
-        names,
-        first,
-        changes,
-    };
-    let told = Told {
-        wave,
-        values,
-        now: 0,
-    };
-    read_changes(told, rest, lines)
+    let (told, rest) = read_nodes(alloc, text)?;
+    read_changes(alloc, told, rest)
 }
 
 /// The wave that the text spells, and it spells no other. A text that spells none is refused at its first line with a

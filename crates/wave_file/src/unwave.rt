@@ -1,10 +1,15 @@
 //! Printing a wave.
 
-ghost use Rattle.std.specs.Prelude.{◌≡◌, ◌<◌, ◌++◌, ℕ, [], length, slice_index_or, All, IfOk, OnOk};
-ghost use Rattle.wave_file.specs.Waves.{wave_of, IsWave};
+ghost use Rattle.std.specs.Prelude.{◌≡◌, ◌<◌, ◌≤◌, ◌+◌, ◌*◌, ◌^◌, ◌++◌, ℕ, List, [], length, slice_index_or, All, IfOk, IfErr, IfSome, OnOk};
+ghost use Rattle.wave_file.specs.WaveFaults.{OfWaveRefusal};
+ghost use Rattle.wave_file.specs.WaveReading.{IsToldTo, IsWaveRefused, IsWaveText, at_changes};
+ghost use Rattle.wave_file.specs.WaveTold.{with_turn, IsPrinted, IsRefusedFrom, IsSoFar};
+ghost use Rattle.wave_file.specs.Waves.{WaveValue, wave_of, IsWave};
 ghost use Rattle.wave_file.specs.Unwaved.{told_change, told_changes, count_line, unwaved};
 
+use crate::fault::WaveError;
 use crate::forms::append;
+use crate::read::{Told, change_line, read_nodes};
 use crate::wave::Wave;
 use crate::write::turn;
 use chp_base::Name;
@@ -70,4 +75,80 @@ pub fn unwave_text(alloc: Global, wave: &Wave) -> Result<Vec<u8>, AllocError>
     told_changes(&wave.names, &mut values, &wave.changes, &mut text)?;
     count_line(wave.changes.len(), &mut text)?;
     Ok(text)
+}
+
+/// What is printed so far.
+#[derive(Drop)]
+struct Printed {
+    text: Vec<u8>,
+    /// How many changes.
+    count: usize,
+}
+
+/// Prints the change of the node, if there is one, which was read last.
+fn print_turn(printed: &mut Printed, told: &Told, node: Option<u32>) -> Result<(), AllocError>
+    requires count { length told.now.values.items ≡ length told.now.names.items }
+    requires below { IfSome node (λ n. n < length told.now.names.items) }
+    requires room { printed.old.count < 2 ^ 31 }
+    ensures printed { OnOk result ((w : WaveValue) → IsSoFar told.now (with_turn w told.now.time node) →
+        IsPrinted printed.old w → IsPrinted printed.new (with_turn w told.now.time node)) }
+    ensures count { OnOk result (printed.new.count ≤ printed.old.count + 1) }
+{
+    let Some(node) = node else {
+        return Ok(());
+    };
+    let value = told.values[node as usize];
+    told_change(
+        told.time,
+        name_of_node(&told.names, node),
+        value,
+        &mut printed.text,
+    )?;
+    printed.count += 1;
+    Ok(())
+}
+
+/// The changes that the text lists, printed line by line, and then how many there are.
+fn print_changes(alloc: Global, told: Told, text: &[u8]) -> Result<Vec<u8>, WaveError>
+    requires few { length told.names.items ≤ 65537 }
+    requires count { length told.values.items ≡ length told.names.items }
+    requires short { length text.now ≤ 268435456 }
+    ensures read { IfOk result (λ printed. (whole : List ℕ) →
+        IsToldTo whole (2 * length told.names.items + 5)
+        (at_changes (wave_of told.names.items told.values.items []) told.time) text.now →
+        (w : WaveValue) × IsWaveText whole w × (printed.items ≡ unwaved w)) }
+    ensures refused { IfErr result (IsRefusedFrom (2 * length told.names.items + 5)
+        (at_changes (wave_of told.names.items told.values.items []) told.time) text.now) }
+{
+    let mut told = told;
+    let mut printed = Printed {
+        text: Vec::new(alloc),
+        count: 0,
+    };
+    let mut lines = 2 * told.names.len() as u32 + 5;
+    let mut rest = text;
+    while !rest.is_empty() {
+        lines += 1;
+        match change_line(&mut told, rest) {
+            Ok((node, after)) => {
+                print_turn(&mut printed, &told, node)?;
+                rest = after;
+            }
+            Err(fault) => return Err(WaveError::Refused { fault, line: lines }),
+        }
+    }
+    count_line(printed.count, &mut printed.text)?;
+    Ok(printed.text)
+}
+
+/// What `unwave_text` prints of the wave that the text spells, or why it spells none, as `read_wave` says it. Each
+/// change is printed as soon as it is read, and no list of them is kept.
+pub fn changes_text(alloc: Global, text: &[u8]) -> Result<Vec<u8>, WaveError>
+    requires { length text.now ≤ 268435456 }
+    ensures read { IfOk result (λ printed.
+        (w : WaveValue) × IsWaveText text.now w × (printed.items ≡ unwaved w)) }
+    ensures refused { IfErr result (OfWaveRefusal (IsWaveRefused text.now)) }
+{
+    let (told, rest) = read_nodes(alloc, text)?;
+    print_changes(alloc, told, rest)
 }

@@ -1,17 +1,16 @@
 use Rattle.std.proofs.Common.{ap}
 use Rattle.command_answers.specs.declared.answer.Ending.TheVariants.{Done}
 use Rattle.command_answers.specs.Answers.{writes}
-use Rattle.simulation_commands.specs.Unwaving.{FromWave, PrintsChanges, a_wave}
-use Rattle.command_steps.specs.Steps.{Never}
-use Rattle.command_steps.proofs.Stopping.{halts_in, passed_on}
-use Rattle.simulation_commands.proofs.WaveSteps.{wave_goes}
+use Rattle.simulation_commands.specs.Unwaving.{a_wave, no_wave}
 use Rattle.simulation_commands.proofs.unwave.told_text.Goals as goal
 
 pub returns-in-Ok-clause-answered : goal.returns-in-Ok-clause-answered
-returns-in-Ok-clause-answered c = a_wave c.in_ok-wave.ensures.read (ap (λ text. writes Done text) c.in-Ok.ensures)
+returns-in-Ok-clause-answered c =
+    let s = c.in-Ok.ensures.read in
+    a_wave (record { told = s.1; only = λ other is. c.one_wave.ensures c.args.text.now other s.0 is s.1 }) (ap (λ text. writes Done text) s.2)
 
-pub returns-in_err-wave-clause-stopped : goal.returns-in_err-wave-clause-stopped
-returns-in_err-wave-clause-stopped c =
-    passed_on c.from_residual.result _ _ c.from_residual.ensures.1
-    (halts_in (FromWave c.args.text.now Never) (FromWave c.args.text.now PrintsChanges) (λ answer is. wave_goes is) c.in_err-wave.field-0.0
-    c.in_err-wave.ensures.stopped)
+pub returns-in-Err-Refused-clause-stopped : goal.returns-in-Err-Refused-clause-stopped
+returns-in-Err-Refused-clause-stopped c =
+    let cause = rw c.in-Err-Refused.field-0-is at c.in-Err-Refused.ensures.refused in
+    no_wave (rw (c.in-Err-Refused.fault-is, c.in-Err-Refused.line-is)
+    (record { never = λ wave is. c.one_wave_refusal.ensures.never c.args.text.now wave _ _ is cause; cause = cause }))
