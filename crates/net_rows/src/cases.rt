@@ -1,31 +1,15 @@
 //! The lines of a case.
 
 use crate::bench::Bench;
-use crate::cells::{again, emit, put_rules, select};
-use crate::names::{bits, name, node_name, symbols};
-use crate::nets::{first, readers, show};
+use crate::cells::{emit, put_again, put_rules, put_select};
+use crate::names::{bits, name, symbols};
+use crate::nets::tell_net;
 use crate::orders::orders;
 use crate::runs::moved;
 use crate::scripts::offers;
-use case_text::{bytes_of, numbers_of};
+use case_text::bytes_of;
 use prs_core::Rules;
 use std::alloc::{AllocError, Global};
-use std::fmt::Write;
-
-/// The numbers of a line that are numbers of nodes, or None where a word is none.
-fn nodes_of(alloc: Global, line: &str) -> Result<Option<Vec<u32>>, AllocError> {
-    let Some(numbers) = numbers_of(alloc, line)? else {
-        return Ok(None);
-    };
-    let mut nodes = Vec::new(alloc);
-    for number in &numbers {
-        match u32::try_from(*number) {
-            Ok(node) => nodes.push(node)?,
-            Err(_) => return Ok(None),
-        }
-    }
-    Ok(Some(nodes))
-}
 
 /// Appends a text so many times to the script.
 fn repeat(alloc: Global, bench: &mut Bench, line: &str) -> Result<bool, AllocError> {
@@ -42,26 +26,56 @@ fn repeat(alloc: Global, bench: &mut Bench, line: &str) -> Result<bool, AllocErr
     Ok(true)
 }
 
+/// Appends a line to the rule file.
+fn add_line(alloc: Global, bench: &mut Bench, line: &str) -> Result<bool, AllocError> {
+    let line = bytes_of(alloc, line)?;
+    bench.net.extend_from_slice(&line)?;
+    bench.net.push(b'\n')?;
+    Ok(true)
+}
+
+/// Begins the rules of so many nodes.
+fn set_rules(alloc: Global, bench: &mut Bench, count: &str) -> Result<bool, AllocError> {
+    let Ok(count) = count.parse::<u32>() else {
+        return Ok(false);
+    };
+    bench.rules = Rules::new(alloc, count)?;
+    Ok(true)
+}
+
+/// Lets the cell write its rules at the nodes of the line, and says whether it can.
+fn write_cell(
+    alloc: Global,
+    rules: &mut Rules,
+    cell: &str,
+    line: &str,
+) -> Result<bool, AllocError> {
+    let mut nodes = Vec::new(alloc);
+    for word in line.split_whitespace() {
+        match word.parse::<u32>() {
+            Ok(node) => nodes.push(node)?,
+            Err(_) => return Ok(false),
+        }
+    }
+    emit(alloc, rules, cell, &nodes)
+}
+
 /// Does what a line sets out, and says whether it is such a line.
 fn set_out(alloc: Global, bench: &mut Bench, word: &str, rest: &str) -> Result<bool, AllocError> {
     match word {
-        "net" => bench.net = Vec::new(alloc),
-        "|" => {
-            bench.net.extend_from_slice(&bytes_of(alloc, rest)?)?;
-            bench.net.extend_from_slice(b"\n")?;
+        "net" => {
+            bench.net.clear();
+            Ok(true)
         }
-        "script" => bench.script = bytes_of(alloc, rest)?,
-        "repeat" => return repeat(alloc, bench, rest),
-        "rules" => match rest.parse::<u32>() {
-            Ok(nodes) => bench.rules = Rules::new(alloc, nodes)?,
-            Err(_) => return Ok(false),
-        },
-        _ => match nodes_of(alloc, rest)? {
-            Some(nodes) => return emit(alloc, &mut bench.rules, word, &nodes),
-            None => return Ok(false),
-        },
+        "|" => add_line(alloc, bench, rest),
+        "script" => {
+            bench.script = bytes_of(alloc, rest)?;
+            Ok(true)
+        }
+        "repeat" => repeat(alloc, bench, rest),
+        "rules" => set_rules(alloc, bench, rest),
+        _ => write_cell(alloc, &mut bench.rules, word, rest),
     }
-    Ok(true)
 }
 
 /// Does what a line asks for, and says whether it is such a line.
@@ -72,29 +86,39 @@ fn act(
     rest: &str,
     page: &mut String,
 ) -> Result<bool, AllocError> {
-    match word {
-        "name" => name(alloc, rest, page)?,
-        "node-name" => node_name(alloc, rest, page)?,
-        "symbols" => symbols(alloc, rest, page)?,
-        "bits" => match numbers_of(alloc, rest)? {
-            Some(numbers) => bits(&numbers, page)?,
-            None => return Ok(false),
-        },
-        "offers" => offers(alloc, bench, page)?,
-        "written" => put_rules(page, &bench.rules)?,
-        "selection" => put_rules(page, &select(alloc)?)?,
-        "repetition" => put_rules(page, &again(alloc)?)?,
-        "show" => show(alloc, bench, page)?,
-        "readers" => readers(alloc, bench, page)?,
-        "first" => first(alloc, bench, page)?,
-        "moves" => match rest.parse::<u32>() {
-            Ok(most) => moved(alloc, bench, most, page)?,
-            Err(_) => return Ok(false),
-        },
+    let told = match word {
+        "name" => name(alloc, rest, false, page),
+        "node-name" => name(alloc, rest, true, page),
+        "symbols" => symbols(alloc, rest, page),
+        "bits" => bits(rest, page),
+        "offers" => offers(alloc, bench, page),
+        "written" => put_rules(page, &bench.rules),
+        "selection" => put_select(alloc, page),
+        "repetition" => put_again(alloc, page),
+        "show" | "readers" | "first" => tell_net(alloc, bench, word, page),
+        "moves" => return moved(alloc, bench, rest, page),
         "orders" => return orders(alloc, bench, rest, page),
         _ => return Ok(false),
-    }
+    };
+    told?;
     Ok(true)
+}
+
+fn put_line(page: &mut String, before: &str, line: &str) -> Result<(), AllocError> {
+    page.push_str(before)?;
+    page.push_str(line)?;
+    page.push('\n')
+}
+
+/// Begins a case, with nothing set out.
+fn begin(
+    alloc: Global,
+    bench: &mut Bench,
+    line: &str,
+    page: &mut String,
+) -> Result<(), AllocError> {
+    *bench = Bench::new(alloc)?;
+    put_line(page, "", line)
 }
 
 /// Does what the line says. A line that can't be understood is printed after a question mark.
@@ -109,11 +133,10 @@ pub fn obey(
         return Ok(());
     }
     if word == "case" {
-        *bench = Bench::new(alloc)?;
-        return writeln!(page, "{line}");
+        return begin(alloc, bench, line, page);
     }
     if act(alloc, bench, word, rest, page)? || set_out(alloc, bench, word, rest)? {
         return Ok(());
     }
-    writeln!(page, "? {line}")
+    put_line(page, "? ", line)
 }

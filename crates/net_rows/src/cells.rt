@@ -9,7 +9,7 @@ use cell_parallel::emit_tree;
 use cell_select::{AgainPorts, SelectPorts, emit_again, emit_select};
 use cell_sequence::{QPorts, emit_loop, emit_q, emit_skip};
 use cell_variable::{emit_or, emit_variable, emit_write_site};
-use prs_core::{Guard, Rules};
+use prs_core::{Guard, Rules, Term};
 use std::alloc::{AllocError, Global};
 use std::fmt::Write;
 
@@ -237,19 +237,19 @@ fn repetition(alloc: Global) -> Result<AgainPorts, AllocError>
 }
 
 /// The rules of the selection alone.
-pub fn select(alloc: Global) -> Result<Rules, AllocError> {
+pub fn put_select(alloc: Global, page: &mut String) -> Result<(), AllocError> {
     let ports = selection(alloc)?;
     let mut rules = Rules::new(alloc, 60)?;
     emit_select(alloc, &ports, &mut rules)?;
-    Ok(rules)
+    put_rules(page, &rules)
 }
 
 /// The rules of the guarded repetition alone.
-pub fn again(alloc: Global) -> Result<Rules, AllocError> {
+pub fn put_again(alloc: Global, page: &mut String) -> Result<(), AllocError> {
     let ports = repetition(alloc)?;
     let mut rules = Rules::new(alloc, 24)?;
     emit_again(alloc, &ports, &mut rules)?;
-    Ok(rules)
+    put_rules(page, &rules)
 }
 
 /// Lets the named cell write its rules at these nodes. It says whether there is such a cell, and whether the nodes are
@@ -274,31 +274,46 @@ pub fn emit(
     }
 }
 
-/// The guard with its literals, as ` 1 & ~2 | 3`.
-pub fn put_guard(page: &mut String, guard: &Guard) -> Result<(), AllocError> {
-    for (place, term) in guard.terms().iter().enumerate() {
-        page.push_str(if place > 0 { " | " } else { " " })?;
-        for (at, literal) in term.literals().iter().enumerate() {
-            page.push_str(if at > 0 { " & " } else { "" })?;
-            page.push_str(if literal.high { "" } else { "~" })?;
-            write!(page, "{}", literal.node)?;
-        }
+/// The literals of a term, as `1 & ~2`.
+fn put_term(page: &mut String, term: &Term) -> Result<(), AllocError> {
+    for (at, literal) in term.literals().iter().enumerate() {
+        page.push_str(match (at > 0, literal.high) {
+            (false, true) => "",
+            (false, false) => "~",
+            (true, true) => " & ",
+            (true, false) => " & ~",
+        })?;
+        write!(page, "{}", literal.node)?;
     }
     Ok(())
 }
 
-/// The guards of each node that has any: where it rises, and where it falls.
+/// The guard with its literals, as ` 1 & ~2 | 3`.
+fn put_guard(page: &mut String, guard: &Guard) -> Result<(), AllocError> {
+    for (place, term) in guard.terms().iter().enumerate() {
+        page.push_str(if place > 0 { " | " } else { " " })?;
+        put_term(page, term)?;
+    }
+    Ok(())
+}
+
+/// The guards of a node: where it rises, and where it falls.
+pub fn put_guards(page: &mut String, up: &Guard, down: &Guard) -> Result<(), AllocError> {
+    page.push_str(" up")?;
+    put_guard(page, up)?;
+    page.push_str(" down")?;
+    put_guard(page, down)?;
+    page.push('\n')
+}
+
+/// The guards of each node that has any.
 pub fn put_rules(page: &mut String, rules: &Rules) -> Result<(), AllocError> {
     for node in 0..rules.nodes() {
         let (up, down) = (rules.up(node), rules.down(node));
-        if up.terms().is_empty() && down.terms().is_empty() {
-            continue;
+        if !up.terms().is_empty() || !down.terms().is_empty() {
+            write!(page, "{node}")?;
+            put_guards(page, up, down)?;
         }
-        write!(page, "{node} up")?;
-        put_guard(page, up)?;
-        page.push_str(" down")?;
-        put_guard(page, down)?;
-        page.push('\n')?;
     }
     Ok(())
 }

@@ -1,33 +1,66 @@
 //! Simulations by each scheduler, and plain runs by the choices of those that go by age.
 
-ghost use Rattle.std.specs.Prelude.{◌≤◌};
+ghost use Rattle.std.specs.Prelude.{◌≤◌, IfSome};
+ghost use Rattle.env_script.specs.Environment.{net_channels};
+ghost use Rattle.env_script.specs.Scripts.{IsScript};
 
 use crate::bench::Bench;
 use crate::runs::read;
-use case_text::numbers_of;
-use event_sim::{End, Lowest, Newest, Oldest, Picker, Random, Sim};
+use env_script::Script;
+use event_sim::{Lowest, Newest, Oldest, Picker, Ran, Random, Sim};
 use plain_runs::Run;
+use prs_core::Net;
 use std::alloc::{AllocError, Global};
 use std::fmt::Write;
 
-/// The result of a simulation, with what passed channel by channel, and the indices that its scheduler chose.
+/// A simulation that has ended, with what passed channel by channel, and the indices that its scheduler chose.
 #[derive(Drop)]
 struct Simulated {
-    end: End,
-    moves: u32,
-    done: bool,
+    ran: Ran,
     passed: Vec<(u32, u64)>,
     picks: Vec<usize>,
 }
 
+/// What passed, channel by channel.
+fn by_channel(alloc: Global, ran: &Ran) -> Result<Vec<(u32, u64)>, AllocError> {
+    let mut passed = Vec::from_slice(alloc, ran.passed())?;
+    passed.sort_by_key(|value| value.0)?;
+    Ok(passed)
+}
+
 impl Simulated {
+    /// The simulation that so ended, by these choices.
+    fn new(alloc: Global, ran: Ran, picks: &[usize]) -> Result<Simulated, AllocError> {
+        let passed = by_channel(alloc, &ran)?;
+        let picks = Vec::from_slice(alloc, picks)?;
+        Ok(Simulated { ran, passed, picks })
+    }
+
     /// Whether both have the same result.
     fn agrees(&self, other: &Simulated) -> bool {
-        self.end == other.end
-            && self.moves == other.moves
-            && self.done == other.done
+        self.ran.end() == other.ran.end()
+            && self.ran.moves() == other.ran.moves()
+            && self.ran.done_high() == other.ran.done_high()
             && self.passed == other.passed
     }
+}
+
+/// The run of the net under the script by the scheduler.
+fn go(
+    alloc: Global,
+    net: Net,
+    script: Script,
+    seed: u64,
+    steps: u32,
+    picker: &mut Box<dyn Picker>,
+) -> Result<Ran, AllocError>
+    requires script { IsScript (net_channels net) script }
+    requires steps { steps ≤ 1000000 }
+{
+    let nodes = net.first().len() as u32;
+    picker.seed(seed);
+    picker.make_room(steps, nodes)?;
+    Ok(Sim::new(alloc, net, script, steps)?.run(picker))
 }
 
 /// The simulation by the scheduler, or None where a text is refused.
@@ -43,26 +76,12 @@ fn simulate(
     let Some((net, script)) = read(alloc, bench)? else {
         return Ok(None);
     };
-    let Ok(nodes) = u32::try_from(net.first().len()) else {
-        return Ok(None);
-    };
     let earlier = picker.log().len();
-    picker.seed(seed);
-    picker.make_room(steps, nodes)?;
-    let ran = Sim::new(alloc, net, script, steps)?.run(picker);
-    let Some(picks) = picker.log().get(earlier..) else {
-        return Ok(None);
-    };
-    let picks = Vec::from_slice(alloc, picks)?;
-    let mut passed = Vec::from_slice(alloc, ran.passed())?;
-    passed.sort_by_key(|value| value.0)?;
-    Ok(Some(Simulated {
-        end: ran.end(),
-        moves: ran.moves(),
-        done: ran.done_high(),
-        passed,
-        picks,
-    }))
+    let ran = go(alloc, net, script, seed, steps, picker)?;
+    match picker.log().get(earlier..) {
+        Some(picks) => Ok(Some(Simulated::new(alloc, ran, picks)?)),
+        None => Ok(None),
+    }
 }
 
 /// A node with an enabled move, and the number of the list since which it has been enabled without a break.
@@ -128,24 +147,35 @@ fn step(
 
 /// Whether each of these choices is the first node of those that have waited longest, or shortest, in a run without a
 /// hazard.
+fn follows(
+    alloc: Global,
+    run: &mut Run,
+    picks: &[usize],
+    longest: bool,
+) -> Result<bool, AllocError> {
+    let mut list = Vec::new(alloc);
+    for (number, place) in picks.iter().enumerate() {
+        match step(alloc, run, &list, number, *place, longest)? {
+            Some(next) => list = next,
+            None => return Ok(false),
+        }
+    }
+    Ok(true)
+}
+
+/// The same of a run of the case's net under its script.
 fn go_by_age(
     alloc: Global,
     bench: &Bench,
     picks: &[usize],
     longest: bool,
 ) -> Result<bool, AllocError> {
-    let Some((net, script)) = read(alloc, bench)? else {
-        return Ok(false);
-    };
-    let mut run = Run::new(alloc, net, script)?;
-    let mut list = Vec::new(alloc);
-    for (number, place) in picks.iter().enumerate() {
-        match step(alloc, &mut run, &list, number, *place, longest)? {
-            Some(next) => list = next,
-            None => return Ok(false),
+    match read(alloc, bench)? {
+        Some((net, script)) => {
+            follows(alloc, &mut Run::new(alloc, net, script)?, picks, longest)
         }
+        None => Ok(false),
     }
-    Ok(true)
 }
 
 /// Prints how many choices this order made, whether each was the oldest node and whether each was the newest one, and
@@ -158,20 +188,46 @@ fn tell_picks(
     again: &[usize],
     page: &mut String,
 ) -> Result<(), AllocError> {
-    let count = picks.len();
     let oldest = go_by_age(alloc, bench, picks, true)?;
     let newest = go_by_age(alloc, bench, picks, false)?;
-    let same = picks == again;
-    writeln!(
-        page,
-        "{order}: {count} picks, oldest {oldest}, newest {newest}, the same again {same}"
-    )?;
-    Ok(())
+    write!(page, "{order}: {} picks, oldest {oldest}", picks.len())?;
+    writeln!(page, ", newest {newest}, the same again {}", picks == again)
 }
 
-/// Simulates by each of these orders, with a seed and for so many moves at most, and then once more by the same one. It
-/// prints of each how many choices it made, whether each was the oldest node and whether each was the newest one, and
-/// whether it chose the same again; then whether all results are the same, and whether all choices differ.
+/// Simulates by this order, with a seed and for so many moves at most, and then once more, and tells what it chose. The
+/// first simulation, or None where a text is refused.
+fn simulate_twice(
+    alloc: Global,
+    bench: &Bench,
+    seed: u64,
+    steps: u32,
+    picker: &mut Box<dyn Picker>,
+    page: &mut String,
+) -> Result<Option<Simulated>, AllocError>
+    requires { steps ≤ 1000000 }
+{
+    let Some(run) = simulate(alloc, bench, seed, steps, picker)? else {
+        return Ok(None);
+    };
+    let Some(again) = simulate(alloc, bench, seed, steps, picker)? else {
+        return Ok(None);
+    };
+    tell_picks(alloc, bench, picker.name(), &run.picks, &again.picks, page)?;
+    Ok(Some(run))
+}
+
+/// Whether each of these has the same result as this one.
+fn all_agree(earlier: &[Simulated], run: &Simulated) -> bool {
+    earlier.iter().all(|other| other.agrees(run))
+}
+
+/// Whether none of these was by the same choices as this one.
+fn all_differ(earlier: &[Simulated], run: &Simulated) -> bool {
+    earlier.iter().all(|other| other.picks != run.picks)
+}
+
+/// Simulates by each of these orders, with a seed and for so many moves at most, and tells of each what it chose; then
+/// whether all results are the same, and whether all choices differ.
 fn compare(
     alloc: Global,
     bench: &Bench,
@@ -185,19 +241,29 @@ fn compare(
     let mut earlier: Vec<Simulated> = Vec::new(alloc);
     let (mut agree, mut differ) = (true, true);
     for picker in pickers.iter_mut() {
-        let Some(run) = simulate(alloc, bench, seed, steps, picker)? else {
+        let Some(run) = simulate_twice(alloc, bench, seed, steps, picker, page)? else {
             return Ok(false);
         };
-        let Some(again) = simulate(alloc, bench, seed, steps, picker)? else {
-            return Ok(false);
-        };
-        tell_picks(alloc, bench, picker.name(), &run.picks, &again.picks, page)?;
-        agree = agree && earlier.iter().all(|other| other.agrees(&run));
-        differ = differ && earlier.iter().all(|other| other.picks != run.picks);
+        agree = agree && all_agree(&earlier, &run);
+        differ = differ && all_differ(&earlier, &run);
         earlier.push(run)?;
     }
     writeln!(page, "all agree {agree}, all picks differ {differ}")?;
     Ok(true)
+}
+
+/// The seed and the most moves that the line gives, where these aren't too many.
+fn limits_of(line: &str) -> Option<(u64, u32)>
+    ensures { IfSome result (λ limits. limits.1 ≤ 1000000) }
+{
+    let (seed, steps) = line.split_once(' ')?;
+    let Ok(seed) = seed.parse::<u64>() else {
+        return None;
+    };
+    match steps.parse::<u32>() {
+        Ok(steps) if steps <= 1_000_000 => Some((seed, steps)),
+        _ => None,
+    }
 }
 
 /// Compares the four schedulers, where the line gives a seed and the most moves.
@@ -207,22 +273,13 @@ pub fn orders(
     line: &str,
     page: &mut String,
 ) -> Result<bool, AllocError> {
-    let Some(numbers) = numbers_of(alloc, line)? else {
+    let Some((seed, steps)) = limits_of(line) else {
         return Ok(false);
     };
-    let [seed, steps] = numbers.as_slice() else {
-        return Ok(false);
-    };
-    let Ok(steps) = u32::try_from(*steps) else {
-        return Ok(false);
-    };
-    if steps > 1_000_000 {
-        return Ok(false);
-    }
     let mut pickers: Vec<Box<dyn Picker>> = Vec::new(alloc);
     pickers.push(Box::new(alloc, Lowest::new(alloc))?)?;
     pickers.push(Box::new(alloc, Oldest::new(alloc))?)?;
     pickers.push(Box::new(alloc, Newest::new(alloc))?)?;
     pickers.push(Box::new(alloc, Random::new(alloc))?)?;
-    compare(alloc, bench, *seed, steps, &mut pickers, page)
+    compare(alloc, bench, seed, steps, &mut pickers, page)
 }

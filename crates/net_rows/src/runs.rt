@@ -68,31 +68,26 @@ fn least(alloc: Global, run: &Run) -> Result<Option<u32>, AllocError>
     }
 }
 
-/// How a run went: the nodes that moved, the hazard at which it ended, whether `done` is high, and what has passed on
-/// each channel.
-#[derive(Drop)]
-struct Outcome {
-    moves: Vec<u32>,
-    hazard: Option<Hazard>,
-    done: bool,
-    passed: Vec<Vec<u64>>,
-}
-
-/// Moves the least node with an enabled move, until there is none, a hazard comes or so many moves are made.
-fn moves(alloc: Global, run: &mut Run, most: u32) -> Result<(Vec<u32>, Option<Hazard>), AllocError>
+/// Moves the least node with an enabled move, until there is none, a hazard comes or so many moves are made. It prints
+/// which nodes moved, and returns the hazard.
+fn moves(
+    alloc: Global,
+    run: &mut Run,
+    most: u32,
+    page: &mut String,
+) -> Result<Option<Hazard>, AllocError>
     ensures { OnOk result (run.new.net ≡ run.old.net) }
 {
-    let mut moves = Vec::new(alloc);
     for _move in 0..most {
         let Some(node) = least(alloc, run)? else {
             break;
         };
-        moves.push(node)?;
+        write!(page, " {node}")?;
         if let Some(hazard) = run.make(alloc, node)? {
-            return Ok((moves, Some(hazard)));
+            return Ok(Some(hazard));
         }
     }
-    Ok((moves, None))
+    Ok(None)
 }
 
 /// The net and the script of the case, or None where a text is refused.
@@ -111,51 +106,61 @@ pub fn read(alloc: Global, bench: &Bench) -> Result<Option<(Net, Script)>, Alloc
     }
 }
 
-/// The run of so many moves at most of the net under the script, or None where a text is refused.
-fn ran(alloc: Global, bench: &Bench, most: u32) -> Result<Option<Outcome>, AllocError> {
-    let Some((net, script)) = read(alloc, bench)? else {
-        return Ok(None);
-    };
-    let Ok(channels) = u32::try_from(net.channels().len()) else {
-        return Ok(None);
-    };
-    let mut run = Run::new(alloc, net, script)?;
-    let (moves, hazard) = moves(alloc, &mut run, most)?;
-    let mut passed = Vec::new(alloc);
-    for chan in 0..channels {
-        passed.push(Vec::from_slice(alloc, run.history(chan))?)?;
+fn put_hazard(page: &mut String, hazard: Option<Hazard>) -> Result<(), AllocError> {
+    match hazard {
+        Some(hazard) => writeln!(page, "; {hazard:?}"),
+        None => page.push('\n'),
     }
-    Ok(Some(Outcome {
-        moves,
-        hazard,
-        done: run.is_high(1),
-        passed,
-    }))
 }
 
-/// Which nodes moved, the hazard at which the run ended, if it did, whether `done` is high, and what has passed on each
-/// channel.
-pub fn moved(alloc: Global, bench: &Bench, most: u32, page: &mut String) -> Result<(), AllocError> {
-    let Some(outcome) = ran(alloc, bench, most)? else {
+fn put_history(page: &mut String, chan: u32, values: &[u64]) -> Result<(), AllocError> {
+    write!(page, "channel {chan}:")?;
+    put_numbers(page, values)?;
+    page.push('\n')
+}
+
+/// The run of so many moves at most of the net under the script: which nodes moved, the hazard at which the run ended,
+/// if it did, whether `done` is high, and what has passed on each channel.
+fn put_run(
+    alloc: Global,
+    net: Net,
+    script: Script,
+    most: u32,
+    page: &mut String,
+) -> Result<(), AllocError>
+    requires { IsScript (net_channels net) script }
+{
+    let Ok(channels) = u32::try_from(net.channels().len()) else {
         return page.push_str("no run\n");
     };
+    let mut run = Run::new(alloc, net, script)?;
     page.push_str("moved")?;
-    for node in &outcome.moves {
-        write!(page, " {}", *node)?;
-    }
-    match &outcome.hazard {
-        Some(hazard) => writeln!(page, "; {hazard:?}")?,
-        None => page.push('\n')?,
-    }
-    page.push_str(if outcome.done {
+    let hazard = moves(alloc, &mut run, most, page)?;
+    put_hazard(page, hazard)?;
+    page.push_str(if run.is_high(1) {
         "done high\n"
     } else {
         "done low\n"
     })?;
-    for (chan, values) in outcome.passed.iter().enumerate() {
-        write!(page, "channel {chan}:")?;
-        put_numbers(page, values)?;
-        page.push('\n')?;
+    for chan in 0..channels {
+        put_history(page, chan, run.history(chan))?;
     }
     Ok(())
+}
+
+/// The run of so many moves at most, which the line gives, where it gives a number.
+pub fn moved(
+    alloc: Global,
+    bench: &Bench,
+    line: &str,
+    page: &mut String,
+) -> Result<bool, AllocError> {
+    let Ok(most) = line.parse::<u32>() else {
+        return Ok(false);
+    };
+    match read(alloc, bench)? {
+        Some((net, script)) => put_run(alloc, net, script, most, page)?,
+        None => page.push_str("no run\n")?,
+    }
+    Ok(true)
 }
