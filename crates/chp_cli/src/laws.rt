@@ -67,8 +67,9 @@ pub fn compiled_right()
 /// Law: a file that holds what `compile` wrote, on whatever shelf, is as is premised of files that `compile` wrote. So
 /// what is said of their simulations, timed runs, waves and benches holds of it.
 pub fn written_files_hold()
-    ensures { (c : AskedCompilation) (given more : Given) (file written : List ℕ) (is : IsFaithfulFile c given written) →
-        more.files file ≡ Some written → HoldsCompiled more file (typed_form is.file.made) }
+    ensures { (c : AskedCompilation) (given more : Given) (file written : List ℕ)
+        (is : IsFaithfulFile c given written) → more.files file ≡ Some written →
+        HoldsCompiled more file (typed_form is.file.made) }
 {}
 
 /// Law: the only answer of `compile` to a file that holds what is to be compiled is to write.

@@ -147,7 +147,7 @@ fn run<'a, S: Shelf, K: Sink>(
 /// program with the buffer, and keeps pace with it. This is said where the shelf is observable and the status is 0; and
 /// that it is this file which was written, where the output is observable.
 ///
-/// A run of a rule file that `compile` wrote, by an order, by delays or told as a wave, finds no hazard under whatever
+/// A run of a rule file that `compile` wrote, by an order, by delays or written as a wave, finds no hazard under any
 /// script, and compared with its own program it agrees. Where one by an order reports rest, no order makes more moves.
 /// Where its program comes to rest under the script, so does the run, if the limit is high enough. With delays of at
 /// most some time it does so no later than the most moves at that time each; and where its last move comes later than

@@ -1,6 +1,5 @@
--- How soon a net passes what its program passes, counted in sweeps. No times occur in it, and both kinds follow: where
--- each enabled move is made within a delay, a sweep takes no longer; where each is made within so many moves, it has no
--- more.
+-- How soon a net passes what its program passes, counted in sweeps. No times occur in it: what follows for timed runs,
+-- in which each node's rise and its fall have a fixed delay, is said by `TimedPace` of `net_pace`.
 use Rattle.std.specs.Prelude.{◌≡◌, ◌*◌, ℕ, suc, List, ◌++◌}
 use Rattle.prs_core.specs.Nets.{NetValue}
 use Rattle.env_script.specs.Scripts.{OfferValue, IsScript}

@@ -159,7 +159,7 @@ pub fn whole_nets()
 /// Law: the net of each such program, no assignment of which reads its own target, keeps time. A sweep of a run is a
 /// stretch of it in which each node moves that was enabled when it began. Every run whose moves begin with 2 nodes + 1
 /// sweeps for each of n rounds of the program has passed what these pass, under every script and in whatever order the
-/// nodes switch: so no part of the program waits for ever on another one that goes on.
+/// nodes switch. So where no enabled node waits for ever, no value on a channel waits for ever because others go on.
 pub fn plain_nets_keep_time()
     ensures { (p : TypedProgram) → IsTranslated p → ReadsNoTarget p.body → nodes_of p ≤ 65536 →
         KeepsTime (translation p) p (sweeps_for_round p) }

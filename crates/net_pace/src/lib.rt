@@ -60,10 +60,10 @@ pub fn shared_bodies_keep_time()
     shared_bodies_hold();
 }
 
-/// Law: so it does by time. Each timed run, under every script, with delays of at most D, the environment's too, that
-/// goes on later than 2 · (2 nodes + 1) · D for each of n rounds of the program, or comes to rest before, has passed
-/// what these pass; where no assignment reads its own target, half of that is enough (`plain`); and `net`: any net that
-/// carries a program and keeps time in so many sweeps keeps it in as many times D.
+/// Law: so it does by time. Each timed run, under every script, with delays of at most D, the environment's too, whose
+/// last move comes later than 2 · (2 nodes + 1) · D for each of n rounds of the program, or which has come to rest, has
+/// passed what these pass; where no assignment reads its own target, half of that is enough (`plain`); and `net`: any
+/// net that carries a program and keeps time in so many sweeps keeps it in as many times D.
 pub fn keeps_timed_pace()
     ensures every { (p : TypedProgram) → IsTranslated p → nodes_of p ≤ 65536 →
         TimedPace (translation p) p (2 * sweeps_for_round p) }

@@ -24,11 +24,12 @@ is_out In = false
 is_out Out = true
 is_out Chan = false
 
--- the channel of this number, if there is one, is of such a kind
+-- there is a channel, and its kind passes the test
 abbrev pub kind_passes : (Kind → Bool) → Option Wires → Bool
 kind_passes p None = false
 kind_passes p (Some w) = p w.channel.kind
 
+-- a number is given, the net has a channel of this number, and its kind passes the test
 abbrev pub chan_is : (Kind → Bool) → NetValue → Option ℕ → Bool
 chan_is p net None = false
 chan_is p net (Some c) = kind_passes p (slice_get net.channels c)
@@ -69,7 +70,7 @@ pub data IsNotedAlong {P : Type 0} (known : P → PeerValue) (net : NetValue) (s
       IsNotedAlong known net start was (ns ++ n ∷ [])
       ((notes ++ told_passed net (length ns + 1) (completion net (high (after net start ns).values) n)) ++ more) is
 
--- nothing is due on a channel of this kind, and no value is taken on it
+-- nothing is due on the channel, where it is an `in` channel, and no value is taken on it, where it is an `out` channel
 abbrev pub IsSilent : PeerValue → Kind → (width chan : ℕ) → Type 0
 IsSilent p In width chan = p.due chan width ≡ None
 IsSilent p Out width chan = p.willing chan ≡ false

@@ -110,7 +110,7 @@ impl Bench {
 }
 
 impl Benched {
-    /// The run.
+    /// The run that was made: its net, how it ended, how many moves it had, `done`, and what has passed.
     pub fn ran(&self) -> &Ran
         ensures { result.now ≡ self.now.ran }
     {

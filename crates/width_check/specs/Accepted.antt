@@ -1,4 +1,5 @@
--- Which programs are accepted. Those with procedures or calls have no typed form yet, so none of them is accepted.
+-- Which programs without procedures and calls are accepted. Of one with procedures this is said of the program in which
+-- each call is a copy of its procedure's body.
 use Rattle.chp_syntax.specs.Trees.{ProgramTree}
 use Rattle.width_check.specs.Calls.{IsCallFree}
 use Rattle.width_check.specs.Faults.{naming_faults, HasNone}
