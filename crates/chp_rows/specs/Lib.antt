@@ -1,1 +1,2 @@
 pub mod Moods
+pub mod Ways

@@ -3,7 +3,7 @@
 use crate::bench::Bench;
 use crate::peers::Dropped;
 use case_text::words_of;
-use chp_cli::{Players, chp_main};
+use chp_cli::{Players, Status, chp_main};
 use event_sim::{Lowest, Picker};
 use peer_bench::{Bench as PeerBench, Peer};
 use prs_file::read_net;
@@ -35,6 +35,26 @@ fn give_up(alloc: Global, bench: &Bench, drops: &Rc<Cell<u32>>) -> Result<bool, 
     }
 }
 
+/// Runs the words with these devices, which are given back: the status, and how often one was dropped by then.
+fn play(
+    alloc: Global,
+    bench: &Bench,
+    line: &str,
+    peers: Vec<Box<dyn Peer>>,
+    drops: &Rc<Cell<u32>>,
+) -> Result<(Status, u32), AllocError> {
+    let words = words_of(alloc, line)?;
+    let mut shelf = bench.shelf(alloc, usize::MAX)?;
+    let mut out = bench.out.sink(alloc)?;
+    let mut say = bench.say.sink(alloc)?;
+    let mut orders: Vec<Box<dyn Picker>> = Vec::new(alloc);
+    orders.push(Box::new(alloc, Lowest::new(alloc))?)?;
+    let mut players = Players { orders, peers };
+    drops.set(0);
+    let status = chp_main(alloc, &words, &mut shelf, &mut out, &mut say, &mut players);
+    Ok((status, drops.get()))
+}
+
 /// How often a device is dropped with a bench that is given up, and how often by a call that runs it and gives it back.
 pub fn count_drops(
     alloc: Global,
@@ -47,21 +67,8 @@ pub fn count_drops(
         return writeln!(page, "? no rule file");
     }
     writeln!(page, "given up: {}", drops.get())?;
-    let words = words_of(alloc, line)?;
-    let mut shelf = bench.shelf(alloc, usize::MAX)?;
-    let mut out = bench.out.sink(alloc)?;
-    let mut say = bench.say.sink(alloc)?;
-    let mut orders: Vec<Box<dyn Picker>> = Vec::new(alloc);
-    orders.push(Box::new(alloc, Lowest::new(alloc))?)?;
-    drops.set(0);
     let mut peers: Vec<Box<dyn Peer>> = Vec::new(alloc);
     peers.push(Box::new(alloc, Dropped::new(alloc, drops.clone()?))?)?;
-    let mut players = Players { orders, peers };
-    let status = chp_main(alloc, &words, &mut shelf, &mut out, &mut say, &mut players);
-    writeln!(
-        page,
-        "status {}, given back: {}",
-        status.number(),
-        drops.get()
-    )
+    let (status, count) = play(alloc, bench, line, peers, &drops)?;
+    writeln!(page, "status {}, given back: {count}", status.number())
 }

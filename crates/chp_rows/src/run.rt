@@ -4,7 +4,7 @@ ghost use Rattle.std.specs.Prelude.{◌<◌, length, IfOk};
 
 use crate::bench::Bench;
 use crate::peers::{Mood, Moody};
-use crate::pickers::{ByText, Starve, Swing};
+use crate::pickers::{Adversary, Way};
 use case_text::{bytes_of, put_bytes, put_lines, words_of};
 use chp_cli::{Players, Status, chp_main};
 use chp_edge::{MemSink, Shelf, SureShelf};
@@ -35,6 +35,54 @@ fn text_to_go_by(alloc: Global, bench: &Bench) -> Result<Vec<u8>, AllocError>
     }
 }
 
+/// What all orders have chosen, concatenated.
+fn picks_of(alloc: Global, orders: &[Box<dyn Picker>]) -> Result<Vec<usize>, AllocError> {
+    let mut picks = Vec::new(alloc);
+    for order in orders {
+        picks.extend_from_slice(order.log())?;
+    }
+    Ok(picks)
+}
+
+/// Runs the words with these orders and devices.
+fn play<S: Shelf>(
+    alloc: Global,
+    bench: &Bench,
+    words: &[String],
+    shelf: &mut S,
+    players: Players,
+) -> Result<Ran, AllocError> {
+    let mut players = players;
+    let mut out = bench.out.sink(alloc)?;
+    let mut say = bench.say.sink(alloc)?;
+    let status = chp_main(alloc, words, shelf, &mut out, &mut say, &mut players);
+    let picks = picks_of(alloc, &players.orders)?;
+    Ok(Ran {
+        status,
+        out,
+        say,
+        picks,
+    })
+}
+
+/// Runs the words with these orders, and the devices that a case may name.
+fn play_with<S: Shelf>(
+    alloc: Global,
+    bench: &Bench,
+    words: &[String],
+    shelf: &mut S,
+    orders: Vec<Box<dyn Picker>>,
+) -> Result<Ran, AllocError> {
+    let mut peers: Vec<Box<dyn Peer>> = Vec::new(alloc);
+    peers.push(Box::new(alloc, Ramp::new(alloc))?)?;
+    peers.push(Box::new(alloc, Echo::new(alloc))?)?;
+    for mood in [Mood::Mute, Mood::Deaf, Mood::Greedy, Mood::Fickle] {
+        peers.push(Box::new(alloc, Moody::new(alloc, mood))?)?;
+    }
+    play(alloc, bench, words, shelf, Players { orders, peers })
+}
+
+/// Runs the words of the line, with the orders and devices that a case may name.
 fn command<S: Shelf>(
     alloc: Global,
     bench: &Bench,
@@ -42,35 +90,22 @@ fn command<S: Shelf>(
     shelf: &mut S,
 ) -> Result<Ran, AllocError> {
     let words = words_of(alloc, line)?;
-    let mut out = bench.out.sink(alloc)?;
-    let mut say = bench.say.sink(alloc)?;
     let mut orders: Vec<Box<dyn Picker>> = Vec::new(alloc);
     orders.push(Box::new(alloc, Lowest::new(alloc))?)?;
     orders.push(Box::new(alloc, Oldest::new(alloc))?)?;
     orders.push(Box::new(alloc, Newest::new(alloc))?)?;
     orders.push(Box::new(alloc, Random::new(alloc))?)?;
-    orders.push(Box::new(alloc, Swing::new(alloc))?)?;
-    orders.push(Box::new(alloc, Starve::new(alloc))?)?;
-    let text = text_to_go_by(alloc, bench)?;
-    orders.push(Box::new(alloc, ByText::new(alloc, text))?)?;
-    let mut peers: Vec<Box<dyn Peer>> = Vec::new(alloc);
-    peers.push(Box::new(alloc, Ramp::new(alloc))?)?;
-    peers.push(Box::new(alloc, Echo::new(alloc))?)?;
-    for mood in [Mood::Mute, Mood::Deaf, Mood::Greedy, Mood::Fickle] {
-        peers.push(Box::new(alloc, Moody::new(alloc, mood))?)?;
+    for way in [Way::Swing, Way::Starve, Way::ByText] {
+        let text = text_to_go_by(alloc, bench)?;
+        orders.push(Box::new(alloc, Adversary::new(alloc, way, text))?)?;
     }
-    let mut players = Players { orders, peers };
-    let status = chp_main(alloc, &words, shelf, &mut out, &mut say, &mut players);
-    let mut picks = Vec::new(alloc);
-    for order in &players.orders {
-        picks.extend_from_slice(order.log())?;
-    }
-    Ok(Ran {
-        status,
-        out,
-        say,
-        picks,
-    })
+    play_with(alloc, bench, &words, shelf, orders)
+}
+
+/// What the command leaves over the files of the case, the last one cut to at most so many bytes.
+fn over_files(alloc: Global, bench: &Bench, line: &str, bytes: usize) -> Result<Ran, AllocError> {
+    let mut shelf = bench.shelf(alloc, bytes)?;
+    command(alloc, bench, line, &mut shelf)
 }
 
 /// The status, and what was said.
@@ -91,9 +126,15 @@ fn put_all(page: &mut String, line: &str, ran: &Ran) -> Result<(), AllocError> {
 
 /// Runs the words over the files of the case.
 pub fn run(alloc: Global, bench: &Bench, line: &str, page: &mut String) -> Result<(), AllocError> {
-    let mut shelf = bench.shelf(alloc, usize::MAX)?;
-    let ran = command(alloc, bench, line, &mut shelf)?;
-    put_all(page, line, &ran)
+    put_all(page, line, &over_files(alloc, bench, line, usize::MAX)?)
+}
+
+/// How many of the written lines begin with the prefix.
+fn put_count(alloc: Global, page: &mut String, front: &str, ran: &Ran) -> Result<(), AllocError> {
+    let begins = bytes_of(alloc, front)?;
+    let lines = ran.out.written().split(|byte| *byte == b'\n');
+    let count = lines.filter(|line| line.starts_with(&begins)).count();
+    writeln!(page, "{front}: {count}")
 }
 
 /// Runs the words, and reports how many of the written lines begin with the prefix.
@@ -104,14 +145,10 @@ pub fn run_count(
     line: &str,
     page: &mut String,
 ) -> Result<(), AllocError> {
-    let mut shelf = bench.shelf(alloc, usize::MAX)?;
-    let ran = command(alloc, bench, line, &mut shelf)?;
     writeln!(page, "> {line}")?;
+    let ran = over_files(alloc, bench, line, usize::MAX)?;
     put_end(page, &ran)?;
-    let begins = bytes_of(alloc, front)?;
-    let lines = ran.out.written().split(|byte| *byte == b'\n');
-    let count = lines.filter(|line| line.starts_with(&begins)).count();
-    writeln!(page, "{front}: {count}")
+    put_count(alloc, page, front, &ran)
 }
 
 /// Runs the words over a shelf that has the last file under every name, and never fails.
@@ -122,8 +159,17 @@ pub fn run_surely(
     page: &mut String,
 ) -> Result<(), AllocError> {
     let mut shelf = SureShelf::new(Vec::from_slice(alloc, bench.last())?);
-    let ran = command(alloc, bench, line, &mut shelf)?;
-    put_all(page, line, &ran)
+    put_all(page, line, &command(alloc, bench, line, &mut shelf)?)
+}
+
+/// How the command ended with so many bytes of the last file, and what was written if it didn't end well.
+fn put_cut(page: &mut String, bytes: usize, ran: &Ran) -> Result<(), AllocError> {
+    write!(page, "{bytes}: ")?;
+    put_end(page, ran)?;
+    if ran.status != Status::Done {
+        put_lines(page, ran.out.written())?;
+    }
+    Ok(())
 }
 
 /// Runs the words for each length of the last file that is shorter than it: one line each, with the length, the status
@@ -136,13 +182,7 @@ pub fn run_cuts(
 ) -> Result<(), AllocError> {
     writeln!(page, "> {line}")?;
     for bytes in 0..bench.last().len() {
-        let mut shelf = bench.shelf(alloc, bytes)?;
-        let ran = command(alloc, bench, line, &mut shelf)?;
-        write!(page, "{bytes}: ")?;
-        put_end(page, &ran)?;
-        if ran.status != Status::Done {
-            put_lines(page, ran.out.written())?;
-        }
+        put_cut(page, bytes, &over_files(alloc, bench, line, bytes)?)?;
     }
     Ok(())
 }
@@ -155,13 +195,27 @@ pub fn keep(
     line: &str,
     page: &mut String,
 ) -> Result<(), AllocError> {
-    let mut shelf = bench.shelf(alloc, usize::MAX)?;
-    let ran = command(alloc, bench, line, &mut shelf)?;
+    let ran = over_files(alloc, bench, line, usize::MAX)?;
     if ran.status != Status::Done {
         put_all(page, line, &ran)?;
     }
     bench.begin_file(alloc, name)?;
     bench.append(ran.out.written())
+}
+
+/// Whether a further order has the report of the first one, and whether it chose as one before it did.
+fn put_order(
+    page: &mut String,
+    order: &str,
+    ran: &Ran,
+    first: &Ran,
+    earlier: &[Ran],
+) -> Result<(), AllocError> {
+    let is_same = first.out.written() == ran.out.written();
+    let is_new = earlier.iter().all(|other| other.picks != ran.picks);
+    let report = if is_same { "the same" } else { "another" };
+    let picks = if is_new { "other" } else { "the same" };
+    writeln!(page, "{order}: {report} report, {picks} picks")
 }
 
 /// Runs the words by each of the four orders, with the seed 7: the report by the first one, and then of each further
@@ -175,25 +229,10 @@ pub fn run_orders(
     let mut earlier: Vec<Ran> = Vec::new(alloc);
     for order in ["lowest", "oldest", "newest", "random"] {
         let words = format!(in alloc; "{line} --order {order} --seed 7")?;
-        let mut shelf = bench.shelf(alloc, usize::MAX)?;
-        let ran = command(alloc, bench, &words, &mut shelf)?;
+        let ran = over_files(alloc, bench, &words, usize::MAX)?;
         match earlier.first() {
             None => put_all(page, &words, &ran)?,
-            Some(first) => {
-                let is_same = first.out.written() == ran.out.written();
-                let is_new = earlier.iter().all(|other| other.picks != ran.picks);
-                let report = if is_same {
-                    "the same report"
-                } else {
-                    "another report"
-                };
-                let picks = if is_new {
-                    "other picks"
-                } else {
-                    "the same picks"
-                };
-                writeln!(page, "{order}: {report}, {picks}")?;
-            }
+            Some(first) => put_order(page, order, &ran, first, &earlier)?,
         }
         earlier.push(ran)?;
     }
@@ -209,6 +248,19 @@ fn put_fault(page: &mut String, call: u64, ran: &Ran) -> Result<(), AllocError> 
     page.push('\n')
 }
 
+/// Runs the words under the planned fault of this call, and says whether they ended well.
+fn ends_well(
+    alloc: Global,
+    bench: &Bench,
+    line: &str,
+    call: u64,
+    page: &mut String,
+) -> Result<bool, AllocError> {
+    let ran = over_files(alloc, bench, line, usize::MAX)?;
+    put_fault(page, call, &ran)?;
+    Ok(ran.status == Status::Done)
+}
+
 /// The most calls of a device that are made to fail in turn.
 const MOST_OF_CALLS: u64 = 100;
 
@@ -221,13 +273,8 @@ pub fn run_shelf_faults(
 ) -> Result<(), AllocError> {
     writeln!(page, "> {line}")?;
     for call in 1..=MOST_OF_CALLS {
-        let mut failing = Vec::new(alloc);
-        failing.push(call)?;
-        bench.fail_at(failing);
-        let mut shelf = bench.shelf(alloc, usize::MAX)?;
-        let ran = command(alloc, bench, line, &mut shelf)?;
-        put_fault(page, call, &ran)?;
-        if ran.status == Status::Done {
+        bench.fail_at(Vec::from_slice(alloc, &[call])?);
+        if ends_well(alloc, bench, line, call, page)? {
             break;
         }
     }
@@ -245,10 +292,7 @@ pub fn run_sink_faults(
     writeln!(page, "> {line}")?;
     for call in 1..=MOST_OF_CALLS {
         bench.out.set(alloc, &[1, 4096, call])?;
-        let mut shelf = bench.shelf(alloc, usize::MAX)?;
-        let ran = command(alloc, bench, line, &mut shelf)?;
-        put_fault(page, call, &ran)?;
-        if ran.status == Status::Done {
+        if ends_well(alloc, bench, line, call, page)? {
             break;
         }
     }
