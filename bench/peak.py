@@ -4,6 +4,7 @@ What the system tells of an ended child counts the memory of the parent that it 
 small program takes. So the program is asked while it runs; 0.0 stands for one that ended before it could be asked.
 """
 import os
+import time
 
 
 def high_water(pid):
@@ -20,5 +21,6 @@ def ended(pid):
     peak = 0.0
     while os.waitid(os.P_PID, pid, os.WEXITED | os.WNOHANG | os.WNOWAIT) is None:
         peak = max(peak, high_water(pid))
+        time.sleep(0.001)
     _, status, used = os.wait4(pid, 0)
     return status, used.ru_utime + used.ru_stime, peak
