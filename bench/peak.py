@@ -1,7 +1,8 @@
 """The peak memory of a program that runs.
 
 What the system tells of an ended child counts the memory of the parent that it was forked from, which here is more than a
-small program takes. So the program is asked while it runs; 0.0 stands for one that ended before it could be asked.
+small program takes. So the program is asked while it runs, every millisecond: what it takes just before its end may be missed, and
+0.0 stands for one that ended before it could be asked.
 """
 import os
 import time
