@@ -35,7 +35,7 @@ fn give_up(alloc: Global, bench: &Bench, drops: &Rc<Cell<u32>>) -> Result<bool, 
     }
 }
 
-/// Runs the words with these devices, which are given back: the status, and how often one was dropped by then.
+/// Runs the words with these devices: the status, and how often one was dropped when the call gave them back.
 fn play(
     alloc: Global,
     bench: &Bench,
