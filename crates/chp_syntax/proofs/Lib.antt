@@ -1,4 +1,5 @@
 pub mod Steps
+pub mod Ands
 pub mod Group
 pub mod Rows
 pub mod Expressions

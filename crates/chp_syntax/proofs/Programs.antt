@@ -1,6 +1,7 @@
 -- Declarations and whole programs: what is to come after each of their parts, and the first fault.
 use Rattle.std.proofs.Common.{◌≡◌, ℕ, zero, suc, ◌+◌, ◌<◌, ◌≤◌, List, [], ◌∷◌, ◌++◌, length, take, drop, Option, Some, None, refl, sym, ap, ◌∙◌, subst, arith, append_assoc}
 use Rattle.std.proofs.lemmas.List.{drop_all, append-nil, length-drop, append_cancel_right, take-append-drop}
+use Rattle.chp_base.specs.declared.span.Span.{Span}
 use Rattle.chp_syntax.specs.declared.token.Token.{Token}
 use Rattle.chp_syntax.specs.declared.token.TokenKind.{TokenKind}
 use Rattle.chp_syntax.specs.declared.token.TokenKind.TheVariants.{Word, Ident, Number, Sign}
@@ -16,7 +17,7 @@ use Rattle.chp_syntax.specs.Grammar.{named, name, numeral, word, sign, kind_of_c
 use Rattle.chp_syntax.specs.Reading.{FirstFault}
 use Rattle.chp_syntax.specs.Parts.{GrammarPart, sees, IsKind, kind_read, StopsAt, Anything, Nothing, Undeclared, Exactly, exactly, Operator, operator, AName, the_name, ANumber, the_number, Good, Bad, decl_kind, decl_front}
 use Rattle.chp_syntax.specs.View.{onto, with_item}
-use Rattle.chp_syntax.proofs.Steps.{zero_span, SoFar, Ends, Seam, Then, and_then, then_parts, Done, all_done, done_parts, Either, one, other, start, instead, by_part, part_bad, bad_here, good_here, not_one, not_other, ends_exactly, ends_name, ends_number, ends_done, ends_then, ends_one, any_seam, kind_seam, last_any, then_kind}
+use Rattle.chp_syntax.proofs.Steps.{zero_span, SoFar, Ends, Seam, Then, and_then, then_parts, Done, all_done, done_parts, Either, one, other, start, instead, by_part, part_bad, bad_here, good_here, not_one, not_other, ends_exactly, ends_name, ends_number, ends_done, ends_then, ends_one, any_seam, kind_seam, last_any, last_seam, then_kind}
 use Rattle.chp_syntax.proofs.Group.{onto_end}
 use Rattle.chp_syntax.proofs.Statements.{ends_atom, ends_par}
 
@@ -323,21 +324,41 @@ begin_seam d = any_seam (λ b. body_ends d)
 pub par_seam : (d : Declared) → Seam Par (StopsAt 2) Nothing (Ending d)
 par_seam d = kind_seam (Word key.End) 2 (omega arith) (λ t e. ends_done (whole_of d t))
 
-pub end_seam : (d : Declared) (t : Statement) → Seam (Exactly (Word key.End)) Anything Nothing (λ e. Done (whole_of d t))
-end_seam d t = last_any (λ e. whole_of d t)
+pub end_seam : (d : Declared) (t : Statement) → Seam (Exactly (Word key.End)) Nothing Nothing (λ e. Done (whole_of d t))
+end_seam d t = last_seam (λ e. whole_of d t)
 
 some_left : (xs : List Token) → 0 < length xs → Nothing (sees xs) → ⊥
 some_left [] h f = absurd (omega (arith, h))
 some_left (x ∷ xs) h f = f
 
-pub more_behind : {xs : List Token} {p : ProgramTree} (all : List Token) (at : ℕ) → SoFar Programs Nothing xs (drop at all) (Done p) → at < length all →
-    Bad Programs Nothing xs (drop at all)
+pub more_behind : {A : Type 0} {W : GrammarPart A} {xs : List Token} {p : A} (all : List Token) (at : ℕ) → SoFar W Nothing xs (drop at all) (Done p) →
+    at < length all → Bad W Nothing xs (drop at all)
 more_behind {p = p} all at so more =
     let left : 0 < length (drop at all) = omega (arith, more, length-drop at all) in
     bad_here so
     (λ l rest a s f q. some_left (drop at all) left
     (subst (λ (o : Option Token). Nothing o) s (subst (λ (x : List Token). Nothing (sees x)) (done_parts q).0 f)))
     (ends_done p)
+
+abbrev LastWord : GrammarPart Span
+LastWord = Exactly (Word key.End)
+
+-- the last keyword, once it has been read
+pub end_start : {xs left : List Token} {s : Span} → Good LastWord Anything xs left s → SoFar LastWord Nothing xs left (Done s)
+end_start {xs} good = by_part (last_any (λ s. s))
+    (instead (Then LastWord (λ s. Done s)) (start LastWord Nothing xs) (λ l rest a q. put q) (λ l rest a s f w. and_then w all_done)) good
+  where
+    put : {l rest : List Token} {a : Span} → Then LastWord (λ s. Done s) l rest a → LastWord l rest a
+    put (and_then r all_done) = r
+
+-- and where it can't be read
+pub no_end : {xs left : List Token} → Bad LastWord Anything xs left → Bad LastWord Nothing xs left
+no_end bad = record {
+  done = bad.done;
+  is = bad.is;
+  stuck = λ l rest a s f w. bad.stuck l rest a s tt w;
+  viable = bad.viable;
+}
 
 pub reads_it : {ts left : List Token} {p : ProgramTree} → left ≡ [] → Good Programs Nothing ts left p → Derives ts p
 reads_it {p = p} none good = subst (λ (x : List Token). Derives x p) (sym (good.is ∙ ap (λ x. good.done ++ x) none)) (good.derives [])

@@ -1,6 +1,6 @@
 //! The parser, from the list of tokens to the tree.
 
-ghost use Rattle.std.specs.Prelude.{◌≡◌, ℕ, ◌≤◌, ◌^◌, ◌<◌, List, length, drop, true, IfOk, IfErr};
+ghost use Rattle.std.specs.Prelude.{◌≡◌, ℕ, ◌≤◌, ◌^◌, ◌<◌, List, [], length, drop, true, OnOk, IfOk, IfErr, IfSome, IfNone};
 ghost use Rattle.std.specs.List.{list_all};
 ghost use Rattle.chp_base.specs.declared.fault.TextError.TheVariants.{Refused};
 ghost use Rattle.chp_syntax.specs.Trees.{ProgramTree, Procedure};
@@ -8,8 +8,9 @@ ghost use Rattle.chp_syntax.specs.Grammar.{Derives};
 ghost use Rattle.chp_syntax.specs.Reading.{FirstFault, IsShallow, Reads, few_arms};
 ghost use Rattle.chp_syntax.specs.Tokens.{IfRefused};
 ghost use Rattle.chp_syntax.specs.View.{program_tree};
+ghost use Rattle.chp_syntax.specs.Seventeenth.{is_narrow};
 ghost use Rattle.chp_syntax.specs.Shape.{IsShaped};
-ghost use Rattle.chp_syntax.specs.Refusals.{WhenSyntax, WhenUnread, spot, RefusedTokens, RefusedText};
+ghost use Rattle.chp_syntax.specs.Refusals.{IsSpoken, WhenSyntax, WhenUnread, spot, RefusedTokens, RefusedText};
 
 mod arms;
 mod expression;
@@ -76,6 +77,53 @@ fn spot_at(tokens: &[Token], at: usize, end: u32) -> Span
     front_spot(&tokens[at..], end)
 }
 
+/// The first sign for which tokens are refused whatever they parse as, and why: a probe, an arbiter, or too deep a bracket.
+fn barred(tokens: &[Token]) -> Option<(FaultCode, Span)>
+    ensures some { IfSome result (λ r. (end : ℕ) → RefusedTokens tokens.now end r.0 r.1) }
+    ensures spoken { IfNone result (IsSpoken tokens.now) }
+    ensures shallow { IfNone result (IsShallow tokens.now) }
+{
+    if let Some(at) = probe(tokens) {
+        return Some((FaultCode::Probe, at));
+    }
+    if let Some(at) = arbiter(tokens) {
+        return Some((FaultCode::Arbiter, at));
+    }
+    match too_deep(tokens) {
+        Some(at) => Some((FaultCode::TooDeep, at)),
+        None => None,
+    }
+}
+
+/// Parses the tokens, none of which is barred, of a text that ends at byte `end`.
+fn parse_spoken(alloc: Global, tokens: &[Token], end: u32) -> Result<Program, TextError>
+    requires spoken { IsSpoken tokens.now }
+    requires shallow { IsShallow tokens.now }
+    ensures derives { IfOk result (λ p. Derives tokens.now (program_tree p)) }
+    ensures only { IfOk result (λ p. (q : ProgramTree) → Derives tokens.now q → q ≡ program_tree p) }
+    ensures other { IfErr result (IfRefused (λ f. f.other ≡ f.at)) }
+    ensures place { IfErr result (IfRefused (λ f. RefusedTokens tokens.now end f.code f.at)) }
+{
+    match parse_tokens(alloc, tokens) {
+        Ok(program) => Ok(program),
+        Err(Unread::Syntax(first)) => Err(refusal(FaultCode::Syntax, spot_at(tokens, first, end))),
+        Err(Unread::NoMemory(e)) => Err(TextError::NoMemory(e)),
+    }
+}
+
+/// Tests that no selection and no guarded repetition has more than sixteen arms.
+fn few_arms(alloc: Global, tokens: &[Token]) -> Result<(), TextError>
+    ensures narrow { OnOk result (is_narrow [] tokens.now ≡ true) }
+    ensures other { IfErr result (IfRefused (λ f. f.other ≡ f.at)) }
+    ensures place { IfErr result (IfRefused (λ f. (p : ProgramTree) (end : ℕ) → IsSpoken tokens.now →
+        IsShallow tokens.now → Derives tokens.now p → RefusedTokens tokens.now end f.code f.at)) }
+{
+    match seventeenth_arm(alloc, tokens)? {
+        None => Ok(()),
+        Some(at) => Err(refusal(FaultCode::TooManyGuards, at)),
+    }
+}
+
 /// Parses the tokens of a text that ends at byte `end`.
 fn parse_list(alloc: Global, tokens: &[Token], end: u32) -> Result<Program, TextError>
     ensures derives { IfOk result (λ p. Derives tokens.now (program_tree p)) }
@@ -87,31 +135,11 @@ fn parse_list(alloc: Global, tokens: &[Token], end: u32) -> Result<Program, Text
     ensures other { IfErr result (IfRefused (λ f. f.other ≡ f.at)) }
     ensures place { IfErr result (IfRefused (λ f. RefusedTokens tokens.now end f.code f.at)) }
 {
-    if let Some(at) = probe(tokens) {
-        return Err(refusal(FaultCode::Probe, at));
+    if let Some((code, at)) = barred(tokens) {
+        return Err(refusal(code, at));
     }
-    if let Some(at) = arbiter(tokens) {
-        return Err(refusal(FaultCode::Arbiter, at));
-    }
-    if let Some(at) = too_deep(tokens) {
-        return Err(refusal(FaultCode::TooDeep, at));
-    }
-    let program = match parse_tokens(alloc, tokens) {
-        Ok(program) => program,
-        Err(Unread::Syntax(first)) => {
-            let at = spot_at(tokens, first, end);
-            return Err(refusal(FaultCode::Syntax, at));
-        }
-        Err(Unread::NoMemory(e)) => return Err(TextError::NoMemory(e)),
-    };
-    let arms = match seventeenth_arm(alloc, tokens) {
-        Ok(arms) => arms,
-        Err(e) => return Err(TextError::NoMemory(e)),
-    };
-    if let Some(at) = arms {
-        return Err(refusal(FaultCode::TooManyGuards, at));
-    }
-    Ok(program)
+    let program = parse_spoken(alloc, tokens, end)?;
+    few_arms(alloc, tokens).and(Ok(program))
 }
 
 /// Parses a text of at most 262,144 bytes as a program. The result has the shape of the grammar, and what it declares

@@ -3,7 +3,9 @@
 ghost use Rattle.std.specs.Prelude.{◌≡◌, ℕ, ◌≤◌, ◌<◌, List, length, drop, IfOk, IfErr, OnOk};
 ghost use Rattle.std.specs.Bool.{OnTrue, OnFalse};
 ghost use Rattle.chp_syntax.specs.declared.parser.sight.DeclFront.TheVariants as decl;
-ghost use Rattle.chp_syntax.specs.Parts.{Good, Bad, Anything, Nothing, Undeclared, WhenFault, sees, decl_front};
+ghost use Rattle.chp_syntax.specs.declared.token.Key.TheVariants as key;
+ghost use Rattle.chp_syntax.specs.declared.token.TokenKind.TheVariants.{Word};
+ghost use Rattle.chp_syntax.specs.Parts.{Good, Bad, Anything, Exactly, Nothing, Undeclared, WhenFault, sees, decl_front};
 ghost use Rattle.chp_syntax.specs.Grammar.{Declaration, Declarations, Programs, valued, defined};
 ghost use Rattle.chp_syntax.specs.View.{item_of, declared_of, with_item, procedure_of, program_tree};
 
@@ -13,6 +15,7 @@ use super::sight::{
 use super::statement::{atom, par};
 use crate::token::{Key, Mark, Token};
 use crate::tree::{Decl, DeclKind, Proc, Program};
+use chp_base::Span;
 use std::alloc::Global;
 
 /// What one declaration declares.
@@ -134,8 +137,7 @@ fn procedure(alloc: Global, tokens: &[Token], at: &mut usize) -> Result<Proc, St
     let name = take_name(tokens, at)?;
     take_mark(tokens, at, Mark::Equal)?;
     let body = atom(alloc, tokens, at)?;
-    take_mark(tokens, at, Mark::Semicolon)?;
-    Ok(Proc { name, body })
+    take_mark(tokens, at, Mark::Semicolon).and(Ok(Proc { name, body }))
 }
 
 /// decl
@@ -185,6 +187,22 @@ fn declarations(alloc: Global, tokens: &[Token], at: &mut usize) -> Result<Decla
     Ok(declared)
 }
 
+/// "end", and nothing after it
+fn take_end(tokens: &[Token], at: &mut usize) -> Result<Span, Stop>
+    requires { at.old ≤ length tokens.now }
+    ensures within { at.new ≤ length tokens.now }
+    ensures whole { OnOk result (at.new ≡ length tokens.now) }
+    ensures good { IfOk result (Good (Exactly (Word key.End)) Nothing (drop at.old tokens.now) (drop at.new tokens.now)) }
+    ensures bad { IfErr result (λ e.
+        WhenFault e (Bad (Exactly (Word key.End)) Nothing (drop at.old tokens.now) (drop at.new tokens.now))) }
+{
+    let span = take_word(tokens, at, Key::End)?;
+    if *at < tokens.len() {
+        return Err(Stop::Fault);
+    }
+    Ok(span)
+}
+
 /// { decl } "begin" par "end", and nothing after it
 pub fn program(alloc: Global, tokens: &[Token], at: &mut usize) -> Result<Program, Stop>
     requires { at.old ≤ length tokens.now }
@@ -198,13 +216,10 @@ pub fn program(alloc: Global, tokens: &[Token], at: &mut usize) -> Result<Progra
     let declared = declarations(alloc, tokens, at)?;
     take_word(tokens, at, Key::Begin)?;
     let body = par(alloc, tokens, at)?;
-    take_word(tokens, at, Key::End)?;
-    if *at < tokens.len() {
-        return Err(Stop::Fault);
-    }
-    Ok(Program {
+    let program = Program {
         decls: declared.decls,
         procs: declared.procs,
         body,
-    })
+    };
+    take_end(tokens, at).and(Ok(program))
 }

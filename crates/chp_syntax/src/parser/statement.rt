@@ -78,15 +78,13 @@ pub fn atom(alloc: Global, tokens: &[Token], at: &mut usize) -> Result<Stmt, Sto
         AtomFront::Round => {
             take_mark(tokens, at, Mark::OpenRound)?;
             let inner = par(alloc, tokens, at)?;
-            take_mark(tokens, at, Mark::CloseRound)?;
-            Ok(inner)
+            take_mark(tokens, at, Mark::CloseRound).and(Ok(inner))
         }
         AtomFront::Star => {
             take_mark(tokens, at, Mark::Star)?;
             take_mark(tokens, at, Mark::OpenSquare)?;
             let inner = inside(alloc, tokens, at)?;
-            take_mark(tokens, at, Mark::CloseSquare)?;
-            Ok(inner)
+            take_mark(tokens, at, Mark::CloseSquare).and(Ok(inner))
         }
         AtomFront::Square => {
             take_mark(tokens, at, Mark::OpenSquare)?;

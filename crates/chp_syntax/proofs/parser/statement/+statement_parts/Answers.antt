@@ -4,8 +4,10 @@ use Rattle.chp_syntax.specs.declared.token.TokenKind.TheVariants.{Sign}
 use Rattle.chp_syntax.specs.declared.token.Mark.TheVariants as mark
 use Rattle.chp_syntax.specs.declared.tree.Stmt.{Then, Beside}
 use Rattle.chp_syntax.specs.Trees.{follows, besides, no_arms}
-use Rattle.chp_syntax.specs.Grammar.{Guarded, sequence_of, parallel_of}
+use Rattle.chp_syntax.specs.Grammar.{Atom, Guarded, sequence_of, parallel_of}
+use Rattle.chp_syntax.specs.Parts.{Good, StopsAt}
 use Rattle.chp_syntax.specs.View.{covered_of, statement_of, guarded_of, armed_of, onto, and_guarded}
+use Rattle.chp_syntax.proofs.Ands.{and_good, and_bad}
 use Rattle.chp_syntax.proofs.Steps.{by_part, part_bad, good_done, exactly_good, exit, not_so}
 use Rattle.chp_syntax.proofs.Group.{group_first, group_end, group_bad_first, members_first, members_more, members_bad, members_end}
 use Rattle.chp_syntax.proofs.Rows.{then_tree, beside_tree, select_tree}
@@ -55,22 +57,22 @@ atom-returns-in_err-inner-in-Round-clause-bad t c =
     exit c.from_residual-in_err-inner-in-Round.result c.in_err-inner-in-Round.field-0.0 c.from_residual-in_err-inner-in-Round.ensures.1 (part_bad round_2 s1)
     c.in_err-inner-in-Round.ensures.bad
 
-pub atom-returns-in_err-take_mark-in-Round-2-clause-bad : goal.atom-returns-in_err-take_mark-in-Round-2-clause-bad
-atom-returns-in_err-take_mark-in-Round-2-clause-bad t c =
+pub atom-returns-in_ok-inner-in-Round-clause-bad : goal.atom-returns-in_ok-inner-in-Round-clause-bad
+atom-returns-in_ok-inner-in-Round-clause-bad t c =
     let s0 = round_start (drop c.args.at.now c.args.tokens.now) (sym c.in-Round.ensures) in
     let s1 = by_part round_1 s0 c.in_ok-take_mark-in-Round.ensures.good in
     let i = statement_of c.in_ok-inner-in-Round.inner in
     let s2 = by_part round_2 s1 c.in_ok-inner-in-Round.ensures.good in
-    exit c.from_residual-in_err-take_mark-in-Round-2.result c.in_err-take_mark-in-Round-2.field-0.0 c.from_residual-in_err-take_mark-in-Round-2.ensures.1
-    (part_bad (round_3 i) s2) c.in_err-take_mark-in-Round-2.ensures.bad
+    and_bad c.take_mark-in-Round.result _ c.and.ensures (part_bad (round_3 i) s2) c.take_mark-in-Round.ensures.bad
 
-pub atom-returns-in_ok-take_mark-in-Round-2-clause-good : goal.atom-returns-in_ok-take_mark-in-Round-2-clause-good
-atom-returns-in_ok-take_mark-in-Round-2-clause-good t c =
+pub atom-returns-in_ok-inner-in-Round-clause-good : goal.atom-returns-in_ok-inner-in-Round-clause-good
+atom-returns-in_ok-inner-in-Round-clause-good t c =
     let s0 = round_start (drop c.args.at.now c.args.tokens.now) (sym c.in-Round.ensures) in
     let s1 = by_part round_1 s0 c.in_ok-take_mark-in-Round.ensures.good in
     let i = statement_of c.in_ok-inner-in-Round.inner in
     let s2 = by_part round_2 s1 c.in_ok-inner-in-Round.ensures.good in
-    good_done (by_part (round_3 i) s2 c.in_ok-take_mark-in-Round-2.ensures.good)
+    and_good (λ s. Good Atom (StopsAt 5) (drop c.args.at.now c.args.tokens.now) (drop c.take_mark-in-Round.new.at c.args.tokens.now) (statement_of s))
+    c.take_mark-in-Round.result _ c.and.ensures (λ e good. good_done (by_part (round_3 i) s2 good)) c.take_mark-in-Round.ensures.good
 
 pub atom-returns-in_err-take_mark-in-Star-clause-bad : goal.atom-returns-in_err-take_mark-in-Star-clause-bad
 atom-returns-in_err-take_mark-in-Star-clause-bad t c =
@@ -93,24 +95,24 @@ atom-returns-in_err-inner-in-Star-clause-bad t c =
     exit c.from_residual-in_err-inner-in-Star.result c.in_err-inner-in-Star.field-0.0 c.from_residual-in_err-inner-in-Star.ensures.1 (part_bad star_3 s2)
     c.in_err-inner-in-Star.ensures.bad
 
-pub atom-returns-in_err-take_mark-in-Star-3-clause-bad : goal.atom-returns-in_err-take_mark-in-Star-3-clause-bad
-atom-returns-in_err-take_mark-in-Star-3-clause-bad t c =
+pub atom-returns-in_ok-inner-in-Star-clause-bad : goal.atom-returns-in_ok-inner-in-Star-clause-bad
+atom-returns-in_ok-inner-in-Star-clause-bad t c =
     let s0 = star_start (drop c.args.at.now c.args.tokens.now) (sym c.in-Star.ensures) in
     let s1 = by_part star_1 s0 c.in_ok-take_mark-in-Star.ensures.good in
     let s2 = by_part star_2 s1 c.in_ok-take_mark-in-Star-2.ensures.good in
     let i = statement_of c.in_ok-inner-in-Star.inner in
     let s3 = by_part star_3 s2 c.in_ok-inner-in-Star.ensures.good in
-    exit c.from_residual-in_err-take_mark-in-Star-3.result c.in_err-take_mark-in-Star-3.field-0.0 c.from_residual-in_err-take_mark-in-Star-3.ensures.1
-    (part_bad (star_4 i) s3) c.in_err-take_mark-in-Star-3.ensures.bad
+    and_bad c.take_mark-in-Star-3.result _ c.and-in-Star.ensures (part_bad (star_4 i) s3) c.take_mark-in-Star-3.ensures.bad
 
-pub atom-returns-in_ok-take_mark-in-Star-3-clause-good : goal.atom-returns-in_ok-take_mark-in-Star-3-clause-good
-atom-returns-in_ok-take_mark-in-Star-3-clause-good t c =
+pub atom-returns-in_ok-inner-in-Star-clause-good : goal.atom-returns-in_ok-inner-in-Star-clause-good
+atom-returns-in_ok-inner-in-Star-clause-good t c =
     let s0 = star_start (drop c.args.at.now c.args.tokens.now) (sym c.in-Star.ensures) in
     let s1 = by_part star_1 s0 c.in_ok-take_mark-in-Star.ensures.good in
     let s2 = by_part star_2 s1 c.in_ok-take_mark-in-Star-2.ensures.good in
     let i = statement_of c.in_ok-inner-in-Star.inner in
     let s3 = by_part star_3 s2 c.in_ok-inner-in-Star.ensures.good in
-    good_done (by_part (star_4 i) s3 c.in_ok-take_mark-in-Star-3.ensures.good)
+    and_good (λ s. Good Atom (StopsAt 5) (drop c.args.at.now c.args.tokens.now) (drop c.take_mark-in-Star-3.new.at c.args.tokens.now) (statement_of s))
+    c.take_mark-in-Star-3.result _ c.and-in-Star.ensures (λ e good. good_done (by_part (star_4 i) s3 good)) c.take_mark-in-Star-3.ensures.good
 
 pub atom-returns-in_err-take_mark-in-Square-clause-bad : goal.atom-returns-in_err-take_mark-in-Square-clause-bad
 atom-returns-in_err-take_mark-in-Square-clause-bad t c =
