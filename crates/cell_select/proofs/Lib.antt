@@ -2,6 +2,7 @@ pub mod Alone
 pub mod Examples
 pub mod PairLists
 pub mod GuardLemmas
+pub mod Lent
 pub mod Emitted
 pub mod Tables
 pub mod Distinct

@@ -2,8 +2,8 @@
 use Rattle.std.proofs.Common.{◌≡◌, ℕ, zero, suc, ◌<◌, ◌≤◌, ◌+◌, ◌-◌, ◌*◌, ◌/◌, List, [], ◌∷◌, ◌++◌, length, take, drop, slice_index_or, arith, ap, sym, ◌∙◌, refl}
 use Rattle.std.proofs.lemmas.List.{map-append, take_more, append_assoc, get_or-drop, length-drop, take_rest, take_all}
 use Rattle.prs_core.specs.declared.rule.Literal.{Literal}
-use Rattle.prs_core.specs.Nets.{is_high}
-use Rattle.prs_core.specs.Pairs.{Pair, rails_of}
+use Rattle.prs_core.specs.Nets.{is_high, is_low}
+use Rattle.prs_core.specs.Pairs.{Pair, lows, rails_of}
 use Rattle.cell_select.specs.Selections.{all_false}
 use Rattle.cell_select.specs.PortNodes.{pairs_of}
 
@@ -91,3 +91,11 @@ falses_behind rails n i e =
     let long = pairs_length n rails e in
     let count : length rails / 2 - i ≡ length (pairs_of rails) - i = omega (arith, long, e) in
     ap (λ k. all_false (take k (drop i (pairs_of rails)))) count ∙ ap all_false (take_rest (pairs_of rails) i)
+
+-- one literal and one low node more
+pub lows_next : (first : Literal) (ns : List ℕ) (i : ℕ) (items : List Literal) → i < length ns → items ≡ first ∷ lows (take i ns) →
+    items ++ is_low (slice_index_or ns i 0) ∷ [] ≡ first ∷ lows (take (i + 1) ns)
+lows_next first ns i items lt is =
+    ap (λ (xs : List Literal). xs ++ is_low (slice_index_or ns i 0) ∷ []) is
+    ∙ ap (λ (xs : List Literal). first ∷ xs) (sym (map-append is_low (take i ns) (slice_index_or ns i 0 ∷ [])))
+    ∙ ap (λ xs. first ∷ lows xs) (sym (take_more ns i 0 lt))

@@ -1,13 +1,13 @@
 //! The rules of the Q-element, of skip and of the loop.
 
-ghost use Rattle.std.specs.Prelude.{◌≡◌, ◌≢◌, ℕ, ◌<◌, [], ◌∷◌, length, AllPairs, OnOk, OnErr};
-ghost use Rattle.prs_core.specs.Nets.{IsAlone};
+ghost use Rattle.std.specs.Prelude.{◌≡◌, ◌≢◌, ℕ, ◌<◌, [], ◌∷◌, length, AllPairs, OnOk, OnErr, IfOk};
+ghost use Rattle.prs_core.specs.Nets.{with_rules, IsAlone, IsBelow};
 ghost use Rattle.prs_core.specs.Parts.{Keeps, with_owned};
 ghost use Rattle.cell_sequence.specs.Handshakes.{q_nodes, q_part, skip_part, loop_part};
 ghost use Rattle.cell_sequence.specs.Sequence.{with_q, skip_owned, loop_owned, IsPorts};
 
 use crate::laws::q_keeps;
-use prs_core::{Rules, all_of, high, low};
+use prs_core::{Guard, Literal, Rules, all_of, high, low};
 use std::alloc::{AllocError, Global};
 
 /// The nodes at a Q-element (Martin). Under `request` it runs the whole handshake of its child, on `child_request`
@@ -22,6 +22,37 @@ pub struct QPorts {
     pub next: u32,
 }
 
+/// The two guards of a node.
+#[derive(Drop)]
+struct NodeGuards {
+    up: Guard,
+    down: Guard,
+}
+
+/// The two guards of a node that each hold where all of their literals do.
+fn guards_of(alloc: Global, up: &[Literal], down: &[Literal]) -> Result<NodeGuards, AllocError>
+    requires up { 0 < length up.now }
+    requires down { 0 < length down.now }
+    ensures { IfOk result (λ guards. guards ≡ record { up = up.now ∷ []; down = down.now ∷ [] }) }
+{
+    let up = all_of(alloc, up)?;
+    let down = all_of(alloc, down)?;
+    Ok(NodeGuards { up, down })
+}
+
+/// Replaces both guards of the node.
+fn set_both(rules: &mut Rules, node: u32, guards: NodeGuards)
+    requires node { node < length rules.old.up }
+    requires up { IsBelow (length rules.old.up) guards.up }
+    requires down { IsBelow (length rules.old.up) guards.down }
+    ensures made { rules.new ≡ with_rules node (record { up = guards.up; down = guards.down }) rules.old }
+    ensures nodes { length rules.new.up ≡ length rules.old.up }
+    ensures others { (other : ℕ) → other ≢ node → IsAlone rules.old rules.new other }
+{
+    rules.set_up(node, guards.up);
+    rules.set_down(node, guards.down);
+}
+
 /// Writes the guards of the Q-element's own nodes, and no others. Where memory runs out, nothing is written.
 pub fn emit_q(alloc: Global, p: &QPorts, rules: &mut Rules) -> Result<(), AllocError>
     requires { IsPorts (length rules.old.up) p.now }
@@ -33,18 +64,16 @@ pub fn emit_q(alloc: Global, p: &QPorts, rules: &mut Rules) -> Result<(), AllocE
     ensures keeps { AllPairs (λ (a b : ℕ). a ≢ b) (q_nodes p.now) → Keeps (q_part p.now) }
 {
     q_keeps();
-    let child_up = all_of(alloc, &[high(p.request), low(p.latch)])?;
-    let child_down = all_of(alloc, &[high(p.latch)])?;
-    let latch_up = all_of(alloc, &[high(p.child_answer)])?;
-    let latch_down = all_of(alloc, &[low(p.request)])?;
-    let next_up = all_of(alloc, &[high(p.latch), low(p.child_answer)])?;
-    let next_down = all_of(alloc, &[low(p.latch)])?;
-    rules.set_up(p.child_request, child_up);
-    rules.set_down(p.child_request, child_down);
-    rules.set_up(p.latch, latch_up);
-    rules.set_down(p.latch, latch_down);
-    rules.set_up(p.next, next_up);
-    rules.set_down(p.next, next_down);
+    let child = guards_of(alloc, &[high(p.request), low(p.latch)], &[high(p.latch)])?;
+    let latch = guards_of(alloc, &[high(p.child_answer)], &[low(p.request)])?;
+    let next = guards_of(
+        alloc,
+        &[high(p.latch), low(p.child_answer)],
+        &[low(p.latch)],
+    )?;
+    set_both(rules, p.child_request, child);
+    set_both(rules, p.latch, latch);
+    set_both(rules, p.next, next);
     Ok(())
 }
 
@@ -66,10 +95,8 @@ pub fn emit_skip(
     ensures keeps { AllPairs (λ (a b : ℕ). a ≢ b) (request ∷ answer ∷ []) → Keeps (skip_part request answer) }
 {
     q_keeps();
-    let up = all_of(alloc, &[high(request)])?;
-    let down = all_of(alloc, &[low(request)])?;
-    rules.set_up(answer, up);
-    rules.set_down(answer, down);
+    let follows = guards_of(alloc, &[high(request)], &[low(request)])?;
+    set_both(rules, answer, follows);
     Ok(())
 }
 
@@ -96,9 +123,11 @@ pub fn emit_loop(
         Keeps (loop_part request answer body_request body_answer) }
 {
     q_keeps();
-    let up = all_of(alloc, &[high(request), low(body_answer)])?;
-    let down = all_of(alloc, &[high(body_answer)])?;
-    rules.set_up(body_request, up);
-    rules.set_down(body_request, down);
+    let asks = guards_of(
+        alloc,
+        &[high(request), low(body_answer)],
+        &[high(body_answer)],
+    )?;
+    set_both(rules, body_request, asks);
     Ok(())
 }

@@ -20,6 +20,13 @@ none_below net values nodes count = record {
       (All-nil (λ (e : ℕ × ℕ). e.0 < 0));
 }
 
+pub none_yet : (net : NetValue) (values : List Bool) (nodes : ℕ) (rows : List (ℕ × ℕ)) (places : List ℕ) (edges : List (List (ℕ × ℕ))) → rows ≡ [] →
+    places ≡ [] → edges ≡ replicate nodes [] → nodes ≡ length net.first → AreRowsBelow net values 0 (guard_rows_of rows places edges)
+none_yet net values nodes rows places edges no_rows no_places no_edges count =
+    subst (λ (es : List (List (ℕ × ℕ))). AreRowsBelow net values 0 (guard_rows_of rows places es)) (sym no_edges)
+    (subst (λ (ps : List ℕ). AreRowsBelow net values 0 (guard_rows_of rows ps (replicate nodes []))) (sym no_places)
+    (subst (λ (rs : List (ℕ × ℕ)). AreRowsBelow net values 0 (guard_rows_of rs [] (replicate nodes []))) (sym no_rows) (none_below net values nodes count)))
+
 -- the rows before stay as they are
 pub kept_before : (net : NetValue) (values : List Bool) (count : ℕ) (rows : List (ℕ × ℕ)) (places : List ℕ) (edges new : List (List (ℕ × ℕ)))
     (row : ℕ × ℕ) (place n : ℕ) → length rows ≡ count → length places ≡ count → n < count → IsRowKept net values (guard_rows_of rows places edges) n →

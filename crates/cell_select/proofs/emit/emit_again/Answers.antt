@@ -1,4 +1,5 @@
-use Rattle.std.proofs.Common.{◌≡◌, ◌≢◌, ℕ, List, [], ◌∷◌, ◌++◌, ap, sym, ◌∙◌, refl, subst, All, length}
+use Rattle.std.proofs.Common.{◌≡◌, ◌≢◌, ℕ, ◌<◌, List, [], ◌∷◌, ◌++◌, arith, ap, sym, ◌∙◌, refl, subst, All, length}
+use Rattle.std.proofs.lemmas.List.Elements.{All-cons}
 use Rattle.prs_core.specs.Nets.{with_rules}
 use Rattle.prs_core.specs.Pairs.{or_of}
 use Rattle.prs_core.specs.Parts.{owned, owned_at, with_owned}
@@ -7,6 +8,7 @@ use Rattle.cell_select.specs.Selections.{joined_answer, evaluation, leave_answer
 use Rattle.cell_select.specs.PortNodes.{pairs_of, again_of}
 use Rattle.cell_select.specs.Contract.{again_owned}
 use Rattle.cell_select.proofs.GuardLemmas.{alone_then}
+use Rattle.cell_select.proofs.Lent.{below_still, lent_within, lent_twice, lent_same, lent_some, some_latch, ends_made}
 use Rattle.cell_select.proofs.Emitted.{again_made, again_apart, again_owns, again_first}
 use Rattle.cell_select.proofs.emit.emit_again.Goals as goal
 
@@ -14,11 +16,11 @@ pub returns-clause-made : goal.returns-clause-made
 returns-clause-made c =
     let p = c.args.p.now in
     let hs = pairs_of p.guard_rails.items in
-    let ends : c.deref-4.result.now ≡ p.leave ∷ p.latches.items = c.deref-4.ensures.value ∙ c.in_ok-extend_from_slice.ensures.items
-    ∙ ap (λ (xs : List ℕ). xs ++ c.deref.result.now) (c.in_ok-push.ensures.items ∙ ap (λ (xs : List ℕ). xs ++ p.leave ∷ []) c.new-ends.ensures.items)
-    ∙ ap (λ (ns : List ℕ). p.leave ∷ ns) c.deref.ensures.value in
+    let ends = ends_made p.leave p.latches.items _ _ _ _ _ c.new-ends.ensures.items c.in_ok-push.ensures.items c.deref.ensures.value
+    c.in_ok-extend_from_slice.ensures.items c.deref-4.ensures.value in
     let b = with_rules p.answer (leave_answer p.leave p.any hs) c.args.rules.now in
-    let first : c.emit_end.new.rules ≡ b = subst (λ ns. c.emit_end.new.rules ≡ with_rules p.answer (leave_answer p.leave p.any (pairs_of ns)) c.args.rules.now)
+    let first : c.emit_end.new.rules ≡ b = subst (λ ns. c.emit_end.new.rules ≡ with_rules p.answer (leave_answer p.leave p.any (pairs_of ns))
+    c.args.rules.now)
     c.deref-2.ensures.value c.in_ok-emit_end.ensures.made in
     let d = with_rules p.loop_request (turn_request p.request p.joined) b in
     let second : c.emit_turn.new.rules ≡ d = c.in_ok-emit_turn.ensures.made ∙ ap (with_rules p.loop_request (turn_request p.request p.joined)) first in
@@ -344,3 +346,157 @@ returns-in_err-emit_starts-clause-keeps c = c.again_keeps.ensures.written (lengt
 
 pub returns-clause-keeps : goal.returns-clause-keeps
 returns-clause-keeps c = c.again_keeps.ensures.written (length c.args.rules.now.up) c.args.p.now c.requires
+
+pub emit_end-requires-clause-node : goal.emit_end-requires-clause-node
+emit_end-requires-clause-node c = c.requires.answer
+
+pub emit_end-requires-clause-leave : goal.emit_end-requires-clause-leave
+emit_end-requires-clause-leave c = c.requires.leave
+
+pub emit_end-requires-clause-any : goal.emit_end-requires-clause-any
+emit_end-requires-clause-any c = c.requires.any
+
+pub emit_end-requires-clause-rails : goal.emit_end-requires-clause-rails
+emit_end-requires-clause-rails c = lent_within _ _ c.args.p.now.guard_rails.items _ refl c.deref-2.ensures.value c.requires.rails
+
+pub emit_end-requires-clause-pairs : goal.emit_end-requires-clause-pairs
+emit_end-requires-clause-pairs c = (length c.args.p.now.latches.items, ap (λ (ns : List ℕ). length ns) c.deref-2.ensures.value ∙ c.requires.branches.railed)
+
+pub returns-in_err-emit_end-clause-nodes : goal.returns-in_err-emit_end-clause-nodes
+returns-in_err-emit_end-clause-nodes c = c.emit_end.ensures.nodes
+
+pub emit_turn-requires-clause-node : goal.emit_turn-requires-clause-node
+emit_turn-requires-clause-node c = below_still c.args.p.now.loop_request _ _ c.emit_end.ensures.nodes c.requires.loop_request
+
+pub emit_turn-requires-clause-request : goal.emit_turn-requires-clause-request
+emit_turn-requires-clause-request c = below_still c.args.p.now.request _ _ c.emit_end.ensures.nodes c.requires.request
+
+pub emit_turn-requires-clause-joined : goal.emit_turn-requires-clause-joined
+emit_turn-requires-clause-joined c = below_still c.args.p.now.joined _ _ c.emit_end.ensures.nodes c.requires.joined
+
+pub returns-in_err-emit_turn-clause-nodes : goal.returns-in_err-emit_turn-clause-nodes
+returns-in_err-emit_turn-clause-nodes c = c.emit_turn.ensures.nodes ∙ c.emit_end.ensures.nodes
+
+pub emit_joined-requires-clause-node : goal.emit_joined-requires-clause-node
+emit_joined-requires-clause-node c = below_still c.args.p.now.joined _ _ (c.emit_turn.ensures.nodes ∙ c.emit_end.ensures.nodes) c.requires.joined
+
+pub emit_joined-requires-clause-any : goal.emit_joined-requires-clause-any
+emit_joined-requires-clause-any c = below_still c.args.p.now.any _ _ (c.emit_turn.ensures.nodes ∙ c.emit_end.ensures.nodes) c.requires.any
+
+pub emit_joined-requires-clause-answers : goal.emit_joined-requires-clause-answers
+emit_joined-requires-clause-answers c = lent_within _ _ c.args.p.now.answers.items _ (c.emit_turn.ensures.nodes
+    ∙ c.emit_end.ensures.nodes) c.deref-3.ensures.value c.requires.answers
+
+pub returns-in_err-emit_joined-clause-nodes : goal.returns-in_err-emit_joined-clause-nodes
+returns-in_err-emit_joined-clause-nodes c = c.emit_joined.ensures.nodes ∙ c.emit_turn.ensures.nodes ∙ c.emit_end.ensures.nodes
+
+pub emit_evaluation-requires-clause-node : goal.emit_evaluation-requires-clause-node
+emit_evaluation-requires-clause-node c = below_still c.args.p.now.eval _ _ (c.emit_joined.ensures.nodes ∙ c.emit_turn.ensures.nodes
+    ∙ c.emit_end.ensures.nodes) c.requires.eval
+
+pub emit_evaluation-requires-clause-request : goal.emit_evaluation-requires-clause-request
+emit_evaluation-requires-clause-request c = below_still c.args.p.now.loop_request _ _ (c.emit_joined.ensures.nodes ∙ c.emit_turn.ensures.nodes
+    ∙ c.emit_end.ensures.nodes) c.requires.loop_request
+
+pub emit_evaluation-requires-clause-any : goal.emit_evaluation-requires-clause-any
+emit_evaluation-requires-clause-any c = below_still c.args.p.now.any _ _ (c.emit_joined.ensures.nodes ∙ c.emit_turn.ensures.nodes
+    ∙ c.emit_end.ensures.nodes) c.requires.any
+
+pub returns-in_err-emit_evaluation-clause-nodes : goal.returns-in_err-emit_evaluation-clause-nodes
+returns-in_err-emit_evaluation-clause-nodes c = c.emit_evaluation.ensures.nodes ∙ c.emit_joined.ensures.nodes ∙ c.emit_turn.ensures.nodes
+    ∙ c.emit_end.ensures.nodes
+
+pub emit_any-requires-clause-node : goal.emit_any-requires-clause-node
+emit_any-requires-clause-node c = below_still c.args.p.now.any _ _ (c.emit_evaluation.ensures.nodes ∙ c.emit_joined.ensures.nodes
+    ∙ c.emit_turn.ensures.nodes ∙ c.emit_end.ensures.nodes) c.requires.any
+
+pub emit_any-requires-clause-some : goal.emit_any-requires-clause-some
+emit_any-requires-clause-some c = lent_some (c.args.p.now.leave ∷ c.args.p.now.latches.items) _
+    (ends_made c.args.p.now.leave c.args.p.now.latches.items _ _ _ _ _ c.new-ends.ensures.items c.in_ok-push.ensures.items c.deref.ensures.value
+    c.in_ok-extend_from_slice.ensures.items c.deref-4.ensures.value) (omega arith)
+
+pub emit_any-requires-clause-inputs : goal.emit_any-requires-clause-inputs
+emit_any-requires-clause-inputs c =
+    lent_within _ _ (c.args.p.now.leave ∷ c.args.p.now.latches.items) _
+    (c.emit_evaluation.ensures.nodes ∙ c.emit_joined.ensures.nodes ∙ c.emit_turn.ensures.nodes ∙ c.emit_end.ensures.nodes)
+    (ends_made c.args.p.now.leave c.args.p.now.latches.items _ _ _ _ _ c.new-ends.ensures.items c.in_ok-push.ensures.items c.deref.ensures.value
+    c.in_ok-extend_from_slice.ensures.items c.deref-4.ensures.value)
+    (All-cons (λ n. n < length c.args.rules.now.up) c.args.p.now.leave c.args.p.now.latches.items c.requires.leave c.requires.latches)
+
+pub returns-in_err-emit_any-clause-nodes : goal.returns-in_err-emit_any-clause-nodes
+returns-in_err-emit_any-clause-nodes c = c.emit_any.ensures.nodes ∙ c.emit_evaluation.ensures.nodes ∙ c.emit_joined.ensures.nodes
+    ∙ c.emit_turn.ensures.nodes ∙ c.emit_end.ensures.nodes
+
+pub emit_leave-requires-clause-node : goal.emit_leave-requires-clause-node
+emit_leave-requires-clause-node c = below_still c.args.p.now.leave _ _ (c.emit_any.ensures.nodes ∙ c.emit_evaluation.ensures.nodes
+    ∙ c.emit_joined.ensures.nodes ∙ c.emit_turn.ensures.nodes ∙ c.emit_end.ensures.nodes) c.requires.leave
+
+pub emit_leave-requires-clause-turn : goal.emit_leave-requires-clause-turn
+emit_leave-requires-clause-turn c = below_still c.args.p.now.loop_request _ _ (c.emit_any.ensures.nodes ∙ c.emit_evaluation.ensures.nodes
+    ∙ c.emit_joined.ensures.nodes ∙ c.emit_turn.ensures.nodes ∙ c.emit_end.ensures.nodes) c.requires.loop_request
+
+pub emit_leave-requires-clause-rails : goal.emit_leave-requires-clause-rails
+emit_leave-requires-clause-rails c = lent_within _ _ c.args.p.now.guard_rails.items _ (c.emit_any.ensures.nodes ∙ c.emit_evaluation.ensures.nodes
+    ∙ c.emit_joined.ensures.nodes ∙ c.emit_turn.ensures.nodes ∙ c.emit_end.ensures.nodes) c.deref-5.ensures.value c.requires.rails
+
+pub emit_leave-requires-clause-pairs : goal.emit_leave-requires-clause-pairs
+emit_leave-requires-clause-pairs c = (
+  length c.args.p.now.latches.items,
+  ap (λ (ns : List ℕ). length ns) c.deref-5.ensures.value ∙ c.requires.branches.railed,
+  some_latch _ _ _ _
+      c.requires.branches,
+)
+
+pub returns-in_err-emit_leave-clause-nodes : goal.returns-in_err-emit_leave-clause-nodes
+returns-in_err-emit_leave-clause-nodes c = c.emit_leave.ensures.nodes ∙ c.emit_any.ensures.nodes ∙ c.emit_evaluation.ensures.nodes
+    ∙ c.emit_joined.ensures.nodes ∙ c.emit_turn.ensures.nodes ∙ c.emit_end.ensures.nodes
+
+pub emit_latches-requires-clause-request : goal.emit_latches-requires-clause-request
+emit_latches-requires-clause-request c = below_still c.args.p.now.loop_request _ _ (c.emit_leave.ensures.nodes ∙ c.emit_any.ensures.nodes
+    ∙ c.emit_evaluation.ensures.nodes ∙ c.emit_joined.ensures.nodes ∙ c.emit_turn.ensures.nodes ∙ c.emit_end.ensures.nodes) c.requires.loop_request
+
+pub emit_latches-requires-clause-nodes : goal.emit_latches-requires-clause-nodes
+emit_latches-requires-clause-nodes c = lent_within _ _ c.args.p.now.latches.items _ (c.emit_leave.ensures.nodes ∙ c.emit_any.ensures.nodes
+    ∙ c.emit_evaluation.ensures.nodes ∙ c.emit_joined.ensures.nodes ∙ c.emit_turn.ensures.nodes ∙ c.emit_end.ensures.nodes) c.deref-6.ensures.value
+    c.requires.latches
+
+pub emit_latches-requires-clause-rails : goal.emit_latches-requires-clause-rails
+emit_latches-requires-clause-rails c = lent_within _ _ c.args.p.now.guard_rails.items _ (c.emit_leave.ensures.nodes ∙ c.emit_any.ensures.nodes
+    ∙ c.emit_evaluation.ensures.nodes ∙ c.emit_joined.ensures.nodes ∙ c.emit_turn.ensures.nodes ∙ c.emit_end.ensures.nodes) c.deref-7.ensures.value
+    c.requires.rails
+
+pub emit_latches-requires-clause-agree : goal.emit_latches-requires-clause-agree
+emit_latches-requires-clause-agree c = lent_twice _ _ _ _ c.deref-7.ensures.value c.deref-6.ensures.value c.requires.branches.railed
+
+pub returns-in_err-emit_latches-clause-nodes : goal.returns-in_err-emit_latches-clause-nodes
+returns-in_err-emit_latches-clause-nodes c = c.emit_latches.ensures.nodes ∙ c.emit_leave.ensures.nodes ∙ c.emit_any.ensures.nodes
+    ∙ c.emit_evaluation.ensures.nodes ∙ c.emit_joined.ensures.nodes ∙ c.emit_turn.ensures.nodes ∙ c.emit_end.ensures.nodes
+
+pub emit_starts-requires-clause-nodes : goal.emit_starts-requires-clause-nodes
+emit_starts-requires-clause-nodes c = lent_within _ _ c.args.p.now.starts.items _ (c.emit_latches.ensures.nodes ∙ c.emit_leave.ensures.nodes
+    ∙ c.emit_any.ensures.nodes ∙ c.emit_evaluation.ensures.nodes ∙ c.emit_joined.ensures.nodes ∙ c.emit_turn.ensures.nodes
+    ∙ c.emit_end.ensures.nodes) c.deref-8.ensures.value c.requires.starts
+
+pub emit_starts-requires-clause-latched : goal.emit_starts-requires-clause-latched
+emit_starts-requires-clause-latched c = lent_within _ _ c.args.p.now.latches.items _ (c.emit_latches.ensures.nodes ∙ c.emit_leave.ensures.nodes
+    ∙ c.emit_any.ensures.nodes ∙ c.emit_evaluation.ensures.nodes ∙ c.emit_joined.ensures.nodes ∙ c.emit_turn.ensures.nodes
+    ∙ c.emit_end.ensures.nodes) c.deref-9.ensures.value c.requires.latches
+
+pub emit_starts-requires-clause-rails : goal.emit_starts-requires-clause-rails
+emit_starts-requires-clause-rails c = lent_within _ _ c.args.p.now.guard_rails.items _ (c.emit_latches.ensures.nodes ∙ c.emit_leave.ensures.nodes
+    ∙ c.emit_any.ensures.nodes ∙ c.emit_evaluation.ensures.nodes ∙ c.emit_joined.ensures.nodes ∙ c.emit_turn.ensures.nodes
+    ∙ c.emit_end.ensures.nodes) c.deref-10.ensures.value c.requires.rails
+
+pub emit_starts-requires-clause-agree : goal.emit_starts-requires-clause-agree
+emit_starts-requires-clause-agree c = lent_same _ _ _ _ c.deref-8.ensures.value c.deref-9.ensures.value c.requires.branches.started
+
+pub emit_starts-requires-clause-pairs : goal.emit_starts-requires-clause-pairs
+emit_starts-requires-clause-pairs c = lent_twice _ _ _ _ c.deref-10.ensures.value c.deref-9.ensures.value c.requires.branches.railed
+
+pub returns-in_err-emit_starts-clause-nodes : goal.returns-in_err-emit_starts-clause-nodes
+returns-in_err-emit_starts-clause-nodes c = c.emit_starts.ensures.nodes ∙ c.emit_latches.ensures.nodes ∙ c.emit_leave.ensures.nodes
+    ∙ c.emit_any.ensures.nodes ∙ c.emit_evaluation.ensures.nodes ∙ c.emit_joined.ensures.nodes ∙ c.emit_turn.ensures.nodes ∙ c.emit_end.ensures.nodes
+
+pub returns-clause-nodes : goal.returns-clause-nodes
+returns-clause-nodes c = c.emit_starts.ensures.nodes ∙ c.emit_latches.ensures.nodes ∙ c.emit_leave.ensures.nodes ∙ c.emit_any.ensures.nodes
+    ∙ c.emit_evaluation.ensures.nodes ∙ c.emit_joined.ensures.nodes ∙ c.emit_turn.ensures.nodes ∙ c.emit_end.ensures.nodes

@@ -7,6 +7,7 @@ use Rattle.cell_select.specs.Selections.{joined_answer, evaluation, latches, sta
 use Rattle.cell_select.specs.PortNodes.{pairs_of, select_of}
 use Rattle.cell_select.specs.Contract.{select_owned}
 use Rattle.cell_select.proofs.GuardLemmas.{alone_then}
+use Rattle.cell_select.proofs.Lent.{below_still, lent_within, lent_twice, lent_same, lent_some, some_latch}
 use Rattle.cell_select.proofs.Emitted.{select_made, select_apart, select_owns}
 use Rattle.cell_select.proofs.emit.emit_select.Goals as goal
 
@@ -175,3 +176,85 @@ returns-in_err-emit_starts-clause-keeps c = c.select_keeps.ensures.written (leng
 
 pub returns-clause-keeps : goal.returns-clause-keeps
 returns-clause-keeps c = c.select_keeps.ensures.written (length c.args.rules.now.up) c.args.p.now c.requires
+
+pub emit_joined-requires-clause-node : goal.emit_joined-requires-clause-node
+emit_joined-requires-clause-node c = c.requires.answer
+
+pub emit_joined-requires-clause-any : goal.emit_joined-requires-clause-any
+emit_joined-requires-clause-any c = c.requires.any
+
+pub emit_joined-requires-clause-answers : goal.emit_joined-requires-clause-answers
+emit_joined-requires-clause-answers c = lent_within _ _ c.args.p.now.answers.items _ refl c.deref.ensures.value c.requires.answers
+
+pub returns-in_err-emit_joined-clause-nodes : goal.returns-in_err-emit_joined-clause-nodes
+returns-in_err-emit_joined-clause-nodes c = c.emit_joined.ensures.nodes
+
+pub emit_evaluation-requires-clause-node : goal.emit_evaluation-requires-clause-node
+emit_evaluation-requires-clause-node c = below_still c.args.p.now.eval _ _ c.emit_joined.ensures.nodes c.requires.eval
+
+pub emit_evaluation-requires-clause-request : goal.emit_evaluation-requires-clause-request
+emit_evaluation-requires-clause-request c = below_still c.args.p.now.request _ _ c.emit_joined.ensures.nodes c.requires.request
+
+pub emit_evaluation-requires-clause-any : goal.emit_evaluation-requires-clause-any
+emit_evaluation-requires-clause-any c = below_still c.args.p.now.any _ _ c.emit_joined.ensures.nodes c.requires.any
+
+pub returns-in_err-emit_evaluation-clause-nodes : goal.returns-in_err-emit_evaluation-clause-nodes
+returns-in_err-emit_evaluation-clause-nodes c = c.emit_evaluation.ensures.nodes ∙ c.emit_joined.ensures.nodes
+
+pub emit_any-requires-clause-node : goal.emit_any-requires-clause-node
+emit_any-requires-clause-node c = below_still c.args.p.now.any _ _ (c.emit_evaluation.ensures.nodes ∙ c.emit_joined.ensures.nodes) c.requires.any
+
+pub emit_any-requires-clause-some : goal.emit_any-requires-clause-some
+emit_any-requires-clause-some c = lent_some c.args.p.now.latches.items _ c.deref-2.ensures.value (some_latch _ _ _ _ c.requires.branches)
+
+pub emit_any-requires-clause-inputs : goal.emit_any-requires-clause-inputs
+emit_any-requires-clause-inputs c = lent_within _ _ c.args.p.now.latches.items _ (c.emit_evaluation.ensures.nodes
+    ∙ c.emit_joined.ensures.nodes) c.deref-2.ensures.value c.requires.latches
+
+pub returns-in_err-emit_any-clause-nodes : goal.returns-in_err-emit_any-clause-nodes
+returns-in_err-emit_any-clause-nodes c = c.emit_any.ensures.nodes ∙ c.emit_evaluation.ensures.nodes ∙ c.emit_joined.ensures.nodes
+
+pub emit_latches-requires-clause-request : goal.emit_latches-requires-clause-request
+emit_latches-requires-clause-request c = below_still c.args.p.now.request _ _ (c.emit_any.ensures.nodes ∙ c.emit_evaluation.ensures.nodes
+    ∙ c.emit_joined.ensures.nodes) c.requires.request
+
+pub emit_latches-requires-clause-nodes : goal.emit_latches-requires-clause-nodes
+emit_latches-requires-clause-nodes c = lent_within _ _ c.args.p.now.latches.items _ (c.emit_any.ensures.nodes ∙ c.emit_evaluation.ensures.nodes
+    ∙ c.emit_joined.ensures.nodes) c.deref-3.ensures.value c.requires.latches
+
+pub emit_latches-requires-clause-rails : goal.emit_latches-requires-clause-rails
+emit_latches-requires-clause-rails c = lent_within _ _ c.args.p.now.guard_rails.items _ (c.emit_any.ensures.nodes ∙ c.emit_evaluation.ensures.nodes
+    ∙ c.emit_joined.ensures.nodes) c.deref-4.ensures.value c.requires.rails
+
+pub emit_latches-requires-clause-agree : goal.emit_latches-requires-clause-agree
+emit_latches-requires-clause-agree c = lent_twice _ _ _ _ c.deref-4.ensures.value c.deref-3.ensures.value c.requires.branches.railed
+
+pub returns-in_err-emit_latches-clause-nodes : goal.returns-in_err-emit_latches-clause-nodes
+returns-in_err-emit_latches-clause-nodes c = c.emit_latches.ensures.nodes ∙ c.emit_any.ensures.nodes ∙ c.emit_evaluation.ensures.nodes
+    ∙ c.emit_joined.ensures.nodes
+
+pub emit_starts-requires-clause-nodes : goal.emit_starts-requires-clause-nodes
+emit_starts-requires-clause-nodes c = lent_within _ _ c.args.p.now.starts.items _ (c.emit_latches.ensures.nodes ∙ c.emit_any.ensures.nodes
+    ∙ c.emit_evaluation.ensures.nodes ∙ c.emit_joined.ensures.nodes) c.deref-5.ensures.value c.requires.starts
+
+pub emit_starts-requires-clause-latched : goal.emit_starts-requires-clause-latched
+emit_starts-requires-clause-latched c = lent_within _ _ c.args.p.now.latches.items _ (c.emit_latches.ensures.nodes ∙ c.emit_any.ensures.nodes
+    ∙ c.emit_evaluation.ensures.nodes ∙ c.emit_joined.ensures.nodes) c.deref-6.ensures.value c.requires.latches
+
+pub emit_starts-requires-clause-rails : goal.emit_starts-requires-clause-rails
+emit_starts-requires-clause-rails c = lent_within _ _ c.args.p.now.guard_rails.items _ (c.emit_latches.ensures.nodes ∙ c.emit_any.ensures.nodes
+    ∙ c.emit_evaluation.ensures.nodes ∙ c.emit_joined.ensures.nodes) c.deref-7.ensures.value c.requires.rails
+
+pub emit_starts-requires-clause-agree : goal.emit_starts-requires-clause-agree
+emit_starts-requires-clause-agree c = lent_same _ _ _ _ c.deref-5.ensures.value c.deref-6.ensures.value c.requires.branches.started
+
+pub emit_starts-requires-clause-pairs : goal.emit_starts-requires-clause-pairs
+emit_starts-requires-clause-pairs c = lent_twice _ _ _ _ c.deref-7.ensures.value c.deref-6.ensures.value c.requires.branches.railed
+
+pub returns-in_err-emit_starts-clause-nodes : goal.returns-in_err-emit_starts-clause-nodes
+returns-in_err-emit_starts-clause-nodes c = c.emit_starts.ensures.nodes ∙ c.emit_latches.ensures.nodes ∙ c.emit_any.ensures.nodes
+    ∙ c.emit_evaluation.ensures.nodes ∙ c.emit_joined.ensures.nodes
+
+pub returns-clause-nodes : goal.returns-clause-nodes
+returns-clause-nodes c = c.emit_starts.ensures.nodes ∙ c.emit_latches.ensures.nodes ∙ c.emit_any.ensures.nodes ∙ c.emit_evaluation.ensures.nodes
+    ∙ c.emit_joined.ensures.nodes

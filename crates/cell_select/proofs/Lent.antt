@@ -1,0 +1,27 @@
+-- What the calls are lent: lists and nodes that are within the rules as the calls before have left them.
+use Rattle.std.proofs.Common.{◌≡◌, ℕ, ◌<◌, ◌*◌, List, [], ◌∷◌, ◌++◌, All, length, arith, ap, sym, ◌∙◌, subst}
+use Rattle.cell_select.specs.PortNodes.{AreBranches}
+
+pub below_still : (n a b : ℕ) → b ≡ a → n < a → n < b
+below_still n a b same lt = subst (λ k. n < k) (sym same) lt
+
+pub lent_within : (a b : ℕ) (ns ms : List ℕ) → b ≡ a → ms ≡ ns → All (λ n. n < a) ns → All (λ n. n < b) ms
+lent_within a b ns ms same lent h = subst (λ k. All (λ n. n < k) ms) (sym same) (subst (All (λ n. n < a)) (sym lent) h)
+
+pub lent_twice : (rs rails ls latches : List ℕ) → rails ≡ rs → latches ≡ ls → length rs ≡ 2 * length ls → length rails ≡ 2 * length latches
+lent_twice rs rails ls latches r l twice = ap (λ (ns : List ℕ). length ns) r ∙ twice ∙ ap (λ (ns : List ℕ). 2 * length ns) (sym l)
+
+pub lent_same : (ss starts ls latches : List ℕ) → starts ≡ ss → latches ≡ ls → length ss ≡ length ls → length starts ≡ length latches
+lent_same ss starts ls latches s l same = ap (λ (ns : List ℕ). length ns) s ∙ same ∙ ap (λ (ns : List ℕ). length ns) (sym l)
+
+pub some_latch : (ls ss ans rails : List ℕ) → AreBranches ls ss ans rails → 0 < length ls
+some_latch ls ss ans rails are = let some = are.some in omega (arith, some)
+
+pub lent_some : (ns ms : List ℕ) → ms ≡ ns → 0 < length ns → 0 < length ms
+lent_some ns ms lent some = subst (λ (xs : List ℕ). 0 < length xs) (sym lent) some
+
+-- the list of the end's latch and the others, as it is made
+pub ends_made : (leave : ℕ) (ls lent none one all view : List ℕ) → none ≡ [] → one ≡ none ++ leave ∷ [] → lent ≡ ls → all ≡ one ++ lent → view ≡ all →
+    view ≡ leave ∷ ls
+ends_made leave ls lent none one all view n o l a v =
+    v ∙ a ∙ ap (λ (xs : List ℕ). xs ++ lent) (o ∙ ap (λ (xs : List ℕ). xs ++ leave ∷ []) n) ∙ ap (λ (xs : List ℕ). leave ∷ xs) l
