@@ -1,6 +1,7 @@
 -- What is refused, as the first fault of procedures and calls.
 use Rattle.std.proofs.Common.{◌≡◌, ◌⊎◌, ℕ, sym, ◌∙◌, subst, inl, inr}
 use Rattle.std.specs.Prelude.{IfErr, OnOk, Result, Ok, Err}
+use Rattle.std.specs.Result.{result_and}
 use Rattle.chp_base.specs.declared.fault.Fault.{Fault}
 use Rattle.chp_base.specs.declared.fault.FaultCode.TheVariants as code
 use Rattle.chp_base.specs.declared.span.Span.{Span}
@@ -77,6 +78,16 @@ other_first p f h other = by_cause (names_alone p f.code f.at h)
 pub unknown_first : (p : ProgramTree) (f : Fault) → IsUndeclaredAlone p f → ((t : Span) → ¬ IsNestedCall p t)
     → IsFirstCallFault p call_faults code.UnknownProcedure f.at f.at
 unknown_first p f h flat = refused_unknown p f.at h.0 flat h.1
+
+-- what is known behind a call whose result was joined with a value
+
+pub and_value : {T U E : Type 0} (r : Result T E) (x y : U) → Ok y ≡ result_and r (Ok x) → y ≡ x
+and_value (Ok t) x y is = cc is
+and_value (Err e) x y is = absurd (cc is)
+
+pub and_so : {T U E : Type 0} (P : Type 0) (r : Result T E) (x y : U) → Ok y ≡ result_and r (Ok x) → OnOk r P → P
+and_so P (Ok t) x y is p = p
+and_so P (Err e) x y is p = absurd (cc is)
 
 -- what comes of the sharing of calls
 

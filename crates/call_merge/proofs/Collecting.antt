@@ -1,5 +1,5 @@
 -- What is collected of members one after the other.
-use Rattle.std.proofs.Common.{◌≡◌, ℕ, ◌+◌, ◌<◌, ◌≤◌, Bool, List, [], ◌++◌, length, get_or, drop, refl, sym, ap, ◌∙◌, append-nil, append_assoc}
+use Rattle.std.proofs.Common.{◌≡◌, ℕ, ◌+◌, ◌<◌, ◌≤◌, Bool, List, [], ◌++◌, length, get_or, drop, refl, sym, ap, ◌∙◌, append-nil, append_assoc, ◌⊎◌, inl, inr}
 use Rattle.std.specs.declared.alloc.Global.{Global}
 use Rattle.std.specs.declared.boxed.Box.{Box}
 use Rattle.std.specs.declared.vec.Vec.{Vec}
@@ -48,19 +48,25 @@ arm_collected {A} {f} {each} {arms} {guards} all xs i a old mid new whole within
     next_one mid new (f (statement_of a.body)) rest (f (statement_of a.body) ++ rest) whole
     (next_one old mid (guards (expression_of a.guard)) (f (statement_of a.body) ++ rest) (arms (arms_in (drop i xs))) whole so_far more guard) refl next
 
-pub then_collected : {A : Type 0} {f : Statement → List A} {each : Statements → List A} {arms : Arms → List A} {guards : Expression → List A}
+then_collected : {A : Type 0} {f : Statement → List A} {each : Statements → List A} {arms : Arms → List A} {guards : Expression → List A}
     → Collects f each arms guards → (s : Stmt) (v : Vec Stmt Global) (ss : List Stmt) (i : ℕ) (old new : List A) → s ≡ Then v → ss ≡ v.items → length ss ≤ i
     → new ++ each (statements_in (drop i ss)) ≡ old ++ each (statements_in ss) → new ≡ old ++ f (statement_of s)
 then_collected {A} {f} {each} all s v ss i old new is items over so_far =
     at_end old new (each (statements_in (drop i ss))) (old ++ each (statements_in ss)) so_far (ap each (members_end ss i over) ∙ all.no_member)
     ∙ ap (λ z. old ++ z) (ap (λ (xs : List Stmt). each (statements_in xs)) items ∙ sym (ap f (then_is s v is) ∙ all.turns (statements_in v.items)))
 
-pub beside_collected : {A : Type 0} {f : Statement → List A} {each : Statements → List A} {arms : Arms → List A} {guards : Expression → List A}
+beside_collected : {A : Type 0} {f : Statement → List A} {each : Statements → List A} {arms : Arms → List A} {guards : Expression → List A}
     → Collects f each arms guards → (s : Stmt) (v : Vec Stmt Global) (ss : List Stmt) (i : ℕ) (old new : List A) → s ≡ Beside v → ss ≡ v.items → length ss ≤ i
     → new ++ each (statements_in (drop i ss)) ≡ old ++ each (statements_in ss) → new ≡ old ++ f (statement_of s)
 beside_collected {A} {f} {each} all s v ss i old new is items over so_far =
     at_end old new (each (statements_in (drop i ss))) (old ++ each (statements_in ss)) so_far (ap each (members_end ss i over) ∙ all.no_member)
     ∙ ap (λ z. old ++ z) (ap (λ (xs : List Stmt). each (statements_in xs)) items ∙ sym (ap f (beside_is s v is) ∙ all.sides (statements_in v.items)))
+
+pub group_collected : {A : Type 0} {f : Statement → List A} {each : Statements → List A} {arms : Arms → List A} {guards : Expression → List A}
+    → Collects f each arms guards → (s : Stmt) (v : Vec Stmt Global) (ss : List Stmt) (i : ℕ) (old new : List A) → (s ≡ Then v) ⊎ (s ≡ Beside v)
+    → ss ≡ v.items → length ss ≤ i → new ++ each (statements_in (drop i ss)) ≡ old ++ each (statements_in ss) → new ≡ old ++ f (statement_of s)
+group_collected all s v ss i old new (inl is) = then_collected all s v ss i old new is
+group_collected all s v ss i old new (inr is) = beside_collected all s v ss i old new is
 
 pub select_collected : {A : Type 0} {f : Statement → List A} {each : Statements → List A} {arms : Arms → List A} {guards : Expression → List A}
     → Collects f each arms guards → (s : Stmt) (again : Bool) (v : Vec Arm Global) (xs : List Arm) (i : ℕ) (old new : List A) → s ≡ Select again v

@@ -1,5 +1,5 @@
 -- Members that are copied one after the other, each by the same map of statements.
-use Rattle.std.proofs.Common.{◌≡◌, ℕ, ◌≤◌, Bool, List, [], ◌∷◌, map, length, take, refl, sym, ap, ◌∙◌}
+use Rattle.std.proofs.Common.{◌≡◌, ℕ, ◌≤◌, Bool, List, [], ◌∷◌, map, length, take, refl, sym, ap, ◌∙◌, ◌⊎◌, inl, inr}
 use Rattle.std.specs.declared.alloc.Global.{Global}
 use Rattle.std.specs.declared.boxed.Box.{Box}
 use Rattle.std.specs.declared.vec.Vec.{Vec}
@@ -58,7 +58,7 @@ mapped_arms {f} {each} {arms} {guards} into (a ∷ xs) =
     into.one_arm (expression_of a.guard) (statement_of a.body) (onto and_guarded (map guarded_of xs) no_arms)
     ∙ ap (λ us. and_guarded (mapped_arm f guards a) us) (mapped_arms into xs)
 
-pub then_mapped : {f : Statement → Statement} {each : Statements → Statements} {arms : Arms → Arms} {guards : Expression → Expression}
+then_mapped : {f : Statement → Statement} {each : Statements → Statements} {arms : Arms → Arms} {guards : Expression → Expression}
     → GoesInto f each arms guards
     → (s : Stmt) (v w : Vec Stmt Global) (ss : List Stmt) (i : ℕ) → s ≡ Then v → ss ≡ v.items → length ss ≤ i →
     map statement_of w.items ≡ map (λ t. f (statement_of t)) (take i ss) → statement_of (Then w) ≡ f (statement_of s)
@@ -67,7 +67,7 @@ then_mapped {f} into s v w ss i is items all so_far =
     ∙ (ap follows (sym (mapped_list into v.items)) ∙ (sym (into.turns (onto and_member (map statement_of v.items) no_members))
     ∙ sym (ap f (ap statement_of is ∙ then_tree v)))))
 
-pub beside_mapped : {f : Statement → Statement} {each : Statements → Statements} {arms : Arms → Arms} {guards : Expression → Expression}
+beside_mapped : {f : Statement → Statement} {each : Statements → Statements} {arms : Arms → Arms} {guards : Expression → Expression}
     → GoesInto f each arms guards
     → (s : Stmt) (v w : Vec Stmt Global) (ss : List Stmt) (i : ℕ) → s ≡ Beside v → ss ≡ v.items → length ss ≤ i →
     map statement_of w.items ≡ map (λ t. f (statement_of t)) (take i ss) → statement_of (Beside w) ≡ f (statement_of s)
@@ -76,6 +76,15 @@ beside_mapped {f} into s v w ss i is items all so_far =
     ∙ (ap (λ xs. besides (onto and_member xs no_members)) (all_copied statement_of (λ t. f (statement_of t)) w.items ss v.items i all items so_far)
     ∙ (ap besides (sym (mapped_list into v.items)) ∙ (sym (into.sides (onto and_member (map statement_of v.items) no_members))
     ∙ sym (ap f (ap statement_of is ∙ beside_tree v)))))
+
+-- a group of one kind or the other, made like it
+pub group_mapped : {f : Statement → Statement} {each : Statements → Statements} {arms : Arms → Arms} {guards : Expression → Expression}
+    → GoesInto f each arms guards
+    → (s made : Stmt) (v w : Vec Stmt Global) (ss : List Stmt) (i : ℕ) → (s ≡ Then v) ⊎ (s ≡ Beside v) → ss ≡ v.items → length ss ≤ i →
+    map statement_of w.items ≡ map (λ t. f (statement_of t)) (take i ss) → ((u : Vec Stmt Global) → s ≡ Then u → made ≡ Then w) →
+    ((u : Vec Stmt Global) → s ≡ Beside u → made ≡ Beside w) → statement_of made ≡ f (statement_of s)
+group_mapped into s made v w ss i (inl is) items all so_far turns sides = ap statement_of (turns v is) ∙ then_mapped into s v w ss i is items all so_far
+group_mapped into s made v w ss i (inr is) items all so_far turns sides = ap statement_of (sides v is) ∙ beside_mapped into s v w ss i is items all so_far
 
 pub select_mapped : {f : Statement → Statement} {each : Statements → Statements} {arms : Arms → Arms} {guards : Expression → Expression}
     → GoesInto f each arms guards

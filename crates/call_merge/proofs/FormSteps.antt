@@ -1,5 +1,5 @@
 -- The forms of members, when all of them were counted.
-use Rattle.std.proofs.Common.{◌≡◌, ℕ, ◌+◌, ◌<◌, ◌≤◌, ◌^◌, Bool, List, length, drop, sym, ap, ◌∙◌, arith}
+use Rattle.std.proofs.Common.{◌≡◌, ℕ, ◌+◌, ◌<◌, ◌≤◌, ◌^◌, Bool, List, length, drop, sym, ap, ◌∙◌, arith, ◌⊎◌, inl, inr}
 use Rattle.std.specs.declared.alloc.Global.{Global}
 use Rattle.std.specs.declared.boxed.Box.{Box}
 use Rattle.std.specs.declared.vec.Vec.{Vec}
@@ -45,7 +45,7 @@ inlined_forms procs us = forms_of_members (inlined_members procs us)
 abbrev pub inlined_arm_forms : List Procedure → Arms → ℕ
 inlined_arm_forms procs xs = forms_of_arms (inlined_arms procs xs)
 
-pub then_counted : (procs : List Procedure) (s : Stmt) (v : Vec Stmt Global) (ss : List Stmt) (i : ℕ) (new : ℕ) → s ≡ Then v → ss ≡ v.items → length ss ≤ i
+then_counted : (procs : List Procedure) (s : Stmt) (v : Vec Stmt Global) (ss : List Stmt) (i : ℕ) (new : ℕ) → s ≡ Then v → ss ≡ v.items → length ss ≤ i
     → new < 2 ^ 64 → capped_forms (new + inlined_forms procs (statements_in (drop i ss))) ≡ capped_forms (1 + inlined_forms procs (statements_in ss))
     → new ≡ capped_forms (statement_forms (inlined_statement procs (statement_of s)))
 then_counted procs s v ss i new is items over small so_far =
@@ -54,7 +54,7 @@ then_counted procs s v ss i new is items over small so_far =
     ∙ (ap (λ (xs : List Stmt). capped_forms (1 + inlined_forms procs (statements_in xs))) items
     ∙ sym (ap (λ z. capped_forms (statement_forms (inlined_statement procs z))) (then_is s v is)))
 
-pub beside_counted : (procs : List Procedure) (s : Stmt) (v : Vec Stmt Global) (ss : List Stmt) (i : ℕ) (new : ℕ) → s ≡ Beside v → ss ≡ v.items
+beside_counted : (procs : List Procedure) (s : Stmt) (v : Vec Stmt Global) (ss : List Stmt) (i : ℕ) (new : ℕ) → s ≡ Beside v → ss ≡ v.items
     → length ss ≤ i
     → new < 2 ^ 64 → capped_forms (new + inlined_forms procs (statements_in (drop i ss))) ≡ capped_forms (1 + inlined_forms procs (statements_in ss))
     → new ≡ capped_forms (statement_forms (inlined_statement procs (statement_of s)))
@@ -63,6 +63,13 @@ beside_counted procs s v ss i new is items over small so_far =
     (ap (λ (us : Statements). capped_forms (new + inlined_forms procs us)) (sym (members_end ss i over)) ∙ so_far) small
     ∙ (ap (λ (xs : List Stmt). capped_forms (1 + inlined_forms procs (statements_in xs))) items
     ∙ sym (ap (λ z. capped_forms (statement_forms (inlined_statement procs z))) (beside_is s v is)))
+
+pub group_counted : (procs : List Procedure) (s : Stmt) (v : Vec Stmt Global) (ss : List Stmt) (i : ℕ) (new : ℕ) → (s ≡ Then v) ⊎ (s ≡ Beside v) → ss ≡ v.items
+    → length ss ≤ i
+    → new < 2 ^ 64 → capped_forms (new + inlined_forms procs (statements_in (drop i ss))) ≡ capped_forms (1 + inlined_forms procs (statements_in ss))
+    → new ≡ capped_forms (statement_forms (inlined_statement procs (statement_of s)))
+group_counted procs s v ss i new (inl is) = then_counted procs s v ss i new is
+group_counted procs s v ss i new (inr is) = beside_counted procs s v ss i new is
 
 pub select_counted : (procs : List Procedure) (s : Stmt) (again : Bool) (v : Vec Arm Global) (xs : List Arm) (i : ℕ) (new : ℕ) → s ≡ Select again v
     → xs ≡ v.items → length xs ≤ i → new < 2 ^ 64

@@ -1,3 +1,4 @@
+mod Ands
 pub mod Copying
 pub mod Collecting
 pub mod Counting

@@ -1,5 +1,5 @@
 -- Members that are split one after the other.
-use Rattle.std.proofs.Common.{◌≡◌, ℕ, ◌+◌, ◌<◌, ◌≤◌, Bool, List, [], ◌∷◌, ◌++◌, map, length, get_or, drop, refl, sym, ap, ◌∙◌, subst, arith, length-append, append-nil, append_assoc}
+use Rattle.std.proofs.Common.{◌≡◌, ℕ, ◌+◌, ◌<◌, ◌≤◌, Bool, List, [], ◌∷◌, ◌++◌, map, length, get_or, drop, refl, sym, ap, ◌∙◌, subst, arith, ◌⊎◌, inl, inr, length-append, append-nil, append_assoc}
 use Rattle.std.specs.List.{flat_map}
 use Rattle.std.proofs.lemmas.List.{map-append, drop_more, drop_all}
 use Rattle.std.specs.declared.alloc.Global.{Global}
@@ -58,21 +58,21 @@ members_placed : (ds : List Decl) (ss : List Stmt) (i n whole : ℕ) → length 
 members_placed ds ss i n whole over so_far =
     let none : n + 0 ≡ whole = ap (λ us. n + length (own_readers_each ds us)) (sym (members_end ss i over)) ∙ so_far in omega (arith, none)
 
-pub then_placed : (ds : List Decl) (s : Stmt) (v : Vec Stmt Global) (ss : List Stmt) (i n m : ℕ) → s ≡ Then v → ss ≡ v.items → length ss ≤ i
+then_placed : (ds : List Decl) (s : Stmt) (v : Vec Stmt Global) (ss : List Stmt) (i n m : ℕ) → s ≡ Then v → ss ≡ v.items → length ss ≤ i
     → m + length (own_readers_each ds (statements_in (drop i ss))) ≡ n + length (own_readers_each ds (statements_in ss))
     → m ≡ n + length (own_readers ds (statement_of s))
 then_placed ds s v ss i n m is items over so_far =
     members_placed ds ss i m _ over so_far
     ∙ ap (λ k. n + length k) (ap (λ (xs : List Stmt). own_readers_each ds (statements_in xs)) items ∙ sym (ap (own_readers ds) (then_is s v is)))
 
-pub beside_placed : (ds : List Decl) (s : Stmt) (v : Vec Stmt Global) (ss : List Stmt) (i n m : ℕ) → s ≡ Beside v → ss ≡ v.items → length ss ≤ i
+beside_placed : (ds : List Decl) (s : Stmt) (v : Vec Stmt Global) (ss : List Stmt) (i n m : ℕ) → s ≡ Beside v → ss ≡ v.items → length ss ≤ i
     → m + length (own_readers_each ds (statements_in (drop i ss))) ≡ n + length (own_readers_each ds (statements_in ss))
     → m ≡ n + length (own_readers ds (statement_of s))
 beside_placed ds s v ss i n m is items over so_far =
     members_placed ds ss i m _ over so_far
     ∙ ap (λ k. n + length k) (ap (λ (xs : List Stmt). own_readers_each ds (statements_in xs)) items ∙ sym (ap (own_readers ds) (beside_is s v is)))
 
-pub then_split : (ds : List Decl) (ns : List (List ℕ)) (s : Stmt) (v w : Vec Stmt Global) (ss : List Stmt) (i n m : ℕ) → s ≡ Then v → ss ≡ v.items
+then_split : (ds : List Decl) (ns : List (List ℕ)) (s : Stmt) (v w : Vec Stmt Global) (ss : List Stmt) (i n m : ℕ) → s ≡ Then v → ss ≡ v.items
     → length ss ≤ i
     → onto and_member (map statement_of w.items) (split_members ds ns m (statements_in (drop i ss))) ≡ split_members ds ns n (statements_in ss)
     → statement_of (Then w) ≡ split_statement ds ns n (statement_of s)
@@ -81,7 +81,7 @@ then_split ds ns s v w ss i n m is items over so_far =
     ∙ (ap follows (ap (λ us. onto and_member (map statement_of w.items) (split_members ds ns m us)) (sym (members_end ss i over)) ∙ so_far)
     ∙ (ap (λ (xs : List Stmt). follows (split_members ds ns n (statements_in xs))) items ∙ sym (ap (split_statement ds ns n) (then_is s v is))))
 
-pub beside_split : (ds : List Decl) (ns : List (List ℕ)) (s : Stmt) (v w : Vec Stmt Global) (ss : List Stmt) (i n m : ℕ) → s ≡ Beside v → ss ≡ v.items
+beside_split : (ds : List Decl) (ns : List (List ℕ)) (s : Stmt) (v w : Vec Stmt Global) (ss : List Stmt) (i n m : ℕ) → s ≡ Beside v → ss ≡ v.items
     → length ss ≤ i
     → onto and_member (map statement_of w.items) (split_members ds ns m (statements_in (drop i ss))) ≡ split_members ds ns n (statements_in ss)
     → statement_of (Beside w) ≡ split_statement ds ns n (statement_of s)
@@ -89,6 +89,24 @@ beside_split ds ns s v w ss i n m is items over so_far =
     beside_tree w
     ∙ (ap besides (ap (λ us. onto and_member (map statement_of w.items) (split_members ds ns m us)) (sym (members_end ss i over)) ∙ so_far)
     ∙ (ap (λ (xs : List Stmt). besides (split_members ds ns n (statements_in xs))) items ∙ sym (ap (split_statement ds ns n) (beside_is s v is))))
+
+-- a group of one kind or the other
+
+pub group_placed : (ds : List Decl) (s : Stmt) (v : Vec Stmt Global) (ss : List Stmt) (i n m : ℕ) → (s ≡ Then v) ⊎ (s ≡ Beside v) → ss ≡ v.items
+    → length ss ≤ i → m + length (own_readers_each ds (statements_in (drop i ss))) ≡ n + length (own_readers_each ds (statements_in ss))
+    → m ≡ n + length (own_readers ds (statement_of s))
+group_placed ds s v ss i n m (inl is) = then_placed ds s v ss i n m is
+group_placed ds s v ss i n m (inr is) = beside_placed ds s v ss i n m is
+
+pub group_split : (ds : List Decl) (ns : List (List ℕ)) (s made : Stmt) (v w : Vec Stmt Global) (ss : List Stmt) (i n m : ℕ) → (s ≡ Then v) ⊎ (s ≡ Beside v)
+    → ss ≡ v.items → length ss ≤ i
+    → onto and_member (map statement_of w.items) (split_members ds ns m (statements_in (drop i ss))) ≡ split_members ds ns n (statements_in ss)
+    → ((u : Vec Stmt Global) → s ≡ Then u → made ≡ Then w) → ((u : Vec Stmt Global) → s ≡ Beside u → made ≡ Beside w)
+    → statement_of made ≡ split_statement ds ns n (statement_of s)
+group_split ds ns s made v w ss i n m (inl is) items over so_far turns sides =
+    ap statement_of (turns v is) ∙ then_split ds ns s v w ss i n m is items over so_far
+group_split ds ns s made v w ss i n m (inr is) items over so_far turns sides =
+    ap statement_of (sides v is) ∙ beside_split ds ns s v w ss i n m is items over so_far
 
 -- arms
 
@@ -144,17 +162,22 @@ select_split ds ns s again v w xs i n m is items over so_far =
 
 -- what is needed at the members of a statement is what is needed at it
 
-pub then_room : (ds : List Decl) (s : Stmt) (v : Vec Stmt Global) (ss : List Stmt) (n most : ℕ) → s ≡ Then v → ss ≡ v.items
+then_room : (ds : List Decl) (s : Stmt) (v : Vec Stmt Global) (ss : List Stmt) (n most : ℕ) → s ≡ Then v → ss ≡ v.items
     → n + length (own_readers ds (statement_of s)) ≤ most → n + length (own_readers_each ds (statements_in ss)) ≤ most
 then_room ds s v ss n most is items fits =
     subst (λ k. n + length k ≤ most)
     (ap (own_readers ds) (then_is s v is) ∙ sym (ap (λ (xs : List Stmt). own_readers_each ds (statements_in xs)) items)) fits
 
-pub beside_room : (ds : List Decl) (s : Stmt) (v : Vec Stmt Global) (ss : List Stmt) (n most : ℕ) → s ≡ Beside v → ss ≡ v.items
+beside_room : (ds : List Decl) (s : Stmt) (v : Vec Stmt Global) (ss : List Stmt) (n most : ℕ) → s ≡ Beside v → ss ≡ v.items
     → n + length (own_readers ds (statement_of s)) ≤ most → n + length (own_readers_each ds (statements_in ss)) ≤ most
 beside_room ds s v ss n most is items fits =
     subst (λ k. n + length k ≤ most)
     (ap (own_readers ds) (beside_is s v is) ∙ sym (ap (λ (xs : List Stmt). own_readers_each ds (statements_in xs)) items)) fits
+
+pub group_room : (ds : List Decl) (s : Stmt) (v : Vec Stmt Global) (ss : List Stmt) (n most : ℕ) → (s ≡ Then v) ⊎ (s ≡ Beside v) → ss ≡ v.items
+    → n + length (own_readers ds (statement_of s)) ≤ most → n + length (own_readers_each ds (statements_in ss)) ≤ most
+group_room ds s v ss n most (inl is) = then_room ds s v ss n most is
+group_room ds s v ss n most (inr is) = beside_room ds s v ss n most is
 
 pub select_room : (ds : List Decl) (s : Stmt) (again : Bool) (v : Vec Arm Global) (xs : List Arm) (n most : ℕ) → s ≡ Select again v → xs ≡ v.items
     → n + length (own_readers ds (statement_of s)) ≤ most → n + length (own_readers_arms ds (arms_in xs)) ≤ most

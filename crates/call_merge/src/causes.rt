@@ -8,7 +8,10 @@ ghost use Rattle.chp_base.specs.declared.span.Span.{Span};
 ghost use Rattle.chp_base.specs.declared.fault.FaultCode.TheVariants as code;
 ghost use Rattle.chp_syntax.specs.Shape.{IsShaped};
 ghost use Rattle.chp_syntax.specs.View.{program_tree as tree_of};
-ghost use Rattle.width_check.specs.Faults.{naming_faults, IsFirstFault};
+ghost use Rattle.chp_syntax.specs.Tokens.{IfRefused};
+ghost use Rattle.width_check.specs.Faults.{naming_faults, HasNone, IsFirstFault};
+ghost use Rattle.width_check.specs.Form.{typed_form};
+ghost use Rattle.width_check.specs.Typed.{program_of};
 ghost use Rattle.width_check.specs.Sharing.{IsUnshared, IsFirstShared};
 ghost use Rattle.width_check.specs.View.{process_of};
 ghost use Rattle.width_check.specs.Walk as walk;
@@ -160,6 +163,32 @@ fn refuse_names(alloc: Global, program: &Program, fault: Fault) -> Result<(), Ca
     Err(refusal(FaultCode::UnknownProcedure, fault.at, fault.at))
 }
 
+/// The typed form of a program's calls alone, where its procedures have names of their own and each call one of these.
+fn resolved_calls(alloc: Global, program: &Program) -> Result<Typed, TextError>
+    requires few { length program.now.procs.items ≤ 300000 }
+    requires shaped { IsShaped (tree_of program.now) }
+    ensures accepted { IfOk result (λ typed. HasNone (calls_program (tree_of program.now)) naming_faults) }
+    ensures form { IfOk result (λ typed. program_of typed ≡ typed_form (calls_program (tree_of program.now))) }
+    ensures place { IfErr result (IfRefused (λ f.
+        IsFirstFault (calls_program (tree_of program.now)) naming_faults f.code f.at)) }
+{
+    let calls = calls_program(alloc, program)?;
+    resolve(alloc, &calls)
+}
+
+/// Refuses a program with a call in the body of a procedure, or else with a procedure that no call names.
+fn refuse_uncalled(alloc: Global, program: &Program) -> Result<(), CallError>
+    requires { HasNone (calls_program (tree_of program.now)) naming_faults }
+    ensures nested { OnOk result ((s : Span) → ¬ IsNestedCall (tree_of program.now) s) }
+    ensures unused { OnOk result ((s : Span) → ¬ IsUnusedProcedure (tree_of program.now) s) }
+    ensures refused { IfErr result (IfRefusedCall (λ f.
+        IsFirstCallFault (tree_of program.now) call_faults f.code f.at f.other)) }
+    ensures fault { IfErr result IsNoCount }
+{
+    refuse_nested(alloc, program)?;
+    refuse_unused(alloc, program)
+}
+
 /// Refuses a program for the first fault of its procedures and calls.
 pub(crate) fn refuse_calls(alloc: Global, program: &Program) -> Result<(), CallError>
     requires few { length program.now.procs.items ≤ 300000 }
@@ -169,11 +198,9 @@ pub(crate) fn refuse_calls(alloc: Global, program: &Program) -> Result<(), CallE
         IsFirstCallFault (tree_of program.now) call_faults f.code f.at f.other)) }
     ensures fault { IfErr result IsNoCount }
 {
-    let calls = calls_program(alloc, program)?;
-    match resolve(alloc, &calls) {
+    match resolved_calls(alloc, program) {
         Ok(typed) => {
-            refuse_nested(alloc, program)?;
-            refuse_unused(alloc, program)?;
+            let typed = refuse_uncalled(alloc, program).and(Ok(typed))?;
             refuse_shared(alloc, typed)
         }
         Err(TextError::Refused(fault)) => refuse_names(alloc, program, fault),

@@ -4,7 +4,7 @@ ghost use Rattle.std.specs.Prelude.{◌≡◌, map, IfOk};
 ghost use Rattle.chp_syntax.specs.View.{program_tree as tree_of, procedure_of, statement_of};
 ghost use Rattle.call_merge.specs.CallSites.{no_place, call_channel, call_sends, calls_program};
 
-use crate::copies::copied_name;
+use crate::copies::{boxed, copied_name, group_like};
 use chp_base::Span;
 use chp_syntax::{Arm, Decl, DeclKind, Expr, Proc, Program, Stmt};
 use std::alloc::{AllocError, Global};
@@ -40,28 +40,21 @@ fn call_sends(alloc: Global, s: &Stmt) -> Result<Stmt, AllocError>
         Stmt::Skip { .. } | Stmt::Assign { .. } | Stmt::Send { .. } | Stmt::Receive { .. } => {
             Ok(Stmt::Skip { at: NOWHERE })
         }
-        Stmt::Then { parts } => {
+        Stmt::Then { parts } | Stmt::Beside { parts } => {
             let mut made = Vec::new(alloc);
             for part in parts {
                 made.push(call_sends(alloc, part)?)?;
             }
-            Ok(Stmt::Then { parts: made })
-        }
-        Stmt::Beside { parts } => {
-            let mut made = Vec::new(alloc);
-            for branch in parts {
-                made.push(call_sends(alloc, branch)?)?;
-            }
-            Ok(Stmt::Beside { parts: made })
+            Ok(group_like(s, made))
         }
         Stmt::Select { again, arms } => {
             let mut made = Vec::new(alloc);
             for arm in arms {
+                let body = call_sends(alloc, &arm.body)?;
                 let guard = Expr::Number {
                     value: 0,
                     at: NOWHERE,
                 };
-                let body = call_sends(alloc, &arm.body)?;
                 made.push(Arm { guard, body })?;
             }
             Ok(Stmt::Select {
@@ -70,9 +63,9 @@ fn call_sends(alloc: Global, s: &Stmt) -> Result<Stmt, AllocError>
             })
         }
         Stmt::Repeat { body } => {
-            let made = call_sends(alloc, body)?;
+            let made = call_sends(alloc, body);
             Ok(Stmt::Repeat {
-                body: Box::new(alloc, made)?,
+                body: boxed(alloc, made)?,
             })
         }
         Stmt::Call { of } => Ok(Stmt::Send {

@@ -44,17 +44,10 @@ pub(crate) fn inlined_forms(procs: &Procedures, s: &Stmt) -> u64
         Stmt::Assign { value, .. } | Stmt::Send { value, .. } => {
             expression_forms(value).saturating_add(1)
         }
-        Stmt::Then { parts } => {
+        Stmt::Then { parts } | Stmt::Beside { parts } => {
             let mut forms = 1u64;
             for part in parts {
                 forms = forms.saturating_add(inlined_forms(procs, part));
-            }
-            forms
-        }
-        Stmt::Beside { parts } => {
-            let mut forms = 1u64;
-            for branch in parts {
-                forms = forms.saturating_add(inlined_forms(procs, branch));
             }
             forms
         }

@@ -1,6 +1,7 @@
 //! The program in which each call is its procedure's body.
 
-ghost use Rattle.std.specs.Prelude.{◌≡◌, ◌<◌, ◌≤◌, ◌+◌, ℕ, List, length, map, slice_get, Some, IfOk, IfErr, OnOk};
+ghost use Rattle.std.specs.Prelude.{◌≡◌, ◌<◌, ◌≤◌, ◌+◌, ◌++◌, ℕ, List, [], All, length, map, slice_get, Some, IfOk, IfErr, OnOk};
+ghost use Rattle.chp_base.specs.Names.{IsName};
 ghost use Rattle.chp_syntax.specs.Shape.{IsShaped};
 ghost use Rattle.chp_syntax.specs.View.{program_tree as tree_of, statement_of};
 ghost use Rattle.width_check.specs.Calls.{IsCallFree};
@@ -8,18 +9,20 @@ ghost use Rattle.call_merge.specs.CallFaults.{call_faults, IsFirstCallFault, Mee
 ghost use Rattle.call_merge.specs.CallEnds.{IfRefusedCall, IfTooManyForms};
 ghost use Rattle.call_merge.specs.CallForms.{statement_forms, most_forms, most_own_vars};
 ghost use Rattle.call_merge.specs.Bodies.{procedures_in};
+ghost use Rattle.call_merge.specs.CallSplits.{AreOwnVars, all_names, all_own_readers, own_names, split_procedures};
+ghost use Rattle.call_merge.specs.declared.error.CallError.TheVariants.{TooManyForms};
 ghost use Rattle.call_merge.specs.Inlining.{inlined_statement, IsInlined, HasTooManyForms};
 
 use crate::bodies::Procedures;
 use crate::causes::refuse_calls;
-use crate::copies::{copied, copied_decls, copied_expression, copied_name};
+use crate::copies::{boxed, copied, copied_decls, copied_expression, copied_name, group_like};
 use crate::error::CallError;
 use crate::firsts::FirstDecls;
 use crate::forms::inlined_forms;
 use crate::own_vars::own_vars;
 use crate::splits::split_procedures;
 use chp_base::Symbols;
-use chp_syntax::{Arm, Proc, Program, Stmt};
+use chp_syntax::{Arm, Decl, Proc, Program, Stmt};
 use std::alloc::{AllocError, Global};
 
 /// The most forms of an inlined program.
@@ -48,19 +51,12 @@ fn inlined(alloc: Global, procs: &Procedures, s: &Stmt) -> Result<Stmt, AllocErr
         Stmt::Skip { .. } | Stmt::Assign { .. } | Stmt::Send { .. } | Stmt::Receive { .. } => {
             copied(alloc, s)
         }
-        Stmt::Then { parts } => {
+        Stmt::Then { parts } | Stmt::Beside { parts } => {
             let mut made = Vec::new(alloc);
             for part in parts {
                 made.push(inlined(alloc, procs, part)?)?;
             }
-            Ok(Stmt::Then { parts: made })
-        }
-        Stmt::Beside { parts } => {
-            let mut made = Vec::new(alloc);
-            for branch in parts {
-                made.push(inlined(alloc, procs, branch)?)?;
-            }
-            Ok(Stmt::Beside { parts: made })
+            Ok(group_like(s, made))
         }
         Stmt::Select { again, arms } => {
             let mut made = Vec::new(alloc);
@@ -75,9 +71,9 @@ fn inlined(alloc: Global, procs: &Procedures, s: &Stmt) -> Result<Stmt, AllocErr
             })
         }
         Stmt::Repeat { body } => {
-            let made = inlined(alloc, procs, body)?;
+            let made = inlined(alloc, procs, body);
             Ok(Stmt::Repeat {
-                body: Box::new(alloc, made)?,
+                body: boxed(alloc, made)?,
             })
         }
         Stmt::Call { of } => match procs.find(&of.name) {
@@ -87,6 +83,62 @@ fn inlined(alloc: Global, procs: &Procedures, s: &Stmt) -> Result<Stmt, AllocErr
             }),
         },
     }
+}
+
+/// The procedures of a program, their bodies split, and the variables that this declares.
+#[derive(Drop)]
+struct SplitBodies {
+    procs: Procedures,
+    vars: Vec<Decl>,
+}
+
+/// Splits the bodies of the procedures.
+fn split_bodies(alloc: Global, program: &Program) -> Result<SplitBodies, AllocError>
+    requires few { length program.now.procs.items ≤ 300000 }
+    requires meets { MeetsCalling (tree_of program.now) }
+    ensures own { IfOk result (λ made. AreOwnVars program.now.decls.items (all_names (tree_of program.now))
+        (all_own_readers (tree_of program.now)) made.vars.items) }
+    ensures names { IfOk result (λ made. All (λ d. IsName d.name.name) made.vars.items) }
+    ensures bodies { IfOk result (λ made. procedures_in made.procs ≡ split_procedures program.now.decls.items
+        (own_names made.vars.items) 0 (tree_of program.now).procs) }
+{
+    let firsts = FirstDecls::new(alloc, &program.decls)?;
+    let vars = own_vars(alloc, &firsts, program)?;
+    let bodies = split_procedures(alloc, &firsts, program, &vars)?;
+    let names = names_of(alloc, &program.procs)?;
+    Ok(SplitBodies {
+        procs: Procedures { names, bodies },
+        vars,
+    })
+}
+
+/// The program with each call its procedure's body, without procedures, and with the new variables declared last.
+fn with_bodies(alloc: Global, program: &Program, split: SplitBodies) -> Result<Program, AllocError>
+    ensures decls { IfOk result (λ made. made.decls.items ≡ program.now.decls.items ++ split.vars.items) }
+    ensures procs { IfOk result (λ made. made.procs.items ≡ []) }
+    ensures body { IfOk result (λ made. statement_of made.body
+        ≡ inlined_statement (procedures_in split.procs) (statement_of program.now.body)) }
+{
+    let mut vars = split.vars;
+    let mut decls = copied_decls(alloc, &program.decls)?;
+    decls.append(&mut vars)?;
+    let body = inlined(alloc, &split.procs, &program.body)?;
+    Ok(Program {
+        decls,
+        procs: Vec::new(alloc),
+        body,
+    })
+}
+
+/// Refuses a program that would have so many forms, where these are too many.
+fn refuse_forms(forms: u64) -> Result<(), CallError>
+    ensures few { OnOk result (forms ≤ most_forms) }
+    ensures too_many { IfErr result (λ e. (e ≡ TooManyForms forms) × (most_forms < forms)) }
+{
+    if forms > MOST_FORMS {
+        return Err(CallError::TooManyForms(forms));
+    }
+    Ok(())
 }
 
 /// The program with each call replaced by its procedure's body, and without procedures.
@@ -121,21 +173,8 @@ pub fn inline(alloc: Global, program: &Program) -> Result<Program, CallError>
     ensures counted { IfErr result (IfTooManyForms (λ _. MeetsCalling (tree_of program.now))) }
 {
     refuse_calls(alloc, program)?;
-    let firsts = FirstDecls::new(alloc, &program.decls)?;
-    let mut vars = own_vars(alloc, &firsts, program)?;
-    let names = names_of(alloc, &program.procs)?;
-    let bodies = split_procedures(alloc, &firsts, program, &vars)?;
-    let procs = Procedures { names, bodies };
-    let forms = inlined_forms(&procs, &program.body);
-    if forms > MOST_FORMS {
-        return Err(CallError::TooManyForms(forms));
-    }
-    let mut decls = copied_decls(alloc, &program.decls)?;
-    decls.append(&mut vars)?;
-    let body = inlined(alloc, &procs, &program.body)?;
-    Ok(Program {
-        decls,
-        procs: Vec::new(alloc),
-        body,
-    })
+    let split = split_bodies(alloc, program)?;
+    refuse_forms(inlined_forms(&split.procs, &program.body))?;
+    let made = with_bodies(alloc, program, split)?;
+    Ok(made)
 }

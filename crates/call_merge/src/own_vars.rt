@@ -63,15 +63,9 @@ fn note_uses(names: &mut Vec<Name>, s: &Stmt) -> Result<(), AllocError>
             names.push(target.name.copy()?)?;
             Ok(())
         }
-        Stmt::Then { parts } => {
+        Stmt::Then { parts } | Stmt::Beside { parts } => {
             for part in parts {
                 note_uses(names, part)?;
-            }
-            Ok(())
-        }
-        Stmt::Beside { parts } => {
-            for branch in parts {
-                note_uses(names, branch)?;
             }
             Ok(())
         }
@@ -142,15 +136,9 @@ fn note_own_readers(
             }
             Ok(())
         }
-        Stmt::Then { parts } => {
+        Stmt::Then { parts } | Stmt::Beside { parts } => {
             for part in parts {
                 note_own_readers(alloc, decls, found, part)?;
-            }
-            Ok(())
-        }
-        Stmt::Beside { parts } => {
-            for branch in parts {
-                note_own_readers(alloc, decls, found, branch)?;
             }
             Ok(())
         }

@@ -21,15 +21,9 @@ pub(crate) fn note_calls(found: &mut Vec<Ident>, s: &Stmt) -> Result<(), AllocEr
         Stmt::Skip { .. } | Stmt::Assign { .. } | Stmt::Send { .. } | Stmt::Receive { .. } => Ok(
             (),
         ),
-        Stmt::Then { parts } => {
+        Stmt::Then { parts } | Stmt::Beside { parts } => {
             for part in parts {
                 note_calls(found, part)?;
-            }
-            Ok(())
-        }
-        Stmt::Beside { parts } => {
-            for branch in parts {
-                note_calls(found, branch)?;
             }
             Ok(())
         }

@@ -6,7 +6,7 @@ ghost use Rattle.call_merge.specs.Bodies.{procedures_of};
 ghost use Rattle.call_merge.specs.CallSplits.{reads_itself, own_readers, all_own_readers, through_own, split_statement, split_procedures, own_names};
 
 use crate::bodies::Body;
-use crate::copies::{copied, copied_expression, copied_name};
+use crate::copies::{boxed, copied, copied_expression, copied_name, group_like};
 use crate::firsts::FirstDecls;
 use crate::forms::statement_forms;
 use crate::own_vars::reads_itself;
@@ -29,19 +29,18 @@ fn through_own(alloc: Global, name: &Name, target: &Ident, value: &Expr) -> Resu
     ensures { IfOk result (λ made.
         statement_of made ≡ through_own name.now target.now (expression_of value.now)) }
 {
-    let keeps = Stmt::Assign {
+    let mut parts = Vec::new(alloc);
+    parts.push(Stmt::Assign {
         target: name_at(name, target)?,
         value: copied_expression(alloc, value)?,
-    };
-    let moves = Stmt::Assign {
+    })?;
+    parts.push(Stmt::Assign {
         target: copied_name(target)?,
         value: Expr::Whole {
             of: name_at(name, target)?,
         },
-    };
-    Ok(Stmt::Then {
-        parts: Vec::from_array(alloc, [keeps, moves])?,
-    })
+    })?;
+    Ok(Stmt::Then { parts })
 }
 
 /// The statement with each assignment that reads its own target in halves, by the variables from a place on. The place
@@ -70,19 +69,12 @@ fn split(
             *place += 1;
             Ok(made)
         }
-        Stmt::Then { parts } => {
+        Stmt::Then { parts } | Stmt::Beside { parts } => {
             let mut made = Vec::new(alloc);
             for part in parts {
                 made.push(split(alloc, decls, vars, place, part)?)?;
             }
-            Ok(Stmt::Then { parts: made })
-        }
-        Stmt::Beside { parts } => {
-            let mut made = Vec::new(alloc);
-            for branch in parts {
-                made.push(split(alloc, decls, vars, place, branch)?)?;
-            }
-            Ok(Stmt::Beside { parts: made })
+            Ok(group_like(s, made))
         }
         Stmt::Select { again, arms } => {
             let mut made = Vec::new(alloc);
@@ -97,9 +89,9 @@ fn split(
             })
         }
         Stmt::Repeat { body } => {
-            let made = split(alloc, decls, vars, place, body)?;
+            let made = split(alloc, decls, vars, place, body);
             Ok(Stmt::Repeat {
-                body: Box::new(alloc, made)?,
+                body: boxed(alloc, made)?,
             })
         }
     }

@@ -61,6 +61,18 @@ fn refuse_shared(alloc: Global, cause: FaultCode, body: &TStmt) -> Result<(), Te
     }
 }
 
+/// Refuses a program for the first of the causes that holds at a pair of parallel spans.
+fn refuse_all(alloc: Global, body: &TStmt) -> Result<(), TextError>
+    ensures meets { OnOk result (MeetsSharing (process_of body.now)) }
+    ensures place { IfErr result (IfRefused (λ f.
+        IsFirstSharedFault (process_of body.now) sharing_faults f.code f.at f.other)) }
+    ensures refused { IfErr result (IfRefused (λ _. ¬ MeetsSharing (process_of body.now))) }
+{
+    refuse_shared(alloc, FaultCode::SharedVariable, body)?;
+    refuse_shared(alloc, FaultCode::SharedSend, body)?;
+    refuse_shared(alloc, FaultCode::SharedReceive, body)
+}
+
 /// The program, if it meets the sharing rule.
 ///
 /// Else it is refused for a variable that one parallel branch writes and another one uses (30), or for a channel on
@@ -75,8 +87,6 @@ pub fn share(alloc: Global, typed: Typed) -> Result<Disjoint, TextError>
         IsFirstSharedFault (process_of typed.body) sharing_faults f.code f.at f.other)) }
     ensures refused { IfErr result (IfRefused (λ _. ¬ MeetsSharing (process_of typed.body))) }
 {
-    refuse_shared(alloc, FaultCode::SharedVariable, typed.body())?;
-    refuse_shared(alloc, FaultCode::SharedSend, typed.body())?;
-    refuse_shared(alloc, FaultCode::SharedReceive, typed.body())?;
+    let typed = refuse_all(alloc, typed.body()).and(Ok(typed))?;
     Ok(Disjoint { typed })
 }

@@ -1,5 +1,5 @@
 -- Calls among members and arms.
-use Rattle.std.proofs.Common.{◌≡◌, ℕ, ◌+◌, ◌<◌, ◌≤◌, Bool, true, false, List, length, get_or, drop, sym, ap, ◌∙◌}
+use Rattle.std.proofs.Common.{◌≡◌, ℕ, ◌+◌, ◌<◌, ◌≤◌, Bool, true, false, List, length, get_or, drop, sym, ap, ◌∙◌, ◌⊎◌, inl, inr}
 use Rattle.std.specs.Prelude.{◌||◌}
 use Rattle.std.specs.declared.alloc.Global.{Global}
 use Rattle.std.specs.declared.vec.Vec.{Vec}
@@ -20,15 +20,18 @@ pub member_calls : (ss : List Stmt) (i : ℕ) (s : Stmt) (r b : Bool) → i < le
 member_calls ss i s r b within is so_far calls so = let here : has_call (statement_of s) ≡ true = sym calls ∙ so in
     rw here at (at_member ss i s b within is so_far)
 
+pub member_passed : (ss : List Stmt) (i : ℕ) (s : Stmt) (r b : Bool) → i < length ss → s ≡ get_or ss i s → some_has_call (statements_in (drop i ss)) ≡ b →
+    r ≡ has_call (statement_of s) → r ≡ false → some_has_call (statements_in (drop (i + 1) ss)) ≡ b
+member_passed ss i s r b within is so_far calls so = let here : has_call (statement_of s) ≡ false = sym calls ∙ so in
+    rw here at (at_member ss i s b within is so_far)
+
 pub members_free : (ss : List Stmt) (i : ℕ) (b : Bool) → length ss ≤ i → some_has_call (statements_in (drop i ss)) ≡ b → false ≡ b
 members_free ss i b over so_far = ap some_has_call (sym (members_end ss i over)) ∙ so_far
 
-pub then_calls : (s : Stmt) (v : Vec Stmt Global) (ss : List Stmt) → s ≡ Then v → ss ≡ v.items → some_has_call (statements_in ss) ≡ has_call (statement_of s)
-then_calls s v ss is same = ap (λ (xs : List Stmt). some_has_call (statements_in xs)) same ∙ sym (ap has_call (then_is s v is))
-
-pub beside_calls : (s : Stmt) (v : Vec Stmt Global) (ss : List Stmt) → s ≡ Beside v → ss ≡ v.items →
+pub group_calls : (s : Stmt) (v : Vec Stmt Global) (ss : List Stmt) → (s ≡ Then v) ⊎ (s ≡ Beside v) → ss ≡ v.items →
     some_has_call (statements_in ss) ≡ has_call (statement_of s)
-beside_calls s v ss is same = ap (λ (xs : List Stmt). some_has_call (statements_in xs)) same ∙ sym (ap has_call (beside_is s v is))
+group_calls s v ss (inl is) same = ap (λ (xs : List Stmt). some_has_call (statements_in xs)) same ∙ sym (ap has_call (then_is s v is))
+group_calls s v ss (inr is) same = ap (λ (xs : List Stmt). some_has_call (statements_in xs)) same ∙ sym (ap has_call (beside_is s v is))
 
 at_arm : (xs : List Arm) (i : ℕ) (a : Arm) (b : Bool) → i < length xs → a ≡ get_or xs i a → arm_has_call (arms_in (drop i xs)) ≡ b →
     (has_call (statement_of a.body) || arm_has_call (arms_in (drop (i + 1) xs))) ≡ b
@@ -37,6 +40,11 @@ at_arm xs i a b within is so_far = ap arm_has_call (sym (arms_more xs i a within
 pub arm_calls : (xs : List Arm) (i : ℕ) (a : Arm) (r b : Bool) → i < length xs → a ≡ get_or xs i a → arm_has_call (arms_in (drop i xs)) ≡ b →
     r ≡ has_call (statement_of a.body) → r ≡ true → true ≡ b
 arm_calls xs i a r b within is so_far calls so = let here : has_call (statement_of a.body) ≡ true = sym calls ∙ so in
+    rw here at (at_arm xs i a b within is so_far)
+
+pub arm_passed : (xs : List Arm) (i : ℕ) (a : Arm) (r b : Bool) → i < length xs → a ≡ get_or xs i a → arm_has_call (arms_in (drop i xs)) ≡ b →
+    r ≡ has_call (statement_of a.body) → r ≡ false → arm_has_call (arms_in (drop (i + 1) xs)) ≡ b
+arm_passed xs i a r b within is so_far calls so = let here : has_call (statement_of a.body) ≡ false = sym calls ∙ so in
     rw here at (at_arm xs i a b within is so_far)
 
 pub arms_free : (xs : List Arm) (i : ℕ) (b : Bool) → length xs ≤ i → arm_has_call (arms_in (drop i xs)) ≡ b → false ≡ b

@@ -1,5 +1,5 @@
 -- What is made of a statement, member by member.
-use Rattle.std.proofs.Common.{◌≡◌, ℕ, ◌+◌, ◌<◌, ◌≤◌, Bool, true, false, List, [], ◌∷◌, ◌++◌, length, get_or, drop, Some, refl, sym, ap, ◌∙◌, subst, arith}
+use Rattle.std.proofs.Common.{◌≡◌, ℕ, ◌+◌, ◌<◌, ◌≤◌, Bool, true, false, List, [], ◌∷◌, ◌++◌, length, get_or, drop, Some, refl, sym, ap, ◌∙◌, subst, arith, ◌⊎◌, inl, inr}
 use Rattle.std.specs.Prelude.{◌||◌}
 use Rattle.std.specs.declared.alloc.Global.{Global}
 use Rattle.std.specs.declared.vec.Vec.{Vec}
@@ -59,19 +59,34 @@ pub record AreMembersLeft (ds : List Decl) (members : Statements) : Type 0 where
   pub free : some_has_call members ≡ false
   pub sound : IsSound ds (met_of_each ds members)
 
-pub then_left : (ds : List Decl) (s : Stmt) (v : Vec Stmt Global) (ss : List Stmt) → s ≡ Then v → ss ≡ v.items → IsShapedStatement (statement_of s) →
+then_left : (ds : List Decl) (s : Stmt) (v : Vec Stmt Global) (ss : List Stmt) → s ≡ Then v → ss ≡ v.items → IsShapedStatement (statement_of s) →
     has_call (statement_of s) ≡ false → IsSound ds (met_of ds (statement_of s)) → AreMembersLeft ds (statements_in ss)
 then_left ds s v ss is same shaped free sound =
     let tree : statement_of s ≡ follows (statements_in ss) = then_is s v is ∙ ap (λ (xs : List Stmt). follows (statements_in xs)) (sym same) in
     let shape = subst (λ (x : Statement). IsShapedStatement x) tree shaped in
     record { shaped = shape.1; free = sym (ap has_call tree) ∙ free; sound = subst (λ (x : Statement). IsSound ds (met_of ds x)) tree sound }
 
-pub beside_left : (ds : List Decl) (s : Stmt) (v : Vec Stmt Global) (ss : List Stmt) → s ≡ Beside v → ss ≡ v.items → IsShapedStatement (statement_of s) →
+beside_left : (ds : List Decl) (s : Stmt) (v : Vec Stmt Global) (ss : List Stmt) → s ≡ Beside v → ss ≡ v.items → IsShapedStatement (statement_of s) →
     has_call (statement_of s) ≡ false → IsSound ds (met_of ds (statement_of s)) → AreMembersLeft ds (statements_in ss)
 beside_left ds s v ss is same shaped free sound =
     let tree : statement_of s ≡ besides (statements_in ss) = beside_is s v is ∙ ap (λ (xs : List Stmt). besides (statements_in xs)) (sym same) in
     let shape = subst (λ (x : Statement). IsShapedStatement x) tree shaped in
     record { shaped = shape.1; free = sym (ap has_call tree) ∙ free; sound = subst (λ (x : Statement). IsSound ds (met_of ds x)) tree sound }
+
+pub group_left : (ds : List Decl) (s : Stmt) (v : Vec Stmt Global) (ss : List Stmt) → (s ≡ Then v) ⊎ (s ≡ Beside v) → ss ≡ v.items →
+    IsShapedStatement (statement_of s) → has_call (statement_of s) ≡ false → IsSound ds (met_of ds (statement_of s)) → AreMembersLeft ds (statements_in ss)
+group_left ds s v ss (inl is) = then_left ds s v ss is
+group_left ds s v ss (inr is) = beside_left ds s v ss is
+
+-- which group it is, once one of the two is known
+
+pub is_then : (s : Stmt) (v w : Vec Stmt Global) → (s ≡ Then v) ⊎ (s ≡ Beside v) → s ≡ Then w → s ≡ Then v
+is_then s v w (inl is) so = is
+is_then s v w (inr is) so = absurd (cc (is, so))
+
+pub is_beside : (s : Stmt) (v : Vec Stmt Global) → (s ≡ Then v) ⊎ (s ≡ Beside v) → ((w : Vec Stmt Global) → ¬ (s ≡ Then w)) → s ≡ Beside v
+is_beside s v (inl is) not = absurd (not v is)
+is_beside s v (inr is) not = is
 
 pub record IsStatementReady (ds : List Decl) (s : Statement) : Type 0 where
   pub shaped : IsShapedStatement s

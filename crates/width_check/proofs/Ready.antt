@@ -1,6 +1,6 @@
 -- What is made of an expression, member by member.
 use Rattle.std.proofs.Common.{◌≡◌, ℕ, ◌+◌, ◌<◌, ◌≤◌, true, false, List, [], ◌∷◌, ◌++◌, length, get_or, drop, Option, Some, refl, sym, ap, ◌∙◌, subst, arith}
-use Rattle.std.specs.Prelude.{unwrap_or, option_map, Contains}
+use Rattle.std.specs.Prelude.{unwrap_or, option_map, Contains, Result, Ok, IfOk}
 use Rattle.std.specs.declared.alloc.Global.{Global}
 use Rattle.std.specs.declared.boxed.Box.{Box}
 use Rattle.std.specs.declared.vec.Vec.{Vec}
@@ -34,6 +34,10 @@ pub record IsReady (ds : List Decl) (w : ℕ) (e : Expression) : Type 0 where
   pub most : w ≤ 64
   pub shaped : IsShapedExpression e
   pub sound : IsSound ds (met_in ds w e)
+
+-- what was made stays so where it is put
+pub made_so : {E : Type 0} (r : Result TExpr E) (t : TExpr) (f : Formula) → IfOk r (λ (m : TExpr). formula_of m ≡ f) → r ≡ Ok t → formula_of t ≡ f
+made_so {E = E} r t f made is = subst (λ (o : Result TExpr E). IfOk o (λ (m : TExpr). formula_of m ≡ f)) is made
 
 -- some parts of a join
 pub record ArePartsLeft (ds : List Decl) (parts : Expressions) : Type 0 where

@@ -103,6 +103,21 @@ pub join_at : (vars : List Var) (es : List TExpr) (i : ℕ) (e : TExpr) (w : ℕ
     IsJoining vars (parts_of es) (parts_of (drop i es)) w → IsJoining vars (parts_of es) (and_part (formula_of e) (parts_of (drop (i + 1) es))) w
 join_at vars es i e w within is = subst (λ ps. IsJoining vars (parts_of es) ps w) (part_at es i e within is)
 
+pub join_more : (vars : List Var) (es : List TExpr) (i : ℕ) (e : TExpr) (w v : ℕ) → i < length es → e ≡ get_or es i e →
+    IsJoining vars (parts_of es) (parts_of (drop i es)) w → IsOfWidth vars v (formula_of e) → w + v ≤ 64 →
+    IsJoining vars (parts_of es) (parts_of (drop (i + 1) es)) (w + v)
+join_more vars es i e w v within is so_far here most =
+    let left = join_at vars es i e w within is so_far in
+    record {
+      sum = omega (arith, left.sum, here.agrees);
+      most = most;
+      same = record {
+        whole = λ rest. left.same.whole (record { formed = (here.formed, rest.formed); read = (here.reads, rest.read) });
+        rest = λ all. let both = left.same.rest all in
+            record { formed = both.formed.1; read = both.read.1 };
+      };
+    }
+
 pub join_end : (vars : List Var) (es : List TExpr) (i w : ℕ) → length es ≤ i → IsJoining vars (parts_of es) (parts_of (drop i es)) w →
     IsJoining vars (parts_of es) no_parts w
 join_end vars es i w all = subst (λ ps. IsJoining vars (parts_of es) ps w) (no_more_parts es i all)
@@ -143,6 +158,17 @@ pub links_at : (vars : List Var) (w : ℕ) (ls : List TLink) (i : ℕ) (l : TLin
     Alike (AreLinks vars w (links_of ls)) (AreLinks vars w (links_of (drop i ls))) →
     Alike (AreLinks vars w (links_of ls)) (AreLinks vars w (and_operation l.op (formula_of l.right) (links_of (drop (i + 1) ls))))
 links_at vars w ls i l within is = subst (λ ops. Alike (AreLinks vars w (links_of ls)) (AreLinks vars w ops)) (link_at ls i l within is)
+
+pub links_more : (vars : List Var) (w : ℕ) (ls : List TLink) (i : ℕ) (l : TLink) (v : ℕ) → i < length ls → l ≡ get_or ls i l →
+    Alike (AreLinks vars w (links_of ls)) (AreLinks vars w (links_of (drop i ls))) → is_comparison l.op ≡ false → IsOfWidth vars v (formula_of l.right) →
+    v ≡ w → Alike (AreLinks vars w (links_of ls)) (AreLinks vars w (links_of (drop (i + 1) ls)))
+links_more vars w ls i l v within is so_far plain here same =
+    let left = links_at vars w ls i l within is so_far in
+    record {
+      whole = λ rest. left.whole (record { formed = (plain, here.agrees ∙ same, here.formed, rest.formed); read = (here.reads, rest.read) });
+      rest = λ all. let both = left.rest all in
+          record { formed = both.formed.3; read = both.read.1 };
+    }
 
 pub links_end : (vars : List Var) (w : ℕ) (ls : List TLink) (i : ℕ) → length ls ≤ i →
     Alike (AreLinks vars w (links_of ls)) (AreLinks vars w (links_of (drop i ls))) → Alike (AreLinks vars w (links_of ls)) (AreLinks vars w no_operations)

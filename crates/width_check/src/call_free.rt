@@ -13,17 +13,9 @@ fn has_call(s: &Stmt) -> bool
 {
     match s {
         Stmt::Skip { .. } | Stmt::Assign { .. } | Stmt::Send { .. } | Stmt::Receive { .. } => false,
-        Stmt::Then { parts } => {
+        Stmt::Then { parts } | Stmt::Beside { parts } => {
             for part in parts {
                 if has_call(part) {
-                    return true;
-                }
-            }
-            false
-        }
-        Stmt::Beside { parts } => {
-            for branch in parts {
-                if has_call(branch) {
                     return true;
                 }
             }

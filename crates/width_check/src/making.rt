@@ -51,6 +51,13 @@ fn read_whole(scope: &Scope, of: &Ident) -> TExpr
     read(scope, of, scope.bits(&of.name) - 1, 0)
 }
 
+/// What was made, in a box of its own.
+fn boxed(alloc: Global, made: Result<TExpr, AllocError>) -> Result<Box<TExpr>, AllocError>
+    ensures { IfOk result (λ b. made ≡ Ok b.value) }
+{
+    Ok(Box::new(alloc, made?)?)
+}
+
 /// The typed form of an expression with this expected width.
 fn make_expression(alloc: Global, scope: &Scope, e: &Expr, width: u8) -> Result<TExpr, AllocError>
     requires some { 1 ≤ width }
@@ -66,7 +73,10 @@ fn make_expression(alloc: Global, scope: &Scope, e: &Expr, width: u8) -> Result<
         }),
         Expr::Whole { of } => Ok(read_whole(scope, of)),
         Expr::Slice { of, high, low, .. } => Ok(read(scope, of, *high as u8, *low as u8)),
-        Expr::Bit { of, place, .. } => Ok(read(scope, of, *place as u8, *place as u8)),
+        Expr::Bit { of, place, .. } => {
+            let place = *place as u8;
+            Ok(read(scope, of, place, place))
+        }
         Expr::Join { parts, .. } => {
             let mut made = Vec::new(alloc);
             for part in parts {
@@ -76,31 +86,31 @@ fn make_expression(alloc: Global, scope: &Scope, e: &Expr, width: u8) -> Result<
             Ok(TExpr::Join { parts: made })
         }
         Expr::Not { inner, .. } => {
-            let made = make_expression(alloc, scope, inner, width)?;
+            let made = make_expression(alloc, scope, inner, width);
             Ok(TExpr::Not {
-                inner: Box::new(alloc, made)?,
+                inner: boxed(alloc, made)?,
             })
         }
         Expr::Chain { first, rest, .. } => {
             if compares(rest) {
                 let side = scope.side_width(first, rest).unwrap_or(0);
                 let link = &rest[0];
-                let left = make_expression(alloc, scope, first, side)?;
-                let right = make_expression(alloc, scope, &link.right, side)?;
+                let left = boxed(alloc, make_expression(alloc, scope, first, side))?;
+                let right = boxed(alloc, make_expression(alloc, scope, &link.right, side))?;
                 return Ok(TExpr::Compare {
                     op: link.op,
-                    left: Box::new(alloc, left)?,
-                    right: Box::new(alloc, right)?,
+                    left,
+                    right,
                 });
             }
-            let front = make_expression(alloc, scope, first, width)?;
+            let front = boxed(alloc, make_expression(alloc, scope, first, width))?;
             let mut made = Vec::new(alloc);
             for link in rest {
                 let right = make_expression(alloc, scope, &link.right, width)?;
                 made.push(TLink { op: link.op, right })?;
             }
             Ok(TExpr::Chain {
-                first: Box::new(alloc, front)?,
+                first: front,
                 rest: made,
             })
         }
@@ -139,19 +149,15 @@ pub fn make_statement(alloc: Global, scope: &Scope, s: &Stmt) -> Result<TStmt, A
             var: scope.number(&target.name),
             var_at: target.at,
         }),
-        Stmt::Then { parts } => {
+        Stmt::Then { parts } | Stmt::Beside { parts } => {
             let mut made = Vec::new(alloc);
             for part in parts {
                 made.push(make_statement(alloc, scope, part)?)?;
             }
-            Ok(TStmt::Then { parts: made })
-        }
-        Stmt::Beside { parts } => {
-            let mut made = Vec::new(alloc);
-            for branch in parts {
-                made.push(make_statement(alloc, scope, branch)?)?;
+            match s {
+                Stmt::Then { .. } => Ok(TStmt::Then { parts: made }),
+                _ => Ok(TStmt::Beside { parts: made }),
             }
-            Ok(TStmt::Beside { parts: made })
         }
         Stmt::Select { again, arms } => {
             let mut made = Vec::new(alloc);

@@ -7,8 +7,5 @@ use Rattle.call_merge.proofs.channels.+call_sends.Given as goal
 abbrev pub invariant-loop-part : goal.invariant-loop-part
 invariant-loop-part l = map statement_of l.made.items ≡ map (λ s. call_sends (statement_of s)) (take l.part-index l.part-items)
 
-abbrev pub invariant-loop-branch : goal.invariant-loop-branch
-invariant-loop-branch l = map statement_of l.made.items ≡ map (λ s. call_sends (statement_of s)) (take l.branch-index l.branch-items)
-
 abbrev pub invariant-loop-arm : goal.invariant-loop-arm
 invariant-loop-arm l = map guarded_of l.made.items ≡ map (mapped_arm call_sends (λ e. zero_expression)) (take l.arm-index l.arm-items)

@@ -1,15 +1,10 @@
 use Rattle.call_merge.specs.Bodies.{procedures_in}
-use Rattle.call_merge.proofs.FormSteps.{then_counted, beside_counted, select_counted}
+use Rattle.call_merge.proofs.FormSteps.{group_counted, select_counted}
 use Rattle.call_merge.proofs.forms.+inlined_forms.Goals as goal
 
 pub returns-after-loop-part : goal.returns-after-loop-part
-returns-after-loop-part t c = then_counted (procedures_in c.args.procs.now) c.args.s.now c.in-Then.parts c.deref-part-items.result.now c.loop-part.part-index
+returns-after-loop-part t c = group_counted (procedures_in c.args.procs.now) c.args.s.now c.in-Then.parts c.deref-part-items.result.now c.loop-part.part-index
     c.loop-part.forms c.in-Then.is c.deref-part-items.ensures.value c.loop-part-test.false c.loop-part.invariant.small c.loop-part.invariant.sum
-
-pub returns-after-loop-branch : goal.returns-after-loop-branch
-returns-after-loop-branch t c = beside_counted (procedures_in c.args.procs.now) c.args.s.now c.in-Beside.parts c.deref-branch-items.result.now
-    c.loop-branch.branch-index c.loop-branch.forms c.in-Beside.is c.deref-branch-items.ensures.value c.loop-branch-test.false c.loop-branch.invariant.small
-    c.loop-branch.invariant.sum
 
 pub returns-after-loop-arm : goal.returns-after-loop-arm
 returns-after-loop-arm t c = select_counted (procedures_in c.args.procs.now) c.args.s.now c.in-Select.again c.in-Select.arms c.deref-arm-items.result.now

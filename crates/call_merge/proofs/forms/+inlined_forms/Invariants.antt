@@ -12,13 +12,6 @@ invariant-loop-part l = record {
   small : l.forms < 2 ^ 64;
 }
 
-abbrev pub invariant-loop-branch : goal.invariant-loop-branch
-invariant-loop-branch l = record {
-  sum : capped_forms (l.forms + inlined_forms (procedures_in l.procs) (statements_in (drop l.branch-index l.branch-items)))
-      ≡ capped_forms (1 + inlined_forms (procedures_in l.procs) (statements_in l.branch-items));
-  small : l.forms < 2 ^ 64;
-}
-
 abbrev pub invariant-loop-arm : goal.invariant-loop-arm
 invariant-loop-arm l = record {
   sum : capped_forms (l.forms + inlined_arm_forms (procedures_in l.procs) (arms_in (drop l.arm-index l.arm-items)))

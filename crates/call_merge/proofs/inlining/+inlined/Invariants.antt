@@ -9,10 +9,6 @@ abbrev pub invariant-loop-part : goal.invariant-loop-part
 invariant-loop-part l =
     map statement_of l.made.items ≡ map (λ s. inlined_statement (procedures_in l.procs) (statement_of s)) (take l.part-index l.part-items)
 
-abbrev pub invariant-loop-branch : goal.invariant-loop-branch
-invariant-loop-branch l =
-    map statement_of l.made.items ≡ map (λ s. inlined_statement (procedures_in l.procs) (statement_of s)) (take l.branch-index l.branch-items)
-
 abbrev pub invariant-loop-arm : goal.invariant-loop-arm
 invariant-loop-arm l =
     map guarded_of l.made.items ≡ map (mapped_arm (inlined_statement (procedures_in l.procs)) (λ e. e)) (take l.arm-index l.arm-items)

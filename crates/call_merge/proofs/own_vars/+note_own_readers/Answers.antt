@@ -1,5 +1,5 @@
 use Rattle.std.proofs.Common.{sym, append-nil}
-use Rattle.call_merge.proofs.Collecting.{member_collected, arm_collected, then_collected, beside_collected, select_collected}
+use Rattle.call_merge.proofs.Collecting.{member_collected, arm_collected, group_collected, select_collected}
 use Rattle.call_merge.proofs.Mapping.{collects_own_readers}
 use Rattle.call_merge.proofs.own_vars.+note_own_readers.Goals as goal
 
@@ -8,25 +8,15 @@ loop-part-preserved t c = member_collected (collects_own_readers c.args.decls.no
     c.loop-part.invariant
     c.in_ok-note_own_readers-in-Then.ensures
 
-pub loop-branch-preserved : goal.loop-branch-preserved
-loop-branch-preserved t c = member_collected (collects_own_readers c.args.decls.now) _ c.loop-branch.branch-index _ _ _ _ c.loop-branch-test.true
-    c.branch-item.is
-    c.loop-branch.invariant c.in_ok-note_own_readers-in-Beside.ensures
-
 pub loop-arm-preserved : goal.loop-arm-preserved
 loop-arm-preserved t c = arm_collected (collects_own_readers c.args.decls.now) _ c.loop-arm.arm-index _ _ _ _ _ c.loop-arm-test.true c.arm-item.is
     c.loop-arm.invariant
     (sym (append-nil _)) c.in_ok-note_own_readers-in-Select.ensures
 
 pub returns-after-loop-part : goal.returns-after-loop-part
-returns-after-loop-part t c = then_collected (collects_own_readers c.args.decls.now) _ _ _ c.loop-part.part-index _ _ c.in-Then.is
+returns-after-loop-part t c = group_collected (collects_own_readers c.args.decls.now) _ _ _ c.loop-part.part-index _ _ c.in-Then.is
     c.deref-part-items.ensures.value
     c.loop-part-test.false c.loop-part.invariant
-
-pub returns-after-loop-branch : goal.returns-after-loop-branch
-returns-after-loop-branch t c = beside_collected (collects_own_readers c.args.decls.now) _ _ _ c.loop-branch.branch-index _ _ c.in-Beside.is
-    c.deref-branch-items.ensures.value
-    c.loop-branch-test.false c.loop-branch.invariant
 
 pub returns-after-loop-arm : goal.returns-after-loop-arm
 returns-after-loop-arm t c = select_collected (collects_own_readers c.args.decls.now) _ _ _ _ c.loop-arm.arm-index _ _ c.in-Select.is

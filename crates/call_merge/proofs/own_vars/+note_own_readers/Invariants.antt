@@ -7,10 +7,6 @@ abbrev pub invariant-loop-part : goal.invariant-loop-part
 invariant-loop-part l = l.found.items ++ own_readers_each l.decls (statements_in (drop l.part-index l.part-items))
     ≡ l.initial.found.items ++ own_readers_each l.decls (statements_in l.part-items)
 
-abbrev pub invariant-loop-branch : goal.invariant-loop-branch
-invariant-loop-branch l = l.found.items ++ own_readers_each l.decls (statements_in (drop l.branch-index l.branch-items))
-    ≡ l.initial.found.items ++ own_readers_each l.decls (statements_in l.branch-items)
-
 abbrev pub invariant-loop-arm : goal.invariant-loop-arm
 invariant-loop-arm l = l.found.items ++ own_readers_arms l.decls (arms_in (drop l.arm-index l.arm-items))
     ≡ l.initial.found.items ++ own_readers_arms l.decls (arms_in l.arm-items)

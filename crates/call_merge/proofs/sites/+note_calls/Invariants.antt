@@ -7,9 +7,5 @@ abbrev pub invariant-loop-part : goal.invariant-loop-part
 invariant-loop-part l = l.found.items ++ calls_in_each (statements_in (drop l.part-index l.part-items))
     ≡ l.initial.found.items ++ calls_in_each (statements_in l.part-items)
 
-abbrev pub invariant-loop-branch : goal.invariant-loop-branch
-invariant-loop-branch l = l.found.items ++ calls_in_each (statements_in (drop l.branch-index l.branch-items))
-    ≡ l.initial.found.items ++ calls_in_each (statements_in l.branch-items)
-
 abbrev pub invariant-loop-arm : goal.invariant-loop-arm
 invariant-loop-arm l = l.found.items ++ calls_in_arms (arms_in (drop l.arm-index l.arm-items)) ≡ l.initial.found.items ++ calls_in_arms (arms_in l.arm-items)

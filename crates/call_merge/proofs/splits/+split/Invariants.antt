@@ -13,14 +13,6 @@ invariant-loop-part l = record {
       ≡ l.initial.place + length (own_readers_each l.decls (statements_in l.part-items));
 }
 
-abbrev pub invariant-loop-branch : goal.invariant-loop-branch
-invariant-loop-branch l = record {
-  made : onto and_member (map statement_of l.made.items) (split_members l.decls (own_names l.vars) l.place (statements_in (drop l.branch-index l.branch-items)))
-      ≡ split_members l.decls (own_names l.vars) l.initial.place (statements_in l.branch-items);
-  place : l.place + length (own_readers_each l.decls (statements_in (drop l.branch-index l.branch-items)))
-      ≡ l.initial.place + length (own_readers_each l.decls (statements_in l.branch-items));
-}
-
 abbrev pub invariant-loop-arm : goal.invariant-loop-arm
 invariant-loop-arm l = record {
   made : onto and_guarded (map guarded_of l.made.items) (split_arms l.decls (own_names l.vars) l.place (arms_in (drop l.arm-index l.arm-items)))

@@ -4,7 +4,7 @@ use Rattle.width_check.specs.Processes.{joined, chained}
 use Rattle.width_check.specs.Typing.{IsOfWidth}
 use Rattle.width_check.specs.View.{formula_of}
 use Rattle.width_check.proofs.Rows.{parts_of, joined_parts, links_of, chained_links}
-use Rattle.width_check.proofs.Widths.{if_none, not_zero, not_over, most_bits, join_at, join_end, join_wrong, join_wide, join_done, join_empty, links_at, links_end, links_counted, chain_none, chain_compares, chain_other, chain_done}
+use Rattle.width_check.proofs.Widths.{if_none, not_zero, not_over, most_bits, join_at, join_end, join_wrong, join_wide, join_more, join_done, join_empty, links_at, links_more, links_end, links_counted, chain_none, chain_compares, chain_other, chain_done}
 use Rattle.width_check.proofs.fitting.+width_over.Goals as goal
 use Rattle.width_check.proofs.fitting.+width_over.Goals.{then-is_comparison-via-then-is_comparison, then-is_comparison-via-else-is_comparison+then-right-width}
 
@@ -75,3 +75,16 @@ returns-else-is_empty-clause-some t c =
     subst (λ f. IsOfWidth c.args.vars.now c.in_ok-width-in-Chain.width f) (sym is) (chain_done _ _ _ _ all first (let some =
     not_zero (vec_len c.in-Chain.rest) (sym c.if-is_empty.false ∙ c.is_empty.ensures) in
     omega (arith, count, some, ap length c.deref-link-items.ensures.value)))
+
+pub loop-part-preserved : goal.loop-part-preserved
+loop-part-preserved t c =
+    join_more _ _ c.loop-part.part-index c.part-item.result _ _ c.loop-part-test.true c.part-item.is c.loop-part.invariant c.in_ok-width-in-Join.ensures.some
+    c.if-width-gt64.false
+
+pub loop-link-init : goal.loop-link-init
+loop-link-init t c = record { whole = λ all. all; rest = λ all. all }
+
+pub loop-link-preserved : goal.loop-link-preserved
+loop-link-preserved t c =
+    links_more _ _ _ c.loop-link.link-index c.link-item.result _ c.loop-link-test.true c.link-item.is c.loop-link.invariant (sym c.is_comparison.ensures
+    ∙ c.if-is_comparison.false) c.in_ok-right-in-Chain.ensures.some c.if-right-width.false

@@ -5,11 +5,10 @@ use Rattle.chp_syntax.specs.Trees.{slice, bit}
 use Rattle.chp_syntax.specs.View.{expression_of}
 use Rattle.width_check.specs.Places.{declared_width, use_of, read}
 use Rattle.width_check.specs.Form.{formula_form}
-use Rattle.width_check.specs.View.{formula_of}
 use Rattle.width_check.specs.Walk.{join_parts}
 use Rattle.width_check.proofs.Leaves.{good_slice, declared_most}
 use Rattle.width_check.proofs.Soundness.{number_fits, bit_within, sound_inner}
-use Rattle.width_check.proofs.Ready.{ArePartsLeft, part_ready, part_made, parts_next, join_left, join_made, first_ready, links_left, links_next, link_ready, link_made, chain_made, comparison_ready, comparison_made}
+use Rattle.width_check.proofs.Ready.{ArePartsLeft, part_ready, part_made, parts_next, join_left, join_made, first_ready, links_left, links_next, link_ready, link_made, chain_made, made_so, comparison_ready, comparison_made}
 use Rattle.width_check.proofs.making.+make_expression.Goals as goal
 
 pub constant-requires-clause-fits : goal.constant-requires-clause-fits
@@ -45,17 +44,6 @@ read-requires t c =
 
 pub overflow_cast-place : goal.overflow_cast-place
 overflow_cast-place t c =
-    let s = rw c.in-Bit.is at c.requires.sound in
-    let here = bit_within (declared_width c.args.scope.now.decls.now c.in-Bit.of.name) c.in-Bit.place (s.parts (bit c.in-Bit.of c.in-Bit.place c.in-Bit.at) (
-      0,
-      omega arith,
-      refl,
-    )) in
-    let most = declared_most c.args.scope.now.decls.now c.requires.ranged c.in-Bit.of.name in
-    omega (arith, here, most)
-
-pub overflow_cast-place-in-Bit : goal.overflow_cast-place-in-Bit
-overflow_cast-place-in-Bit t c =
     let s = rw c.in-Bit.is at c.requires.sound in
     let here = bit_within (declared_width c.args.scope.now.decls.now c.in-Bit.of.name) c.in-Bit.place (s.parts (bit c.in-Bit.of c.in-Bit.place c.in-Bit.at) (
       0,
@@ -103,8 +91,8 @@ loop-part-preserved t c =
       sound = left.sound;
     }
 
-pub make_expression-requires-in-Not : goal.make_expression-requires-in-Not
-make_expression-requires-in-Not t c =
+pub make_expression-made-requires : goal.make_expression-made-requires
+make_expression-made-requires t c =
     let s = rw c.in-Not.is at c.requires.sound in
     let shaped = rw c.in-Not.is at c.requires.shaped in (
       search (rules, the_lemmas, get_or_read),
@@ -175,16 +163,16 @@ returns-then-compares t c =
     c.unwrap_or-side.ensures in
     comparison_made c.args.scope.now.decls.now c.args.width c.unwrap_or-side.result c.args.e.now c.in-Chain.first c.in-Chain.rest c.in-Chain.at
     c.index-link.result.now _ _ c.in-Chain.is so facts
-    (ap formula_of c.in_ok-new-in-Chain.ensures.ok ∙ c.in_ok-left-in-Chain.ensures
+    (made_so _ _ _ c.make_expression-then-compares.ensures c.in_ok-left-in-Chain.ensures
     ∙ ap (λ (x : Expr). formula_form c.args.scope.now.decls.now c.unwrap_or-side.result (expression_of x)) c.deref-then-compares-3.ensures)
-    (ap formula_of c.in_ok-new-in-Chain-2.ensures.ok ∙ c.in_ok-right-in-Chain.ensures)
+    (made_so _ _ _ c.make_expression-then-compares-2.ensures c.in_ok-right-in-Chain.ensures)
 
 pub loop-link-init : goal.loop-link-init
 loop-link-init t c =
     let left = links_left c.args.scope.now.decls.now c.args.width c.args.e.now c.in-Chain.first c.in-Chain.rest c.in-Chain.at c.deref-in-Chain.result.now
     c.deref-link-items.result.now c.in-Chain.is c.deref-in-Chain.ensures.value c.deref-link-items.ensures.value (sym c.if-compares.ensures)
     c.requires.shaped c.requires.sound in
-    record { made = rw c.new-made-in-Chain.ensures.items refl; shaped = left.shaped; sound = left.sound; front = refl }
+    record { made = rw c.new-made-in-Chain.ensures.items refl; shaped = left.shaped; sound = left.sound }
 
 pub loop-link-preserved : goal.loop-link-preserved
 loop-link-preserved t c =
@@ -196,17 +184,15 @@ loop-link-preserved t c =
           c.in_ok-push-in-Chain.ensures.items c.loop-link.invariant.made;
       shaped = left.shaped;
       sound = left.sound;
-      front = c.loop-link.invariant.front;
     }
 
 pub returns-after-loop-part : goal.returns-after-loop-part
 returns-after-loop-part t c = join_made c.args.scope.now.decls.now c.args.width c.args.e.now c.in-Join.parts c.in-Join.at c.deref-part-items.result.now
     c.loop-part.part-index c.loop-part.made c.in-Join.is c.deref-part-items.ensures.value c.loop-part-test.false c.loop-part.invariant.made
 
-pub returns-in_ok-new-in-Chain-3 : goal.returns-in_ok-new-in-Chain-3
-returns-in_ok-new-in-Chain-3 t c =
+pub returns-after-loop-link : goal.returns-after-loop-link
+returns-after-loop-link t c =
     chain_made c.args.scope.now.decls.now c.args.width c.args.e.now c.in-Chain.first c.in-Chain.rest c.in-Chain.at c.deref-in-Chain.result.now
-    c.deref-link-items.result.now c.loop-link.link-index c.deref-in-Chain-2.result.now c.in_ok-new-in-Chain-3.field-0 c.loop-link.made c.in-Chain.is
+    c.deref-link-items.result.now c.loop-link.link-index c.deref-in-Chain-2.result.now c.in_ok-front-in-Chain.front c.loop-link.made c.in-Chain.is
     c.deref-in-Chain.ensures.value c.deref-link-items.ensures.value (sym c.if-compares.ensures) c.deref-in-Chain-2.ensures
-    (ap formula_of (c.in_ok-new-in-Chain-3.ensures.ok ∙ c.loop-link.invariant.front) ∙ c.in_ok-front-in-Chain.ensures) c.loop-link-test.false
-    c.loop-link.invariant.made
+    (made_so _ _ _ c.make_expression-in-Chain.ensures c.in_ok-front-in-Chain.ensures) c.loop-link-test.false c.loop-link.invariant.made

@@ -23,7 +23,6 @@ invariant-loop-link l = record {
       operations_form l.scope.decls.now l.width (links_in l.link-items);
   shaped : AreShapedLinks (links_in (drop l.link-index l.link-items));
   sound : IsSound l.scope.decls.now (met_in_links l.scope.decls.now l.width (links_in (drop l.link-index l.link-items)));
-  front : l.front ≡ l.initial.front;
 }
 
 abbrev pub decreases-make_expression : goal.decreases-make_expression

@@ -3,7 +3,7 @@ use Rattle.std.proofs.lemmas.List.{get_or_read}
 use Rattle.chp_syntax.specs.declared.tree.Stmt.{the_lemmas}
 use Rattle.chp_syntax.specs.View.{expression_of}
 use Rattle.width_check.proofs.Soundness.{is_declared}
-use Rattle.width_check.proofs.Doing.{assign_sound, send_sound, receive_sound, then_left, beside_left, member_ready, members_next, member_made, then_made, beside_made, select_left, arm_ready, arms_next, arm_made, select_made}
+use Rattle.width_check.proofs.Doing.{assign_sound, send_sound, receive_sound, group_left, is_then, is_beside, member_ready, members_next, member_made, then_made, beside_made, select_left, arm_ready, arms_next, arm_made, select_made}
 use Rattle.width_check.proofs.making.+make_statement.Goals as goal
 
 pub bits-requires-clause-declared : goal.bits-requires-clause-declared
@@ -35,12 +35,12 @@ number-requires-in-Receive-2 t c = is_declared c.args.scope.now.decls.now c.in-R
 
 pub loop-part-init : goal.loop-part-init
 loop-part-init t c =
-    let left = then_left c.args.scope.now.decls.now c.args.s.now c.in-Then.parts c.deref-part-items.result.now c.in-Then.is c.deref-part-items.ensures.value
+    let left = group_left c.args.scope.now.decls.now c.args.s.now c.in-Then.parts c.deref-part-items.result.now c.in-Then.is c.deref-part-items.ensures.value
     c.requires.shaped c.requires.call_free c.requires.sound in
-    record { made = rw c.new-made.ensures.items refl; shaped = left.shaped; free = left.free; sound = left.sound }
+    record { made = rw c.new-made-in-Then.ensures.items refl; shaped = left.shaped; free = left.free; sound = left.sound }
 
-pub make_statement-requires : goal.make_statement-requires
-make_statement-requires t c =
+pub make_statement-requires-in-loop-part : goal.make_statement-requires-in-loop-part
+make_statement-requires-in-loop-part t c =
     let r = member_ready c.args.scope.now.decls.now c.deref-part-items.result.now c.loop-part.part-index c.part-item.result c.loop-part-test.true c.part-item.is
     (record { shaped = c.loop-part.invariant.shaped; free = c.loop-part.invariant.free; sound = c.loop-part.invariant.sound }) in
     (search (rules, the_lemmas, get_or_read), (c.requires.ranged, (r.shaped, (r.free, r.sound))))
@@ -51,33 +51,8 @@ loop-part-preserved t c =
     c.part-item.is (record { shaped = c.loop-part.invariant.shaped; free = c.loop-part.invariant.free; sound = c.loop-part.invariant.sound }) in
     record {
       made = member_made c.args.scope.now.decls.now c.deref-part-items.result.now c.loop-part.part-index c.part-item.result c.loop-part.made.items
-          c.push.new.self.items c.in_ok-make_statement-in-Then.field-0 _ c.loop-part-test.true c.part-item.is c.in_ok-make_statement-in-Then.ensures
-          c.in_ok-push-in-Then.ensures.items c.loop-part.invariant.made;
-      shaped = left.shaped;
-      free = left.free;
-      sound = left.sound;
-    }
-
-pub loop-branch-init : goal.loop-branch-init
-loop-branch-init t c =
-    let left = beside_left c.args.scope.now.decls.now c.args.s.now c.in-Beside.parts c.deref-branch-items.result.now c.in-Beside.is
-    c.deref-branch-items.ensures.value c.requires.shaped c.requires.call_free c.requires.sound in
-    record { made = rw c.new-made-in-Beside.ensures.items refl; shaped = left.shaped; free = left.free; sound = left.sound }
-
-pub make_statement-requires-in-loop-branch : goal.make_statement-requires-in-loop-branch
-make_statement-requires-in-loop-branch t c =
-    let r = member_ready c.args.scope.now.decls.now c.deref-branch-items.result.now c.loop-branch.branch-index c.branch-item.result c.loop-branch-test.true
-    c.branch-item.is (record { shaped = c.loop-branch.invariant.shaped; free = c.loop-branch.invariant.free; sound = c.loop-branch.invariant.sound }) in
-    (search (rules, the_lemmas, get_or_read), (c.requires.ranged, (r.shaped, (r.free, r.sound))))
-
-pub loop-branch-preserved : goal.loop-branch-preserved
-loop-branch-preserved t c =
-    let left = members_next c.args.scope.now.decls.now c.deref-branch-items.result.now c.loop-branch.branch-index c.branch-item.result c.loop-branch-test.true
-    c.branch-item.is (record { shaped = c.loop-branch.invariant.shaped; free = c.loop-branch.invariant.free; sound = c.loop-branch.invariant.sound }) in
-    record {
-      made = member_made c.args.scope.now.decls.now c.deref-branch-items.result.now c.loop-branch.branch-index c.branch-item.result c.loop-branch.made.items
-          c.push-in-loop-branch.new.self.items c.in_ok-make_statement-in-Beside.field-0 _ c.loop-branch-test.true c.branch-item.is
-          c.in_ok-make_statement-in-Beside.ensures c.in_ok-push-in-Beside.ensures.items c.loop-branch.invariant.made;
+          c.push-in-loop-part.new.self.items c.in_ok-make_statement-in-Then.field-0 _ c.loop-part-test.true c.part-item.is
+          c.in_ok-make_statement-in-Then.ensures c.in_ok-push-in-Then.ensures.items c.loop-part.invariant.made;
       shaped = left.shaped;
       free = left.free;
       sound = left.sound;
@@ -87,15 +62,15 @@ pub loop-arm-init : goal.loop-arm-init
 loop-arm-init t c =
     let left = select_left c.args.scope.now.decls.now c.args.s.now c.in-Select.again c.in-Select.arms c.deref-arm-items.result.now c.in-Select.is
     c.deref-arm-items.ensures.value c.requires.shaped c.requires.call_free c.requires.sound in
-    record { made = rw c.new-made-in-Select.ensures.items refl; shaped = left.shaped; free = left.free; sound = left.sound }
+    record { made = rw c.new-made.ensures.items refl; shaped = left.shaped; free = left.free; sound = left.sound }
 
 pub make_expression-requires-in-loop-arm-clause-sound : goal.make_expression-requires-in-loop-arm-clause-sound
 make_expression-requires-in-loop-arm-clause-sound t c =
     (arm_ready c.args.scope.now.decls.now c.deref-arm-items.result.now c.loop-arm.arm-index c.arm-item.result c.loop-arm-test.true c.arm-item.is
     (record { shaped = c.loop-arm.invariant.shaped; free = c.loop-arm.invariant.free; sound = c.loop-arm.invariant.sound })).guard_sound
 
-pub make_statement-requires-in-loop-arm : goal.make_statement-requires-in-loop-arm
-make_statement-requires-in-loop-arm t c =
+pub make_statement-requires : goal.make_statement-requires
+make_statement-requires t c =
     let r = arm_ready c.args.scope.now.decls.now c.deref-arm-items.result.now c.loop-arm.arm-index c.arm-item.result c.loop-arm-test.true c.arm-item.is
     (record { shaped = c.loop-arm.invariant.shaped; free = c.loop-arm.invariant.free; sound = c.loop-arm.invariant.sound }) in
     (search (rules, the_lemmas, get_or_read), (c.requires.ranged, (r.body.shaped, (r.body.free, r.body.sound))))
@@ -106,7 +81,7 @@ loop-arm-preserved t c =
     (record { shaped = c.loop-arm.invariant.shaped; free = c.loop-arm.invariant.free; sound = c.loop-arm.invariant.sound }) in
     record {
       made = arm_made c.args.scope.now.decls.now c.deref-arm-items.result.now c.loop-arm.arm-index c.arm-item.result c.loop-arm.made.items
-          c.push-in-loop-arm.new.self.items c.in_ok-guard-in-Select.guard c.in_ok-body-in-Select.body _ c.loop-arm-test.true c.arm-item.is
+          c.push.new.self.items c.in_ok-guard-in-Select.guard c.in_ok-body-in-Select.body _ c.loop-arm-test.true c.arm-item.is
           c.in_ok-guard-in-Select.ensures c.in_ok-body-in-Select.ensures c.in_ok-push-in-Select.ensures.items c.loop-arm.invariant.made;
       shaped = left.shaped;
       free = left.free;
@@ -128,13 +103,15 @@ returns-in-Receive t c =
     let sound = receive_sound c.args.scope.now.decls.now c.in-Receive.chan c.in-Receive.target (rw c.in-Receive.is at c.requires.sound) in
     rw (c.in-Receive.is, c.number-in-Receive.ensures.channel sound.0, c.number-in-Receive-2.ensures.var sound.1) refl
 
-pub returns-after-loop-part : goal.returns-after-loop-part
-returns-after-loop-part t c = then_made c.args.scope.now.decls.now c.args.s.now c.in-Then.parts c.deref-part-items.result.now c.loop-part.part-index
-    c.loop-part.made c.in-Then.is c.deref-part-items.ensures.value c.loop-part-test.false c.loop-part.invariant.made
+pub returns-in-Then-s : goal.returns-in-Then-s
+returns-in-Then-s t c = then_made c.args.scope.now.decls.now c.args.s.now c.in-Then.parts c.deref-part-items.result.now c.loop-part.part-index
+    c.loop-part.made (is_then c.args.s.now c.in-Then.parts c.in-Then-s.parts c.in-Then.is c.in-Then-s.is) c.deref-part-items.ensures.value
+    c.loop-part-test.false c.loop-part.invariant.made
 
-pub returns-after-loop-branch : goal.returns-after-loop-branch
-returns-after-loop-branch t c = beside_made c.args.scope.now.decls.now c.args.s.now c.in-Beside.parts c.deref-branch-items.result.now c.loop-branch.branch-index
-    c.loop-branch.made c.in-Beside.is c.deref-branch-items.ensures.value c.loop-branch-test.false c.loop-branch.invariant.made
+pub returns-in_default : goal.returns-in_default
+returns-in_default t c = beside_made c.args.scope.now.decls.now c.args.s.now c.in-Then.parts c.deref-part-items.result.now c.loop-part.part-index
+    c.loop-part.made (is_beside c.args.s.now c.in-Then.parts c.in-Then.is c.in_default.not-Then) c.deref-part-items.ensures.value
+    c.loop-part-test.false c.loop-part.invariant.made
 
 pub returns-after-loop-arm : goal.returns-after-loop-arm
 returns-after-loop-arm t c = select_made c.args.scope.now.decls.now c.args.s.now c.in-Select.again c.in-Select.arms c.deref-arm-items.result.now

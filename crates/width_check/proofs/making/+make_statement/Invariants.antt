@@ -16,15 +16,6 @@ invariant-loop-part l = record {
   sound : IsSound l.scope.decls.now (met_of_each l.scope.decls.now (statements_in (drop l.part-index l.part-items)));
 }
 
-abbrev pub invariant-loop-branch : goal.invariant-loop-branch
-invariant-loop-branch l = record {
-  made : before_members l.made.items (processes_form l.scope.decls.now (statements_in (drop l.branch-index l.branch-items))) ≡
-      processes_form l.scope.decls.now (statements_in l.branch-items);
-  shaped : AreShapedMembers (statements_in (drop l.branch-index l.branch-items));
-  free : some_has_call (statements_in (drop l.branch-index l.branch-items)) ≡ false;
-  sound : IsSound l.scope.decls.now (met_of_each l.scope.decls.now (statements_in (drop l.branch-index l.branch-items)));
-}
-
 abbrev pub invariant-loop-arm : goal.invariant-loop-arm
 invariant-loop-arm l = record {
   made : before_arms l.made.items (choices_form l.scope.decls.now (arms_in (drop l.arm-index l.arm-items))) ≡
