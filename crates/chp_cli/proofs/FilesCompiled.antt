@@ -2,6 +2,7 @@
 use Rattle.std.proofs.Common.{◌≡◌, ◌∙◌, ℕ, ◌≤◌, Bool, true, false, List, [], ◌∷◌, ◌++◌, length, Option, None, Some, refl, sym, subst}
 use Rattle.std.specs.Prelude.{fold, replicate, slice_set}
 use Rattle.std.proofs.lemmas.List.{length-replicate, length-set}
+use Rattle.chp_syntax.specs.Reading.{Reads}
 use Rattle.chp_syntax.specs.Shape.{IsShaped}
 use Rattle.chp_syntax.specs.Trees.{ProgramTree}
 use Rattle.env_script.specs.Environment.{net_channels}
@@ -22,8 +23,9 @@ use Rattle.width_check.specs.Form.{channels_of, vars_of, process_form, typed_for
 use Rattle.width_check.specs.Processes.{TypedProgram}
 use Rattle.width_check.specs.Typing.{IsTyped}
 use Rattle.command_answers.specs.Answers.{Given}
-use Rattle.command_steps.specs.BufferSteps.{IsBuffered}
-use Rattle.command_steps.specs.Steps.{most_of_nodes}
+use Rattle.command_steps.specs.BufferSteps.{IsBuffered, PutsBuffer}
+use Rattle.command_steps.specs.Inlined.{Means}
+use Rattle.command_steps.specs.Steps.{most_of_nodes, most_of_text}
 use Rattle.command_words.specs.CompileWords.{AskedCompilation}
 use Rattle.program_commands.specs.Bodies.{Bodies, copied, copies_of, shared, counted_with, net_for, net_with, nodes_with, IsFaithful, NetCarries, SharedNetsAreFaithful}
 use Rattle.program_commands.specs.Compiling.{IsFaithfulFile}
@@ -87,20 +89,27 @@ module _ (is_typed : (t : ProgramTree) → IsShaped t → HasNone t naming_fault
 
 -- ---- what was written is such a file
 
-accepted_made : (plain made : ProgramTree) (buffer : Option (List ℕ)) → IsAccepted plain → IsBuffered plain buffer made → IsAccepted made
-accepted_made plain made None is same = subst IsAccepted (sym same) is
-accepted_made plain made (Some chan) is put = put.accepted
+-- a program with a buffer is accepted where it is put into what a text means
+abbrev pub BuffersAccepted : Type 0
+BuffersAccepted = (text : List ℕ) (program plain made : ProgramTree) (chan : List ℕ) → Reads text program → length text ≤ most_of_text → Means program plain
+    → IsAccepted plain → PutsBuffer plain chan made → IsAccepted made
 
-pub written_holds : (c : AskedCompilation) (given more : Given) (file written : List ℕ) (is : IsFaithfulFile c given written)
+accepted_made : BuffersAccepted → (text : List ℕ) (program plain made : ProgramTree) (buffer : Option (List ℕ)) → Reads text program
+    → length text ≤ most_of_text → Means program plain → IsAccepted plain → IsBuffered plain buffer made → IsAccepted made
+accepted_made by text program plain made None reads short means is same = subst IsAccepted (sym same) is
+accepted_made by text program plain made (Some chan) reads short means is puts = by text program plain made chan reads short means is puts
+
+pub written_holds : BuffersAccepted → (c : AskedCompilation) (given more : Given) (file written : List ℕ) (is : IsFaithfulFile c given written)
     → more.files file ≡ Some written → HoldsCompiled more file (typed_form is.file.made)
-written_holds c given more file written is held = record {
+written_holds by c given more file written is held = record {
   reset = c.reset;
   text = written;
   program = is.file.made;
   bodies = is.file.bodies;
   held = held;
   shaped = is.shaped;
-  accepted = accepted_made is.file.plain is.file.made c.buffer is.file.accepted is.file.buffered;
+  accepted = accepted_made by is.file.text is.file.program is.file.plain is.file.made c.buffer is.file.reads.reads is.file.short is.file.means
+      is.file.accepted is.file.buffered;
   form = refl;
   few = is.file.few;
   spells = is.file.spells;

@@ -53,6 +53,7 @@ module _ (c : AskedCompilation) (given : Given) (told : given.tells ≡ true) wh
         plain = r;
         made = q;
         held = gives told;
+        short = short;
         reads = is;
         means = means;
         bodies = form.bodies;

@@ -31,6 +31,7 @@ ghost use Rattle.width_check.specs.Form.{typed_form};
 ghost use Rattle.width_check.specs.Processes.{TypedProgram};
 
 use call_compose::{calls_asked, calls_typed};
+use command_steps::laws::meant_buffers_are_right;
 use delay_script::laws::timed_runs_end_in_time;
 use event_sim::laws::{passed_are_histories, power_is_powered, safe_moves_bring_no_hazard};
 use net_compose::laws::{carries, carries_reset, runs_end, runs_end_reset, whole_nets};
@@ -57,8 +58,9 @@ pub fn one_answer()
 /// Law: what `compile` writes for a file is the one text of the net of what the one program means that its text reads
 /// as: of this program itself, where it has neither procedures nor calls. What it means is accepted. Of a text with
 /// procedures it is the net in which all calls of a procedure share one body. Where a buffer is asked for, it is that
-/// of what the program means with the buffer, in which each call has a copy of its own; and the buffer keeps what
-/// passes on each channel. (That the net carries the program is a clause of the call that compiles.)
+/// of what the program means with the buffer, in which each call has a copy of its own. (That the buffer keeps what
+/// passes is the law `meant_buffers_are_right`, and that the net carries the program a clause of the call that
+/// compiles.)
 pub fn compiled_right()
     ensures { (c : AskedCompilation) (given : Given) → given.tells ≡ true → (end : Ending) (text : List ℕ) →
         Compiles c given (writes end text) → IsFileCompiled c given text }
@@ -70,7 +72,9 @@ pub fn written_files_hold()
     ensures { (c : AskedCompilation) (given more : Given) (file written : List ℕ)
         (is : IsFaithfulFile c given written) → more.files file ≡ Some written →
         HoldsCompiled more file (typed_form is.file.made) }
-{}
+{
+    meant_buffers_are_right();
+}
 
 /// Law: the only answer of `compile` to a file that holds what is to be compiled is to write.
 pub fn compiles_all()

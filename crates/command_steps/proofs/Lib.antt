@@ -11,3 +11,5 @@ pub mod Faulty
 pub mod NodeCounts
 pub mod OrderNames
 pub mod OneRunSteps
+pub mod TextNames
+pub mod MeantShapes

@@ -2,7 +2,6 @@
 use Rattle.std.specs.Prelude.{◌≡◌, ℕ, List, Option, Some, None}
 use Rattle.chp_syntax.specs.Trees.{ProgramTree}
 use Rattle.slack_buffer.specs.BufferedTrees.{HasBuffer, IsInnerChannel}
-use Rattle.width_check.specs.Accepted.{IsAccepted}
 use Rattle.width_check.specs.Form.{typed_form}
 use Rattle.width_check.specs.Processes.{TypedProgram}
 use Rattle.command_answers.specs.declared.status.Status.TheVariants.{NoChannel}
@@ -10,11 +9,10 @@ use Rattle.command_answers.specs.Answers.{Given, Answer, refuses}
 use Rattle.command_answers.specs.Lines.{no_channel_line}
 use Rattle.command_steps.specs.Steps.{FromFile, FromProgram, FromChecks, most_of_text}
 
--- the second program is the first one with a buffer on a channel inside of it, and is accepted
+-- the second program is the first one with a buffer on a channel inside of it
 pub record PutsBuffer (program : ProgramTree) (chan : List ℕ) (made : ProgramTree) : Type 0 where
   pub inner : IsInnerChannel program.decls chan
   pub buffer : HasBuffer program chan made
-  pub accepted : IsAccepted made
 
 -- the program as it is, or with a buffer on the channel that is named
 abbrev pub IsBuffered : ProgramTree → (chan : Option (List ℕ)) → (made : ProgramTree) → Type 0

@@ -16,7 +16,9 @@ ghost use Rattle.command_steps.specs.HeldBuffered.{HoldsBuffered, IsBufferedForm
 ghost use Rattle.command_answers.specs.Replies.{Halts, Stops};
 ghost use Rattle.command_steps.specs.Steps.{FromChecks, FromProgram, Never, most_declared, most_of_text};
 
-use crate::files::{MOST_OF_TEXT, checked_plain, inlined_program, program_of_text, text_of_file};
+use crate::files::{
+    MOST_OF_TEXT, checked_plain, inlined_program, program_of_text, release, text_of_file,
+};
 use chp_base::{Name, TextError};
 use chp_edge::Shelf;
 use chp_syntax::{Decl, Program};
@@ -74,6 +76,31 @@ fn resolved_with_buffer(
     resolved(alloc, &made)
 }
 
+/// The accepted program with a buffer on the channel inside of it that this text names.
+fn with_named_buffer<'a>(
+    alloc: Global,
+    program: &Program,
+    text: &'a str,
+) -> Result<Disjoint, Stop<'a>>
+    requires few { length program.now.decls.items ≤ most_of_text }
+    requires shaped { IsShaped (program_tree program.now) }
+    requires accepted { IsAccepted (program_tree program.now) }
+    ensures goes_on { IfOk result (λ made.
+        IsBufferedForm (program_tree program.now) (Some text.entry.now) (typed_of made)) }
+    ensures stopped { IfErr result (Halts (FromBuffer (program_tree program.now) (Some text.entry.now) Never)) }
+{
+    let Some(chan) = declared_name(&program.decls, text) else {
+        return Err(Stop::Refused(Refusal::NoChannel(text)));
+    };
+    if !is_inner_channel(program, chan) {
+        return Err(Stop::Refused(Refusal::NoChannel(text)));
+    }
+    match resolved_with_buffer(alloc, program, chan) {
+        Ok(made) => Ok(made),
+        Err(_) => Err(Stop::NoMemory),
+    }
+}
+
 /// The program to continue with: the accepted one as it is, or with a buffer on the channel inside of it that is named.
 fn buffered<'a>(
     alloc: Global,
@@ -90,18 +117,12 @@ fn buffered<'a>(
     ensures stopped { IfErr result
         (Halts (FromBuffer (program_tree program.now) (option_map (λ t. t.now) buffer.entry) Never)) }
 {
-    let Some(text) = buffer else {
-        return Ok(disjoint);
-    };
-    let Some(chan) = declared_name(&program.decls, text) else {
-        return Err(Stop::Refused(Refusal::NoChannel(text)));
-    };
-    if !is_inner_channel(program, chan) {
-        return Err(Stop::Refused(Refusal::NoChannel(text)));
-    }
-    match resolved_with_buffer(alloc, program, chan) {
-        Ok(made) => Ok(made),
-        Err(_) => Err(Stop::NoMemory),
+    match buffer {
+        Some(text) => {
+            release(disjoint);
+            with_named_buffer(alloc, program, text)
+        }
+        None => Ok(disjoint),
     }
 }
 
@@ -140,7 +161,9 @@ pub fn buffered_program<'a>(
         return buffered_plain(alloc, program, buffer);
     }
     let plain = inlined_program(alloc, program)?;
-    buffered_plain(alloc, &plain, buffer)
+    let made = buffered_plain(alloc, &plain, buffer);
+    release(plain);
+    made
 }
 
 /// The program to continue with, from this text.
@@ -156,7 +179,9 @@ fn buffered_of_text<'a>(
         FromBuffer plain (option_map (λ t. t.now) buffer.entry) Never)))) }
 {
     let program = program_of_text(alloc, text)?;
-    buffered_program(alloc, &program, buffer)
+    let made = buffered_program(alloc, &program, buffer);
+    release(program);
+    made
 }
 
 /// The accepted program that the text of the file of this name means, with a buffer on the channel that is named.

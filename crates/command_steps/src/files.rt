@@ -61,6 +61,10 @@ pub fn text_of_file<'a, S: Shelf>(
     }
 }
 
+/// Drops a value in a call of its own. Where a program is dropped in place, each variant of its parts is a branch of
+/// the function, which the prover writes out.
+pub(crate) fn release<T: Drop>(_value: T) {}
+
 /// The program that the text reads as.
 pub fn program_of_text<'a>(alloc: Global, text: &[u8]) -> Result<Program, Stop<'a>>
     requires { length text.now ≤ most_of_text }
@@ -132,7 +136,9 @@ pub fn checked_program<'a>(alloc: Global, program: &Program) -> Result<Disjoint,
         return checked_plain(alloc, program);
     }
     let plain = inlined_program(alloc, program)?;
-    checked_plain(alloc, &plain)
+    let checked = checked_plain(alloc, &plain);
+    release(plain);
+    checked
 }
 
 /// Counts the nodes of the program's circuit, and refuses one with too many.

@@ -4,6 +4,7 @@
 mod buffered;
 mod delay_files;
 mod files;
+pub mod laws;
 mod order_places;
 mod program_files;
 mod reference;

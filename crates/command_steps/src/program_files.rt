@@ -9,7 +9,7 @@ ghost use Rattle.command_steps.specs.HeldPrograms.{HoldsProgram, IsProgramOf};
 ghost use Rattle.command_answers.specs.Replies.{Halts, Stops};
 ghost use Rattle.command_steps.specs.Steps.{FromChecks, FromFile, FromProgram, Never, most_of_text};
 
-use crate::files::{MOST_OF_TEXT, checked_program, program_of_text, text_of_file};
+use crate::files::{MOST_OF_TEXT, checked_program, program_of_text, release, text_of_file};
 use chp_edge::Shelf;
 use command_answers::Stop;
 use sharing_check::Disjoint;
@@ -25,7 +25,9 @@ pub fn accepted_program<'a>(alloc: Global, text: &[u8]) -> Result<Disjoint, Stop
 {
     form_is_typed();
     let program = program_of_text(alloc, text)?;
-    checked_program(alloc, &program)
+    let checked = checked_program(alloc, &program);
+    release(program);
+    checked
 }
 
 /// The accepted program that the text of the file of this name means.

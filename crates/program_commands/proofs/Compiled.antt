@@ -1,5 +1,5 @@
 -- What the net of a program that is compiled is, and that its text is written.
-use Rattle.std.proofs.Common.{◌≡◌, ◌≤◌, ℕ, Bool, true, false, List, Option, Some, None, Bor, refl, sym, subst}
+use Rattle.std.proofs.Common.{◌≡◌, ◌≤◌, ℕ, Bool, true, false, List, length, Option, Some, None, Bor, refl, sym, subst}
 use Rattle.std.specs.Prelude.{Result, Ok, Err, IfOk, IfErr, OnOk, IsOk, is_some, option_map}
 use Rattle.net_compose.specs.declared.net.NetError.{NetError}
 use Rattle.net_compose.specs.declared.net.NetError.TheVariants.{NoMemory, TooManyNodes}
@@ -18,7 +18,7 @@ use Rattle.command_answers.specs.Replies.{Halts}
 use Rattle.command_steps.specs.BufferSteps.{FromBuffer, IsBuffered, has_channel}
 use Rattle.command_steps.specs.HeldBuffered.{IsBufferedFrom}
 use Rattle.command_steps.specs.Inlined.{AreShaped, IsFormOf, Means}
-use Rattle.command_steps.specs.Steps.{FromChecks, IsTextOf, Never, accepted, most_of_nodes}
+use Rattle.command_steps.specs.Steps.{FromChecks, IsTextOf, Never, accepted, most_of_nodes, most_of_text}
 use Rattle.command_steps.proofs.BufferStopping.{buffer_goes, checks_as}
 use Rattle.command_words.specs.CompileWords.{AskedCompilation}
 use Rattle.program_commands.specs.declared.reply.Reply.{Reply}
@@ -136,9 +136,9 @@ pub checks_stop : (c : AskedCompilation) (program : ProgramTree) (a : Answer) �
     FromChecks program (λ plain. FromBuffer plain c.buffer Never) a → CompilesProgram c program a
 checks_stop c program a is = checks_as (λ plain also. buffer_goes also) is
 
-pub faithful_file : (c : AskedCompilation) (given : Given) (text : List ℕ) (program : ProgramTree) → Gives given c.file text → IsTextOf text program →
+pub faithful_file : (c : AskedCompilation) (given : Given) (text : List ℕ) (program : ProgramTree) → Gives given c.file text → length text ≤ most_of_text → IsTextOf text program →
     (written : List ℕ) → IsFaithfulTo c program written → given.tells ≡ true → IsFaithfulFile c given written
-faithful_file c given text program gives read written is told =
+faithful_file c given text program gives short read written is told =
     by is.typed is.from.is.form is.bodies is.has is.few is.spells is.faithful
   where
     by : (p : TypedProgram) → p ≡ typed_form is.from.is.made → (bodies : Bodies p) → HasBodies program c.buffer bodies
@@ -154,6 +154,7 @@ faithful_file c given text program gives read written is told =
             made = is.from.is.made;
             bodies = bodies;
             held = gives told;
+            short = short;
             reads = read;
             means = is.from.means;
             accepted = is.from.accepted;

@@ -41,8 +41,9 @@ Compiles c given = FromFile given c.file most_of_text (λ text. FromProgram text
 
 -- ---- what follows from that
 
--- The file holds a text that reads as a program, and as no other one; the program that it means is accepted; and what
--- is written is the one text of its net, or of that of this program with a buffer on the channel that is named.
+-- The file holds a text within the limit that reads as a program, and as no other one; the program that it means is
+-- accepted; and what is written is the one text of its net, or of that of this program with a buffer on the channel
+-- that is named.
 pub record IsFileCompiled (c : AskedCompilation) (given : Given) (written : List ℕ) : Type 0 where
   pub text : List ℕ
   pub program : ProgramTree
@@ -50,6 +51,7 @@ pub record IsFileCompiled (c : AskedCompilation) (given : Given) (written : List
   pub made : ProgramTree
   pub bodies : Bodies (typed_form made)
   pub held : given.files c.file ≡ Some text
+  pub short : length text ≤ most_of_text
   pub reads : IsTextOf text program
   pub means : Means program plain
   pub accepted : IsAccepted plain

@@ -1,5 +1,5 @@
 -- Members that are copied one after the other.
-use Rattle.std.proofs.Common.{◌≡◌, ℕ, ◌+◌, ◌<◌, ◌≤◌, Bool, List, [], ◌∷◌, ◌++◌, map, length, take, refl, sym, ap, ◌∙◌}
+use Rattle.std.proofs.Common.{◌≡◌, ℕ, ◌≤◌, Bool, List, [], ◌∷◌, map, length, take, refl, sym, ap, ◌∙◌, ◌⊎◌, inl, inr}
 use Rattle.std.specs.declared.alloc.Global.{Global}
 use Rattle.std.specs.declared.boxed.Box.{Box}
 use Rattle.std.specs.declared.vec.Vec.{Vec}
@@ -49,7 +49,7 @@ rerouted_arm_list : (chan copy : List ℕ) (xs : List Arm) →
 rerouted_arm_list chan copy [] = refl
 rerouted_arm_list chan copy (a ∷ xs) = ap (λ us. and_guarded (rerouted_guarded chan copy a) us) (rerouted_arm_list chan copy xs)
 
-pub then_rerouted : (chan copy : List ℕ) (s : Stmt) (v w : Vec Stmt Global) (ss : List Stmt) (i : ℕ) → s ≡ Then v → ss ≡ v.items → length ss ≤ i →
+then_rerouted : (chan copy : List ℕ) (s : Stmt) (v w : Vec Stmt Global) (ss : List Stmt) (i : ℕ) → s ≡ Then v → ss ≡ v.items → length ss ≤ i →
     map statement_of w.items ≡ map (λ t. rerouted_statement chan copy (statement_of t)) (take i ss) →
     statement_of (Then w) ≡ rerouted_statement chan copy (statement_of s)
 then_rerouted chan copy s v w ss i is items all so_far =
@@ -57,13 +57,23 @@ then_rerouted chan copy s v w ss i is items all so_far =
     (all_copied statement_of (λ t. rerouted_statement chan copy (statement_of t)) w.items ss v.items i all items so_far)
     ∙ (ap follows (sym (rerouted_list chan copy v.items)) ∙ sym (ap (rerouted_statement chan copy) (ap statement_of is ∙ then_tree v))))
 
-pub beside_rerouted : (chan copy : List ℕ) (s : Stmt) (v w : Vec Stmt Global) (ss : List Stmt) (i : ℕ) → s ≡ Beside v → ss ≡ v.items → length ss ≤ i →
+beside_rerouted : (chan copy : List ℕ) (s : Stmt) (v w : Vec Stmt Global) (ss : List Stmt) (i : ℕ) → s ≡ Beside v → ss ≡ v.items → length ss ≤ i →
     map statement_of w.items ≡ map (λ t. rerouted_statement chan copy (statement_of t)) (take i ss) →
     statement_of (Beside w) ≡ rerouted_statement chan copy (statement_of s)
 beside_rerouted chan copy s v w ss i is items all so_far =
     beside_tree w ∙ (ap (λ xs. besides (onto and_member xs no_members))
     (all_copied statement_of (λ t. rerouted_statement chan copy (statement_of t)) w.items ss v.items i all items so_far)
     ∙ (ap besides (sym (rerouted_list chan copy v.items)) ∙ sym (ap (rerouted_statement chan copy) (ap statement_of is ∙ beside_tree v))))
+
+-- a group of one kind or the other, made like it
+pub group_rerouted : (chan copy : List ℕ) (s made : Stmt) (v w : Vec Stmt Global) (ss : List Stmt) (i : ℕ) → (s ≡ Then v) ⊎ (s ≡ Beside v) → ss ≡ v.items →
+    length ss ≤ i → map statement_of w.items ≡ map (λ t. rerouted_statement chan copy (statement_of t)) (take i ss) →
+    ((u : Vec Stmt Global) → s ≡ Then u → made ≡ Then w) → ((u : Vec Stmt Global) → s ≡ Beside u → made ≡ Beside w) →
+    statement_of made ≡ rerouted_statement chan copy (statement_of s)
+group_rerouted chan copy s made v w ss i (inl is) items all so_far turns sides =
+    ap statement_of (turns v is) ∙ then_rerouted chan copy s v w ss i is items all so_far
+group_rerouted chan copy s made v w ss i (inr is) items all so_far turns sides =
+    ap statement_of (sides v is) ∙ beside_rerouted chan copy s v w ss i is items all so_far
 
 pub select_rerouted : (chan copy : List ℕ) (s : Stmt) (again : Bool) (v w : Vec Arm Global) (xs : List Arm) (i : ℕ) → s ≡ Select again v → xs ≡ v.items →
     length xs ≤ i → map guarded_of w.items ≡ map (rerouted_guarded chan copy) (take i xs) →

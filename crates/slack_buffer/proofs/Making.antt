@@ -26,15 +26,11 @@ turn_made v s chan copy slot i j k l is items ei ej ek el =
     ∙ (ap (λ z. follows (and_member (receives (made_name chan) (made_name slot)) (and_member (sends z (whole l)) no_members))) ek
     ∙ ap (λ z. follows (and_member (receives (made_name chan) (made_name slot)) (and_member (sends (made_name copy) (whole z)) no_members))) el))))))
 
-decls_made : (old all one two : List Decl) (x y : Decl) (chan : List ℕ) (k w : ℕ) (copy slot : List ℕ) → two ≡ one ++ y ∷ [] → one ≡ all ++ x ∷ [] → all ≡ old →
-    x ≡ made_decl declares.Chan copy w → y ≡ made_decl declares.Var slot w → copy ≡ copy_name k → slot ≡ slot_name k → w ≡ declared_width old chan →
-    two ≡ old ++ new_decls old chan k
-decls_made old all one two x y chan k w copy slot second first same ex ey ec es ew =
+pub decls_pushed : (old all one two : List Decl) (x y a b : Decl) → two ≡ one ++ y ∷ [] → one ≡ all ++ x ∷ [] → all ≡ old → x ≡ a → y ≡ b →
+    two ≡ old ++ a ∷ b ∷ []
+decls_pushed old all one two x y a b second first same ex ey =
     second ∙ (ap (λ z. z ++ y ∷ []) (first ∙ ap (λ z. z ++ x ∷ []) same)
-    ∙ (append_assoc old (x ∷ []) (y ∷ [])
-    ∙ (ap (λ z. old ++ z ∷ y ∷ []) (ex ∙ (ap (λ n. made_decl declares.Chan n w) ec ∙ ap (λ v. made_decl declares.Chan (copy_name k) v) ew))
-    ∙ ap (λ z. old ++ made_decl declares.Chan (copy_name k) (declared_width old chan) ∷ z ∷ [])
-    (ey ∙ (ap (λ n. made_decl declares.Var n w) es ∙ ap (λ v. made_decl declares.Var (slot_name k) v) ew)))))
+    ∙ (append_assoc old (x ∷ []) (y ∷ []) ∙ (ap (λ z. old ++ z ∷ y ∷ []) ex ∙ ap (λ z. old ++ a ∷ z ∷ []) ey)))
 
 abbrev pub tree_of_parts : List Decl → List Procedure → Statement → ProgramTree
 tree_of_parts ds ps s = record { decls = ds; procs = ps; body = s }
@@ -51,15 +47,21 @@ parts_made p chan k ds procs v parts none no_procs =
     ∙ (ap (λ z. tree_of_parts (p.decls ++ new_decls p.decls chan k) z (statement_of (Beside v))) (ap (map procedure_of) no_procs ∙ sym none)
     ∙ ap (λ z. tree_of_parts (p.decls ++ new_decls p.decls chan k) p.procs z) parts.members)
 
-pub are_parts : (p : ProgramTree) (chan : List ℕ) (k : ℕ) (all one two : List Decl) (x y : Decl) (w : ℕ) (copy slot : List ℕ) (v : Vec Stmt Global)
-    (s buf : Stmt) →
-    two ≡ one ++ y ∷ [] → one ≡ all ++ x ∷ [] → all ≡ p.decls → x ≡ made_decl declares.Chan copy w → y ≡ made_decl declares.Var slot w → copy ≡ copy_name k →
-    slot ≡ slot_name k → w ≡ declared_width p.decls chan → v.items ≡ s ∷ buf ∷ [] → statement_of s ≡ rerouted_statement chan copy p.body →
-    statement_of buf ≡ buffer_statement chan copy slot → AreParts p chan k two v
-are_parts p chan k all one two x y w copy slot v s buf second first same ex ey ec es ew items ebody ebuf = record {
-  decls = decls_made p.decls all one two x y chan k w copy slot second first same ex ey ec es ew;
-  members = beside_tree v ∙ (ap (λ xs. besides (onto and_member (map statement_of xs) no_members)) items
-      ∙ (ap (λ z. besides (and_member z (and_member (statement_of buf) no_members))) (ebody ∙ ap (λ n. rerouted_statement chan n p.body) ec)
-      ∙ ap (λ z. besides (and_member (rerouted_statement chan (copy_name k) p.body) (and_member z no_members)))
-      (ebuf ∙ (ap (λ n. buffer_statement chan n slot) ec ∙ ap (λ n. buffer_statement chan (copy_name k) n) es))));
+pub are_parts : (p : ProgramTree) (chan : List ℕ) (k : ℕ) (ds : List Decl) (copy slot : List ℕ) (v : Vec Stmt Global) → copy ≡ copy_name k →
+    slot ≡ slot_name k →
+    ds ≡ p.decls ++ made_decl declares.Chan copy (declared_width p.decls chan) ∷ made_decl declares.Var slot (declared_width p.decls chan) ∷ [] →
+    map statement_of v.items ≡ rerouted_statement chan copy p.body ∷ buffer_statement chan copy slot ∷ [] → AreParts p chan k ds v
+are_parts p chan k ds copy slot v ec es decls items = record {
+  decls = decls
+      ∙ (ap (λ n. p.decls ++ made_decl declares.Chan n (declared_width p.decls chan) ∷ made_decl declares.Var slot (declared_width p.decls chan) ∷ []) ec
+      ∙ ap (λ n. p.decls ++ made_decl declares.Chan (copy_name k) (declared_width p.decls chan) ∷ made_decl declares.Var n (declared_width p.decls chan) ∷ []) es);
+  members = beside_tree v ∙ (ap (λ xs. besides (onto and_member xs no_members)) items
+      ∙ (ap (λ n. besides (and_member (rerouted_statement chan n p.body) (and_member (buffer_statement chan n slot) no_members))) ec
+      ∙ ap (λ n. besides (and_member (rerouted_statement chan (copy_name k) p.body) (and_member (buffer_statement chan (copy_name k) n) no_members))) es));
 }
+
+pub both_pushed : (none one two : List Stmt) (s buf : Stmt) (a b : Statement) → none ≡ [] → one ≡ none ++ s ∷ [] → two ≡ one ++ buf ∷ [] →
+    statement_of s ≡ a → statement_of buf ≡ b → map statement_of two ≡ a ∷ b ∷ []
+both_pushed none one two s buf a b empty first second ea eb =
+    ap (map statement_of) (second ∙ ap (λ z. z ++ buf ∷ []) (first ∙ ap (λ z. z ++ s ∷ []) empty))
+    ∙ (ap (λ z. z ∷ statement_of buf ∷ []) ea ∙ ap (λ z. a ∷ z ∷ []) eb)

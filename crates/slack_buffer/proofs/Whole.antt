@@ -1,8 +1,10 @@
 -- A program with a buffer, as a whole: its shape, that it is accepted, and what it keeps.
-use Rattle.std.proofs.Common.{◌≡◌, ℕ, suc, ◌<◌, ◌≤◌, ◌^◌, false, List, [], ◌∷◌, refl, sym, ap, ◌∙◌, subst, arith}
+use Rattle.std.proofs.Common.{◌≡◌, ℕ, suc, ◌<◌, ◌≤◌, ◌^◌, false, List, [], ◌∷◌, ◌++◌, refl, sym, ap, ◌∙◌, subst, arith}
 use Rattle.std.specs.Prelude.{◌||◌}
-use Rattle.std.proofs.lemmas.List.Elements.{All-append, All-cons, All-nil}
+use Rattle.std.specs.List.{AllByRecursion}
+use Rattle.std.proofs.lemmas.List.Elements.{All-append, All-cons, All-nil, recursion_from_All, All-from_recursion}
 use Rattle.chp_base.specs.declared.channel.Kind.TheVariants as kind
+use Rattle.chp_syntax.specs.declared.tree.Decl.{Decl}
 use Rattle.chp_syntax.specs.declared.tree.DeclKind.TheVariants as declares
 use Rattle.chp_syntax.specs.Trees.{Statement, skips, assigns, sends, receives, follows, besides, selects, repeats, calls, Statements, no_members, and_member, Arms, no_arms, and_arm, ProgramTree}
 use Rattle.chp_syntax.specs.Reading.{arm_count}
@@ -17,7 +19,7 @@ use Rattle.width_check.specs.Typing.{kind_at, channel_width}
 use Rattle.width_check.specs.Processes.{TypedProgram}
 use Rattle.width_check.proofs.TypedForm.{program_typed}
 use Rattle.slack_buffer.specs.Buffers.{copy_name, slot_name, BufferKeeps}
-use Rattle.slack_buffer.specs.BufferedTrees.{IsInnerChannel, IsFreeNumber, made_decl, rerouted_statement, rerouted_statements, rerouted_arms, buffer_statement, buffered_tree, HasBuffer}
+use Rattle.slack_buffer.specs.BufferedTrees.{IsInnerChannel, made_decl, rerouted_statement, rerouted_statements, rerouted_arms, buffer_statement, buffered_tree, HasBuffer, IsRightBuffer}
 use Rattle.slack_buffer.proofs.FreeNames.{numbered_is_name}
 use Rattle.slack_buffer.proofs.Declaring.{calls_kept}
 use Rattle.slack_buffer.proofs.Forms.{channel_at}
@@ -59,6 +61,27 @@ mutual
   arm_shape_kept : (chan copy : List ℕ) (arms : Arms) → AreShapedArms arms → AreShapedArms (rerouted_arms chan copy arms)
   arm_shape_kept chan copy no_arms h = tt
   arm_shape_kept chan copy (and_arm g s more) h = (h.0, shape_kept chan copy s h.1, arm_shape_kept chan copy more h.2)
+
+mutual
+  shape_before : (chan copy : List ℕ) (s : Statement) → IsShapedStatement (rerouted_statement chan copy s) → IsShapedStatement s
+  shape_before chan copy (skips at) h = h
+  shape_before chan copy (assigns target e) h = h
+  shape_before chan copy (sends on e) h = h
+  shape_before chan copy (receives on target) h = h
+  shape_before chan copy (follows members) h = (subst (λ n. 2 ≤ n) (members_same chan copy members) h.0, each_shape_before chan copy members h.1)
+  shape_before chan copy (besides members) h = (subst (λ n. 2 ≤ n) (members_same chan copy members) h.0, each_shape_before chan copy members h.1)
+  shape_before chan copy (selects again arms) h =
+      (subst (λ n. 1 ≤ n) (arms_same chan copy arms) h.0, subst (λ n. n ≤ 16) (arms_same chan copy arms) h.1, arm_shape_before chan copy arms h.2)
+  shape_before chan copy (repeats s) h = shape_before chan copy s h
+  shape_before chan copy (calls of) h = h
+
+  each_shape_before : (chan copy : List ℕ) (members : Statements) → AreShapedMembers (rerouted_statements chan copy members) → AreShapedMembers members
+  each_shape_before chan copy no_members h = tt
+  each_shape_before chan copy (and_member s more) h = (shape_before chan copy s h.0, each_shape_before chan copy more h.1)
+
+  arm_shape_before : (chan copy : List ℕ) (arms : Arms) → AreShapedArms (rerouted_arms chan copy arms) → AreShapedArms arms
+  arm_shape_before chan copy no_arms h = tt
+  arm_shape_before chan copy (and_arm g s more) h = (h.0, shape_before chan copy s h.1, arm_shape_before chan copy more h.2)
 
 pub shaped_again : (p : ProgramTree) (chan : List ℕ) (k : ℕ) → k < 2 ^ 64 → IsShaped p → IsShaped (buffered_tree p chan k)
 shaped_again p chan k small h = record {
@@ -107,21 +130,27 @@ keeps_of p chan k shaped accepted b =
 
 -- the program that is made
 
-pub has_buffer : (p q : ProgramTree) (chan : List ℕ) (k : ℕ) → IsShaped p → IsAccepted p → IsInnerChannel p.decls chan → IsFreeNumber p.decls k →
-    q ≡ buffered_tree p chan k → HasBuffer p chan q
-has_buffer p q chan k shaped accepted inner free same =
-    let b : Buffering p chan k = record { named = accepted.named; inner = inner; free = free } in record {
-      number = k;
-      free = free;
-      tree = same;
-      typed = ap typed_form same ∙ buffered_form p chan k b;
-      keeps = keeps_of p chan k shaped accepted b;
+pub right_buffer : (p q : ProgramTree) (chan : List ℕ) (has : HasBuffer p chan q) → IsShaped p → IsAccepted p → IsInnerChannel p.decls chan →
+    IsRightBuffer p chan q has.number
+right_buffer p q chan has shaped accepted inner =
+    let b : Buffering p chan has.number = record { named = accepted.named; inner = inner; free = has.free } in record {
+      typed = ap typed_form has.tree ∙ buffered_form p chan has.number b;
+      keeps = keeps_of p chan has.number shaped accepted b;
+      accepted = subst (λ z. IsAccepted z) (sym has.tree) (accepted_again p chan has.number shaped accepted b);
     }
-
-pub is_accepted : (p q : ProgramTree) (chan : List ℕ) (k : ℕ) → IsShaped p → IsAccepted p → IsInnerChannel p.decls chan → IsFreeNumber p.decls k →
-    q ≡ buffered_tree p chan k → IsAccepted q
-is_accepted p q chan k shaped accepted inner free same =
-    subst (λ z. IsAccepted z) (sym same) (accepted_again p chan k shaped accepted (record { named = accepted.named; inner = inner; free = free }))
 
 pub is_shaped : (p q : ProgramTree) (chan : List ℕ) (k : ℕ) → k < 2 ^ 64 → IsShaped p → q ≡ buffered_tree p chan k → IsShaped q
 is_shaped p q chan k small shaped same = subst (λ z. IsShaped z) (sym same) (shaped_again p chan k small shaped)
+
+front_all : (P : Decl → Type 0) (xs ys : List Decl) → AllByRecursion P (xs ++ ys) → AllByRecursion P xs
+front_all P [] ys h = tt
+front_all P (x ∷ xs) ys h = (h.0, front_all P xs ys h.1)
+
+pub was_shaped : (p q : ProgramTree) (chan : List ℕ) → HasBuffer p chan q → IsShaped q → IsShaped p
+was_shaped p q chan has shaped =
+    let made : IsShaped (buffered_tree p chan has.number) = subst (λ z. IsShaped z) has.tree shaped in record {
+      decls = All-from_recursion IsShapedDecl p.decls (front_all IsShapedDecl p.decls (new_decls p.decls chan has.number)
+          (recursion_from_All IsShapedDecl (p.decls ++ new_decls p.decls chan has.number) made.decls));
+      procs = made.procs;
+      body = shape_before chan (copy_name has.number) p.body made.body.1.0;
+    }

@@ -6,6 +6,7 @@ use Rattle.chp_syntax.specs.declared.tree.Decl.{Decl}
 use Rattle.chp_syntax.specs.declared.tree.DeclKind.{DeclKind}
 use Rattle.chp_syntax.specs.declared.tree.DeclKind.TheVariants.{Chan, Var}
 use Rattle.chp_syntax.specs.Trees.{whole, Statement, skips, assigns, sends, receives, follows, besides, selects, repeats, calls, Statements, no_members, and_member, Arms, no_arms, and_arm, ProgramTree}
+use Rattle.width_check.specs.Accepted.{IsAccepted}
 use Rattle.width_check.specs.Places.{declaration, declared_width}
 use Rattle.width_check.specs.Form.{channel_number, typed_form}
 use Rattle.slack_buffer.specs.Buffers.{nowhere, copy_name, slot_name, buffered, BufferKeeps}
@@ -84,11 +85,15 @@ buffered_tree p chan k = record {
       (and_member (buffer_statement chan (copy_name k) (slot_name k)) no_members));
 }
 
--- the second program is the first one with a buffer on the channel: as texts and as typed programs, and so it keeps
--- what the first one passes
+-- the second program is the first one with a buffer on the channel
 pub record HasBuffer (p : ProgramTree) (chan : List ℕ) (q : ProgramTree) : Type 0 where
   pub number : ℕ
   pub free : IsFreeNumber p.decls number
   pub tree : q ≡ buffered_tree p chan number
-  pub typed : typed_form q ≡ buffered (typed_form p) (channel_number p.decls chan) number
-  pub keeps : BufferKeeps (typed_form p) (channel_number p.decls chan) number
+
+-- What follows of a buffer with this number on a channel inside of an accepted program: the typed form of the program
+-- with it is the typed program with it, which keeps what the first one passes; and it is accepted too.
+pub record IsRightBuffer (p : ProgramTree) (chan : List ℕ) (q : ProgramTree) (k : ℕ) : Type 0 where
+  pub typed : typed_form q ≡ buffered (typed_form p) (channel_number p.decls chan) k
+  pub keeps : BufferKeeps (typed_form p) (channel_number p.decls chan) k
+  pub accepted : IsAccepted q

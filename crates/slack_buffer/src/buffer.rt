@@ -1,12 +1,15 @@
 //! Puts a buffer on a channel.
 
-ghost use Rattle.std.specs.Prelude.{◌≡◌, false, IfOk, option_map, unwrap_or};
+ghost use Rattle.std.specs.Prelude.{◌≡◌, ◌++◌, [], ◌∷◌, false, map, IfOk, option_map, unwrap_or};
 ghost use Rattle.std.specs.Bool.{Decides};
+ghost use Rattle.chp_syntax.specs.declared.tree.DeclKind.TheVariants as declares;
 ghost use Rattle.chp_syntax.specs.Shape.{IsShaped};
 ghost use Rattle.chp_syntax.specs.View.{program_tree as tree_of, statement_of};
 ghost use Rattle.width_check.specs.Accepted.{IsAccepted};
+ghost use Rattle.width_check.specs.Form.{channel_number, typed_form};
 ghost use Rattle.width_check.specs.Places.{declaration, declared_width};
-ghost use Rattle.slack_buffer.specs.BufferedTrees.{IsInnerChannel, is_chan, made_name, made_decl, buffer_statement, HasBuffer};
+ghost use Rattle.slack_buffer.specs.Buffers.{buffered, BufferKeeps};
+ghost use Rattle.slack_buffer.specs.BufferedTrees.{IsInnerChannel, is_chan, made_name, made_decl, rerouted_statement, buffer_statement, HasBuffer};
 
 use crate::copy::{copied_decls, rerouted};
 use crate::names::{BufferNames, free_names};
@@ -43,21 +46,19 @@ fn made_decl(kind: DeclKind, name: &Name, width: u64) -> Result<Decl, AllocError
 fn buffer_statement(alloc: Global, chan: &Name, names: &BufferNames) -> Result<Stmt, AllocError>
     ensures { IfOk result (λ made. statement_of made ≡ buffer_statement chan.now names.now.copy names.now.slot) }
 {
-    let takes = Stmt::Receive {
+    let mut parts = Vec::new(alloc);
+    parts.push(Stmt::Receive {
         chan: made_name(chan)?,
         target: made_name(&names.slot)?,
-    };
-    let gives = Stmt::Send {
+    })?;
+    parts.push(Stmt::Send {
         chan: made_name(&names.copy)?,
         value: Expr::Whole {
             of: made_name(&names.slot)?,
         },
-    };
-    let turn = Stmt::Then {
-        parts: Vec::from_array(alloc, [takes, gives])?,
-    };
+    })?;
     Ok(Stmt::Repeat {
-        body: Box::new(alloc, turn)?,
+        body: Box::new(alloc, Stmt::Then { parts })?,
     })
 }
 
@@ -94,6 +95,41 @@ pub fn is_inner_channel(program: &Program, chan: &Name) -> bool
     declares_inner(&program.decls, chan)
 }
 
+/// The declarations, and behind them those of the buffer on the channel.
+fn buffered_decls(
+    alloc: Global,
+    decls: &[Decl],
+    chan: &Name,
+    names: &BufferNames,
+) -> Result<Vec<Decl>, AllocError>
+    ensures { IfOk result (λ made. made.items ≡ decls.now
+        ++ made_decl declares.Chan names.now.copy (declared_width decls.now chan.now)
+        ∷ made_decl declares.Var names.now.slot (declared_width decls.now chan.now) ∷ []) }
+{
+    let width = width_of(decls, chan);
+    let mut made = copied_decls(alloc, decls)?;
+    made.push(made_decl(DeclKind::Chan, &names.copy, width)?)?;
+    made.push(made_decl(DeclKind::Var, &names.slot, width)?)?;
+    Ok(made)
+}
+
+/// The statement of a program that gets a buffer on the channel, and that of the buffer.
+fn buffered_parts(
+    alloc: Global,
+    body: &Stmt,
+    chan: &Name,
+    names: &BufferNames,
+) -> Result<Vec<Stmt>, AllocError>
+    ensures { IfOk result (λ parts. map statement_of parts.items
+        ≡ rerouted_statement chan.now names.now.copy (statement_of body.now)
+        ∷ buffer_statement chan.now names.now.copy names.now.slot ∷ []) }
+{
+    let mut parts = Vec::new(alloc);
+    parts.push(rerouted(alloc, body, chan, &names.copy)?)?;
+    parts.push(buffer_statement(alloc, chan, names)?)?;
+    Ok(parts)
+}
+
 /// The program with a one-place buffer on a channel inside of it, so that a sender there need not wait for its
 /// receiver.
 ///
@@ -106,22 +142,23 @@ pub fn with_buffer(alloc: Global, program: &Program, chan: &Name) -> Result<Prog
     requires accepted { IsAccepted (tree_of program.now) }
     requires inner { IsInnerChannel program.now.decls.items chan.now }
     ensures buffer { IfOk result (λ made. HasBuffer (tree_of program.now) chan.now (tree_of made)) }
+    // Its typed form is the typed program with the buffer.
+    ensures typed { IfOk result (λ made. (has : HasBuffer (tree_of program.now) chan.now (tree_of made)) →
+        typed_form (tree_of made) ≡ buffered (typed_form (tree_of program.now))
+        (channel_number program.now.decls.items chan.now) has.number) }
+    // That keeps what the program passes.
+    ensures keeps { IfOk result (λ made. (has : HasBuffer (tree_of program.now) chan.now (tree_of made)) →
+        BufferKeeps (typed_form (tree_of program.now)) (channel_number program.now.decls.items chan.now) has.number) }
     ensures shaped { IfOk result (λ made. IsShaped (tree_of made)) }
     // It is accepted again.
     ensures accepted { IfOk result (λ made. IsAccepted (tree_of made)) }
 {
     let (_number, names) = free_names(alloc, &program.decls)?;
-    let width = width_of(&program.decls, chan);
-    let mut decls = copied_decls(alloc, &program.decls)?;
-    decls.push(made_decl(DeclKind::Chan, &names.copy, width)?)?;
-    decls.push(made_decl(DeclKind::Var, &names.slot, width)?)?;
-    let body = rerouted(alloc, &program.body, chan, &names.copy)?;
-    let buffer = buffer_statement(alloc, chan, &names)?;
+    let decls = buffered_decls(alloc, &program.decls, chan, &names)?;
+    let parts = buffered_parts(alloc, &program.body, chan, &names)?;
     Ok(Program {
         decls,
         procs: Vec::new(alloc),
-        body: Stmt::Beside {
-            parts: Vec::from_array(alloc, [body, buffer])?,
-        },
+        body: Stmt::Beside { parts },
     })
 }

@@ -1,12 +1,33 @@
 //! Copies of the parts of a program.
 
-ghost use Rattle.std.specs.Prelude.{◌≡◌, IfOk};
+ghost use Rattle.std.specs.Prelude.{◌≡◌, IfOk, Ok};
+ghost use Rattle.std.specs.declared.alloc.Global.{Global as memory};
+ghost use Rattle.std.specs.declared.vec.Vec.{Vec as row};
+ghost use Rattle.chp_syntax.specs.declared.tree.Stmt.{Stmt as node, Then, Beside};
 ghost use Rattle.chp_syntax.specs.View.{expression_of, statement_of};
 ghost use Rattle.slack_buffer.specs.BufferedTrees.{rerouted_name, rerouted_statement};
 
 use chp_base::Name;
 use chp_syntax::{Arm, Decl, Expr, Ident, Link, Stmt};
 use std::alloc::{AllocError, Global};
+
+/// What was made, in a box of its own.
+fn boxed<T: Drop>(alloc: Global, made: Result<T, AllocError>) -> Result<Box<T>, AllocError>
+    ensures { IfOk result (λ b. made ≡ Ok b.value) }
+{
+    Ok(Box::new(alloc, made?)?)
+}
+
+/// A group of these members, of the kind of the group `s`: one after the other, or beside each other.
+fn group_like(s: &Stmt, members: Vec<Stmt>) -> Stmt
+    ensures turns { (parts : row node memory) → s.now ≡ Then parts → result ≡ Then members }
+    ensures sides { (parts : row node memory) → s.now ≡ Beside parts → result ≡ Beside members }
+{
+    match s {
+        Stmt::Then { .. } => Stmt::Then { parts: members },
+        _ => Stmt::Beside { parts: members },
+    }
+}
 
 fn copied_name(of: &Ident) -> Result<Ident, AllocError>
     ensures { IfOk result (λ made. made ≡ of.now) }
@@ -68,21 +89,21 @@ fn copied_expression(alloc: Global, e: &Expr) -> Result<Expr, AllocError>
             })
         }
         Expr::Not { inner, at } => {
-            let made = copied_expression(alloc, inner)?;
+            let made = copied_expression(alloc, inner);
             Ok(Expr::Not {
-                inner: Box::new(alloc, made)?,
+                inner: boxed(alloc, made)?,
                 at: *at,
             })
         }
         Expr::Chain { first, rest, at } => {
-            let front = copied_expression(alloc, first)?;
+            let front = boxed(alloc, copied_expression(alloc, first))?;
             let mut made = Vec::new(alloc);
             for link in rest {
                 let right = copied_expression(alloc, &link.right)?;
                 made.push(Link { op: link.op, right })?;
             }
             Ok(Expr::Chain {
-                first: Box::new(alloc, front)?,
+                first: front,
                 rest: made,
                 at: *at,
             })
@@ -127,19 +148,12 @@ pub(crate) fn rerouted(
             chan: rerouted_name(on, chan, copy)?,
             target: copied_name(target)?,
         }),
-        Stmt::Then { parts } => {
+        Stmt::Then { parts } | Stmt::Beside { parts } => {
             let mut made = Vec::new(alloc);
             for part in parts {
                 made.push(rerouted(alloc, part, chan, copy)?)?;
             }
-            Ok(Stmt::Then { parts: made })
-        }
-        Stmt::Beside { parts } => {
-            let mut made = Vec::new(alloc);
-            for branch in parts {
-                made.push(rerouted(alloc, branch, chan, copy)?)?;
-            }
-            Ok(Stmt::Beside { parts: made })
+            Ok(group_like(s, made))
         }
         Stmt::Select { again, arms } => {
             let mut made = Vec::new(alloc);
@@ -154,9 +168,9 @@ pub(crate) fn rerouted(
             })
         }
         Stmt::Repeat { body } => {
-            let made = rerouted(alloc, body, chan, copy)?;
+            let made = rerouted(alloc, body, chan, copy);
             Ok(Stmt::Repeat {
-                body: Box::new(alloc, made)?,
+                body: boxed(alloc, made)?,
             })
         }
         Stmt::Call { of } => Ok(Stmt::Call {

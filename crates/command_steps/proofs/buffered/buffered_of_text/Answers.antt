@@ -12,14 +12,14 @@ returns-in_err-program-clause-stopped c =
 
 pub returns-clause-read : goal.returns-clause-read
 returns-clause-read c =
-    ok_in c.buffered_program.result _ _ (λ made is. record {
+    ok_in c.buffered_program-made.result _ _ (λ made is. record {
       tree = program_tree c.in_ok-program.program;
       read = c.in_ok-program.ensures.read;
       from = is;
-    }) c.buffered_program.ensures.made
+    }) c.buffered_program-made.ensures.made
 
 pub returns-clause-stopped : goal.returns-clause-stopped
 returns-clause-stopped c =
-    err_in c.buffered_program.result _ _
+    err_in c.buffered_program-made.result _ _
     (λ stop halts. halts_in _ (FromProgram c.args.text.now (OnlyBuffer _)) (λ answer is. a_program c.in_ok-program.ensures.read is) stop halts)
-    c.buffered_program.ensures.stopped
+    c.buffered_program-made.ensures.stopped

@@ -15,9 +15,9 @@ returns-in_err-plain-clause-stopped c =
 pub returns-clause-made : goal.returns-clause-made
 returns-clause-made c =
     buffered_as typed_of (program_tree c.args.program.now) (program_tree c.in_ok-plain.plain) c.in_ok-plain.ensures.means c.in_ok-plain.ensures.call_free _
-    c.buffered_plain-2.result c.buffered_plain-2.ensures.made
+    c.buffered_plain-made.result c.buffered_plain-made.ensures.made
 
 pub returns-clause-stopped : goal.returns-clause-stopped
 returns-clause-stopped c =
     checks_for (program_tree c.args.program.now) (program_tree c.in_ok-plain.plain) c.in_ok-plain.ensures.means c.in_ok-plain.ensures.call_free _
-    c.buffered_plain-2.result c.buffered_plain-2.ensures.stopped
+    c.buffered_plain-made.result c.buffered_plain-made.ensures.stopped

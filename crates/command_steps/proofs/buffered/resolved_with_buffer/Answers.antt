@@ -12,7 +12,7 @@ pub returns : goal.returns
 returns c =
     ok_in c.resolved.result _ _ (λ disjoint form. record {
       made = program_tree c.in_ok-made.made;
-      buffered = record { inner = c.requires.inner; buffer = c.in_ok-made.ensures.buffer; accepted = c.in_ok-made.ensures.accepted };
+      buffered = record { inner = c.requires.inner; buffer = c.in_ok-made.ensures.buffer };
       shaped = c.in_ok-made.ensures.shaped;
       form = form;
     }) c.resolved.ensures

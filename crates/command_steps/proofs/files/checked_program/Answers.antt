@@ -20,16 +20,18 @@ returns-then-is_call_free-clause-shaped c =
 pub returns-clause-shaped : goal.returns-clause-shaped
 returns-clause-shaped c =
     shaped_as (program_tree c.args.program.now) (program_tree c.in_ok-plain.plain) c.in_ok-plain.ensures.means c.in_ok-plain.ensures.shaped
-    c.checked_plain-2.result
+    c.checked_plain-checked.result
 
 pub returns-clause-checked : goal.returns-clause-checked
 returns-clause-checked c =
     let tree = program_tree c.args.program.now in
     let plain = program_tree c.in_ok-plain.plain in
-    form_made typed_of tree plain c.in_ok-plain.ensures.means c.checked_plain-2.result c.checked_plain-2.ensures.accepted c.checked_plain-2.ensures.form
+    form_made typed_of tree plain c.in_ok-plain.ensures.means c.checked_plain-checked.result c.checked_plain-checked.ensures.accepted
+    c.checked_plain-checked.ensures.form
 
 pub returns-clause-stopped : goal.returns-clause-stopped
 returns-clause-stopped c =
     let tree = program_tree c.args.program.now in
     let plain = program_tree c.in_ok-plain.plain in
-    checks_for tree plain c.in_ok-plain.ensures.means c.in_ok-plain.ensures.call_free Never c.checked_plain-2.result c.checked_plain-2.ensures.stopped
+    checks_for tree plain c.in_ok-plain.ensures.means c.in_ok-plain.ensures.call_free Never c.checked_plain-checked.result
+    c.checked_plain-checked.ensures.stopped

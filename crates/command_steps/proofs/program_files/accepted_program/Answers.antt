@@ -9,8 +9,9 @@ pub returns-clause-stopped : goal.returns-clause-stopped
 returns-clause-stopped c =
     let text = c.args.text.now in
     let tree = program_tree c.in_ok-program.program in
-    err_in c.checked_program.result (Halts (OnlyChecks tree)) (Halts (FromProgram text OnlyChecks))
-    (halts_in (OnlyChecks tree) (FromProgram text OnlyChecks) (λ answer is. a_program c.in_ok-program.ensures.read is)) c.checked_program.ensures.stopped
+    err_in c.checked_program-checked.result (Halts (OnlyChecks tree)) (Halts (FromProgram text OnlyChecks))
+    (halts_in (OnlyChecks tree) (FromProgram text OnlyChecks) (λ answer is. a_program c.in_ok-program.ensures.read is))
+    c.checked_program-checked.ensures.stopped
 
 pub returns-in_err-program-clause-stopped : goal.returns-in_err-program-clause-stopped
 returns-in_err-program-clause-stopped c =

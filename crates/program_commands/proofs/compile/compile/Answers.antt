@@ -21,7 +21,7 @@ returns-clause-carried g c =
     let given = given_by (S.tells c.args.shelf.now) (S.holds c.args.shelf.now) in
     ok_in c.compile_program.result _ _
     (λ reply is. faithful_file (compilation_asked c.args.asked.now) given c.in_ok-text.text.items (program_tree c.in_ok-program.program)
-    c.in_ok-text.ensures.read (rw c.deref.ensures.value at c.in_ok-program.ensures.read) _ is)
+    c.in_ok-text.ensures.read c.in_ok-text.ensures.short (rw c.deref.ensures.value at c.in_ok-program.ensures.read) _ is)
     c.compile_program.ensures.faithful
 
 pub returns-clause-stopped : goal.returns-clause-stopped

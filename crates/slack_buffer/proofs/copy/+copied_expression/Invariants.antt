@@ -6,7 +6,4 @@ abbrev pub invariant-loop-part : goal.invariant-loop-part
 invariant-loop-part l = map expression_of l.made.items ≡ map expression_of (take l.part-index l.part-items)
 
 abbrev pub invariant-loop-link : goal.invariant-loop-link
-invariant-loop-link l = record {
-  made : map link_of l.made.items ≡ map link_of (take l.link-index l.link-items);
-  front : l.front ≡ l.initial.front;
-}
+invariant-loop-link l = map link_of l.made.items ≡ map link_of (take l.link-index l.link-items)

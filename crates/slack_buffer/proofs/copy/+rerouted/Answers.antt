@@ -1,14 +1,10 @@
-use Rattle.slack_buffer.proofs.Copies.{then_rerouted, beside_rerouted, select_rerouted}
+use Rattle.slack_buffer.proofs.Copies.{group_rerouted, select_rerouted}
 use Rattle.slack_buffer.proofs.copy.+rerouted.Goals as goal
 
 pub returns-after-loop-part : goal.returns-after-loop-part
-returns-after-loop-part t c = then_rerouted c.args.chan.now c.args.copy.now c.args.s.now c.in-Then.parts c.loop-part.made c.deref-part-items.result.now
-    c.loop-part.part-index c.in-Then.is c.deref-part-items.ensures.value c.loop-part-test.false c.loop-part.invariant
-
-pub returns-after-loop-branch : goal.returns-after-loop-branch
-returns-after-loop-branch t c = beside_rerouted c.args.chan.now c.args.copy.now c.args.s.now c.in-Beside.parts c.loop-branch.made
-    c.deref-branch-items.result.now c.loop-branch.branch-index c.in-Beside.is c.deref-branch-items.ensures.value c.loop-branch-test.false
-    c.loop-branch.invariant
+returns-after-loop-part t c = group_rerouted c.args.chan.now c.args.copy.now c.args.s.now c.group_like.result c.in-Then.parts c.loop-part.made
+    c.deref-part-items.result.now c.loop-part.part-index c.in-Then.is c.deref-part-items.ensures.value c.loop-part-test.false c.loop-part.invariant
+    c.group_like.ensures.turns c.group_like.ensures.sides
 
 pub returns-after-loop-arm : goal.returns-after-loop-arm
 returns-after-loop-arm t c = select_rerouted c.args.chan.now c.args.copy.now c.args.s.now c.in-Select.again c.in-Select.arms c.loop-arm.made

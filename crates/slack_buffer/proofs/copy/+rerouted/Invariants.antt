@@ -7,8 +7,5 @@ use Rattle.slack_buffer.proofs.copy.+rerouted.Given as goal
 abbrev pub invariant-loop-part : goal.invariant-loop-part
 invariant-loop-part l = map statement_of l.made.items ≡ map (λ s. rerouted_statement l.chan l.copy (statement_of s)) (take l.part-index l.part-items)
 
-abbrev pub invariant-loop-branch : goal.invariant-loop-branch
-invariant-loop-branch l = map statement_of l.made.items ≡ map (λ s. rerouted_statement l.chan l.copy (statement_of s)) (take l.branch-index l.branch-items)
-
 abbrev pub invariant-loop-arm : goal.invariant-loop-arm
 invariant-loop-arm l = map guarded_of l.made.items ≡ map (rerouted_guarded l.chan l.copy) (take l.arm-index l.arm-items)
