@@ -1,6 +1,6 @@
 //! Timed runs, with the cause of each move.
 
-ghost use Rattle.std.specs.Prelude.{◌≡◌, ℕ, ◌+◌, ◌≤◌, ◌<◌, ◌^◌, ◌++◌, List, [], ◌∷◌, length, true, false, vec_len, vec_capacity, option_to_list, IsSome, Some, None, IfOk, IfErr};
+ghost use Rattle.std.specs.Prelude.{◌≡◌, ℕ, ◌+◌, ◌≤◌, ◌<◌, ◌^◌, ◌++◌, List, [], ◌∷◌, length, replicate, true, false, vec_len, vec_capacity, option_to_list, IsSome, Some, None, IfOk, IfErr};
 ghost use Rattle.prs_core.specs.Nets.{IsNet};
 ghost use Rattle.prs_core.specs.Moves.{high};
 ghost use Rattle.env_script.specs.Scripts.{IsScript};
@@ -10,7 +10,8 @@ ghost use Rattle.env_script.specs.Hazards.{hazard_of};
 ghost use Rattle.event_sim.specs.Passing.{completion, passed_in};
 ghost use Rattle.event_sim.specs.Ends.{end_from, end_with, EndsSo};
 ghost use Rattle.event_sim.specs.Simulating.{IsEndIn};
-ghost use Rattle.event_sim.specs.Stages.{now_of, AreConcerned};
+ghost use Rattle.event_sim.specs.Following.{power_of};
+ghost use Rattle.event_sim.specs.Stages.{now_of, moves_now, stage_with, AreConcerned};
 ghost use Rattle.delay_script.specs.DelayTables.{IsDelayTable};
 ghost use Rattle.delay_script.specs.Dues.{AreFilled, list_of_next};
 ghost use Rattle.delay_script.specs.TimedRuns.{time_behind};
@@ -81,7 +82,61 @@ fn last_end(hazard: Option<Hazard>, next: Option<Next>) -> End
     }
 }
 
+/// The stage of a run that has made no move, from the values at power-up, with room for so many values.
+fn stage_at_power_up(
+    alloc: Global,
+    net: Net,
+    script: Script,
+    steps: u32,
+    high: bool,
+) -> Result<Stage, AllocError>
+    requires { IsScript (net_channels net) script }
+    ensures { IfOk result (λ s. s ≡ stage_with net script (power_of net high) [] steps) }
+{
+    let state = power_state(alloc, &net, high)?;
+    Stage::new(alloc, net, script, state, steps)
+}
+
+/// Room for the moves of a run, and for those that are due.
+fn room_for(alloc: Global, nodes: usize, steps: u32) -> Result<(Vec<NotedMove>, Queue), AllocError>
+    ensures moves { IfOk result (λ r. r.0.items ≡ []) }
+    ensures slots { IfOk result (λ r. steps ≤ vec_capacity r.0) }
+    ensures queue { IfOk result (λ r. r.1 ≡ replicate nodes None) }
+{
+    let moves = Vec::with_capacity(alloc, steps as usize)?;
+    let queue = Queue::new(alloc, nodes)?;
+    Ok((moves, queue))
+}
+
 impl Course {
+    /// That of a run which has made no move.
+    fn begin(
+        alloc: Global,
+        stage: Stage,
+        delays: Delays,
+        nodes: usize,
+        steps: u32,
+    ) -> Result<Course, AllocError>
+        requires delays { IsDelayTable (length stage.net.first) delays }
+        requires nodes { nodes ≡ length stage.net.first }
+        ensures stage { IfOk result (λ c. c.stage ≡ stage) }
+        ensures delays { IfOk result (λ c. c.delays ≡ delays) }
+        ensures queue { IfOk result (λ c. AreFilled stage delays (record { cause = 0; time = 0 }) (moves_now stage)
+            (replicate nodes None) c.queue) }
+        ensures moves { IfOk result (λ c. c.moves.items ≡ []) }
+        ensures slots { IfOk result (λ c. steps ≤ vec_capacity c.moves) }
+    {
+        let (moves, mut queue) = room_for(alloc, nodes, steps)?;
+        let start = Due { cause: 0, time: 0 };
+        fill(&stage, &delays, &mut queue, stage.moves(), start);
+        Ok(Course {
+            stage,
+            delays,
+            queue,
+            moves,
+        })
+    }
+
     /// Makes the move, which was removed from the queue, and returns the hazard that this brings.
     fn make(&mut self, next: Next) -> Option<Hazard>
         requires node { next.node < length self.old.stage.net.first }
@@ -196,19 +251,9 @@ impl Noted {
         requires steps { steps ≤ 1000000 }
         ensures { IfOk result (λ n. n ≡ timed_value net script steps delays high) }
     {
-        let state = power_state(alloc, &net, high)?;
         let nodes = net.first().len();
-        let stage = Stage::new(alloc, net, script, state, steps)?;
-        let moves = Vec::with_capacity(alloc, steps as usize)?;
-        let mut queue = Queue::new(alloc, nodes)?;
-        let start = Due { cause: 0, time: 0 };
-        fill(&stage, &delays, &mut queue, stage.moves(), start);
-        let course = Course {
-            stage,
-            delays,
-            queue,
-            moves,
-        };
+        let stage = stage_at_power_up(alloc, net, script, steps, high)?;
+        let course = Course::begin(alloc, stage, delays, nodes, steps)?;
         Ok(Noted {
             course,
             steps,

@@ -1,12 +1,13 @@
 //! A run that goes on.
 
-ghost use Rattle.std.specs.Prelude.{◌≡◌, ◌<◌, ◌≤◌, ◌+◌, ◌++◌, ◌==◌, ℕ, true, false, All, List, [], length, map, replicate, vec_len, vec_capacity, option_to_list, IfOk, IfSome};
+ghost use Rattle.std.specs.Prelude.{◌≡◌, ◌<◌, ◌≤◌, ◌+◌, ◌^◌, ◌++◌, ◌==◌, ℕ, true, false, All, List, [], length, map, replicate, vec_len, vec_capacity, option_to_list, IfOk, IfSome};
 ghost use Rattle.prs_core.specs.Nets.{IsNet};
 ghost use Rattle.prs_core.specs.Moves.{high};
 ghost use Rattle.env_script.specs.Scripts.{IsScript};
 ghost use Rattle.env_script.specs.Environment.{net_channels, in_reset, is_reset};
 ghost use Rattle.env_script.specs.Runs.{moved, move_enabled};
 ghost use Rattle.env_script.specs.Hazards.{first_hazard, hazard_of};
+ghost use Rattle.guard_rows.specs.Places.{AreRows};
 ghost use Rattle.event_sim.specs.Passing.{channel_acknowledged, completion, channel_histories};
 ghost use Rattle.event_sim.specs.Standings.{is_idle, script_and};
 
@@ -71,6 +72,25 @@ fn no_counts(alloc: Global, channels: usize) -> Result<Vec<u64>, AllocError>
     Ok(counts)
 }
 
+/// No count for each channel, room for so many values, and no moves.
+fn room_for(
+    alloc: Global,
+    nodes: usize,
+    channels: usize,
+    room: u32,
+) -> Result<(Vec<u64>, Vec<(u32, u64)>, NodeSet), AllocError>
+    requires { nodes < 2 ^ 32 }
+    ensures done { IfOk result (λ r. r.0.items ≡ replicate channels 0) }
+    ensures passed { IfOk result (λ r. r.1.items ≡ []) }
+    ensures room { IfOk result (λ r. vec_capacity r.1 ≡ room) }
+    ensures moves { IfOk result (λ r. r.2 ≡ replicate nodes false) }
+{
+    let done = no_counts(alloc, channels)?;
+    let passed = Vec::with_capacity(alloc, room as usize)?;
+    let moves = NodeSet::new(alloc, nodes)?;
+    Ok((done, passed, moves))
+}
+
 /// Records what a move completes, where it completes something.
 fn note(done: &mut Vec<u64>, passed: &mut Vec<(u32, u64)>, completed: Option<(u32, u64)>)
     requires counts { done.old.items ≡
@@ -104,6 +124,36 @@ impl Stage {
     ghost use Rattle.event_sim.specs.Simulating.{RanValue, IsEndIn};
     ghost use Rattle.event_sim.specs.Stages.{StageValue, stage_with, now_of, moves_now, AreConcerned};
 
+    /// The run that has made no move, of this net under its script, from this state, in which its guards say so.
+    fn begin(
+        alloc: Global,
+        indexed: IndexedNet,
+        state: State,
+        rows: GuardRows,
+        room: u32,
+    ) -> Result<Stage, AllocError>
+        requires script { IsScript (net_channels indexed.net) indexed.script }
+        requires state { length state ≡ length indexed.net.first }
+        requires rows { AreRows indexed.net state rows }
+        ensures { IfOk result (λ s. s ≡ stage_with indexed.net indexed.script state [] room) }
+    {
+        let nodes = indexed.net().first().len();
+        let channels = indexed.net().channels().len();
+        let (done, passed, mut moves) = room_for(alloc, nodes, channels, room)?;
+        let pulled = first_pulled(indexed.net(), &state);
+        list_ready(&indexed, &rows, &done, &state, &mut moves);
+        add_reset(&indexed, &state, &mut moves);
+        Ok(Stage {
+            indexed,
+            state,
+            rows,
+            done,
+            passed,
+            moves,
+            pulled,
+        })
+    }
+
     /// The run that has made no move, from this state, with room for so many values.
     pub fn new(
         alloc: Global,
@@ -116,24 +166,10 @@ impl Stage {
         requires state { length state ≡ length net.first }
         ensures { IfOk result (λ s. s ≡ stage_with net script state [] room) }
     {
-        let nodes = net.first().len();
-        let done = no_counts(alloc, net.channels().len())?;
-        let passed = Vec::with_capacity(alloc, room as usize)?;
-        let mut moves = NodeSet::new(alloc, nodes)?;
-        let pulled = first_pulled(&net, &state);
+        let _net = net.first();
         let rows = GuardRows::new(alloc, &net, &state)?;
         let indexed = IndexedNet::new(alloc, net, script)?;
-        list_ready(&indexed, &rows, &done, &state, &mut moves);
-        add_reset(&indexed, &state, &mut moves);
-        Ok(Stage {
-            indexed,
-            state,
-            rows,
-            done,
-            passed,
-            moves,
-            pulled,
-        })
+        Stage::begin(alloc, indexed, state, rows, room)
     }
 
     /// The net.
