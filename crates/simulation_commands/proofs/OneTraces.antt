@@ -21,16 +21,16 @@ module _ (moves : (t : TimedValue) (ms ns : List NotedMove) (r q : RanValue) (u 
     (rans : (t : TimedValue) (ms ns : List NotedMove) (r q : RanValue) (u v : ℕ) → IsTimedRan t ms r u → IsTimedRan t ns q v → r ≡ q)
     (told : (names : List (List ℕ)) (d : DelayTable) (given : List Bool) (ms : List NotedMove) (a b : List ℕ) → TellsCauses names d given ms a →
     TellsCauses names d given ms b → a ≡ b) where
-  text_once : (net : NetValue) (d : DelayTable) (ms : List NotedMove) (causes : Bool) (a b : List ℕ) → IsTraceText net d ms causes a →
-      IsTraceText net d ms causes b → a ≡ b
-  text_once net d ms false a b one two = one.spelled ∙ sym two.spelled
-  text_once net d ms true a b one two = told _ _ _ _ a b one two
+  text_once : (net : NetValue) (high : Bool) (d : DelayTable) (ms : List NotedMove) (causes : Bool) (a b : List ℕ) → IsTraceText net high d ms causes a →
+      IsTraceText net high d ms causes b → a ≡ b
+  text_once net high d ms false a b one two = one.spelled ∙ sym two.spelled
+  text_once net high d ms true a b one two = told _ _ _ _ a b one two
 
   traces_net_once : (t : TimedValue) (causes : Bool) (a b : Answer) → TracesNet t causes a → TracesNet t causes b → a ≡ b
   traces_net_once t causes a b x y =
       let same : y.moves ≡ x.moves = moves t y.moves x.moves y.ran x.ran y.time x.time y.run x.run in
       let text : x.text ≡ y.text =
-      text_once t.net t.delays x.moves causes x.text y.text x.traced (subst (λ ms. IsTraceText t.net t.delays ms causes y.text) same y.traced) in
+      text_once t.net t.high t.delays x.moves causes x.text y.text x.traced (subst (λ ms. IsTraceText t.net t.high t.delays ms causes y.text) same y.traced) in
       let ran : x.ran ≡ y.ran = rans t x.moves y.moves x.ran y.ran x.time y.time x.run y.run in
       x.written ∙ (ap (λ (s : List ℕ). writes (ending_for x.ran.end) s) text
       ∙ (ap (λ (r : RanValue). writes (ending_for r.end) y.text) ran ∙ sym y.written))

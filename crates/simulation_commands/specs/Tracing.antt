@@ -18,12 +18,13 @@ use Rattle.command_steps.specs.Steps.{FromFile, FromNet, most_of_net}
 use Rattle.command_words.specs.WavesWords.{AskedWaves}
 use Rattle.command_steps.specs.DelaySteps.{FromDelayFile}
 
--- the text reports these moves of a net that wasn't given a power: all of them as a wave, from which they are read
--- back, or the causes of the last one
-abbrev pub IsTraceText : NetValue → DelayTable → List NotedMove → (causes : Bool) → (text : List ℕ) → Type 0
-IsTraceText net delays moves false text = IsWaveText text (wave_of_run net moves)
-IsTraceText net delays moves true text =
-    TellsCauses net.names delays (values_given (power_of net false) moves) moves text
+-- the text reports these moves of a net from power-up on: all of them as a wave, from which they are read back, or the
+-- causes of the last one
+abbrev pub IsTraceText : NetValue → (high : Bool) → DelayTable → List NotedMove → (causes : Bool) → (text : List ℕ) →
+    Type 0
+IsTraceText net high delays moves false text = IsWaveText text (wave_of_run net high moves)
+IsTraceText net high delays moves true text =
+    TellsCauses net.names delays (values_given (power_of net high) moves) moves text
 
 -- the moves of the timed run are written, and the command ends as the run does
 pub record TracesNet (t : TimedValue) (causes : Bool) (answer : Answer) : Type 0 where
@@ -32,7 +33,7 @@ pub record TracesNet (t : TimedValue) (causes : Bool) (answer : Answer) : Type 0
   pub time : ℕ
   pub text : List ℕ
   pub run : IsTimedRan t moves ran time
-  pub traced : IsTraceText t.net t.delays moves causes text
+  pub traced : IsTraceText t.net t.high t.delays moves causes text
   pub written : answer ≡ writes (ending_for ran.end) text
 
 -- in a net with a reset node those that have rules are low at power-up

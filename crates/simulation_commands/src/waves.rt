@@ -1,6 +1,6 @@
 //! `waves PRS SCRIPT`: the moves of one timed run of a net under a script, as a wave or as the causes of the last one.
 
-ghost use Rattle.std.specs.Prelude.{◌≡◌, ◌≤◌, ◌<◌, ◌∷◌, false, length, All, IfOk, IfErr, option_to_list};
+ghost use Rattle.std.specs.Prelude.{◌≡◌, ◌≤◌, ◌<◌, ◌∷◌, length, All, IfOk, IfErr, option_to_list};
 ghost use Rattle.delay_script.specs.declared.noted.NotedMove.{NotedMove};
 ghost use Rattle.delay_script.specs.DelayTables.{IsDelayTable};
 ghost use Rattle.delay_script.specs.TimedRuns.{time_behind};
@@ -31,13 +31,13 @@ use wave_file::laws::timed_runs_are_waves;
 use wave_file::{causes_text, run_wave, write_wave};
 
 /// The wave of the run.
-fn wave_text(alloc: Global, ran: &NotedRan) -> Result<Vec<u8>, AllocError>
-    requires wave { IsWave (wave_of_run ran.now.timed.ran.net ran.now.moves.items) }
-    requires kept { IsKeptWave (wave_of_run ran.now.timed.ran.net ran.now.moves.items) }
+fn wave_text(alloc: Global, ran: &NotedRan, high: bool) -> Result<Vec<u8>, AllocError>
+    requires wave { IsWave (wave_of_run ran.now.timed.ran.net high ran.now.moves.items) }
+    requires kept { IsKeptWave (wave_of_run ran.now.timed.ran.net high ran.now.moves.items) }
     ensures { IfOk result (λ text.
-        IsWaveText text.items (wave_of_run ran.now.timed.ran.net ran.now.moves.items)) }
+        IsWaveText text.items (wave_of_run ran.now.timed.ran.net high ran.now.moves.items)) }
 {
-    let wave = run_wave(alloc, ran)?;
+    let wave = run_wave(alloc, ran, high)?;
     write_wave(alloc, &wave)
 }
 
@@ -45,23 +45,24 @@ fn wave_text(alloc: Global, ran: &NotedRan) -> Result<Vec<u8>, AllocError>
 fn trace_text(
     alloc: Global,
     ran: &NotedRan,
+    high: bool,
     delays: &Delays,
     causes: bool,
 ) -> Result<Vec<u8>, AllocError>
-    requires wave { IsWave (wave_of_run ran.now.timed.ran.net ran.now.moves.items) }
-    requires kept { IsKeptWave (wave_of_run ran.now.timed.ran.net ran.now.moves.items) }
+    requires wave { IsWave (wave_of_run ran.now.timed.ran.net high ran.now.moves.items) }
+    requires kept { IsKeptWave (wave_of_run ran.now.timed.ran.net high ran.now.moves.items) }
     requires delays { IsDelayTable (length ran.now.timed.ran.net.first) delays.now }
     requires nodes { All (λ (m : NotedMove). m.node < length ran.now.timed.ran.net.first) ran.now.moves.items }
     requires caused { AreCaused delays.now
-        (values_given (power_of ran.now.timed.ran.net false) ran.now.moves.items) ran.now.moves.items }
+        (values_given (power_of ran.now.timed.ran.net high) ran.now.moves.items) ran.now.moves.items }
     requires time { ran.now.timed.time ≡ time_behind ran.now.moves.items (length ran.now.moves.items) }
     ensures { IfOk result (λ text.
-        IsTraceText ran.now.timed.ran.net delays.now ran.now.moves.items causes text.items) }
+        IsTraceText ran.now.timed.ran.net high delays.now ran.now.moves.items causes text.items) }
 {
     if causes {
-        causes_text(alloc, ran.timed.ran.net(), ran, delays)
+        causes_text(alloc, ran.timed.ran.net(), high, ran, delays)
     } else {
-        wave_text(alloc, ran)
+        wave_text(alloc, ran, high)
     }
 }
 
@@ -83,7 +84,7 @@ fn trace(
     timed_runs_are_waves();
     let kept = delays.copy()?;
     let ran = Noted::new(alloc, net, script, asked.steps, delays)?.run();
-    let text = trace_text(alloc, &ran, &kept, asked.causes)?;
+    let text = trace_text(alloc, &ran, false, &kept, asked.causes)?;
     Ok(Output {
         text,
         end: ending_for(ran.timed.ran.end()),

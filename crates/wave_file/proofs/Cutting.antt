@@ -38,9 +38,6 @@ free_of_parts P end no_end (b ∷ bs) parts =
 pub free_name : (name : List ℕ) → IsNodeName name → is_free_of 32 name ≡ true
 free_name name is = free_of_parts node_part 32 refl name is.parts
 
-pub no_end_in_name : (name : List ℕ) → IsNodeName name → is_free_of 10 name ≡ true
-no_end_in_name name is = free_of_parts node_part 10 refl name is.parts
-
 pub no_end_in_id : (id : List ℕ) → is_id id ≡ true → is_free_of 10 id ≡ true
 no_end_in_id id is = free_of_parts id_part 10 refl id (parts_of id is)
 

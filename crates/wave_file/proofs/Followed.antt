@@ -1,12 +1,13 @@
 -- A text is read in one way.
-use Rattle.std.proofs.Common.{◌≡◌, ℕ, Some, None, inl, inr, ◌<◌, ◌^◌, Bool, true, false, List, [], ◌∷◌, ◌++◌, length, get_or, drop, refl, ap, sym, ◌∙◌, subst, arith}
+use Rattle.std.proofs.Common.{◌≡◌, ℕ, Some, None, inl, inr, ◌+◌, ◌<◌, ◌≤◌, ◌^◌, Bool, true, false, List, [], ◌∷◌, ◌++◌, length, get_or, drop, refl, ap, sym, ◌∙◌, subst, arith}
 use Rattle.std.specs.Prelude.{◌⊎◌, decimal}
+use Rattle.std.proofs.lemmas.Bool.{cases_lt}
 use Rattle.std.proofs.lemmas.Fmt.{decimal_injective}
 use Rattle.std.proofs.lemmas.List.{append_assoc, append_cancel_left}
 use Rattle.wave_file.specs.declared.fault.WaveFault.{WaveFault}
 use Rattle.wave_file.specs.Waves.{var_spelling, id_of, value_spelling_of, time_mark}
 use Rattle.wave_file.specs.WaveLines.{is_id}
-use Rattle.wave_file.specs.WaveReading.{WavePlace, timescale_line, scope_line, upscope_line, definitions_line, start_line, WaveLine, named, valued, timed, turned, BeginsWith, begins_timescale, begins_scope, begins_name, begins_upscope, begins_definitions, begins_start, begins_value, begins_time, begins_turn, wave_line_fault, place_behind, IsFaultAt, no_line, bad_line}
+use Rattle.wave_file.specs.WaveReading.{WavePlace, timescale_line, scope_line, upscope_line, definitions_line, start_line, WaveLine, named, valued, timed, turned, BeginsWith, begins_timescale, begins_scope, begins_name, begins_upscope, begins_definitions, begins_start, begins_value, begins_time, begins_turn, wave_line_fault, place_behind, IsFaultAt, no_line, bad_line, IsToldTo, at_first_line, by_line}
 use Rattle.wave_file.proofs.Cutting.{cut_once, free_name, no_end_in_id, no_end_in_decimal}
 use Rattle.wave_file.proofs.Namings.{naming_once}
 use Rattle.wave_file.proofs.Stepping.{no_mark_and_turn}
@@ -82,16 +83,56 @@ pub chained : (p q r : WavePlace) (a b c : List ℕ) → Leads p a q b → Leads
 chained p q r a b c here second = second
 chained p q r a b c (on l begins none first) second = on l begins none (chained (place_behind p l) q r _ b c first second)
 
+-- a text that comes to a place comes to where lines without a fault lead from there
+abbrev pub told_on : (text : List ℕ) (lines : ℕ) (p q : WavePlace) (a b : List ℕ) → IsToldTo text lines p a → Leads p a q b →
+    (more : ℕ) × IsToldTo text more q b
+told_on text lines p q a b so_far here = (lines, so_far)
+told_on text lines p q a b so_far (on {behind = x} l begins none rest) =
+    told_on text (lines + 1) (place_behind p l) q x b (by_line so_far begins none) rest
+
+-- by as many lines a text comes to one place
+
+same_line : (p q : WavePlace) (a b x y : List ℕ) (l m : WaveLine) → p ≡ q → a ≡ b → BeginsWith a x p l → BeginsWith b y q m → (l ≡ m) × (x ≡ y)
+same_line p q a b x y l m place text begins also =
+    line_once a p l m x y begins (subst (λ t. BeginsWith t y p m) (sym text) (subst (λ k. BeginsWith b y k m) (sym place) also))
+
+told_once : (text : List ℕ) (j k : ℕ) (p q : WavePlace) (a b : List ℕ) → j ≡ k → IsToldTo text j p a → IsToldTo text k q b → (p ≡ q) × (a ≡ b)
+told_once text j k p q a b e at_first_line at_first_line = (refl, refl)
+told_once text j k p q a b e at_first_line (by_line two also free) = absurd (omega arith)
+told_once text j k p q a b e (by_line one is free) at_first_line = absurd (omega arith)
+told_once text j k p q a b e (by_line {lines = i} {place = r} {rest = c} {l = l} one is _) (by_line {lines = h} {place = s} {rest = d} {l = m} two also _) =
+    let before = told_once text i h r s c d (omega arith) one two in
+    let line = same_line r s c d a b l m before.0 before.1 is also in
+    (ap (λ x. place_behind x l) before.0 ∙ ap (place_behind s) line.0, line.1)
+
+goes_on : (p q : WavePlace) (a b behind : List ℕ) (l : WaveLine) → p ≡ q → a ≡ b → BeginsWith b behind q l → wave_line_fault q l ≡ None → GoesOn p a
+goes_on p q a b behind l place text begins none =
+    subst (GoesOn p) (sym text) (subst (λ x. GoesOn x b) (sym place) (record { l = l; behind = behind; begins = begins; faultless = none }))
+
+-- and by fewer to one that goes on
+goes_before : (text : List ℕ) (j k : ℕ) (p q : WavePlace) (a b : List ℕ) → j < k → IsToldTo text j p a → IsToldTo text k q b → GoesOn p a
+goes_before text j k p q a b less first at_first_line = absurd (omega arith)
+goes_before text j k p q a b less first (by_line {lines = h} {place = s} {rest = d} {l = m} second also free) =
+    by_case (cases_lt j h) (λ few. goes_before text j h p s a d few first second)
+  where
+    by_case : (j < h) ⊎ (h ≤ j) → (j < h → GoesOn p a) → GoesOn p a
+    by_case (inl few) earlier = earlier few
+    by_case (inr many) earlier =
+        let same = told_once text j h p s a d (omega arith) first second in
+        goes_on p s a d b m same.0 same.1 also free
+
 -- of two places that a text comes to, one leads on to the other
-pub overlap : (p q r : WavePlace) (text a b : List ℕ) → Leads p text q a → Leads p text r b →
-    ((q ≡ r) × (a ≡ b)) ⊎ (GoesOn q a ⊎ GoesOn r b)
-overlap p q r text a b here here = inl (refl, refl)
-overlap p q r text a b here (on l begins none second) = inr (inl (record { l = l; behind = _; begins = begins; faultless = none }))
-overlap p q r text a b (on l begins none first) here = inr (inr (record { l = l; behind = _; begins = begins; faultless = none }))
-overlap p q r text a b (on {behind = x} l begins none first) (on {behind = y} m also free second) =
-    let same = line_once text p l m x y begins also in
-    overlap (place_behind p l) q r x a b first (subst (λ t. Leads (place_behind p l) t r b) (sym same.1)
-    (subst (λ k. Leads (place_behind p k) y r b) (sym same.0) second))
+pub overlap : (text : List ℕ) (j k : ℕ) (p q : WavePlace) (a b : List ℕ) → IsToldTo text j p a → IsToldTo text k q b →
+    ((j ≡ k) × (p ≡ q) × (a ≡ b)) ⊎ (GoesOn p a ⊎ GoesOn q b)
+overlap text j k p q a b first second = by_case (cases_lt j k) (cases_lt k j)
+  where
+    by_case : (j < k) ⊎ (k ≤ j) → (k < j) ⊎ (j ≤ k) → ((j ≡ k) × (p ≡ q) × (a ≡ b)) ⊎ (GoesOn p a ⊎ GoesOn q b)
+    by_case (inl less) also = inr (inl (goes_before text j k p q a b less first second))
+    by_case (inr over) (inl less) = inr (inr (goes_before text k j q p b a less second first))
+    by_case (inr over) (inr under) =
+        let count : j ≡ k = omega (arith, over, under) in
+        let same = told_once text j k p q a b count first second in
+        inl (count, same.0, same.1)
 
 -- a place with a fault is the last one
 

@@ -1,11 +1,10 @@
 -- The wave of a timed run is one that a text can hold: its names are those of nodes, and its times are below 2 ^ 64.
-use Rattle.std.proofs.Common.{◌≡◌, ◌∙◌, ℕ, zero, suc, ◌+◌, ◌*◌, ◌^◌, ◌<◌, ◌≤◌, Bool, true, false, List, [], ◌∷◌, length, get_or, take, refl, sym, ap, subst, ◌⊎◌, inl, inr, arith}
+use Rattle.std.proofs.Common.{◌≡◌, ℕ, zero, suc, ◌+◌, ◌*◌, ◌^◌, ◌<◌, ◌≤◌, Bool, true, false, List, [], ◌∷◌, length, get_or, take, refl, ap, subst, ◌⊎◌, inl, inr, arith}
 use Rattle.std.specs.Prelude.{All, Option, None, Some, ◌==◌, slice_index_or}
 use Rattle.std.proofs.lemmas.Bool.{cases_lt, eq-eqb}
 use Rattle.std.proofs.lemmas.List.{length-map, length-take-le}
-use Rattle.prs_core.specs.Nets.{NetValue, IsNet}
+use Rattle.prs_core.specs.Nets.{IsNet}
 use Rattle.env_script.specs.declared.hazard.Hazard.{Hazard}
-use Rattle.event_sim.specs.declared.ran.End.{End}
 use Rattle.event_sim.specs.Ends.{end_after, end_with, last_hazard}
 use Rattle.event_sim.specs.Following.{enabled_moves, power_of}
 use Rattle.event_sim.specs.Simulating.{RanValue}
@@ -78,7 +77,7 @@ change_time (m ∷ ms) zero d below = refl
 change_time (m ∷ ms) (suc i) d below = change_time ms i d (omega arith)
 
 pub is_kept : (t : TimedValue) (ms : List NotedMove) (r : RanValue) (u : ℕ) → IsNet t.net → IsDelayTable (length t.net.first) t.delays → t.steps ≤ 1000000 →
-    IsTimedRan t ms r u → IsKeptWave (wave_of_run t.net ms)
+    IsTimedRan t ms r u → IsKeptWave (wave_of_run t.net t.high ms)
 is_kept t ms r u net table steps ran = record {
   named = net.names;
   small = λ i d below. soon i d (omega (arith, many));

@@ -1,9 +1,9 @@
 pub mod Chains
 mod Cutting
 mod Dumps
-mod Ends
 mod Examples
 mod Followed
+mod Fronts
 mod IdLemmas
 mod KeptWaves
 mod Namings

@@ -1,20 +1,18 @@
 -- A text is one wave, or is refused for one cause at one line.
-use Rattle.std.proofs.Common.{◌≡◌, ℕ, inl, inr, ◌+◌, Result, Ok, Err, List, [], ◌++◌, refl, ap, sym, ◌∙◌, subst, arith}
+use Rattle.std.proofs.Common.{◌≡◌, ℕ, inl, inr, ◌+◌, Result, Ok, Err, List, [], refl, ap, sym, ◌∙◌, subst, arith}
 use Rattle.std.specs.Prelude.{◌⊎◌, IfOk, IfErr}
-use Rattle.std.proofs.lemmas.List.{append-nil}
 use Rattle.wave_file.specs.declared.fault.WaveError.{WaveError}
 use Rattle.wave_file.specs.declared.fault.WaveError.TheVariants.{Refused, NoMemory}
 use Rattle.wave_file.specs.declared.fault.WaveFault.{WaveFault}
 use Rattle.wave_file.specs.declared.wave.Wave.{Wave}
-use Rattle.wave_file.specs.Waves.{WaveValue, wave_spelling, change_lines}
-use Rattle.wave_file.specs.WaveReading.{WavePlace, at_timescale, at_changes, last_time, front_at, front_of_values, IsFaultAt, no_line, bad_line, IsWaveRefused, IsWaveText}
+use Rattle.wave_file.specs.Waves.{WaveValue, wave_spelling}
+use Rattle.wave_file.specs.WaveReading.{WavePlace, at_timescale, at_changes, IsFaultAt, no_line, bad_line, IsToldTo, at_first_line, IsWaveRefused, IsWaveText}
 use Rattle.wave_file.specs.WaveFaults.{OfWaveRefusal}
-use Rattle.wave_file.specs.WaveLines.{line_ends}
 use Rattle.wave_file.specs.WaveTold.{kept_wave}
-use Rattle.wave_file.proofs.Stepping.{same_mark}
-use Rattle.wave_file.proofs.Readings.{shorter, spelling_pieces}
-use Rattle.wave_file.proofs.Followed.{Leads, GoesOn, overlap, no_fault, same_fault}
-use Rattle.wave_file.proofs.Reached.{led_to, led_told}
+use Rattle.wave_file.proofs.Readings.{shorter}
+use Rattle.wave_file.proofs.Followed.{GoesOn, told_on, overlap, no_fault, same_fault}
+use Rattle.wave_file.proofs.Fronts.{last_time}
+use Rattle.wave_file.proofs.Reached.{wave_leads}
 
 abbrev nothing : List ℕ
 nothing = []
@@ -23,41 +21,42 @@ abbrev wave_at : WavePlace → WaveValue → WaveValue
 wave_at (at_changes w now) other = w
 wave_at p other = other
 
-spelling_at_end : (w : WaveValue) → wave_spelling w ≡ front_at (at_changes w (last_time 0 w.changes)) ++ []
-spelling_at_end w =
-    let all = change_lines 0 w.first w.changes in
-    sym (append-nil (front_at (at_changes w (last_time 0 w.changes)))
-    ∙ ap (λ t. front_of_values w.names w.first ++ (all ++ t)) (same_mark (last_time 0 w.changes)) ∙ spelling_pieces w all)
+abbrev at_end : WaveValue → WavePlace
+at_end w = at_changes w (last_time 0 w.changes)
 
-led_wave : (text : List ℕ) (w : WaveValue) → IsWaveText text w → Leads at_timescale text (at_changes w (last_time 0 w.changes)) []
-led_wave text w is =
-    subst (λ t. Leads at_timescale t (at_changes w (last_time 0 w.changes)) []) (sym (is.spelled ∙ spelling_at_end w))
-    (led_to (at_changes w (last_time 0 w.changes)) [] (is.wave, is.kept, inl refl))
+told_whole : (text : List ℕ) (w : WaveValue) → IsWaveText text w → (lines : ℕ) × IsToldTo text lines (at_end w) []
+told_whole text w is =
+    subst (λ t. (lines : ℕ) × IsToldTo t lines (at_end w) []) (sym is.spelled)
+    (told_on (wave_spelling w) 0 at_timescale (at_end w) (wave_spelling w) [] at_first_line (wave_leads w is.wave is.kept))
 
 nothing_goes_on : (p : WavePlace) → GoesOn p [] → ⊥
 nothing_goes_on p goes = absurd (omega (arith, shorter [] goes.behind p goes.l goes.begins))
 
 pub wave_once : (text : List ℕ) (a b : WaveValue) → IsWaveText text a → IsWaveText text b → a ≡ b
 wave_once text a b one two =
-    by_case (overlap at_timescale (at_changes a (last_time 0 a.changes)) (at_changes b (last_time 0 b.changes)) text [] [] (led_wave text a one)
-    (led_wave text b two))
+    by_case (overlap text first.0 second.0 (at_end a) (at_end b) [] [] first.1 second.1)
   where
-    by_case : ((at_changes a (last_time 0 a.changes) ≡ at_changes b (last_time 0 b.changes)) × (nothing ≡ nothing))
-        ⊎ (GoesOn (at_changes a (last_time 0 a.changes)) [] ⊎ GoesOn (at_changes b (last_time 0 b.changes)) []) → a ≡ b
-    by_case (inl same) = ap (λ p. wave_at p a) same.0
+    first : (lines : ℕ) × IsToldTo text lines (at_end a) []
+    first = told_whole text a one
+
+    second : (lines : ℕ) × IsToldTo text lines (at_end b) []
+    second = told_whole text b two
+
+    by_case : ((first.0 ≡ second.0) × (at_end a ≡ at_end b) × (nothing ≡ nothing)) ⊎ (GoesOn (at_end a) [] ⊎ GoesOn (at_end b) []) → a ≡ b
+    by_case (inl same) = ap (λ p. wave_at p a) same.1
     by_case (inr (inl goes)) = absurd (nothing_goes_on _ goes)
     by_case (inr (inr goes)) = absurd (nothing_goes_on _ goes)
 
 pub refusal_once : (text : List ℕ) (f g : WaveFault) (l m : ℕ) → IsWaveRefused text f l → IsWaveRefused text g m → (f ≡ g) × (l ≡ m)
 refusal_once text f g l m one two =
-    by_case (overlap at_timescale one.place two.place text one.rest two.rest (led_told text one.lines one.place one.rest one.before)
-    (led_told text two.lines two.place two.rest two.before))
+    by_case (overlap text one.lines two.lines one.place two.place one.rest two.rest one.before two.before)
   where
-    by_case : ((one.place ≡ two.place) × (one.rest ≡ two.rest)) ⊎ (GoesOn one.place one.rest ⊎ GoesOn two.place two.rest) → (f ≡ g) × (l ≡ m)
+    by_case : ((one.lines ≡ two.lines) × (one.place ≡ two.place) × (one.rest ≡ two.rest)) ⊎ (GoesOn one.place one.rest ⊎ GoesOn two.place two.rest) →
+        (f ≡ g) × (l ≡ m)
     by_case (inl same) = (
       same_fault one.place one.rest f g one.here
-          (subst (λ t. IsFaultAt one.place t g) (sym same.1) (subst (λ p. IsFaultAt p two.rest g) (sym same.0) two.here)),
-      one.number ∙ ap (λ n. n + 1) (one.before.number ∙ ap (λ p. line_ends (front_at p)) same.0 ∙ sym two.before.number) ∙ sym two.number,
+          (subst (λ t. IsFaultAt one.place t g) (sym same.2) (subst (λ p. IsFaultAt p two.rest g) (sym same.1) two.here)),
+      one.number ∙ ap (λ n. n + 1) same.0 ∙ sym two.number,
     )
     by_case (inr (inl goes)) = absurd (no_fault one.place one.rest f one.here goes)
     by_case (inr (inr goes)) = absurd (no_fault two.place two.rest g two.here goes)
@@ -68,13 +67,14 @@ no_fault_at_end w now f (bad_line {l = k} {behind = b} begins bad) = absurd (ome
 
 pub never_refused : (text : List ℕ) (w : WaveValue) (f : WaveFault) (l : ℕ) → IsWaveText text w → IsWaveRefused text f l → ⊥
 never_refused text w f l is refused =
-    by_case (overlap at_timescale (at_changes w (last_time 0 w.changes)) refused.place text [] refused.rest (led_wave text w is)
-    (led_told text refused.lines refused.place refused.rest refused.before))
+    by_case (overlap text whole.0 refused.lines (at_end w) refused.place [] refused.rest whole.1 refused.before)
   where
-    by_case : ((at_changes w (last_time 0 w.changes) ≡ refused.place) × ([] ≡ refused.rest))
-        ⊎ (GoesOn (at_changes w (last_time 0 w.changes)) [] ⊎ GoesOn refused.place refused.rest) → ⊥
-    by_case (inl same) = no_fault_at_end w (last_time 0 w.changes) f (subst (λ t. IsFaultAt (at_changes w (last_time 0 w.changes)) t f) (sym same.1)
-        (subst (λ p. IsFaultAt p refused.rest f) (sym same.0) refused.here))
+    whole : (lines : ℕ) × IsToldTo text lines (at_end w) []
+    whole = told_whole text w is
+
+    by_case : ((whole.0 ≡ refused.lines) × (at_end w ≡ refused.place) × ([] ≡ refused.rest)) ⊎ (GoesOn (at_end w) [] ⊎ GoesOn refused.place refused.rest) → ⊥
+    by_case (inl same) = no_fault_at_end w (last_time 0 w.changes) f
+        (subst (λ t. IsFaultAt (at_end w) t f) (sym same.2) (subst (λ p. IsFaultAt p refused.rest f) (sym same.1) refused.here))
     by_case (inr (inl goes)) = nothing_goes_on _ goes
     by_case (inr (inr goes)) = no_fault refused.place refused.rest f refused.here goes
 

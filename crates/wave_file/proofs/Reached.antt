@@ -1,4 +1,4 @@
--- A text comes to each place that its front tells.
+-- The text of a wave leads to its end.
 use Rattle.std.proofs.Common.{◌≡◌, ℕ, Some, None, inl, inr, ◌+◌, ◌<◌, ◌≤◌, ◌^◌, Bool, true, false, List, [], ◌∷◌, ◌++◌, length, refl, ap, sym, ◌∙◌, subst, arith}
 use Rattle.std.specs.Prelude.{◌==◌, ◌⊎◌, not, nat_le, All, if◌then◌else◌}
 use Rattle.std.proofs.lemmas.Bool.{cases_lt, lt-ltb, ne_eqb}
@@ -7,9 +7,10 @@ use Rattle.std.proofs.lemmas.List.Elements.{All-head, All-tail}
 use Rattle.chp_base.specs.Names.{IsNodeName}
 use Rattle.prs_core.specs.Moves.{high, fired}
 use Rattle.wave_file.specs.declared.fault.WaveFault.TheVariants.{UnknownId, TimeBack, NoChange, TooMany}
-use Rattle.wave_file.specs.Waves.{WaveValue, wave_of, NeverFall, var_spelling, naming_lines, id_of, value_spelling_of, first_lines, time_mark, mark_before, change_lines}
+use Rattle.wave_file.specs.Waves.{WaveValue, wave_of, IsWave, IsKeptWave, NeverFall, var_spelling, naming_lines, id_of, value_spelling_of, first_lines, time_mark, mark_before, change_lines, wave_spelling}
 use Rattle.wave_file.specs.WaveLines.{id_value, GoesOnWithChange}
-use Rattle.wave_file.specs.WaveReading.{WavePlace, at_timescale, at_scope, at_names, at_definitions, at_start, at_values, at_changes, upscope_line, definitions_line, start_line, last_time, front_of_names, front_of_values, front_at, AreWaveNodes, IsPlaceBefore, IsToldTo, stock, named, valued, timed, turned, begins_timescale, begins_scope, begins_name, begins_upscope, begins_definitions, begins_start, begins_value, begins_time, begins_turn, values_behind, has_value, place_behind}
+use Rattle.wave_file.specs.WaveReading.{WavePlace, at_timescale, at_names, at_values, at_changes, upscope_line, definitions_line, start_line, stock, named, valued, timed, turned, begins_timescale, begins_scope, begins_name, begins_upscope, begins_definitions, begins_start, begins_value, begins_time, begins_turn, values_behind, has_value, place_behind}
+use Rattle.wave_file.proofs.Fronts.{last_time}
 use Rattle.wave_file.proofs.IdLemmas.{id_of_is}
 use Rattle.wave_file.proofs.Stepping.{same_mark}
 use Rattle.wave_file.proofs.WaveTexts.{values_push}
@@ -97,137 +98,48 @@ reach_time w now time q behind rest later small goes next = by_time (cases_lt no
         subst (λ t. Leads (at_changes w t) (mark_before t time ++ behind) q rest) (sym same)
         (subst (λ t. Leads (at_changes w time) (t ++ behind) q rest) (sym (same_mark time)) next)
 
-abbrev pub IsEnd : ℕ → ℕ → List ℕ → Type 0
-IsEnd last end rest = (end ≡ last) ⊎ ((last < end) × (end < 2 ^ 64) × GoesOnWithChange rest)
-
-changes_lead : (names : List (List ℕ)) (first : List Bool) (told more : List (ℕ × ℕ)) (now end : ℕ) (rest : List ℕ) → length names ≤ 65537 →
-    All (λ (c : ℕ × ℕ). c.1 < length names) more → All (λ (c : ℕ × ℕ). c.0 < 2 ^ 64) more → NeverFall now more → IsEnd (last_time now more) end rest →
-    Leads (at_changes (wave_of names first told) now) (change_lines now (values_behind first told) more ++ (mark_before (last_time now more) end ++ rest))
-    (at_changes (wave_of names first (told ++ more)) end) rest
-changes_lead names first told [] now end rest most nodes small falls (inl is) =
+changes_lead : (names : List (List ℕ)) (first : List Bool) (told more : List (ℕ × ℕ)) (now : ℕ) (rest : List ℕ) → length names ≤ 65537 →
+    All (λ (c : ℕ × ℕ). c.1 < length names) more → All (λ (c : ℕ × ℕ). c.0 < 2 ^ 64) more → NeverFall now more →
+    Leads (at_changes (wave_of names first told) now) (change_lines now (values_behind first told) more ++ rest)
+    (at_changes (wave_of names first (told ++ more)) (last_time now more)) rest
+changes_lead names first told [] now rest most nodes small falls =
+    subst (λ cs. Leads (at_changes (wave_of names first told) now) rest (at_changes (wave_of names first cs) now) rest) (sym (append-nil told)) here
+changes_lead names first told (c ∷ more) now rest most nodes small falls =
     let w = wave_of names first told in
-    let same : Leads (at_changes w now) rest (at_changes w now) rest = here in
-    let marked : Leads (at_changes w now) (mark_before now end ++ rest) (at_changes w end) rest =
-    subst (λ e. Leads (at_changes w now) (mark_before now e ++ rest) (at_changes w e) rest) (sym is)
-    (subst (λ t. Leads (at_changes w now) (t ++ rest) (at_changes w now) rest) (sym (same_mark now)) same) in
-    subst (λ cs. Leads (at_changes w now) (mark_before now end ++ rest) (at_changes (wave_of names first cs) end) rest) (sym (append-nil told)) marked
-changes_lead names first told [] now end rest most nodes small falls (inr mark) =
-    let w = wave_of names first told in
-    let same : Leads (at_changes w end) rest (at_changes w end) rest = here in
-    subst (λ cs. Leads (at_changes w now) (mark_before now end ++ rest) (at_changes (wave_of names first cs) end) rest) (sym (append-nil told))
-    (reach_time w now end (at_changes w end) rest rest (omega (arith, mark.0)) mark.1 mark.2 same)
-changes_lead names first told (c ∷ more) now end rest most nodes small falls ends =
-    let w = wave_of names first told in
-    let q = at_changes (wave_of names first (told ++ c ∷ more)) end in
-    let tail = change_lines c.0 (fired (values_behind first told) c.1) more ++ (mark_before (last_time c.0 more) end ++ rest) in
+    let last = last_time c.0 more in
+    let q = at_changes (wave_of names first (told ++ c ∷ more)) last in
+    let front = change_lines c.0 (fired (values_behind first told) c.1) more in
     let value = not (high (values_behind first told) c.1) in
     let few = All-head (λ (c : ℕ × ℕ). c.1 < length names) c more nodes in
     let id = id_of_is c.1 (omega (arith, few, most)) in
-    let later = changes_lead names first (told ++ c ∷ []) more c.0 end rest most (All-tail (λ (c : ℕ × ℕ). c.1 < length names) c more nodes)
-    (All-tail (λ (c : ℕ × ℕ). c.0 < 2 ^ 64) c more small) falls.1 ends in
-    let valued = subst (λ vs. Leads (at_changes (wave_of names first (told ++ c ∷ [])) c.0)
-    (change_lines c.0 vs more ++ (mark_before (last_time c.0 more) end ++ rest)) (at_changes (wave_of names first ((told ++ c ∷ []) ++ more)) end) rest)
-    (values_push first told c) later in
-    let moved = subst (λ cs. Leads (at_changes (wave_of names first (told ++ c ∷ [])) c.0) tail (at_changes (wave_of names first cs) end) rest)
+    let later = changes_lead names first (told ++ c ∷ []) more c.0 rest most (All-tail (λ (c : ℕ × ℕ). c.1 < length names) c more nodes)
+    (All-tail (λ (c : ℕ × ℕ). c.0 < 2 ^ 64) c more small) falls.1 in
+    let valued = subst (λ vs. Leads (at_changes (wave_of names first (told ++ c ∷ [])) c.0) (change_lines c.0 vs more ++ rest)
+    (at_changes (wave_of names first ((told ++ c ∷ []) ++ more)) last) rest) (values_push first told c) later in
+    let moved = subst (λ cs. Leads (at_changes (wave_of names first (told ++ c ∷ [])) c.0) (front ++ rest) (at_changes (wave_of names first cs) last) rest)
     (append_assoc told (c ∷ []) more) valued in
-    let turned = turn_leads w c.0 c.1 q (value_spelling_of value (id_of c.1) ++ tail) tail rest few most refl moved in
-    let marked = reach_time w now c.0 q (value_spelling_of value (id_of c.1) ++ tail) rest falls.0
-    (All-head (λ (c : ℕ × ℕ). c.0 < 2 ^ 64) c more small) (value, id_of c.1, tail, id.0, refl) turned in
     let line = mark_before now c.0 in
     let one = value_spelling_of value (id_of c.1) in
-    let front = change_lines c.0 (fired (values_behind first told) c.1) more in
-    let whole : line ++ (one ++ tail) ≡ ((line ++ one) ++ front) ++ (mark_before (last_time c.0 more) end ++ rest) =
-    sym (append_assoc (line ++ one) front (mark_before (last_time c.0 more) end ++ rest) ∙ append_assoc line one tail) in
+    let turned = turn_leads w c.0 c.1 q (one ++ (front ++ rest)) (front ++ rest) rest few most refl moved in
+    let marked = reach_time w now c.0 q (one ++ (front ++ rest)) rest falls.0
+    (All-head (λ (c : ℕ × ℕ). c.0 < 2 ^ 64) c more small) (value, id_of c.1, front ++ rest, id.0, refl) turned in
+    let whole : line ++ (one ++ (front ++ rest)) ≡ ((line ++ one) ++ front) ++ rest =
+    sym (append_assoc (line ++ one) front rest ∙ append_assoc line one (front ++ rest)) in
     subst (λ t. Leads (at_changes w now) t q rest) whole marked
 
--- a part of the first values
-values_part : (names : List (List ℕ)) (told more : List Bool) (rest : List ℕ) → length told + length more < length names →
-    Leads (at_values names told) (first_lines (length told) more ++ rest) (at_values names (told ++ more)) rest
-values_part names told [] rest few = subst (λ first. Leads (at_values names told) rest (at_values names first) rest) (sym (append-nil told)) here
-values_part names told (v ∷ more) rest few =
-    let next = values_part names (told ++ v ∷ []) more rest (omega (arith, few, length_push told v)) in
-    let moved = subst (λ first. Leads (at_values names (told ++ v ∷ [])) (first_lines (length (told ++ v ∷ [])) more ++ rest) (at_values names first) rest)
-    (append_assoc told (v ∷ []) more) next in
-    let counted = subst (λ k. Leads (at_values names (told ++ v ∷ [])) (first_lines k more ++ rest) (at_values names (told ++ v ∷ more)) rest)
-    (length_push told v) moved in
-    let more_left : (length told + 1 == length names) ≡ false = ne_eqb (length told + 1) (length names) (λ e. absurd (omega (arith, e, few))) in
-    let place : at_values names (told ++ v ∷ []) ≡ place_behind (at_values names told) (valued v) =
-    ap (λ b. if b then at_changes (wave_of names (told ++ v ∷ []) []) 0 else at_values names (told ++ v ∷ [])) (sym more_left) in
-    on (valued v) (begins_value (append_assoc (value_spelling_of v (id_of (length told))) (first_lines (length told + 1) more) rest)) refl
-    (subst (λ p. Leads p (first_lines (length told + 1) more ++ rest) (at_values names (told ++ v ∷ more)) rest) place counted)
+all_values : (names : List (List ℕ)) (first : List Bool) (rest : List ℕ) → 2 ≤ length names → length first ≡ length names →
+    Leads (at_values names []) (first_lines 0 first ++ rest) (at_changes (wave_of names first []) 0) rest
+all_values names [] rest some count = absurd (omega (arith, count, some))
+all_values names (v ∷ first) rest some count = values_lead names [] v first rest (omega (arith, count))
 
--- from the front of a text to each place
-
-to_names : (names : List (List ℕ)) (rest : List ℕ) → All IsNodeName names → length names ≤ 65537 →
-    Leads at_timescale (front_of_names names ++ rest) (at_names names) rest
-to_names names rest all few =
-    on stock (begins_timescale refl) refl (on stock (begins_scope refl) refl (names_lead [] names rest all (omega (arith, few))))
-
-to_definitions : (names : List (List ℕ)) (rest : List ℕ) → AreWaveNodes names →
-    Leads at_timescale (front_of_names names ++ (upscope_line ++ rest)) (at_definitions names) rest
-to_definitions names rest nodes =
-    chained at_timescale (at_names names) (at_definitions names) (front_of_names names ++ (upscope_line ++ rest)) (upscope_line ++ rest) rest
-    (to_names names (upscope_line ++ rest) nodes.named nodes.most) (on stock (begins_upscope nodes.some refl) refl here)
-
-to_start : (names : List (List ℕ)) (rest : List ℕ) → AreWaveNodes names →
-    Leads at_timescale (front_of_names names ++ (upscope_line ++ (definitions_line ++ rest))) (at_start names) rest
-to_start names rest nodes =
-    chained at_timescale (at_definitions names) (at_start names) (front_of_names names ++ (upscope_line ++ (definitions_line ++ rest)))
-    (definitions_line ++ rest) rest (to_definitions names (definitions_line ++ rest) nodes) (on stock (begins_definitions refl) refl here)
-
-to_values : (names : List (List ℕ)) (rest : List ℕ) → AreWaveNodes names →
-    Leads at_timescale (front_of_names names ++ (upscope_line ++ (definitions_line ++ (start_line ++ rest)))) (at_values names []) rest
-to_values names rest nodes =
-    chained at_timescale (at_start names) (at_values names []) (front_of_names names ++ (upscope_line ++ (definitions_line ++ (start_line ++ rest))))
-    (start_line ++ rest) rest (to_start names (start_line ++ rest) nodes) (on stock (begins_start refl) refl here)
-
-front_moved : (names : List (List ℕ)) (first : List Bool) (rest : List ℕ) → front_of_values names first ++ rest
-    ≡ front_of_names names ++ (upscope_line ++ (definitions_line ++ (start_line ++ (first_lines 0 first ++ rest))))
-front_moved names first rest =
-    append_assoc (front_of_names names) (upscope_line ++ (definitions_line ++ (start_line ++ first_lines 0 first))) rest
-
-to_part : (names : List (List ℕ)) (first : List Bool) (rest : List ℕ) → AreWaveNodes names → length first < length names →
-    Leads at_timescale (front_of_values names first ++ rest) (at_values names first) rest
-to_part names first rest nodes few =
-    subst (λ t. Leads at_timescale t (at_values names first) rest) (sym (front_moved names first rest))
-    (chained at_timescale (at_values names []) (at_values names first) _ (first_lines 0 first ++ rest) rest
-    (to_values names (first_lines 0 first ++ rest) nodes) (values_part names [] first rest (omega (arith, few))))
-
-to_first : (names : List (List ℕ)) (first : List Bool) (rest : List ℕ) → AreWaveNodes names → length first ≡ length names →
-    Leads at_timescale (front_of_values names first ++ rest) (at_changes (wave_of names first []) 0) rest
-to_first names [] rest nodes count = absurd (omega (arith, count, nodes.some))
-to_first names (v ∷ first) rest nodes count =
-    subst (λ t. Leads at_timescale t (at_changes (wave_of names (v ∷ first) []) 0) rest) (sym (front_moved names (v ∷ first) rest))
-    (chained at_timescale (at_values names []) (at_changes (wave_of names (v ∷ first) []) 0) _ (first_lines 0 (v ∷ first) ++ rest) rest
-    (to_values names (first_lines 0 (v ∷ first) ++ rest) nodes) (values_lead names [] v first rest (omega (arith, count))))
-
-to_changes : (w : WaveValue) (now : ℕ) (rest : List ℕ) → IsPlaceBefore rest (at_changes w now) →
-    Leads at_timescale (front_at (at_changes w now) ++ rest) (at_changes w now) rest
-to_changes w now rest is =
-    let nodes : AreWaveNodes w.names = record { some = is.0.some; most = is.0.most; named = is.1.named } in
-    let changes = change_lines 0 w.first w.changes in
-    let mark = mark_before (last_time 0 w.changes) now in
-    let whole : front_at (at_changes w now) ++ rest ≡ front_of_values w.names w.first ++ (changes ++ (mark ++ rest)) =
-    append_assoc (front_of_values w.names w.first) (changes ++ mark) rest
-    ∙ ap (λ t. front_of_values w.names w.first ++ t) (append_assoc changes mark rest) in
-    subst (λ t. Leads at_timescale t (at_changes w now) rest) (sym whole)
-    (chained at_timescale (at_changes (wave_of w.names w.first []) 0) (at_changes w now) _ (changes ++ (mark ++ rest)) rest
-    (to_first w.names w.first (changes ++ (mark ++ rest)) nodes is.0.values)
-    (changes_lead w.names w.first [] w.changes 0 now rest is.0.most is.0.nodes is.1.small is.0.times is.2))
-
-pub led_to : (p : WavePlace) (rest : List ℕ) → IsPlaceBefore rest p → Leads at_timescale (front_at p ++ rest) p rest
-led_to at_timescale rest is = here
-led_to at_scope rest is = on stock (begins_timescale refl) refl here
-led_to (at_names names) rest is = to_names names rest is.1 is.0
-led_to (at_definitions names) rest is =
-    subst (λ t. Leads at_timescale t (at_definitions names) rest) (sym (append_assoc (front_of_names names) upscope_line rest))
-    (to_definitions names rest is)
-led_to (at_start names) rest is =
-    subst (λ t. Leads at_timescale t (at_start names) rest) (sym (append_assoc (front_of_names names) (upscope_line ++ definitions_line) rest))
-    (to_start names rest is)
-led_to (at_values names first) rest is = to_part names first rest is.0 is.1
-led_to (at_changes w now) rest is = to_changes w now rest is
-
-pub led_told : (text : List ℕ) (lines : ℕ) (p : WavePlace) (rest : List ℕ) → IsToldTo text lines p rest → Leads at_timescale text p rest
-led_told text lines p rest so_far =
-    subst (λ t. Leads at_timescale t p rest) (sym so_far.told) (led_to p rest so_far.reached)
+pub wave_leads : (w : WaveValue) → IsWave w → IsKeptWave w → Leads at_timescale (wave_spelling w) (at_changes w (last_time 0 w.changes)) []
+wave_leads w is kept =
+    let end = at_changes w (last_time 0 w.changes) in
+    let changes = change_lines 0 w.first w.changes ++ [] in
+    let values = first_lines 0 w.first ++ changes in
+    let rest = upscope_line ++ (definitions_line ++ (start_line ++ values)) in
+    on stock (begins_timescale refl) refl (on stock (begins_scope refl) refl
+    (chained (at_names []) (at_names w.names) end (naming_lines 0 w.names ++ rest) rest [] (names_lead [] w.names rest kept.named (omega (arith, is.most)))
+    (on stock (begins_upscope is.some refl) refl (on stock (begins_definitions refl) refl (on stock (begins_start refl) refl
+    (chained (at_values w.names []) (at_changes (wave_of w.names w.first []) 0) end values changes [] (all_values w.names w.first changes is.some is.values)
+    (changes_lead w.names w.first [] w.changes 0 [] is.most is.nodes kept.small is.times)))))))

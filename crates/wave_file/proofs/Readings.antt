@@ -16,19 +16,11 @@ use Rattle.wave_file.specs.declared.read.Told.{Told}
 use Rattle.wave_file.specs.Waves.{WaveValue, wave_of, wave_spelling, var_spelling, id_of, value_spelling_of, time_mark, change_lines, naming_lines, first_lines, mark_before}
 use Rattle.wave_file.specs.WaveFaults.{OfWaveRefusal}
 use Rattle.wave_file.specs.WaveLines.{GoesOnWithChange, is_id, id_value}
-use Rattle.wave_file.specs.WaveReading.{WavePlace, at_timescale, at_scope, at_names, at_definitions, at_start, at_values, at_changes, timescale_line, scope_line, upscope_line, definitions_line, start_line, front_of_values, last_time, front_at, WaveLine, stock, named, valued, timed, turned, BeginsWith, begins_timescale, begins_scope, begins_name, begins_upscope, begins_definitions, begins_start, begins_value, begins_time, begins_turn, values_behind, has_value, turn_fault, wave_line_fault, MayEndAt, IsFaultAt, no_line, bad_line, IsToldTo, IsWaveRefused, IsWaveText, place_behind}
+use Rattle.wave_file.specs.WaveReading.{WavePlace, at_timescale, at_scope, at_names, at_definitions, at_start, at_values, at_changes, timescale_line, scope_line, upscope_line, definitions_line, start_line, WaveLine, named, valued, timed, turned, BeginsWith, begins_timescale, begins_scope, begins_name, begins_upscope, begins_definitions, begins_start, begins_value, begins_time, begins_turn, values_behind, has_value, turn_fault, wave_line_fault, MayEndAt, IsFaultAt, no_line, bad_line, IsToldTo, at_first_line, by_line, IsWaveRefused, IsWaveText, place_behind}
 use Rattle.wave_file.specs.WaveTold.{IsLineOn, IsRefusedFrom, IsSoFar, with_turn, ComesOn}
-use Rattle.wave_file.proofs.Stepping.{step, same_mark}
+use Rattle.wave_file.proofs.Fronts.{front_of_values, last_time, front_at, IsFront}
+use Rattle.wave_file.proofs.Stepping.{front_told, same_mark}
 use Rattle.wave_file.proofs.WaveTexts.{values_push}
-
-pub told_step : (whole rest behind : List ℕ) (lines : ℕ) (p : WavePlace) (l : WaveLine) → IsToldTo whole lines p rest → BeginsWith rest behind p l →
-    wave_line_fault p l ≡ None → IsToldTo whole (lines + 1) (place_behind p l) behind
-told_step whole rest behind lines p l so_far begins none =
-    let next = step p l rest behind so_far.reached begins none in
-    record { told = so_far.told ∙ sym next.told; number = ap (λ n. n + 1) so_far.number ∙ sym next.number; reached = next.reached }
-
-pub told_begin : (text : List ℕ) → IsToldTo text 0 at_timescale text
-told_begin text = record { told = refl; number = refl; reached = tt }
 
 pub refuse : (whole : List ℕ) (lines : ℕ) (p : WavePlace) (rest : List ℕ) (fault : WaveFault) (line : ℕ) → IsToldTo whole lines p rest →
     IsFaultAt p rest fault → line ≡ lines + 1 → IsWaveRefused whole fault line
@@ -37,7 +29,7 @@ refuse whole lines p rest fault line so_far here number =
 
 -- what is left is no longer than the whole
 pub told_short : (whole : List ℕ) (lines : ℕ) (p : WavePlace) (rest : List ℕ) → IsToldTo whole lines p rest → length rest ≤ length whole
-told_short whole lines p rest so_far = omega (arith, ap length so_far.told, length-append (front_at p) rest)
+told_short whole lines p rest so_far = omega (arith, ap length (front_told whole lines p rest so_far).told, length-append (front_at p) rest)
 
 pub line_short : (line rest behind : List ℕ) → rest ≡ line ++ behind → length behind ≤ length rest
 line_short line rest behind is = omega (arith, ap length is, length-append line behind)
@@ -97,17 +89,17 @@ abbrev pub IsRefusedLine : (line rest : List ℕ) → ℕ → WaveError → Type
 IsRefusedLine line rest number e = OfWaveRefusal (λ fault n. (fault ≡ BadLine) × (n ≡ number) × ((more : List ℕ) → rest ≢ line ++ more)) e
 
 pub timescale_refused : (text : List ℕ) (e : WaveError) → IsRefusedLine timescale_line text 1 e → OfWaveRefusal (IsWaveRefused text) e
-timescale_refused text e h = stock_refused at_timescale timescale_line text text 0 1 (told_begin text) (λ end. end) (only_timescale text) refl e h
+timescale_refused text e h = stock_refused at_timescale timescale_line text text 0 1 at_first_line (λ end. end) (only_timescale text) refl e h
 
 scope_told : (text rest : List ℕ) → text ≡ timescale_line ++ rest → IsToldTo text 1 at_scope rest
-scope_told text rest is = told_step text text rest 0 at_timescale stock (told_begin text) (begins_timescale is) refl
+scope_told text rest is = by_line at_first_line (begins_timescale is) refl
 
 pub scope_refused : (text rest : List ℕ) (e : WaveError) → text ≡ timescale_line ++ rest → IsRefusedLine scope_line rest 2 e →
     OfWaveRefusal (IsWaveRefused text) e
 scope_refused text rest e is h = stock_refused at_scope scope_line rest text 1 2 (scope_told text rest is) (λ end. end) (only_scope rest) refl e h
 
 pub head_told : (text rest behind : List ℕ) → text ≡ timescale_line ++ rest → rest ≡ scope_line ++ behind → IsToldTo text 2 (at_names []) behind
-head_told text rest behind is whole = told_step text rest behind 1 at_scope stock (scope_told text rest is) (begins_scope whole) refl
+head_told text rest behind is whole = by_line (scope_told text rest is) (begins_scope whole) refl
 
 pub head_all : (r : Result (Bor (List ℕ)) WaveError) (text mid : List ℕ) → text ≡ timescale_line ++ mid → IfOk r (λ x. mid ≡ scope_line ++ x.now) →
     IfOk r (λ x. IsToldTo text 2 (at_names []) x.now)
@@ -125,7 +117,7 @@ pub names_more : (whole rest behind : List ℕ) (names : List (List ℕ)) (name 
     length names < 65537 → IsNodeName name → rest ≡ var_spelling (length names) name ++ behind →
     IsToldTo whole (length (names ++ name ∷ []) + 2) (at_names (names ++ name ∷ [])) behind
 names_more whole rest behind names name so_far few is begins =
-    let next = told_step whole rest behind (length names + 2) (at_names names) (named name) so_far (begins_name is begins)
+    let next = by_line so_far (begins_name is begins)
     (ap (λ b. if b then None else Some TooMany) (lt-ltb (length names) 65537 few)) in
     let count : (length names + 2) + 1 ≡ length (names ++ name ∷ []) + 2 = omega (arith, length_push names name) in
     subst (λ n. IsToldTo whole n (at_names (names ++ name ∷ [])) behind) count next
@@ -162,7 +154,7 @@ upscope_refused whole rest names number e so_far none count h =
 pub upscope_told : (whole rest behind : List ℕ) (names : List (List ℕ)) → IsToldTo whole (length names + 2) (at_names names) rest → 2 ≤ length names →
     rest ≡ upscope_line ++ behind → IsToldTo whole (length names + 3) (at_definitions names) behind
 upscope_told whole rest behind names so_far some is =
-    let next = told_step whole rest behind (length names + 2) (at_names names) stock so_far (begins_upscope some is) refl in
+    let next = by_line so_far (begins_upscope some is) refl in
     let count : (length names + 2) + 1 ≡ length names + 3 = omega arith in
     subst (λ n. IsToldTo whole n (at_definitions names) behind) count next
 
@@ -178,7 +170,7 @@ definitions_refused whole rest names number e so_far count h =
 definitions_told : (whole rest behind : List ℕ) (names : List (List ℕ)) → IsToldTo whole (length names + 3) (at_definitions names) rest →
     rest ≡ definitions_line ++ behind → IsToldTo whole (length names + 4) (at_start names) behind
 definitions_told whole rest behind names so_far is =
-    let next = told_step whole rest behind (length names + 3) (at_definitions names) stock so_far (begins_definitions is) refl in
+    let next = by_line so_far (begins_definitions is) refl in
     let count : (length names + 3) + 1 ≡ length names + 4 = omega arith in
     subst (λ n. IsToldTo whole n (at_start names) behind) count next
 
@@ -192,8 +184,7 @@ start_refused whole rest behind names number e so_far is count h =
 pub start_told : (whole rest behind more : List ℕ) (names : List (List ℕ)) → IsToldTo whole (length names + 3) (at_definitions names) rest →
     rest ≡ definitions_line ++ behind → behind ≡ start_line ++ more → IsToldTo whole (length names + 5) (at_values names []) more
 start_told whole rest behind more names so_far is also =
-    let next = told_step whole behind more (length names + 4) (at_start names) stock (definitions_told whole rest behind names so_far is)
-    (begins_start also) refl in
+    let next = by_line (definitions_told whole rest behind names so_far is) (begins_start also) refl in
     let count : (length names + 4) + 1 ≡ length names + 5 = omega arith in
     subst (λ n. IsToldTo whole n (at_values names []) more) count next
 
@@ -229,7 +220,7 @@ pub values_begin : (whole rest : List ℕ) (names : List (List ℕ)) → IsToldT
 values_begin whole rest names so_far =
     let count : length names + 5 ≡ length names + 0 + 5 = omega arith in
     subst (λ n. IsToldTo whole n (place_of_values names []) rest) count (subst (λ p. IsToldTo whole (length names + 5) p rest)
-    (sym (values_open names [] (omega (arith, so_far.reached.1)))) so_far)
+    (sym (values_open names [] (omega (arith, (front_told whole (length names + 5) (at_values names []) rest so_far).reached.1)))) so_far)
 
 pub values_more : (whole rest behind : List ℕ) (names : List (List ℕ)) (first : List Bool) (value : Bool) (node : ℕ) → node ≡ length first →
     node < length names → IsToldTo whole (length names + node + 5) (place_of_values names first) rest →
@@ -238,9 +229,8 @@ pub values_more : (whole rest behind : List ℕ) (names : List (List ℕ)) (firs
 values_more whole rest behind names first value node is some so_far begins =
     let here : IsToldTo whole (length names + node + 5) (at_values names first) rest =
     subst (λ p. IsToldTo whole (length names + node + 5) p rest) (values_open names first (omega (arith, is, some))) so_far in
-    let next = told_step whole rest behind (length names + node + 5) (at_values names first) (valued value) here
-    (begins_value (begins ∙ ap (λ k. value_spelling_of value (id_of k) ++ behind) is)) refl in
     let count : (length names + node + 5) + 1 ≡ length names + (node + 1) + 5 = omega arith in
+    let next = by_line here (begins_value (begins ∙ ap (λ k. value_spelling_of value (id_of k) ++ behind) is)) refl in
     let place : place_behind (at_values names first) (valued value) ≡ place_of_values names (first ++ value ∷ []) =
     ap (λ n. if n == length names then at_changes (wave_of names (first ++ value ∷ []) []) 0 else at_values names (first ++ value ∷ []))
     (sym (length_push first value)) in
@@ -291,9 +281,6 @@ shorter rest behind p l (begins_turn {value = true} {id = id} is whole) = omega 
 shorter rest behind p l (begins_turn {value = false} {id = id} is whole) = omega (arith, ap length whole, length-append (value_spelling_of false id) behind)
 
 -- a change
-
-pub has_same : (vs ws : List Bool) (node n : ℕ) (value : Bool) → vs ≡ ws → node ≡ n → has_value vs node value ≡ has_value ws n value
-has_same vs ws node n value e f = ap (λ (v : List Bool). has_value v node value) e ∙ ap (λ (k : ℕ). has_value ws k value) f
 
 pub turn_unknown : (nodes : ℕ) (values : List Bool) (value : Bool) (id : List ℕ) → nodes ≤ id_value id →
     turn_fault nodes values value id ≡ Some UnknownId
@@ -377,7 +364,7 @@ change_wrong w now text some no_turn no_mark = no_line (λ end. absurd (omega (a
     never l behind (begins_time small goes is) = no_mark _ behind small goes is
     never l behind (begins_turn form is) = no_turn _ _ behind form is
 
-pub spelling_pieces : (w : WaveValue) (all : List ℕ) → front_of_values w.names w.first ++ (all ++ [])
+spelling_pieces : (w : WaveValue) (all : List ℕ) → front_of_values w.names w.first ++ (all ++ [])
     ≡ timescale_line ++ (scope_line ++ (naming_lines 0 w.names ++ (upscope_line ++ (definitions_line ++ (start_line ++ (first_lines 0 w.first
     ++ (all ++ [])))))))
 spelling_pieces w all =
@@ -392,9 +379,8 @@ no_change_behind change = by_value change.0 change.4
     by_value false e = absurd (cc e)
 
 -- where nothing is left, the text is that of the wave
-whole_is : (w : WaveValue) (now : ℕ) (whole rest : List ℕ) (lines : ℕ) → IsToldTo whole lines (at_changes w now) rest → rest ≡ [] →
-    whole ≡ wave_spelling w
-whole_is w now whole rest lines so_far over = by_mark so_far.reached.2
+whole_is : (w : WaveValue) (now : ℕ) (whole rest : List ℕ) → IsFront whole (at_changes w now) rest → rest ≡ [] → whole ≡ wave_spelling w
+whole_is w now whole rest front over = by_mark front.reached.2
   where
     last : ℕ
     last = last_time 0 w.changes
@@ -402,7 +388,7 @@ whole_is w now whole rest lines so_far over = by_mark so_far.reached.2
     spelled : mark_before last now ≡ [] → whole ≡ wave_spelling w
     spelled none =
         let all = change_lines 0 w.first w.changes in
-        so_far.told ∙ ap (λ t. front_at (at_changes w now) ++ t) over ∙ append-nil (front_at (at_changes w now))
+        front.told ∙ ap (λ t. front_at (at_changes w now) ++ t) over ∙ append-nil (front_at (at_changes w now))
         ∙ ap (λ t. front_of_values w.names w.first ++ (all ++ t)) none ∙ spelling_pieces w all
 
     by_mark : (now ≡ last) ⊎ ((last < now) × (now < 2 ^ 64) × GoesOnWithChange rest) → whole ≡ wave_spelling w
@@ -429,7 +415,7 @@ none_left (b ∷ rest) empty is over = absurd (omega (arith, eqb-true (length (b
 
 pub changes_more : (rest behind : List ℕ) (lines : ℕ) (p q : WavePlace) → IsLineOn rest behind p q → ComesOn lines p rest (lines + 1) q behind
 changes_more rest behind lines p q on = λ whole so_far.
-    subst (λ (k : WavePlace). IsToldTo whole (lines + 1) k behind) (sym on.3) (told_step whole rest behind lines p on.0 so_far on.1 on.2)
+    subst (λ (k : WavePlace). IsToldTo whole (lines + 1) k behind) (sym on.3) (by_line so_far on.1 on.2)
 
 pub changes_shorter : (rest behind : List ℕ) (p q : WavePlace) → IsLineOn rest behind p q → length behind < length rest
 changes_shorter rest behind p q on = shorter rest behind p on.0 on.1
@@ -437,4 +423,5 @@ changes_shorter rest behind p q on = shorter rest behind p on.0 on.1
 pub changes_over : (w : WaveValue) (now : ℕ) (whole rest : List ℕ) (lines : ℕ) → IsToldTo whole lines (at_changes w now) rest → rest ≡ [] →
     IsWaveText whole w
 changes_over w now whole rest lines so_far over =
-    record { wave = so_far.reached.0; kept = so_far.reached.1; spelled = whole_is w now whole rest lines so_far over }
+    let front = front_told whole lines (at_changes w now) rest so_far in
+    record { wave = front.reached.0; kept = front.reached.1; spelled = whole_is w now whole rest front over }

@@ -8,25 +8,23 @@ use Rattle.chp_base.specs.Names.{IsNodeName}
 use Rattle.prs_core.specs.Moves.{high}
 use Rattle.wave_file.specs.declared.fault.WaveFault.TheVariants.{TimeBack, TooMany, UnknownId, NoChange}
 use Rattle.wave_file.specs.Waves.{WaveValue, wave_of, IsWave, IsKeptWave, NeverFall, var_spelling, naming_lines, id_of, value_spelling_of, first_lines, time_mark, mark_before, change_lines}
-use Rattle.wave_file.specs.WaveLines.{is_id, id_value, GoesOnWithChange, line_ends}
-use Rattle.wave_file.specs.WaveReading.{WavePlace, at_timescale, at_scope, at_names, at_definitions, at_start, at_values, at_changes, timescale_line, scope_line, upscope_line, definitions_line, start_line, front_of_names, front_of_values, last_time, front_at, AreWaveNodes, IsPlaceBefore, WaveLine, valued, BeginsWith, begins_timescale, begins_scope, begins_name, begins_upscope, begins_definitions, begins_start, begins_value, begins_time, begins_turn, values_behind, has_value, wave_line_fault, place_behind}
+use Rattle.wave_file.specs.WaveLines.{is_id, id_value, GoesOnWithChange}
+use Rattle.wave_file.specs.WaveReading.{WavePlace, at_timescale, at_scope, at_names, at_definitions, at_start, at_values, at_changes, timescale_line, scope_line, upscope_line, definitions_line, start_line, WaveLine, valued, BeginsWith, begins_timescale, begins_scope, begins_name, begins_upscope, begins_definitions, begins_start, begins_value, begins_time, begins_turn, values_behind, has_value, wave_line_fault, place_behind, IsToldTo, at_first_line, by_line}
 use Rattle.wave_file.proofs.Cutting.{same_byte}
-use Rattle.wave_file.proofs.Ends.{ends_append, var_ends, value_ends, time_ends}
-use Rattle.wave_file.proofs.IdLemmas.{id_back, id_of_is}
+use Rattle.wave_file.proofs.Fronts.{front_of_names, front_of_values, last_time, front_at, AreWaveNodes, IsPlaceBefore, IsFront}
+use Rattle.wave_file.proofs.IdLemmas.{id_back}
 use Rattle.wave_file.proofs.WaveTexts.{var_push, first_push, change_push}
 
 -- from one place to the next
 pub record IsOneLine (p q : WavePlace) (rest behind : List ℕ) : Type 0 where
   pub reached : IsPlaceBefore behind q
   pub told : front_at q ++ behind ≡ front_at p ++ rest
-  pub number : line_ends (front_at q) ≡ line_ends (front_at p) + 1
 
 one_line : (p q : WavePlace) (line rest behind : List ℕ) → IsPlaceBefore behind q → front_at q ≡ front_at p ++ line → rest ≡ line ++ behind →
-    line_ends line ≡ 1 → IsOneLine p q rest behind
-one_line p q line rest behind reached front is ends = record {
+    IsOneLine p q rest behind
+one_line p q line rest behind reached front is = record {
   reached = reached;
   told = ap (λ t. t ++ behind) front ∙ append_assoc (front_at p) line behind ∙ ap (λ t. front_at p ++ t) (sym is);
-  number = ap line_ends front ∙ ends_append (front_at p) line ∙ ap (λ n. line_ends (front_at p) + n) ends;
 }
 
 -- a further name
@@ -41,24 +39,23 @@ pub name_more : (names : List (List ℕ)) (name rest behind : List ℕ) → All 
 name_more names name rest behind all few is whole =
     one_line (at_names names) (at_names (names ++ name ∷ [])) (var_spelling (length names) name) rest behind
     (omega (arith, length_push names name), All-push IsNodeName names name all is) (name_front names name) whole
-    (var_ends (length names) name (omega arith) is)
 
 pub names_over : (names : List (List ℕ)) (rest behind : List ℕ) → length names ≤ 65537 → All IsNodeName names → 2 ≤ length names →
     rest ≡ upscope_line ++ behind → IsOneLine (at_names names) (at_definitions names) rest behind
 names_over names rest behind few all some whole =
-    one_line (at_names names) (at_definitions names) upscope_line rest behind (record { some = some; most = few; named = all }) refl whole refl
+    one_line (at_names names) (at_definitions names) upscope_line rest behind (record { some = some; most = few; named = all }) refl whole
 
 pub definitions_over : (names : List (List ℕ)) (rest behind : List ℕ) → AreWaveNodes names → rest ≡ definitions_line ++ behind →
     IsOneLine (at_definitions names) (at_start names) rest behind
 definitions_over names rest behind nodes whole =
     one_line (at_definitions names) (at_start names) definitions_line rest behind nodes
-    (sym (append_assoc (front_of_names names) upscope_line definitions_line)) whole refl
+    (sym (append_assoc (front_of_names names) upscope_line definitions_line)) whole
 
 pub start_over : (names : List (List ℕ)) (rest behind : List ℕ) → AreWaveNodes names → rest ≡ start_line ++ behind →
     IsOneLine (at_start names) (at_values names []) rest behind
 start_over names rest behind nodes whole =
     one_line (at_start names) (at_values names []) start_line rest behind (nodes, omega (arith, nodes.some))
-    (sym (append_assoc (front_of_names names) (upscope_line ++ definitions_line) start_line)) whole refl
+    (sym (append_assoc (front_of_names names) (upscope_line ++ definitions_line) start_line)) whole
 
 -- a further first value
 
@@ -88,9 +85,6 @@ pub value_more : (names : List (List ℕ)) (first : List Bool) (value : Bool) (r
     IsOneLine (at_values names first) (place_behind (at_values names first) (valued value)) rest behind
 value_more names first value rest behind nodes some whole = by_count (length first + 1 == length names) refl
   where
-    few : length first < 830584
-    few = omega (arith, nodes.most, some)
-
     by_count : (e : Bool) → (length first + 1 == length names) ≡ e → IsOneLine (at_values names first) (if e
         then at_changes (wave_of names (first ++ value ∷ []) []) 0 else at_values names (first ++ value ∷ [])) rest behind
     by_count true is =
@@ -98,13 +92,11 @@ value_more names first value rest behind nodes some whole = by_count (length fir
         one_line (at_values names first) (at_changes (wave_of names (first ++ value ∷ []) []) 0) (value_spelling_of value (id_of (length first))) rest behind
         (begin_reached names (first ++ value ∷ []) behind nodes (length_push first value ∙ count))
         (begin_front names (first ++ value ∷ []) ∙ value_front names first value) whole
-        (value_ends value (id_of (length first)) (id_of_is (length first) few).0)
     by_count false is =
         let other : length first + 1 ≡ length names → ⊥ = λ e. absurd (cc (is, same_count (length first + 1) (length names) e)) in
         let below : length first + 1 < length names = by_less (cases_lt (length first + 1) (length names)) other in
         one_line (at_values names first) (at_values names (first ++ value ∷ [])) (value_spelling_of value (id_of (length first))) rest behind
         (nodes, omega (arith, length_push first value, below)) (value_front names first value) whole
-        (value_ends value (id_of (length first)) (id_of_is (length first) few).0)
       where
         same_count : (m n : ℕ) → m ≡ n → (m == n) ≡ true
         same_count m n e = grind arith
@@ -146,7 +138,7 @@ mark_more w now time rest behind reached later small goes_on whole = by_mark rea
         (reached.0, reached.1, inr (omega (arith, later, is), small, goes_on))
         (ap (λ t. front_of_values w.names w.first ++ t) inner
         ∙ sym (append_assoc (front_of_values w.names w.first) (all ++ mark_before last now) (time_mark time)))
-        whole (time_ends time small)
+        whole
     by_mark (inr marked) =
         let change = marked.2 in
         absurd (no_mark_and_turn time change.0 change.1 behind change.2 (sym whole ∙ change.4))
@@ -192,7 +184,7 @@ turn_more w now value id rest behind reached form few other whole =
     (more_wave, more_kept, inl (sym (last_push 0 w.changes now node)))
     (ap (λ t. front_of_values w.names w.first ++ t) inner
     ∙ sym (append_assoc (front_of_values w.names w.first) (all ++ mark_before last now) line))
-    whole (value_ends value id form)
+    whole
   where
     node : ℕ
     node = id_value id
@@ -225,9 +217,9 @@ turn_more w now value id rest behind reached form few other whole =
 -- each line without a fault leads to the place behind it
 pub step : (p : WavePlace) (l : WaveLine) (rest behind : List ℕ) → IsPlaceBefore rest p → BeginsWith rest behind p l → wave_line_fault p l ≡ None →
     IsOneLine p (place_behind p l) rest behind
-step p l rest behind reached (begins_timescale whole) none = one_line at_timescale at_scope timescale_line rest behind tt refl whole refl
+step p l rest behind reached (begins_timescale whole) none = one_line at_timescale at_scope timescale_line rest behind tt refl whole
 step p l rest behind reached (begins_scope whole) none =
-    one_line at_scope (at_names []) scope_line rest behind (omega arith, All-nil IsNodeName) refl whole refl
+    one_line at_scope (at_names []) scope_line rest behind (omega arith, All-nil IsNodeName) refl whole
 step p l rest behind reached (begins_name {names = names} {name = name} is whole) none =
     by_count (cases_lt (length names) 65537)
   where
@@ -261,3 +253,11 @@ step p l rest behind reached (begins_turn {w = w} {now = now} {value = value} {i
         below : (id_value id < length w.names) ⊎ (length w.names ≤ id_value id) → id_value id < length w.names
         below (inl less) = less
         below (inr more) = absurd (cc (is, at_most (length w.names) (id_value id) more))
+
+-- so what is so at each position follows line by line
+pub front_told : (text : List ℕ) (lines : ℕ) (p : WavePlace) (rest : List ℕ) → IsToldTo text lines p rest → IsFront text p rest
+front_told text lines p rest at_first_line = record { told = refl; reached = tt }
+front_told text lines p rest (by_line {lines = k} {place = q} {rest = was} {l = l} before begins none) =
+    let so_far = front_told text k q was before in
+    let next = step q l was rest so_far.reached begins none in
+    record { told = so_far.told ∙ sym next.told; reached = next.reached }

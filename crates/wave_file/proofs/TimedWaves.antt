@@ -242,20 +242,21 @@ few_nodes : (o : Option ℕ) → most_nodes o ≤ 65537
 few_nodes None = omega arith
 few_nodes (Some node) = omega arith
 
-power_many : (net : NetValue) → length (power_of net false) ≡ length net.first
-power_many net = by_reset net.reset
+power_many : (net : NetValue) (high : Bool) → length (power_of net high) ≡ length net.first
+power_many net high = by_reset net.reset
   where
     by_reset : (o : Option ℕ) →
-        length (if is_some o then map (power_value net false) (range_with_len 0 (length net.first)) else net.first) ≡ length net.first
+        length (if is_some o then map (power_value net high) (range_with_len 0 (length net.first)) else net.first) ≡ length net.first
     by_reset None = refl
     by_reset (Some node) =
-        length-map (range_with_len 0 (length net.first)) (power_value net false) ∙ length-range_with_len 0 (length net.first)
+        length-map (range_with_len 0 (length net.first)) (power_value net high) ∙ length-range_with_len 0 (length net.first)
 
-pub is_wave : (t : TimedValue) (ms : List NotedMove) (r : RanValue) (u : ℕ) → IsNet t.net → IsTimedRan t ms r u → IsWave (wave_of_run t.net ms)
+pub is_wave : (t : TimedValue) (ms : List NotedMove) (r : RanValue) (u : ℕ) → IsNet t.net → IsTimedRan t ms r u →
+    IsWave (wave_of_run t.net t.high ms)
 is_wave t ms r u net ran = record {
   some = omega (arith, net.named, net.some);
   most = omega (arith, net.named, net.most, few_nodes t.net.reset);
-  values = power_many t.net ∙ sym net.named;
+  values = power_many t.net t.high ∙ sym net.named;
   nodes = λ i d below.
       subst (λ (n : ℕ). (get_or (timed_changes ms) i d).1 < n) (sym net.named) (changes_in t.net t.script (timed_start t) ms net ran.run i d below);
   times = never_fall t.delays t.net t.script (timed_start t) ms ran.timed;

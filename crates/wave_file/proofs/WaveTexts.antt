@@ -4,7 +4,8 @@ use Rattle.std.specs.Prelude.{not}
 use Rattle.std.proofs.lemmas.List.{append_assoc, append-nil}
 use Rattle.prs_core.specs.Moves.{high, fired}
 use Rattle.wave_file.specs.Waves.{var_spelling, naming_lines, value_spelling_of, id_of, first_lines, mark_before, change_lines}
-use Rattle.wave_file.specs.WaveReading.{values_behind, last_time}
+use Rattle.wave_file.specs.WaveReading.{values_behind}
+use Rattle.wave_file.proofs.Fronts.{last_time}
 
 pub var_push : (node : ℕ) (names : List (List ℕ)) (name : List ℕ) →
     naming_lines node (names ++ name ∷ []) ≡ naming_lines node names ++ var_spelling (node + length names) name

@@ -1,5 +1,5 @@
 -- The wave of a run.
-use Rattle.std.specs.Prelude.{ℕ, List, map, false}
+use Rattle.std.specs.Prelude.{ℕ, Bool, List, map}
 use Rattle.prs_core.specs.Nets.{NetValue}
 use Rattle.event_sim.specs.Following.{power_of}
 use Rattle.delay_script.specs.declared.noted.NotedMove.{NotedMove}
@@ -8,7 +8,6 @@ use Rattle.wave_file.specs.Waves.{WaveValue, wave_of}
 abbrev pub timed_changes : List NotedMove → List (ℕ × ℕ)
 timed_changes ms = map (λ (m : NotedMove). (m.time, m.node)) ms
 
--- The nodes with their values at power-up, low where the net has a reset node and the node has rules, and a change for
--- each move.
-abbrev pub wave_of_run : NetValue → List NotedMove → WaveValue
-wave_of_run net ms = wave_of net.names (power_of net false) (timed_changes ms)
+-- The nodes with their values at power-up, and a change for each move.
+abbrev pub wave_of_run : NetValue → (high : Bool) → List NotedMove → WaveValue
+wave_of_run net high ms = wave_of net.names (power_of net high) (timed_changes ms)

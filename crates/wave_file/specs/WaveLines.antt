@@ -1,6 +1,6 @@
 -- Identifiers, changes and names as they are spelled in a text.
 use Rattle.std.specs.Prelude.{◌≡◌, ℕ, ◌+◌, ◌-◌, ◌*◌, Bool, not, ◌&&◌, ◌||◌, ◌==◌, List, [], ◌∷◌, ◌++◌, length, slice_index_or, true}
-use Rattle.std.specs.List.{list_all, count_by}
+use Rattle.std.specs.List.{list_all}
 use Rattle.chp_base.specs.Names.{between}
 use Rattle.wave_file.specs.Waves.{value_spelling_of}
 
@@ -27,7 +27,3 @@ GoesOnWithChange text = (value : Bool) × (id : List ℕ) × (behind : List ℕ)
 -- none of the bytes is this one
 abbrev pub is_free_of : ℕ → List ℕ → Bool
 is_free_of end text = list_all (λ b. not (b == end)) text
-
--- how many lines end in the text
-abbrev pub line_ends : List ℕ → ℕ
-line_ends text = count_by (λ b. b == 10) text

@@ -1,11 +1,11 @@
 -- Reading a wave: what a text has said before each of its lines, what may come there, and why a text is refused.
-use Rattle.std.specs.Prelude.{◌≡◌, ◌⊎◌, ℕ, ◌+◌, ◌^◌, ◌<◌, ◌≤◌, Bool, true, not, ◌==◌, nat_lt, nat_le, List, [], ◌∷◌, ◌++◌, length, All, codes, Option, Some, None, if◌then◌else◌}
+use Rattle.std.specs.Prelude.{◌≡◌, ℕ, ◌+◌, ◌^◌, ◌<◌, ◌≤◌, Bool, true, not, ◌==◌, nat_lt, nat_le, List, [], ◌∷◌, ◌++◌, length, codes, Option, Some, None, if◌then◌else◌}
 use Rattle.chp_base.specs.Names.{IsNodeName}
 use Rattle.prs_core.specs.Moves.{high, fired}
 use Rattle.wave_file.specs.declared.fault.WaveFault.{WaveFault}
 use Rattle.wave_file.specs.declared.fault.WaveFault.TheVariants.{BadLine, UnknownId, TimeBack, NoChange, TooMany}
-use Rattle.wave_file.specs.Waves.{WaveValue, wave_of, IsWave, IsKeptWave, var_spelling, naming_lines, id_of, value_spelling_of, first_lines, time_mark, mark_before, change_lines, wave_spelling}
-use Rattle.wave_file.specs.WaveLines.{is_id, id_value, GoesOnWithChange, line_ends}
+use Rattle.wave_file.specs.Waves.{WaveValue, wave_of, IsWave, IsKeptWave, var_spelling, id_of, value_spelling_of, time_mark, wave_spelling}
+use Rattle.wave_file.specs.WaveLines.{is_id, id_value, GoesOnWithChange}
 
 -- the text is that of a wave
 pub record IsWaveText (text : List ℕ) (w : WaveValue) : Type 0 where
@@ -38,47 +38,6 @@ definitions_line = codes "$enddefinitions $end\n"
 
 abbrev pub start_line : List ℕ
 start_line = codes "#0\n"
-
--- the text before a position
-
-abbrev pub front_of_names : List (List ℕ) → List ℕ
-front_of_names names = timescale_line ++ (scope_line ++ naming_lines 0 names)
-
-abbrev pub front_of_values : List (List ℕ) → List Bool → List ℕ
-front_of_values names first =
-    front_of_names names ++ (upscope_line ++ (definitions_line ++ (start_line ++ first_lines 0 first)))
-
--- the time of the last change
-abbrev pub last_time : ℕ → List (ℕ × ℕ) → ℕ
-last_time now [] = now
-last_time now (c ∷ cs) = last_time c.0 cs
-
-abbrev pub front_at : WavePlace → List ℕ
-front_at at_timescale = []
-front_at at_scope = timescale_line
-front_at (at_names names) = front_of_names names
-front_at (at_definitions names) = front_of_names names ++ upscope_line
-front_at (at_start names) = front_of_names names ++ (upscope_line ++ definitions_line)
-front_at (at_values names first) = front_of_values names first
-front_at (at_changes w now) = front_of_values w.names w.first
-    ++ (change_lines 0 w.first w.changes ++ mark_before (last_time 0 w.changes) now)
-
--- a wave's nodes
-pub record AreWaveNodes (names : List (List ℕ)) : Type 0 where
-  pub some : 2 ≤ length names
-  pub most : length names ≤ 65537
-  pub named : All IsNodeName names
-
--- a text may come to a position, before this rest of it: after a mark of a time it goes on with a change
-abbrev pub IsPlaceBefore : List ℕ → WavePlace → Type 0
-IsPlaceBefore rest at_timescale = Unit {0}
-IsPlaceBefore rest at_scope = Unit {0}
-IsPlaceBefore rest (at_names names) = (length names ≤ 65537) × All IsNodeName names
-IsPlaceBefore rest (at_definitions names) = AreWaveNodes names
-IsPlaceBefore rest (at_start names) = AreWaveNodes names
-IsPlaceBefore rest (at_values names first) = AreWaveNodes names × (length first < length names)
-IsPlaceBefore rest (at_changes w now) = IsWave w × IsKeptWave w × ((now ≡ last_time 0 w.changes)
-    ⊎ ((last_time 0 w.changes < now) × (now < 2 ^ 64) × GoesOnWithChange rest))
 
 -- what a line says: only that it is the fixed line of its position, or the name of the next node, its first value, a
 -- time, or a change to a value by the identifier
@@ -144,21 +103,6 @@ pub data IsFaultAt (place : WavePlace) (rest : List ℕ) : WaveFault → Type 0 
   bad_line : {l : WaveLine} {behind : List ℕ} {fault : WaveFault} → BeginsWith rest behind place l →
       wave_line_fault place l ≡ Some fault → IsFaultAt place rest fault
 
--- so many lines of the text come to a position without a fault, and this is left of it
-pub record IsToldTo (text : List ℕ) (lines : ℕ) (place : WavePlace) (rest : List ℕ) : Type 0 where
-  pub told : text ≡ front_at place ++ rest
-  pub number : lines ≡ line_ends (front_at place)
-  pub reached : IsPlaceBefore rest place
-
--- the text is refused at this line, counted from 1
-pub record IsWaveRefused (text : List ℕ) (fault : WaveFault) (line : ℕ) : Type 0 where
-  pub place : WavePlace
-  pub rest : List ℕ
-  pub lines : ℕ
-  pub before : IsToldTo text lines place rest
-  pub here : IsFaultAt place rest fault
-  pub number : line ≡ lines + 1
-
 -- the position after a line without a fault: the changes begin after the last first value
 abbrev pub place_behind : WavePlace → WaveLine → WavePlace
 place_behind at_timescale l = at_scope
@@ -173,3 +117,19 @@ place_behind (at_changes w now) (timed time) = at_changes w time
 place_behind (at_changes w now) (turned value id) =
     at_changes (wave_of w.names w.first (w.changes ++ (now, id_value id) ∷ [])) now
 place_behind place l = place
+
+-- so many lines of the text, none of them with a fault, lead to a position, and this is left of it
+pub data IsToldTo (text : List ℕ) : (lines : ℕ) → WavePlace → (rest : List ℕ) → Type 0 where
+  at_first_line : IsToldTo text 0 at_timescale text
+  by_line : {lines : ℕ} {place : WavePlace} {rest behind : List ℕ} {l : WaveLine} →
+      IsToldTo text lines place rest → BeginsWith rest behind place l → wave_line_fault place l ≡ None →
+      IsToldTo text (lines + 1) (place_behind place l) behind
+
+-- the text is refused at this line, counted from 1
+pub record IsWaveRefused (text : List ℕ) (fault : WaveFault) (line : ℕ) : Type 0 where
+  pub place : WavePlace
+  pub rest : List ℕ
+  pub lines : ℕ
+  pub before : IsToldTo text lines place rest
+  pub here : IsFaultAt place rest fault
+  pub number : line ≡ lines + 1

@@ -1,6 +1,6 @@
 //! The causes of a run's last move.
 
-ghost use Rattle.std.specs.Prelude.{◌≡◌, ◌<◌, ◌≤◌, ◌+◌, ◌++◌, ℕ, List, [], length, map, All, reverse, slice_index_or, false, IfOk, OnOk};
+ghost use Rattle.std.specs.Prelude.{◌≡◌, ◌<◌, ◌≤◌, ◌+◌, ◌++◌, ℕ, List, [], length, map, All, reverse, slice_index_or, IfOk, OnOk};
 ghost use Rattle.std.specs.List.{flat_map};
 ghost use Rattle.prs_core.specs.Nets.{IsNet};
 ghost use Rattle.event_sim.specs.Following.{power_of};
@@ -139,19 +139,20 @@ fn lines_back(
 pub fn causes_text(
     alloc: Global,
     net: &Net,
+    high: bool,
     ran: &NotedRan,
     delays: &Delays,
 ) -> Result<Vec<u8>, AllocError>
     requires net { net.now ≡ ran.now.timed.ran.net }
     requires delays { IsDelayTable (length net.now.first) delays.now }
     requires nodes { All (λ (m : NotedOne). m.node < length net.now.first) ran.now.moves.items }
-    requires caused { AreCaused delays.now (values_given (power_of net.now false) ran.now.moves.items)
+    requires caused { AreCaused delays.now (values_given (power_of net.now high) ran.now.moves.items)
         ran.now.moves.items }
     requires time { ran.now.timed.time ≡ time_behind ran.now.moves.items (length ran.now.moves.items) }
     ensures { IfOk result (λ text. TellsCauses net.now.names delays.now
-        (values_given (power_of net.now false) ran.now.moves.items) ran.now.moves.items text.items) }
+        (values_given (power_of net.now high) ran.now.moves.items) ran.now.moves.items text.items) }
 {
-    let mut values = start_values(alloc, net)?;
+    let mut values = start_values(alloc, net, high)?;
     let given = values_given(alloc, &mut values, &ran.moves)?;
     let places = cause_chain(alloc, &ran.moves)?;
     let mut text = Vec::new(alloc);

@@ -1,6 +1,6 @@
 //! Laws of waves and of causes.
 
-ghost use Rattle.std.specs.Prelude.{◌≡◌, ◌<◌, ◌≤◌, ℕ, Bool, List, length, All, false};
+ghost use Rattle.std.specs.Prelude.{◌≡◌, ◌<◌, ◌≤◌, ℕ, Bool, List, length, All};
 ghost use Rattle.prs_core.specs.Nets.{IsNet};
 ghost use Rattle.event_sim.specs.Following.{power_of};
 ghost use Rattle.event_sim.specs.Simulating.{RanValue};
@@ -13,19 +13,19 @@ ghost use Rattle.wave_file.specs.RunWaves.{wave_of_run};
 ghost use Rattle.wave_file.specs.WaveReading.{IsWaveRefused, IsWaveText};
 ghost use Rattle.wave_file.specs.Waves.{WaveValue, IsWave, IsKeptWave};
 
-/// Law: the moves of a timed run that wasn't given a power are a wave, and each has its cause; and one of at most a
-/// million moves, none of which takes longer than a million, is a wave that a text can hold.
+/// Law: the moves of a timed run are a wave, and each has its cause; and one of at most a million moves, none of which
+/// takes longer than a million, is a wave that a text can hold.
 pub fn timed_runs_are_waves()
     ensures wave { (t : TimedValue) (ms : List NotedMove) (r : RanValue) (u : ℕ)
         → IsNet t.net
         → IsTimedRan t ms r u
-        → IsWave (wave_of_run t.net ms) }
+        → IsWave (wave_of_run t.net t.high ms) }
     ensures kept { (t : TimedValue) (ms : List NotedMove) (r : RanValue) (u : ℕ)
         → IsNet t.net
         → IsDelayTable (length t.net.first) t.delays
         → t.steps ≤ 1000000
         → IsTimedRan t ms r u
-        → IsKeptWave (wave_of_run t.net ms) }
+        → IsKeptWave (wave_of_run t.net t.high ms) }
     ensures nodes { (t : TimedValue) (ms : List NotedMove) (r : RanValue) (u : ℕ)
         → IsNet t.net
         → IsTimedRan t ms r u

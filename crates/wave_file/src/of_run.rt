@@ -42,15 +42,15 @@ fn changes_of_moves(alloc: Global, moves: &[NotedMove]) -> Result<Vec<(u64, u32)
     Ok(changes)
 }
 
-/// The wave of a timed run that wasn't given a power: the nodes of its net, their values at power-up, and a change for
-/// each move. The law `timed_runs_are_waves` says that it can be written; and what was written is read as this wave.
-pub fn run_wave(alloc: Global, ran: &NotedRan) -> Result<Wave, AllocError>
-    ensures wave { IfOk result (λ w. kept_wave w ≡ wave_of_run ran.now.timed.ran.net ran.now.moves.items) }
+/// The wave of a timed run: the nodes of its net, their values at power-up, and a change for each move. The law
+/// `timed_runs_are_waves` says that it can be written; and what was written is read as this wave.
+pub fn run_wave(alloc: Global, ran: &NotedRan, high: bool) -> Result<Wave, AllocError>
+    ensures wave { IfOk result (λ w. kept_wave w ≡ wave_of_run ran.now.timed.ran.net high ran.now.moves.items) }
     ensures kept { IfOk result (λ w. IsKeptWave (kept_wave w)) }
 {
     let net = ran.timed.ran.net();
     let names = copied_names(alloc, net.names())?;
-    let first = start_values(alloc, net)?;
+    let first = start_values(alloc, net, high)?;
     let changes = changes_of_moves(alloc, &ran.moves)?;
     Ok(Wave {
         names,

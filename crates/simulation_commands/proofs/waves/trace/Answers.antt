@@ -1,4 +1,4 @@
-use Rattle.std.proofs.Common.{◌<◌, false, length, sym, subst}
+use Rattle.std.proofs.Common.{◌<◌, length, sym, subst}
 use Rattle.std.specs.Prelude.{All}
 use Rattle.delay_script.specs.declared.noted.NotedMove.{NotedMove}
 use Rattle.delay_script.specs.DelayTables.{DelayTable}
@@ -17,7 +17,7 @@ trace_text-requires-clause-wave c =
     let ran = c.run-ran.result in
     let is = subst (λ (t : TimedValue). IsTimedRan t ran.moves.items ran.timed.ran ran.timed.time) c.in_ok-new.ensures c.run-ran.ensures.ran in
     let t = trace_for (waves_asked c.args.asked.now) c.args.net c.args.script c.args.delays in
-    subst (λ (n : NetValue). IsWave (wave_of_run n ran.moves.items)) (sym is.net)
+    subst (λ (n : NetValue). IsWave (wave_of_run n t.high ran.moves.items)) (sym is.net)
     (c.timed_runs_are_waves.ensures.wave t ran.moves.items ran.timed.ran ran.timed.time c.requires.net is)
 
 pub trace_text-requires-clause-kept : goal.trace_text-requires-clause-kept
@@ -25,7 +25,7 @@ trace_text-requires-clause-kept c =
     let ran = c.run-ran.result in
     let is = subst (λ (t : TimedValue). IsTimedRan t ran.moves.items ran.timed.ran ran.timed.time) c.in_ok-new.ensures c.run-ran.ensures.ran in
     let t = trace_for (waves_asked c.args.asked.now) c.args.net c.args.script c.args.delays in
-    subst (λ (n : NetValue). IsKeptWave (wave_of_run n ran.moves.items)) (sym is.net)
+    subst (λ (n : NetValue). IsKeptWave (wave_of_run n t.high ran.moves.items)) (sym is.net)
     (c.timed_runs_are_waves.ensures.kept t ran.moves.items ran.timed.ran ran.timed.time c.requires.net c.requires.delays c.requires.steps is)
 
 pub trace_text-requires-clause-nodes : goal.trace_text-requires-clause-nodes
@@ -42,5 +42,5 @@ trace_text-requires-clause-caused c =
     let is = subst (λ (t : TimedValue). IsTimedRan t ran.moves.items ran.timed.ran ran.timed.time) c.in_ok-new.ensures c.run-ran.ensures.ran in
     let t = trace_for (waves_asked c.args.asked.now) c.args.net c.args.script c.args.delays in
     let law = c.timed_runs_are_waves.ensures.caused t ran.moves.items ran.timed.ran ran.timed.time is in
-    subst (λ (n : NetValue). AreCaused c.in_ok-kept.kept (values_given (power_of n false) ran.moves.items) ran.moves.items) (sym is.net)
-    (subst (λ (d : DelayTable). AreCaused d (values_given (power_of c.args.net false) ran.moves.items) ran.moves.items) (sym c.in_ok-kept.ensures) law)
+    subst (λ (n : NetValue). AreCaused c.in_ok-kept.kept (values_given (power_of n t.high) ran.moves.items) ran.moves.items) (sym is.net)
+    (subst (λ (d : DelayTable). AreCaused d (values_given (power_of c.args.net t.high) ran.moves.items) ran.moves.items) (sym c.in_ok-kept.ensures) law)

@@ -1,4 +1,6 @@
-use Rattle.wave_file.proofs.Readings.{refused_on}
+use Rattle.std.proofs.Common.{[], arith}
+use Rattle.wave_file.specs.WaveReading.{at_names}
+use Rattle.wave_file.proofs.Readings.{refused_on, told_short}
 use Rattle.wave_file.proofs.read.read_nodes.Goals as goal
 
 pub returns-in_err-names-clause-refused : goal.returns-in_err-names-clause-refused
@@ -24,3 +26,8 @@ returns-clause-told c =
     let text = c.args.text.now in
     let start = (rw c.deref.ensures.value at c.in_ok-behind_start.ensures.told) text (c.in_ok-names.ensures.told text c.in_ok-behind_head.ensures.told) in
     (rw c.deref-2.ensures.value at c.in_ok-values.ensures.told) text start
+
+pub returns-clause-short : goal.returns-clause-short
+returns-clause-short c =
+    let head = told_short c.args.text.now 2 (at_names []) c.in_ok-behind_head.behind_head.now c.in_ok-behind_head.ensures.told in
+    omega (arith, c.requires, head, c.in_ok-names.ensures.short, c.in_ok-behind_start.ensures.short, c.in_ok-values.ensures.short)
