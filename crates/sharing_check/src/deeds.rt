@@ -103,13 +103,13 @@ fn assigned(
     var: u32,
     at: Span,
     value: &TExpr,
-) -> Result<Deeds, AllocError>
-    ensures { IfOk result (Tells cause (assigning var at (formula_of value.now))) }
+) -> Result<Box<Deeds>, AllocError>
+    ensures { IfOk result (λ deeds. Tells cause (assigning var at (formula_of value.now)) deeds.value) }
 {
     let mut deeds = no_deeds(alloc);
     note_write(&mut deeds, cause, var, at)?;
     note_reads(&mut deeds, cause, value)?;
-    Ok(deeds)
+    Ok(Box::new(alloc, deeds)?)
 }
 
 fn sent(
@@ -118,13 +118,13 @@ fn sent(
     chan: u32,
     at: Span,
     value: &TExpr,
-) -> Result<Deeds, AllocError>
-    ensures { IfOk result (Tells cause (sending chan at (formula_of value.now))) }
+) -> Result<Box<Deeds>, AllocError>
+    ensures { IfOk result (λ deeds. Tells cause (sending chan at (formula_of value.now)) deeds.value) }
 {
     let mut deeds = no_deeds(alloc);
     note_send(&mut deeds, cause, chan, at)?;
     note_reads(&mut deeds, cause, value)?;
-    Ok(deeds)
+    Ok(Box::new(alloc, deeds)?)
 }
 
 fn received(
@@ -134,13 +134,13 @@ fn received(
     chan_at: Span,
     var: u32,
     var_at: Span,
-) -> Result<Deeds, AllocError>
-    ensures { IfOk result (Tells cause (receiving chan chan_at var var_at)) }
+) -> Result<Box<Deeds>, AllocError>
+    ensures { IfOk result (λ deeds. Tells cause (receiving chan chan_at var var_at) deeds.value) }
 {
     let mut deeds = no_deeds(alloc);
     note_receive(&mut deeds, cause, chan, chan_at)?;
     note_write(&mut deeds, cause, var, var_at)?;
-    Ok(deeds)
+    Ok(Box::new(alloc, deeds)?)
 }
 
 fn first_crossing(one: &Deeds, other: &Deeds) -> Option<Clash>
@@ -152,24 +152,55 @@ fn first_crossing(one: &Deeds, other: &Deeds) -> Option<Clash>
     sooner(exclusive, sooner(left, right))
 }
 
-fn merged(one: Deeds, other: Deeds, across: Option<Clash>) -> Result<Deeds, AllocError>
-    ensures { IfOk result (Merges one other across) }
+fn merged(
+    alloc: Global,
+    one: Box<Deeds>,
+    other: Box<Deeds>,
+    across: Option<Clash>,
+) -> Result<Box<Deeds>, AllocError>
+    ensures { IfOk result (λ new. Merges one.value other.value across new.value) }
 {
+    let one = Box::into_inner(one);
+    let other = Box::into_inner(other);
     let exclusive = joined(one.exclusive, other.exclusive)?;
     let common = joined(one.common, other.common)?;
     let clash = sooner(sooner(one.clash, other.clash), across);
-    Ok(Deeds {
+    let both = Deeds {
         exclusive,
         common,
         clash,
-    })
+    };
+    Ok(Box::new(alloc, both)?)
 }
 
-fn deeds_of(alloc: Global, cause: FaultCode, s: &TStmt) -> Result<Deeds, AllocError>
-    ensures { IfOk result (Tells cause (process_of s.now)) }
+/// These deeds and what the guard reads.
+fn with_guard(
+    alloc: Global,
+    cause: FaultCode,
+    guard: &TExpr,
+    deeds: Box<Deeds>,
+) -> Result<Box<Deeds>, AllocError>
+    ensures { IfOk result (λ new. Adds cause (reads_of (formula_of guard.now)) deeds.value new.value) }
+{
+    let mut noted = Box::into_inner(deeds);
+    note_reads(&mut noted, cause, guard)?;
+    Ok(Box::new(alloc, noted)?)
+}
+
+/// The deeds of a statement that has none.
+fn nothing_done(alloc: Global) -> Result<Box<Deeds>, AllocError>
+    ensures { IfOk result (λ deeds. (cause : FaultCode) → Tells cause skipping deeds.value) }
+{
+    Ok(Box::new(alloc, no_deeds(alloc))?)
+}
+
+/// The deeds of a statement. They are boxed so that little of the stack is taken for each statement that is within
+/// others.
+fn deeds_of(alloc: Global, cause: FaultCode, s: &TStmt) -> Result<Box<Deeds>, AllocError>
+    ensures { IfOk result (λ deeds. Tells cause (process_of s.now) deeds.value) }
 {
     match s {
-        TStmt::Skip => Ok(no_deeds(alloc)),
+        TStmt::Skip => nothing_done(alloc),
         TStmt::Assign { var, at, value } => assigned(alloc, cause, *var, *at, value),
         TStmt::Send { chan, at, value } => sent(alloc, cause, *chan, *at, value),
         TStmt::Receive {
@@ -179,28 +210,28 @@ fn deeds_of(alloc: Global, cause: FaultCode, s: &TStmt) -> Result<Deeds, AllocEr
             var_at,
         } => received(alloc, cause, *chan, *chan_at, *var, *var_at),
         TStmt::Then { parts } => {
-            let mut all = no_deeds(alloc);
+            let mut all = nothing_done(alloc)?;
             for part in parts {
                 let own = deeds_of(alloc, cause, part)?;
-                all = merged(all, own, None)?;
+                all = merged(alloc, all, own, None)?;
             }
             Ok(all)
         }
         TStmt::Beside { parts } => {
-            let mut all = no_deeds(alloc);
+            let mut all = nothing_done(alloc)?;
             for branch in parts {
                 let own = deeds_of(alloc, cause, branch)?;
                 let across = first_crossing(&all, &own);
-                all = merged(all, own, across)?;
+                all = merged(alloc, all, own, across)?;
             }
             Ok(all)
         }
         TStmt::Select { arms, .. } => {
-            let mut all = no_deeds(alloc);
+            let mut all = nothing_done(alloc)?;
             for arm in arms {
-                let mut own = deeds_of(alloc, cause, &arm.body)?;
-                note_reads(&mut own, cause, &arm.guard)?;
-                all = merged(all, own, None)?;
+                let body = deeds_of(alloc, cause, &arm.body)?;
+                let own = with_guard(alloc, cause, &arm.guard, body)?;
+                all = merged(alloc, all, own, None)?;
             }
             Ok(all)
         }

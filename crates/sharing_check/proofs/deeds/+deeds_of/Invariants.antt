@@ -5,10 +5,10 @@ use Rattle.sharing_check.specs.Tells.{Tells}
 use Rattle.sharing_check.proofs.deeds.+deeds_of.Given as goal
 
 abbrev pub invariant-loop-part : goal.invariant-loop-part
-invariant-loop-part l = Tells l.cause (in_turn (members_of (take l.part-index l.part-items))) l.all
+invariant-loop-part l = Tells l.cause (in_turn (members_of (take l.part-index l.part-items))) l.all.value
 
 abbrev pub invariant-loop-branch : goal.invariant-loop-branch
-invariant-loop-branch l = Tells l.cause (side_by_side (members_of (take l.branch-index l.branch-items))) l.all
+invariant-loop-branch l = Tells l.cause (side_by_side (members_of (take l.branch-index l.branch-items))) l.all.value
 
 abbrev pub invariant-loop-arm : goal.invariant-loop-arm
-invariant-loop-arm l = Tells l.cause (choosing true (arms_of (take l.arm-index l.arm-items))) l.all
+invariant-loop-arm l = Tells l.cause (choosing true (arms_of (take l.arm-index l.arm-items))) l.all.value
