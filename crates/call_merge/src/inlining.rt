@@ -130,7 +130,7 @@ fn with_bodies(alloc: Global, program: &Program, split: SplitBodies) -> Result<P
     })
 }
 
-/// Refuses a program that would have so many forms, where these are too many.
+/// Refuses a program that would have so many statements and expressions, if that is more than are served.
 fn refuse_forms(forms: u64) -> Result<(), CallError>
     ensures few { OnOk result (forms ≤ most_forms) }
     ensures too_many { IfErr result (λ e. (e ≡ TooManyForms forms) × (most_forms < forms)) }

@@ -77,7 +77,8 @@ fn spot_at(tokens: &[Token], at: usize, end: u32) -> Span
     front_spot(&tokens[at..], end)
 }
 
-/// The first sign for which tokens are refused whatever they parse as, and why: a probe, an arbiter, or too deep a bracket.
+/// The first token for which tokens are refused whatever they parse as, and why: a probe, an arbiter, or too deep a
+/// bracket.
 fn barred(tokens: &[Token]) -> Option<(FaultCode, Span)>
     ensures some { IfSome result (λ r. (end : ℕ) → RefusedTokens tokens.now end r.0 r.1) }
     ensures spoken { IfNone result (IsSpoken tokens.now) }
@@ -111,8 +112,8 @@ fn parse_spoken(alloc: Global, tokens: &[Token], end: u32) -> Result<Program, Te
     }
 }
 
-/// Tests that no selection and no guarded repetition has more than sixteen arms.
-fn few_arms(alloc: Global, tokens: &[Token]) -> Result<(), TextError>
+/// Refuses tokens in which a selection or a guarded repetition has more than sixteen arms.
+fn refuse_arms(alloc: Global, tokens: &[Token]) -> Result<(), TextError>
     ensures narrow { OnOk result (is_narrow [] tokens.now ≡ true) }
     ensures other { IfErr result (IfRefused (λ f. f.other ≡ f.at)) }
     ensures place { IfErr result (IfRefused (λ f. (p : ProgramTree) (end : ℕ) → IsSpoken tokens.now →
@@ -139,7 +140,7 @@ fn parse_list(alloc: Global, tokens: &[Token], end: u32) -> Result<Program, Text
         return Err(refusal(code, at));
     }
     let program = parse_spoken(alloc, tokens, end)?;
-    few_arms(alloc, tokens).and(Ok(program))
+    refuse_arms(alloc, tokens).and(Ok(program))
 }
 
 /// Parses a text of at most 262,144 bytes as a program. The result has the shape of the grammar, and what it declares

@@ -109,7 +109,7 @@ fn room_for(alloc: Global, nodes: usize, steps: u32) -> Result<(Vec<NotedMove>, 
 }
 
 impl Course {
-    /// That of a run which has made no move.
+    /// The course of a run that has made no move.
     fn begin(
         alloc: Global,
         stage: Stage,

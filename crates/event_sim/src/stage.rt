@@ -72,7 +72,7 @@ fn no_counts(alloc: Global, channels: usize) -> Result<Vec<u64>, AllocError>
     Ok(counts)
 }
 
-/// No count for each channel, room for so many values, and no moves.
+/// A count of 0 for each channel, room for so many values, and the empty set of moves.
 fn room_for(
     alloc: Global,
     nodes: usize,
@@ -124,7 +124,7 @@ impl Stage {
     ghost use Rattle.event_sim.specs.Simulating.{RanValue, IsEndIn};
     ghost use Rattle.event_sim.specs.Stages.{StageValue, stage_with, now_of, moves_now, AreConcerned};
 
-    /// The run that has made no move, of this net under its script, from this state, in which its guards say so.
+    /// The run that has made no move, of this net under its script, from this state, with these rows for its guards.
     fn begin(
         alloc: Global,
         indexed: IndexedNet,

@@ -146,7 +146,7 @@ pub fn with_buffer(alloc: Global, program: &Program, chan: &Name) -> Result<Prog
     ensures typed { IfOk result (λ made. (has : HasBuffer (tree_of program.now) chan.now (tree_of made)) →
         typed_form (tree_of made) ≡ buffered (typed_form (tree_of program.now))
         (channel_number program.now.decls.items chan.now) has.number) }
-    // That keeps what the program passes.
+    // And this keeps what the program passes.
     ensures keeps { IfOk result (λ made. (has : HasBuffer (tree_of program.now) chan.now (tree_of made)) →
         BufferKeeps (typed_form (tree_of program.now)) (channel_number program.now.decls.items chan.now) has.number) }
     ensures shaped { IfOk result (λ made. IsShaped (tree_of made)) }

@@ -136,6 +136,7 @@ fn lines_back(
 /// The moves by which the last move of a run came. For each, the earliest one first, a line of its time, its node, the
 /// value that the node takes and the delay; then a line of the time of the last move, the sum of the delays. They
 /// are the last move, the one since which it was enabled, the one since which that was, and so on back to the start.
+/// `high` is the value at power-up with which the run began.
 pub fn causes_text(
     alloc: Global,
     net: &Net,

@@ -43,7 +43,8 @@ fn changes_of_moves(alloc: Global, moves: &[NotedMove]) -> Result<Vec<(u64, u32)
 }
 
 /// The wave of a timed run: the nodes of its net, their values at power-up, and a change for each move. The law
-/// `timed_runs_are_waves` says that it can be written; and what was written is read as this wave.
+/// `timed_runs_are_waves` says that it can be written; and what was written is read as this wave. `high` is the value
+/// at power-up with which the run began.
 pub fn run_wave(alloc: Global, ran: &NotedRan, high: bool) -> Result<Wave, AllocError>
     ensures wave { IfOk result (λ w. kept_wave w ≡ wave_of_run ran.now.timed.ran.net high ran.now.moves.items) }
     ensures kept { IfOk result (λ w. IsKeptWave (kept_wave w)) }

@@ -8,7 +8,8 @@ use event_sim::power_state;
 use prs_core::Net;
 use std::alloc::{AllocError, Global};
 
-/// The values of the nodes at power-up, where in a net with a reset node this is the value of those that have rules.
+/// The values of the nodes at power-up: in a net with a reset node those that have rules have the value `high`, and all
+/// others have their first values. A net without one begins with its first values.
 pub(crate) fn start_values(alloc: Global, net: &Net, high: bool) -> Result<Vec<bool>, AllocError>
     ensures values { IfOk result (λ v. v.items ≡ power_of net.now high) }
     ensures count { IfOk result (λ v. length v.items ≡ length net.now.first) }

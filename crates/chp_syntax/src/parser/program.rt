@@ -192,7 +192,8 @@ fn take_end(tokens: &[Token], at: &mut usize) -> Result<Span, Stop>
     requires { at.old ≤ length tokens.now }
     ensures within { at.new ≤ length tokens.now }
     ensures whole { OnOk result (at.new ≡ length tokens.now) }
-    ensures good { IfOk result (Good (Exactly (Word key.End)) Nothing (drop at.old tokens.now) (drop at.new tokens.now)) }
+    ensures good { IfOk result
+        (Good (Exactly (Word key.End)) Nothing (drop at.old tokens.now) (drop at.new tokens.now)) }
     ensures bad { IfErr result (λ e.
         WhenFault e (Bad (Exactly (Word key.End)) Nothing (drop at.old tokens.now) (drop at.new tokens.now))) }
 {
