@@ -35,7 +35,7 @@ use std::alloc::{AllocError, Global};
 use width_check::{TStmt, Typed};
 
 /// The procedures of a program, in order of declaration.
-#[derive(Debug, Drop)]
+#[derive(Drop)]
 struct Procedures<'a> {
     names: Symbols,
     bodies: Vec<&'a TStmt>,
@@ -59,7 +59,7 @@ fn procedures_of<'a>(
 }
 
 /// What the declared nodes are to know of the root.
-#[derive(Debug, Drop)]
+#[derive(Drop)]
 struct Root {
     /// Its request.
     request: u32,

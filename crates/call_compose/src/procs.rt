@@ -21,7 +21,7 @@ use std::alloc::{AllocError, Global};
 use width_check::{TStmt, Typed};
 
 /// The procedures of a circuit, in order of declaration.
-#[derive(Debug, Drop)]
+#[derive(Drop)]
 pub(crate) struct Placed {
     /// The request of each.
     pub requests: Vec<u32>,

@@ -26,7 +26,7 @@ use std::alloc::{AllocError, Global};
 use width_check::{TArm, TStmt, Typed};
 
 /// A call of a procedure: the number of the procedure, in order of declaration, and the node that requests the call.
-#[derive(Debug, Drop)]
+#[derive(Drop)]
 pub(crate) struct Call {
     pub proc: u32,
     pub request: u32,

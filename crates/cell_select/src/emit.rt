@@ -18,7 +18,7 @@ use std::alloc::{AllocError, Global};
 /// latch of the one that is true rises, and `any` says that a latch is up; then the guards are released, and the
 /// branch's start rises. The branch's answer becomes `answer`. The own nodes are `answer`, `eval`, `any`, `latches` and
 /// `starts`. `answers` are the branches' answers, and `guard_rails` has rail t and rail f of each guard, in order.
-#[derive(Debug, Drop)]
+#[derive(Drop)]
 pub struct SelectPorts {
     pub request: u32,
     pub answer: u32,
@@ -34,7 +34,7 @@ pub struct SelectPorts {
 /// `loop_request`, whose branches' answers are joined in `joined`. `leave` is the latch that rises where all guards are
 /// false; once the guards are released it makes the answer. The own nodes are `answer`, `loop_request`, `joined`,
 /// `eval`, `any`, `leave`, `latches` and `starts`; `answers` and `guard_rails` are as at a selection.
-#[derive(Debug, Drop)]
+#[derive(Drop)]
 pub struct AgainPorts {
     pub request: u32,
     pub answer: u32,

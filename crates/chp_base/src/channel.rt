@@ -14,7 +14,7 @@ pub enum Kind {
 }
 
 /// A channel of the program.
-#[derive(Debug, Drop)]
+#[derive(Drop)]
 pub struct Channel {
     pub name: Name,
     pub kind: Kind,

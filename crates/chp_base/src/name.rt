@@ -9,7 +9,7 @@ use std::marker::Model;
 
 /// A name, of which contracts see the bytes. `name_of` makes those of channels, variables and procedures, and
 /// `node_name_of` those of nodes, which may be longer and have dots.
-#[derive(Debug, Drop)]
+#[derive(Drop)]
 pub struct Name {
     bytes: Vec<u8>,
 }

@@ -40,7 +40,7 @@ impl Hash for Name {
 }
 
 /// The place that a name has in a table, counted from 0.
-#[derive(Clone, Copy, Debug, PartialEq, Eq)]
+#[derive(Clone, Copy, PartialEq, Eq)]
 pub enum Added {
     /// The name was new, and is the last one now.
     Fresh(u32),
@@ -49,7 +49,7 @@ pub enum Added {
 }
 
 /// A table of names, seen as the list of its distinct names in the order in which they were added.
-#[derive(Debug, Drop)]
+#[derive(Drop)]
 pub struct Symbols {
     names: IndexSet<Name>,
 }

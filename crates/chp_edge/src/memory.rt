@@ -32,7 +32,7 @@ fn behind(bytes: &[u8], done: usize) -> &[u8]
 
 /// A shelf of files in memory, on which chosen calls fail: `begin` and `next` share one count, and the first call is
 /// number 1.
-#[derive(Debug, Drop)]
+#[derive(Drop)]
 pub struct MemShelf {
     files: Vec<(String, Vec<u8>)>,
     plan: Plan,
@@ -146,7 +146,7 @@ impl Shelf for MemShelf {
 }
 
 /// A shelf that holds the same bytes under every name. No call on it fails.
-#[derive(Debug, Drop)]
+#[derive(Drop)]
 pub struct SureShelf {
     bytes: Vec<u8>,
     begun: bool,
@@ -192,7 +192,7 @@ impl Shelf for SureShelf {
 }
 
 /// A sink in memory. It takes at most `most` bytes a call and `room` bytes in all, and chosen calls on it fail.
-#[derive(Debug, Drop)]
+#[derive(Drop)]
 pub struct MemSink {
     most: usize,
     room: usize,

@@ -8,7 +8,7 @@ use crate::count::count_up;
 
 /// The numbers of the calls that fail, counted from 1, with the numbers of calls and of faults so far. Both counts
 /// saturate at 2^64 - 1.
-#[derive(Debug, Drop)]
+#[derive(Drop)]
 pub struct Plan {
     failing: Vec<u64>,
     calls: u64,

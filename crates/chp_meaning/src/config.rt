@@ -18,7 +18,7 @@ use std::alloc::{AllocError, Global};
 use width_check::{TStmt, Typed, Var};
 
 /// What the environment still does on a channel.
-#[derive(Debug, Drop)]
+#[derive(Drop)]
 pub(crate) enum Rest {
     /// It sends these values, from the one of this number on.
     Gives { values: Vec<u64>, sent: usize },
@@ -30,7 +30,7 @@ pub(crate) enum Rest {
 
 /// The state of a program under a script between two rounds: what is left of it, the value of each variable, what is
 /// left of the script, and the values that have passed on each channel.
-#[derive(Debug, Drop)]
+#[derive(Drop)]
 pub struct Config {
     pub(crate) left: Left,
     pub(crate) store: Vec<u64>,

@@ -12,7 +12,7 @@ use env_script::Count;
 use width_check::{TArm, TExpr, TStmt, value};
 
 /// What a step changes besides the term.
-#[derive(Clone, Copy, Debug)]
+#[derive(Clone, Copy)]
 pub(crate) struct Move {
     /// A variable, and its new value.
     pub write: Option<(u32, u64)>,
@@ -130,7 +130,7 @@ pub(crate) fn is_met(config: &Config, stmt: &TStmt) -> bool
 }
 
 /// Which guards are true.
-#[derive(Clone, Copy, Debug)]
+#[derive(Clone, Copy)]
 pub(crate) enum TrueGuards {
     Zero,
     One(usize),

@@ -9,7 +9,7 @@ use std::alloc::{AllocError, Global};
 use width_check::TStmt;
 
 /// What is left of a statement.
-#[derive(Debug, Drop)]
+#[derive(Drop)]
 pub(crate) enum Left {
     /// Nothing.
     Done,

@@ -53,7 +53,7 @@ pub enum Mark {
 }
 
 /// What a token is.
-#[derive(Debug, PartialEq, Eq, Drop)]
+#[derive(PartialEq, Eq, Drop)]
 pub enum TokenKind {
     /// A keyword.
     Word(Key),
@@ -66,7 +66,7 @@ pub enum TokenKind {
 }
 
 /// A token and the bytes of the text that spell it.
-#[derive(Debug, PartialEq, Eq, Drop)]
+#[derive(PartialEq, Eq, Drop)]
 pub struct Token {
     pub kind: TokenKind,
     pub at: Span,

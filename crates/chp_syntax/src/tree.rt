@@ -7,7 +7,7 @@
 use chp_base::{Name, Span};
 
 /// A name and its span in the text.
-#[derive(Debug, Drop)]
+#[derive(Drop)]
 pub struct Ident {
     pub name: Name,
     pub at: Span,
@@ -15,7 +15,7 @@ pub struct Ident {
 
 /// What a declaration declares: a channel that the environment sends on, one that it receives on, one inside of
 /// the program, or a variable.
-#[derive(Clone, Copy, Debug, PartialEq, Eq)]
+#[derive(Clone, Copy, PartialEq, Eq)]
 pub enum DeclKind {
     In,
     Out,
@@ -24,7 +24,7 @@ pub enum DeclKind {
 }
 
 /// A declaration of a channel or a variable. A first value that isn't written is 0, with the span of the width.
-#[derive(Debug, Drop)]
+#[derive(Drop)]
 pub struct Decl {
     pub kind: DeclKind,
     pub name: Ident,
@@ -35,14 +35,14 @@ pub struct Decl {
 }
 
 /// A procedure: `call` of its name does what its body does.
-#[derive(Debug, Drop)]
+#[derive(Drop)]
 pub struct Proc {
     pub name: Ident,
     pub body: Stmt,
 }
 
 /// A program: its declarations, in text order, and its statement.
-#[derive(Debug, Drop)]
+#[derive(Drop)]
 pub struct Program {
     pub decls: Vec<Decl>,
     pub procs: Vec<Proc>,
@@ -51,7 +51,7 @@ pub struct Program {
 
 /// A statement.
 #[cycle(statements)]
-#[derive(Debug, Drop)]
+#[derive(Drop)]
 pub enum Stmt {
     /// `skip`
     Skip { at: Span },
@@ -75,7 +75,7 @@ pub enum Stmt {
 
 /// A guard and the statement that runs if it is true.
 #[cycle(statements)]
-#[derive(Debug, Drop)]
+#[derive(Drop)]
 pub struct Arm {
     pub guard: Expr,
     pub body: Stmt,
@@ -83,7 +83,7 @@ pub struct Arm {
 
 /// An expression. `at` is the span of its own tokens, without parentheses that only enclose it.
 #[cycle(expressions)]
-#[derive(Debug, Drop)]
+#[derive(Drop)]
 pub enum Expr {
     /// A number.
     Number {
@@ -127,14 +127,14 @@ pub enum Expr {
 
 /// An operator and its right side.
 #[cycle(expressions)]
-#[derive(Debug, Drop)]
+#[derive(Drop)]
 pub struct Link {
     pub op: Op,
     pub right: Expr,
 }
 
 /// The operators between two expressions.
-#[derive(Clone, Copy, Debug, PartialEq, Eq)]
+#[derive(Clone, Copy, PartialEq, Eq)]
 pub enum Op {
     And,
     Or,

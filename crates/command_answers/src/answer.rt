@@ -12,7 +12,7 @@ use prs_file::NetFault;
 use wave_file::WaveFault;
 
 /// How a command ends whose whole output was written.
-#[derive(Clone, Copy, Debug)]
+#[derive(Clone, Copy)]
 pub enum Ending {
     Done,
     /// The run that is reported ends in a hazard.
@@ -35,14 +35,14 @@ impl Ending {
 }
 
 /// The text that a command is to write, and how it ends then.
-#[derive(Debug, Drop)]
+#[derive(Drop)]
 pub struct Output {
     pub text: Vec<u8>,
     pub end: Ending,
 }
 
 /// Why a command refuses, with what is said of it.
-#[derive(Clone, Copy, Debug)]
+#[derive(Clone, Copy)]
 pub enum Refusal<'a> {
     /// A program text is refused.
     Text(Fault),
@@ -96,7 +96,7 @@ impl Refusal<'_> {
 }
 
 /// Why a command writes nothing.
-#[derive(Clone, Copy, Debug)]
+#[derive(Clone, Copy)]
 pub enum Stop<'a> {
     Refused(Refusal<'a>),
     /// The file of this name couldn't be read.
@@ -117,7 +117,7 @@ impl Stop<'_> {
 }
 
 /// How a call ends.
-#[derive(Clone, Copy, Debug)]
+#[derive(Clone, Copy)]
 pub enum End<'a> {
     /// The whole output was written.
     Whole(Ending),

@@ -7,7 +7,7 @@ use std::marker::Model;
 
 /// For each node of a net how long its rise takes and how long its fall takes, whoever moves it: 0 to 1,000,000 units
 /// of time.
-#[derive(Debug, Drop)]
+#[derive(Drop)]
 pub struct Delays {
     up: Vec<u32>,
     down: Vec<u32>,

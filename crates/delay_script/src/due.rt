@@ -11,14 +11,14 @@ use crate::queue::Queue;
 use event_sim::Stage;
 
 /// The number of the move since which a node's move is enabled, 0 at the start, and the time at which it is due.
-#[derive(Clone, Copy, Debug)]
+#[derive(Clone, Copy)]
 pub struct Due {
     pub cause: u32,
     pub time: u64,
 }
 
 /// A node whose move is due.
-#[derive(Clone, Copy, Debug)]
+#[derive(Clone, Copy)]
 pub struct Next {
     pub node: u32,
     pub due: Due,

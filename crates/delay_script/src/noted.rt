@@ -26,7 +26,7 @@ use std::alloc::{AllocError, Global};
 use std::marker::Model;
 
 /// A timed run that has ended.
-#[derive(Debug, Drop)]
+#[derive(Drop)]
 pub struct TimedRan {
     pub ran: Ran,
     /// The time of the last move, 0 where none was made.
@@ -35,7 +35,7 @@ pub struct TimedRan {
 
 /// A move of a timed run: when it came, its node, and the number of the move, counted from 1, after which the node's
 /// move became enabled and stayed so, 0 where that is the start. Its time is that of its cause, or 0, plus its delay.
-#[derive(Clone, Copy, Debug, PartialEq, Eq)]
+#[derive(Clone, Copy, PartialEq, Eq)]
 pub struct NotedMove {
     pub time: u64,
     pub node: u32,
@@ -43,14 +43,14 @@ pub struct NotedMove {
 }
 
 /// A timed run that has ended, with its moves.
-#[derive(Debug, Drop)]
+#[derive(Drop)]
 pub struct NotedRan {
     pub timed: TimedRan,
     pub moves: Vec<NotedMove>,
 }
 
 /// How far a timed run has come.
-#[derive(Debug, Drop)]
+#[derive(Drop)]
 struct Course {
     stage: Stage,
     delays: Delays,
@@ -215,7 +215,7 @@ impl Course {
 
 /// A timed run that hasn't begun, whose moves are recorded with their times and causes. All memory of the run is
 /// allocated.
-#[derive(Debug, Drop)]
+#[derive(Drop)]
 pub struct Noted {
     course: Course,
     steps: u32,

@@ -11,7 +11,7 @@ use std::marker::Model;
 
 /// For each node of a net its move, where that is due. It also keeps the times and the nodes of these moves, of
 /// which the least comes first.
-#[derive(Debug, Drop)]
+#[derive(Drop)]
 pub(crate) struct Queue {
     dues: Vec<Option<Due>>,
     order: BinaryHeap<Reverse<(u64, u32)>>,

@@ -14,7 +14,7 @@ use std::alloc::{AllocError, Global};
 use std::marker::Model;
 
 /// A timed run that hasn't begun. All memory of the run is allocated.
-#[derive(Debug, Drop)]
+#[derive(Drop)]
 pub struct Timed {
     noted: Noted,
 }

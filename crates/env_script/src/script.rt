@@ -5,7 +5,7 @@ ghost use Rattle.std.specs.Prelude.{◌≡◌, ◌<◌, length, map};
 use std::marker::Model;
 
 /// How many values the environment receives on a channel.
-#[derive(Clone, Copy, Debug, PartialEq, Eq)]
+#[derive(Clone, Copy, PartialEq, Eq)]
 pub enum Count {
     /// Each value that comes.
     All,
@@ -14,7 +14,7 @@ pub enum Count {
 }
 
 /// What the environment does on a channel.
-#[derive(Debug, Drop)]
+#[derive(Drop)]
 pub enum Offer {
     /// It sends these values, in this order.
     Values(Vec<u64>),
@@ -25,7 +25,7 @@ pub enum Offer {
 }
 
 /// What the environment does, seen as one offer for each channel.
-#[derive(Debug, Drop)]
+#[derive(Drop)]
 pub struct Script {
     offers: Vec<Offer>,
 }

@@ -13,7 +13,7 @@ const GROUP: usize = 32;
 /// The last list of a scheduler, and its nodes once more, the oldest first, of equally old ones the least first. For
 /// each of them it also has the number of picks that were made before its presence in the lists began. So the time of
 /// a pick goes into the comparison of its list with the last one, and into what changed.
-#[derive(Debug, Drop)]
+#[derive(Drop)]
 pub(crate) struct Presence {
     since: Vec<u64>,
     list: Vec<u32>,

@@ -22,7 +22,7 @@ use std::alloc::{AllocError, Global};
 use std::marker::Model;
 
 /// A net under a script, with the readers of each node and the channel that it is a wire of.
-#[derive(Debug, Drop)]
+#[derive(Drop)]
 pub(crate) struct IndexedNet {
     net: Net,
     offers: Offers,

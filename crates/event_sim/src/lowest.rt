@@ -7,7 +7,7 @@ use crate::picker::Picker;
 use std::alloc::{AllocError, Global};
 
 /// Chooses the least node.
-#[derive(Debug, Drop)]
+#[derive(Drop)]
 pub struct Lowest {
     log: Vec<usize>,
     seeded: Option<(u64, usize)>,

@@ -13,7 +13,7 @@ const NEAR: usize = 16;
 
 /// Some of the nodes below a number, with their list in ascending order. It is seen as a mark for each node. The list
 /// is kept at the end of its slots, so that a change near its front, as where the least node is picked, moves little.
-#[derive(Debug, Drop)]
+#[derive(Drop)]
 pub(crate) struct NodeSet {
     marks: Vec<bool>,
     slots: Vec<u32>,

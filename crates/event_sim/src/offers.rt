@@ -16,7 +16,7 @@ use std::alloc::{AllocError, Global};
 use std::marker::Model;
 
 /// A script, seen as its offers, with what is offered in their place.
-#[derive(Debug, Drop)]
+#[derive(Drop)]
 pub(crate) struct Offers {
     script: Script,
     standing: Vec<Standing>,

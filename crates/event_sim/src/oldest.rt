@@ -10,7 +10,7 @@ use std::alloc::{AllocError, Global};
 use std::marker::Model;
 
 /// Chooses the node that was in the most lists in a row, this one included; among equals the least.
-#[derive(Debug, Drop)]
+#[derive(Drop)]
 pub struct Oldest {
     log: Vec<usize>,
     seeded: Option<(u64, usize)>,

@@ -6,7 +6,7 @@ use prs_core::Net;
 use std::marker::Model;
 
 /// How a run ended.
-#[derive(Clone, Copy, Debug, PartialEq, Eq)]
+#[derive(Clone, Copy, PartialEq, Eq)]
 pub enum End {
     /// No move is enabled.
     AtRest,
@@ -22,7 +22,7 @@ pub enum End {
 
 /// A run that has ended: its net, how it ended, how many moves it had, whether `done` is high then, and the values that
 /// passed, each with the number of its channel, in the order of completion.
-#[derive(Debug, Drop)]
+#[derive(Drop)]
 pub struct Ran {
     net: Net,
     end: End,

@@ -14,7 +14,7 @@ use std::alloc::{AllocError, Global};
 const STREAM: u64 = 54;
 
 /// Chooses by the words of a generator, one word for each pick, modulo the length of the list.
-#[derive(Debug, Drop)]
+#[derive(Drop)]
 pub struct Random {
     words: Lcg64Xsh32,
     log: Vec<usize>,

@@ -24,7 +24,7 @@ use std::marker::Model;
 
 /// A simulation that hasn't begun: a net, a script of its channels, how many moves may be made, and the value of the
 /// nodes that have rules at power-up, where the net has a reset node. All memory of the run is allocated.
-#[derive(Debug, Drop)]
+#[derive(Drop)]
 pub struct Sim {
     stage: Stage,
     steps: u32,

@@ -24,7 +24,7 @@ use std::alloc::{AllocError, Global};
 use std::marker::Model;
 
 /// The nodes that a move of a node concerns, in three parts.
-#[derive(Clone, Copy, Debug)]
+#[derive(Clone, Copy)]
 pub struct Concerned<'a> {
     /// Those that read it.
     pub readers: &'a [u32],
@@ -37,7 +37,7 @@ pub struct Concerned<'a> {
 /// How far a run has come: its net and script, the values of the nodes, and what has passed. It also keeps how many
 /// values are completed on each channel, what the guards of the nodes say, the list of the enabled moves, and the least
 /// node with interference.
-#[derive(Debug, Drop)]
+#[derive(Drop)]
 pub struct Stage {
     indexed: IndexedNet,
     state: State,

@@ -14,7 +14,7 @@ use std::alloc::{AllocError, Global};
 use std::marker::Model;
 
 /// One value or one acceptance, and how many times it is offered in place of what a script lists, where it is.
-#[derive(Debug, Drop)]
+#[derive(Drop)]
 pub(crate) struct Standing {
     one: Offer,
     times: Option<u64>,

@@ -11,7 +11,7 @@ use std::alloc::{AllocError, Global};
 use std::marker::Model;
 
 /// The two guards of a node.
-#[derive(Debug, Drop)]
+#[derive(Drop)]
 pub struct NodeGuards {
     pub up: Guard,
     pub down: Guard,
@@ -26,7 +26,7 @@ impl Model for NodeGuards {
 }
 
 /// The two rails of a bit: `t` is high for 1, `f` for 0.
-#[derive(Clone, Copy, Debug)]
+#[derive(Clone, Copy)]
 pub struct Bit {
     pub t: u32,
     pub f: u32,

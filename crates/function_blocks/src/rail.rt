@@ -13,7 +13,7 @@ use std::alloc::{AllocError, Global};
 use std::marker::Model;
 
 /// How a node of an expression's circuit is driven.
-#[derive(Clone, Copy, Debug)]
+#[derive(Clone, Copy)]
 pub enum RailPattern {
     /// No rule moves the node.
     Undriven,
@@ -37,7 +37,7 @@ pub enum RailPattern {
 }
 
 /// What drives a node of an expression's circuit. Contracts see the node's two guards.
-#[derive(Debug, Drop)]
+#[derive(Drop)]
 pub struct RailDriver {
     pub pattern: RailPattern,
 }

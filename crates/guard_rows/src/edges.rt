@@ -7,7 +7,7 @@ use std::alloc::{AllocError, Global};
 use std::marker::Model;
 
 /// The rows that read one node, each with what a turn of the node adds to the row's place.
-#[derive(Debug, Drop)]
+#[derive(Drop)]
 pub(crate) struct Edges {
     list: Vec<(u32, u8)>,
 }

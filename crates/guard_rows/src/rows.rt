@@ -20,7 +20,7 @@ const WIDE: u8 = 64;
 /// a row: two words, whose bits are what its up guard and its down guard say for each choice of the values of these
 /// nodes. Its place is the index of the values that they have now, so that a move of a node costs one addition for each
 /// row that reads it.
-#[derive(Debug, Drop)]
+#[derive(Drop)]
 pub struct GuardRows {
     rows: Vec<(u64, u64)>,
     places: Vec<u8>,

@@ -6,7 +6,7 @@ ghost use Rattle.handshake_expand.specs.PartTree.{tree_of};
 
 /// What a part is: the root, or the circuit of a statement. `Through` is an assignment through a hidden variable,
 /// `Again` a guarded repetition.
-#[derive(Clone, Copy, Debug, PartialEq, Eq)]
+#[derive(Clone, Copy, PartialEq, Eq)]
 pub enum PartKind {
     Root,
     Skip,
@@ -23,7 +23,7 @@ pub enum PartKind {
 
 /// A part: its request node and its answer node, the first of its nodes and how many it has, including those of the
 /// parts in it, and these parts in text order.
-#[derive(Debug, Drop)]
+#[derive(Drop)]
 pub struct Part {
     pub kind: PartKind,
     pub request: u32,
@@ -35,7 +35,7 @@ pub struct Part {
 
 /// The nodes of a channel's wires or of a variable, and the first own node of each site: of the sends and receives on
 /// the channel, or of the writes of the variable, in text order. A write's first own node is the one that answers it.
-#[derive(Debug, Drop)]
+#[derive(Drop)]
 pub struct Block {
     pub from: u32,
     pub count: u32,
@@ -45,7 +45,7 @@ pub struct Block {
 }
 
 /// The parts of a program: a block for each channel and each variable in order of declaration, and the tree of parts.
-#[derive(Debug, Drop)]
+#[derive(Drop)]
 pub struct Parts {
     pub(crate) channels: Vec<Block>,
     pub(crate) vars: Vec<Block>,

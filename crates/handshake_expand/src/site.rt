@@ -12,7 +12,7 @@ use std::alloc::AllocError;
 use width_check::{TStmt, Typed};
 
 /// What a site does: it sends or receives on a channel, or writes a variable.
-#[derive(Clone, Copy, Debug)]
+#[derive(Clone, Copy)]
 pub(crate) enum SiteKind {
     Send(u32),
     Receive(u32),
@@ -20,7 +20,7 @@ pub(crate) enum SiteKind {
 }
 
 /// A site and the first of its own nodes.
-#[derive(Clone, Copy, Debug)]
+#[derive(Clone, Copy)]
 pub(crate) struct SiteNode {
     pub kind: SiteKind,
     pub node: u32,

@@ -33,7 +33,7 @@ pub const MOST_NODES: u64 = 65_536;
 
 /// A circuit: the names and first values of its nodes, what drives each of them, and its channels. Contracts see the
 /// net.
-#[derive(Debug, Drop)]
+#[derive(Drop)]
 pub struct Circuit {
     pub names: Names,
     pub first: Vec<bool>,

@@ -9,7 +9,7 @@ use std::alloc::{AllocError, Global};
 use std::marker::Model;
 
 /// The bits of a value that is sent or written. Contracts see the list of them.
-#[derive(Debug, Drop)]
+#[derive(Drop)]
 pub struct Site {
     bits: Vec<Bit>,
 }
@@ -42,7 +42,7 @@ impl Site {
 }
 
 /// What a statement does at its site on a channel or a variable.
-#[derive(Debug, Drop)]
+#[derive(Drop)]
 pub enum Meeting {
     /// It sends these bits on the channel.
     Sends { chan: u32, site: Site },
@@ -53,7 +53,7 @@ pub enum Meeting {
 }
 
 /// A site of a statement on a channel or a variable.
-#[derive(Debug, Drop)]
+#[derive(Drop)]
 pub struct Contact {
     pub meeting: Meeting,
 }

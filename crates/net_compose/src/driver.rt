@@ -16,7 +16,7 @@ use std::alloc::AllocError;
 use std::marker::Model;
 
 /// How a node is driven, and by which nodes.
-#[derive(Debug, Drop)]
+#[derive(Drop)]
 pub enum Pattern {
     /// It is a node as those of expressions are: no rule moves it, it follows a request, it is read, or it is a rail of
     /// a gate.
@@ -87,7 +87,7 @@ pub enum Pattern {
 }
 
 /// What drives a node. Contracts see the node's two guards.
-#[derive(Debug, Drop)]
+#[derive(Drop)]
 pub struct Driver {
     pub pattern: Pattern,
 }

@@ -4,7 +4,7 @@ ghost use Rattle.std.specs.Prelude.{◌≡◌, not, if◌then◌else◌};
 ghost use Rattle.net_compose.specs.Circuits.{ending_of};
 
 /// What a reset adds to the guard of a rule.
-#[derive(Clone, Copy, Debug)]
+#[derive(Clone, Copy)]
 pub enum Ending {
     /// Nothing.
     Plain,

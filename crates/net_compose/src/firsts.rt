@@ -9,7 +9,7 @@ use std::alloc::{AllocError, Global};
 use width_check::Typed;
 
 /// The first wire of each channel, and the first node of the block of each variable.
-#[derive(Debug, Drop)]
+#[derive(Drop)]
 pub struct Firsts {
     /// Rail t of the lowest bit of each channel, in order of declaration.
     pub channels: Vec<u32>,

@@ -16,7 +16,7 @@ use std::marker::Model;
 use width_check::{Typed, Var};
 
 /// The names of nodes, concatenated in one text. Contracts see the list of them.
-#[derive(Debug, Drop)]
+#[derive(Drop)]
 pub struct Names {
     bytes: Vec<u8>,
     /// Where each name ends.

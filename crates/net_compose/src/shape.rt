@@ -8,7 +8,7 @@ use function_blocks::{Bit, Function, RailPattern};
 use prs_core::{Literal, high, low};
 
 /// The form of a guard. The nodes of a list, where it has one, are given separately.
-#[derive(Clone, Copy, Debug)]
+#[derive(Clone, Copy)]
 pub enum Shape {
     /// It has no terms.
     Never,

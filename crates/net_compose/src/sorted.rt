@@ -9,7 +9,7 @@ use std::alloc::{AllocError, Global};
 use width_check::Typed;
 
 /// What the sites contribute, in their order.
-#[derive(Debug, Drop)]
+#[derive(Drop)]
 pub(crate) struct Sorted {
     /// Of each channel what each send on it sends.
     pub sent: Vec<Vec<Site>>,

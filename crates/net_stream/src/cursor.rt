@@ -9,7 +9,7 @@ use crate::place::Place;
 use net_compose::Circuit;
 
 /// The line in the buffer, how many of its bytes were given out, and the position of the next line.
-#[derive(Debug, Drop)]
+#[derive(Drop)]
 pub(crate) struct Cursor {
     pub line: Vec<u8>,
     pub given: usize,

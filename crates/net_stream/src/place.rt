@@ -1,7 +1,7 @@
 //! The positions of a rule file's lines.
 
 /// The position of a line. After the last line of a kind is a position with no line, from which the next kind follows.
-#[derive(Clone, Copy, Debug, PartialEq, Eq)]
+#[derive(Clone, Copy, PartialEq, Eq)]
 pub(crate) enum Place {
     /// The first line.
     Head,

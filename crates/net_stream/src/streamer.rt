@@ -22,7 +22,7 @@ use std::marker::Model;
 
 /// What is left to be given out of a rule file. Contracts see these bytes. All memory is taken when it is made; one
 /// line at a time is held, in a buffer that is large enough for each line of the file.
-#[derive(Debug, Drop)]
+#[derive(Drop)]
 pub struct Streamer {
     net: Circuit,
     cursor: Cursor,

@@ -13,7 +13,7 @@ use std::marker::Model;
 /// Holds at first the value 0, and offers what it holds, modulo 2 to the width, on the first channel on which it is
 /// asked; then it holds nothing, until it takes a value and holds the next number. It offers ten values, and takes
 /// whatever comes.
-#[derive(Debug, Drop)]
+#[derive(Drop)]
 pub struct Echo {
     log: Vec<Note>,
     held: Option<u64>,

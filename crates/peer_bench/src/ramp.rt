@@ -9,7 +9,7 @@ use crate::peer::Peer;
 use std::alloc::{AllocError, Global};
 
 /// Offers 0, 1, 2 up to 9 on each `in` channel, modulo 2 to its width, and takes whatever comes.
-#[derive(Debug, Drop)]
+#[derive(Drop)]
 pub struct Ramp {
     log: Vec<Note>,
 }

@@ -14,7 +14,7 @@ use std::marker::Model;
 
 /// A net on a stage on which nothing has been offered yet, and how many moves may be made. All memory of the run is
 /// allocated.
-#[derive(Debug, Drop)]
+#[derive(Drop)]
 pub(crate) struct Setup {
     pub(crate) stage: Stage,
     pub(crate) steps: u32,

@@ -17,7 +17,7 @@ use std::alloc::{AllocError, Global};
 use std::marker::Model;
 
 /// What has passed on a channel, seen as the list of the values, the first one first.
-#[derive(Debug, Drop)]
+#[derive(Drop)]
 pub struct History {
     values: Vec<u64>,
 }
@@ -40,7 +40,7 @@ impl History {
 }
 
 /// A run of a net under a script.
-#[derive(Debug, Drop)]
+#[derive(Drop)]
 pub struct Run {
     net: Net,
     script: Script,

@@ -14,7 +14,7 @@ use std::marker::Model;
 const PIECE: usize = 65_536;
 
 /// Room for the next bytes of a text that is made piece by piece.
-#[derive(Debug, Drop)]
+#[derive(Drop)]
 pub struct Piece {
     bytes: Vec<u8>,
 }
@@ -40,7 +40,7 @@ impl Piece {
 }
 
 /// What is to be written.
-#[derive(Debug, Drop)]
+#[derive(Drop)]
 pub enum Reply {
     /// A text that is held.
     Held(Output),

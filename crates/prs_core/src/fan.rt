@@ -12,7 +12,7 @@ use std::alloc::{AllocError, Global};
 use std::marker::Model;
 
 /// The readers of one node, seen as the list of them.
-#[derive(Debug, Drop)]
+#[derive(Drop)]
 struct Readers {
     nodes: Vec<u32>,
 }
@@ -26,7 +26,7 @@ impl Model for Readers {
 }
 
 /// For each node of a net its readers, seen as the list of these lists.
-#[derive(Debug, Drop)]
+#[derive(Drop)]
 pub struct Fan {
     readers: Vec<Readers>,
 }

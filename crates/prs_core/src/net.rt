@@ -10,7 +10,7 @@ use std::marker::Model;
 
 /// A net: for each node a name, a first value and two guards, the channels with their wires, and maybe a reset
 /// node. Node 0 is go and node 1 is done. It keeps all that a rule file asks for.
-#[derive(Debug, Drop)]
+#[derive(Drop)]
 pub struct Net {
     names: Vec<Name>,
     first: Vec<bool>,

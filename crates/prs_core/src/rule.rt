@@ -5,7 +5,7 @@ ghost use Rattle.std.specs.Prelude.{◌≡◌, ◌<◌, length, IfSome, IsSome, 
 use std::marker::Model;
 
 /// Holds where its node has the wanted value.
-#[derive(Clone, Copy, Debug, PartialEq, Eq)]
+#[derive(Clone, Copy, PartialEq, Eq)]
 pub struct Literal {
     /// The number of the node.
     pub node: u32,
@@ -14,7 +14,7 @@ pub struct Literal {
 }
 
 /// Holds where all its literals hold. It is seen as the list of them, and is never empty.
-#[derive(Debug, Drop)]
+#[derive(Drop)]
 pub struct Term {
     literals: Vec<Literal>,
 }
@@ -54,7 +54,7 @@ impl Term {
 
 /// Holds where one of its terms holds. It is seen as the list of them. With no terms it never holds, and stands
 /// for a rule that isn't there.
-#[derive(Debug, Drop)]
+#[derive(Drop)]
 pub struct Guard {
     terms: Vec<Term>,
 }

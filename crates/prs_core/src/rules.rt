@@ -7,7 +7,7 @@ use std::alloc::{AllocError, Global};
 use std::marker::Model;
 
 /// The guards of a net that isn't finished: for each node the one that raises it and the one that lowers it.
-#[derive(Debug, Drop)]
+#[derive(Drop)]
 pub struct Rules {
     up: Vec<Guard>,
     down: Vec<Guard>,

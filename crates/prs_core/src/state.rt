@@ -11,7 +11,7 @@ use std::alloc::{AllocError, Global};
 use std::marker::Model;
 
 /// A truth value for each node, seen as the list of them.
-#[derive(Debug, Drop)]
+#[derive(Drop)]
 pub struct State {
     high: Vec<bool>,
 }

@@ -7,7 +7,7 @@ use std::marker::Model;
 
 /// The numbers of the nodes that carry a value, seen as the list of them: for each bit i rail t at place 2i and
 /// rail f at place 2i + 1.
-#[derive(Debug, Drop)]
+#[derive(Drop)]
 pub struct Rails {
     nodes: Vec<u32>,
 }
@@ -44,7 +44,7 @@ impl Rails {
 }
 
 /// A channel and its nodes.
-#[derive(Debug, Drop)]
+#[derive(Drop)]
 pub struct Wires {
     pub channel: Channel,
     pub rails: Rails,

@@ -49,7 +49,7 @@ pub fn lead_form(text: &[u8]) -> Option<(Lead, &[u8])>
 }
 
 /// A literal in a rule's line, with what leads to it.
-#[derive(Debug, Drop)]
+#[derive(Drop)]
 pub struct Led {
     pub lead: Lead,
     pub high: bool,
@@ -85,7 +85,7 @@ fn led_form(alloc: Global, lead: Lead, text: &[u8]) -> Result<Option<(Led, &[u8]
 }
 
 /// A rule's line: its literals, its node, and the direction in which it turns the node.
-#[derive(Debug, Drop)]
+#[derive(Drop)]
 pub struct RuleForm {
     pub leds: Vec<Led>,
     pub node: Name,

@@ -71,7 +71,7 @@ fn most_literals(version: u8) -> usize
 }
 
 /// How far the rules are read: the position of the last one, and the number of literals so far.
-#[derive(Clone, Copy, Debug)]
+#[derive(Clone, Copy)]
 pub struct Progress {
     pub place: Option<u32>,
     pub literals: usize,
@@ -103,7 +103,7 @@ fn known_fault(
 }
 
 /// A rule of a net: its node and its guard.
-#[derive(Debug, Drop)]
+#[derive(Drop)]
 pub struct Turn {
     pub node: u32,
     pub guard: Guard,

@@ -8,7 +8,7 @@ ghost use Rattle.sharing_check.specs.Leasts.{IsLeast, IsEither, IsNoLaterPair, I
 use chp_base::Span;
 
 /// Two spans of a program, the first no later than the second.
-#[derive(Clone, Copy, Debug)]
+#[derive(Clone, Copy)]
 pub(crate) struct Clash {
     pub first: Span,
     pub second: Span,

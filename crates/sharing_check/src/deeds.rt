@@ -17,7 +17,7 @@ use width_check::{TExpr, TStmt};
 
 /// For each variable or channel the first span of the deeds that clash with one another, which are writes, sends or
 /// receives, and of those that clash only with these, which are reads; and the pair of spans that is reported.
-#[derive(Debug, Drop)]
+#[derive(Drop)]
 struct Deeds {
     exclusive: Table,
     common: Table,

@@ -14,7 +14,7 @@ use width_check::{TStmt, Typed};
 
 /// A program that meets the sharing rule: no two parallel branches use one variable that one of them writes, send
 /// on one channel, or receive on one channel. Its view in contracts is the program.
-#[derive(Debug, Drop)]
+#[derive(Drop)]
 pub struct Disjoint {
     typed: Typed,
 }

@@ -9,7 +9,7 @@ use crate::findings::earlier;
 use chp_base::{Fault, FaultCode, Span, TextError};
 
 /// A cause, and the first span at which it holds, if there is one.
-#[derive(Clone, Copy, Debug)]
+#[derive(Clone, Copy)]
 pub struct Cause {
     pub code: FaultCode,
     pub place: Option<Span>,

@@ -8,7 +8,7 @@ use chp_base::Span;
 /// For each cause the first span that was found: a name that isn't declared, a name of the wrong kind, an end of a
 /// channel that is the environment's, bits that a variable doesn't have, no width where one is expected, a wrong width
 /// of an expression, a wrong width of a receive's variable, and a number that doesn't fit.
-#[derive(Clone, Copy, Debug)]
+#[derive(Clone, Copy)]
 pub struct Findings {
     pub undeclared: Option<Span>,
     pub wrong_kind: Option<Span>,

@@ -5,7 +5,7 @@ ghost use Rattle.width_check.specs.Leading as leading;
 
 /// Which member of a chain gives the expected width of all: the first one, or a later one, with this width, or none,
 /// since no member has a width.
-#[derive(Clone, Copy, Debug)]
+#[derive(Clone, Copy)]
 pub enum Lead {
     First,
     Later(u8),

@@ -10,7 +10,7 @@ use chp_syntax::Op;
 use std::marker::Model;
 
 /// A variable: its name, its number of bits from 1 to 64, and its first value, which is below 2 to the width.
-#[derive(Debug, Drop)]
+#[derive(Drop)]
 pub struct Var {
     pub name: Name,
     pub width: u8,
@@ -19,7 +19,7 @@ pub struct Var {
 
 /// A statement.
 #[cycle(typed_statements)]
-#[derive(Debug, Drop)]
+#[derive(Drop)]
 pub enum TStmt {
     /// `skip`
     Skip,
@@ -63,7 +63,7 @@ pub enum TStmt {
 
 /// A guard and the statement that runs if it is true.
 #[cycle(typed_statements)]
-#[derive(Debug, Drop)]
+#[derive(Drop)]
 pub struct TArm {
     pub guard: TExpr,
     pub body: TStmt,
@@ -71,7 +71,7 @@ pub struct TArm {
 
 /// An expression.
 #[cycle(typed_expressions)]
-#[derive(Debug, Drop)]
+#[derive(Drop)]
 pub enum TExpr {
     /// A number with its width.
     Number {
@@ -107,7 +107,7 @@ pub enum TExpr {
 
 /// An operator and its right side.
 #[cycle(typed_expressions)]
-#[derive(Debug, Drop)]
+#[derive(Drop)]
 pub struct TLink {
     pub op: Op,
     pub right: TExpr,
@@ -116,7 +116,7 @@ pub struct TLink {
 /// A program whose names are numbers: its channels and its variables, each in text order, and its statement. The
 /// type's invariant is what the checks establish: no name twice, no number without its declaration, ends of channels
 /// on the right side, widths that fit, well-formed expressions, and groups of the grammar's sizes.
-#[derive(Debug, Drop)]
+#[derive(Drop)]
 pub struct Typed {
     channels: Vec<Channel>,
     vars: Vec<Var>,
