@@ -13,7 +13,7 @@ use std::alloc::{AllocError, Global};
 /// The nodes at a Q-element (Martin). Under `request` it runs the whole handshake of its child, on `child_request`
 /// and `child_answer`, and then raises `next`, the request of what follows. `latch` keeps that the child has
 /// answered. The element's own nodes are `child_request`, `latch` and `next`.
-#[derive(Clone, Copy, PartialEq, Eq)]
+#[derive(Clone, Copy)]
 pub struct QPorts {
     pub request: u32,
     pub child_request: u32,

@@ -3,7 +3,7 @@
 use crate::name::Name;
 
 /// Who is at the ends of a channel.
-#[derive(Clone, Copy, Debug, PartialEq, Eq)]
+#[derive(Clone, Copy, Debug)]
 pub enum Kind {
     /// The environment sends, the program receives.
     In,

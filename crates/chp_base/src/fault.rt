@@ -8,7 +8,7 @@ use std::alloc::{AllocError, AllocFailed};
 use thiserror::Error;
 
 /// The causes for which a program text is refused. Each has a number that is never given to another.
-#[derive(Clone, Copy, Debug, PartialEq, Eq)]
+#[derive(Clone, Copy, Debug)]
 pub enum FaultCode {
     /// Bytes that are no token.
     BadToken,
@@ -93,7 +93,7 @@ impl FaultCode {
 
 /// A cause and its place. `other` is the second place where the cause has two (the codes of sharing), and equals
 /// `at` where it has one.
-#[derive(Clone, Copy, Debug, PartialEq, Eq)]
+#[derive(Clone, Copy, Debug)]
 pub struct Fault {
     pub code: FaultCode,
     pub at: Span,

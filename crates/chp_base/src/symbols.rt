@@ -40,7 +40,7 @@ impl Hash for Name {
 }
 
 /// The place that a name has in a table, counted from 0.
-#[derive(Clone, Copy, PartialEq, Eq)]
+#[derive(Clone, Copy)]
 pub enum Added {
     /// The name was new, and is the last one now.
     Fresh(u32),

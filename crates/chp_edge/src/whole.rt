@@ -9,7 +9,7 @@ use crate::sink::{Failed, Sink};
 use std::alloc::{AllocError, Global};
 
 /// Why a file wasn't read whole.
-#[derive(Clone, Copy, PartialEq, Eq)]
+#[derive(Clone, Copy)]
 pub enum ReadEnd {
     /// A call on the shelf failed.
     Failed,

@@ -22,7 +22,7 @@ use std::alloc::{AllocError, Global};
 use width_check::{TStmt, Typed};
 
 /// How a run of rounds ended.
-#[derive(Clone, Copy, PartialEq, Eq)]
+#[derive(Clone, Copy)]
 pub enum RunEnd {
     /// No step is left.
     Rest,

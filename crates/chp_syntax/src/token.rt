@@ -3,7 +3,7 @@
 use chp_base::{Name, Span};
 
 /// The words that are no names.
-#[derive(Clone, Copy, Debug, PartialEq, Eq)]
+#[derive(Clone, Copy, Debug)]
 pub enum Key {
     In,
     Out,
@@ -18,7 +18,7 @@ pub enum Key {
 
 /// The signs: `||` `[]` `[|` `:=` `->` `!=` `<=` `>=` `;` `,` `:` `!` `?` `(` `)` `[` `]` `{` `}` `*` `#` `~` `&`
 /// `|` `^` `+` `-` `=` `<` `>`.
-#[derive(Clone, Copy, Debug, PartialEq, Eq)]
+#[derive(Clone, Copy, Debug)]
 pub enum Mark {
     BarBar,
     Choice,
@@ -53,7 +53,7 @@ pub enum Mark {
 }
 
 /// What a token is.
-#[derive(PartialEq, Eq, Drop)]
+#[derive(Drop)]
 pub enum TokenKind {
     /// A keyword.
     Word(Key),
@@ -66,7 +66,7 @@ pub enum TokenKind {
 }
 
 /// A token and the bytes of the text that spell it.
-#[derive(PartialEq, Eq, Drop)]
+#[derive(Drop)]
 pub struct Token {
     pub kind: TokenKind,
     pub at: Span,

@@ -15,7 +15,7 @@ pub struct Ident {
 
 /// What a declaration declares: a channel that the environment sends on, one that it receives on, one inside of
 /// the program, or a variable.
-#[derive(Clone, Copy, PartialEq, Eq)]
+#[derive(Clone, Copy)]
 pub enum DeclKind {
     In,
     Out,
@@ -134,7 +134,7 @@ pub struct Link {
 }
 
 /// The operators between two expressions.
-#[derive(Clone, Copy, PartialEq, Eq)]
+#[derive(Clone, Copy)]
 pub enum Op {
     And,
     Or,

@@ -7,7 +7,7 @@ use std::alloc::{AllocError, AllocFailed};
 use thiserror::Error;
 
 /// The causes for which a delay file is refused. Each has a number that is never given to another.
-#[derive(Clone, Copy, Debug, PartialEq, Eq)]
+#[derive(Clone, Copy, Debug)]
 pub enum DelayFault {
     /// A line that isn't the name of a node and two numbers.
     BadLine,

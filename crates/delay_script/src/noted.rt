@@ -35,7 +35,7 @@ pub struct TimedRan {
 
 /// A move of a timed run: when it came, its node, and the number of the move, counted from 1, after which the node's
 /// move became enabled and stayed so, 0 where that is the start. Its time is that of its cause, or 0, plus its delay.
-#[derive(Clone, Copy, PartialEq, Eq)]
+#[derive(Clone, Copy)]
 pub struct NotedMove {
     pub time: u64,
     pub node: u32,

@@ -7,7 +7,7 @@ use std::alloc::{AllocError, AllocFailed};
 use thiserror::Error;
 
 /// The causes for which a script is refused. Each has a number that is never given to another.
-#[derive(Clone, Copy, Debug, PartialEq, Eq)]
+#[derive(Clone, Copy, Debug)]
 pub enum ScriptFault {
     /// A line that isn't a name with its colon followed by numbers or `all`, or whose words don't suit the direction
     /// of the channel.

@@ -1,7 +1,7 @@
 //! What can go wrong in a run.
 
 /// Why a move isn't safe.
-#[derive(Clone, Copy, Debug, PartialEq, Eq)]
+#[derive(Clone, Copy, Debug)]
 pub enum Hazard {
     /// Both guards of the node hold after the move.
     BothWays { node: u32 },

@@ -12,7 +12,7 @@ use prs_core::{Guard, Term, all_of, high, low};
 use std::alloc::{AllocError, Global};
 
 /// The truth function of a gate. Each row of the truth table has an input's value at the input's index.
-#[derive(Clone, Copy, PartialEq, Eq)]
+#[derive(Clone, Copy)]
 pub enum Function {
     And,
     Or,

@@ -6,7 +6,7 @@ ghost use Rattle.handshake_expand.specs.PartTree.{tree_of};
 
 /// What a part is: the root, or the circuit of a statement. `Through` is an assignment through a hidden variable,
 /// `Again` a guarded repetition.
-#[derive(Clone, Copy, PartialEq, Eq)]
+#[derive(Clone, Copy)]
 pub enum PartKind {
     Root,
     Skip,

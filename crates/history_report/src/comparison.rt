@@ -25,7 +25,7 @@ use std::alloc::{AllocError, Global};
 use width_check::Typed;
 
 /// How the histories of a run compare with those of as many rounds of a program as the run has moves.
-#[derive(Clone, Copy, PartialEq, Eq)]
+#[derive(Clone, Copy)]
 pub enum Against {
     /// The net has the program's channels, and on each the run's history is a prefix of that of the rounds.
     Agrees,

@@ -1,7 +1,7 @@
 //! The positions of a rule file's lines.
 
 /// The position of a line. After the last line of a kind is a position with no line, from which the next kind follows.
-#[derive(Clone, Copy, PartialEq, Eq)]
+#[derive(Clone, Copy)]
 pub(crate) enum Place {
     /// The first line.
     Head,

@@ -2,7 +2,7 @@
 
 /// What passed between a bench and its device: when, as the number of moves that were made by then, and on which
 /// channel.
-#[derive(Clone, Copy, PartialEq, Eq)]
+#[derive(Clone, Copy)]
 pub enum Note {
     /// The device offered a value on an `in` channel.
     Offered { at: u32, chan: u32, value: u64 },

@@ -5,7 +5,7 @@ ghost use Rattle.std.specs.Prelude.{◌≡◌, ◌<◌, length, IfSome, IsSome, 
 use std::marker::Model;
 
 /// Holds where its node has the wanted value.
-#[derive(Clone, Copy, PartialEq, Eq)]
+#[derive(Clone, Copy)]
 pub struct Literal {
     /// The number of the node.
     pub node: u32,

@@ -7,7 +7,7 @@ use std::alloc::{AllocError, AllocFailed};
 use thiserror::Error;
 
 /// The causes for which a rule file is refused. Each has a number that is never reused for another cause.
-#[derive(Clone, Copy, Debug, PartialEq, Eq)]
+#[derive(Clone, Copy, Debug)]
 pub enum NetFault {
     /// A line that has no form allowed at its position, or isn't ended; or a file that ends too early.
     BadLine,

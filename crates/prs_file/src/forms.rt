@@ -14,7 +14,7 @@ use std::alloc::AllocError;
 const ROOM: usize = 64;
 
 /// What comes before a literal.
-#[derive(Clone, Copy, PartialEq, Eq)]
+#[derive(Clone, Copy)]
 pub enum Lead {
     /// The word that begins a rule.
     Rule,

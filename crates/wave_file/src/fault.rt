@@ -7,7 +7,7 @@ use std::alloc::{AllocError, AllocFailed};
 use thiserror::Error;
 
 /// The causes for which a wave file is refused. Each has a number that is never given to another.
-#[derive(Clone, Copy, Debug, PartialEq, Eq)]
+#[derive(Clone, Copy, Debug)]
 pub enum WaveFault {
     /// A line that isn't of a form allowed at its position, or isn't ended; a mark of a time with no change after it;
     /// or a text that ends too early.
