@@ -46,7 +46,7 @@ bit_of_index v (n ∷ ns) zero h = bit_at_lowest (index_of v (n ∷ ns)) ∙ low
 bit_of_index v (n ∷ ns) (suc p) h = bit_at-suc (index_of v (n ∷ ns)) p ∙ ap (λ x. bit_at x p) (halved (v n) (index_of v ns))
     ∙ bit_of_index v ns p (omega arith)
 
-bit_raised : (values : List Bool) (m n : ℕ) → m < length values → high values m ≡ false →
+pub bit_raised : (values : List Bool) (m n : ℕ) → m < length values → high values m ≡ false →
     as_bit (high (fired values m) n) ≡ as_bit (high values n) + as_bit (n == m)
 bit_raised values m n within low = by_test (n == m) refl
   where
@@ -60,7 +60,7 @@ pub index_raised : (values : List Bool) (m : ℕ) (ns : List ℕ) → m < length
 index_raised values m [] within low = refl
 index_raised values m (n ∷ ns) within low = omega (arith, bit_raised values m n within low, index_raised values m ns within low)
 
-bit_lowered : (values : List Bool) (m n : ℕ) → m < length values → high values m ≡ true →
+pub bit_lowered : (values : List Bool) (m n : ℕ) → m < length values → high values m ≡ true →
     as_bit (high (fired values m) n) + as_bit (n == m) ≡ as_bit (high values n)
 bit_lowered values m n within up = by_test (n == m) refl
   where

@@ -1,5 +1,6 @@
 mod Indexes
 mod Masks
 mod Totals
+mod Counting
 mod Turns
 mod Made

@@ -110,15 +110,3 @@ tested word place b is = ap (λ n. n == 1) is ∙ one_bit b
     one_bit : (b : Bool) → (as_bit b == 1) ≡ b
     one_bit true = refl
     one_bit false = refl
-
-pub both_tested : (up down place : ℕ) (a b : Bool) → bit_at up place ≡ as_bit a → bit_at down place ≡ as_bit b →
-    (bit_at (bit_and up down) place == 1) ≡ (a && b)
-both_tested up down place a b raises lowers = tested (bit_and up down) place (a && b)
-    (bit_at_and up down place ∙ ap (λ x. min x (bit_at down place)) raises ∙ ap (min (as_bit a)) lowers ∙ both_bits a b)
-
-pub one_tested : (up down place : ℕ) (a b high was : Bool) → bit_at up place ≡ as_bit a → bit_at down place ≡ as_bit b → was ≡ high →
-    (word : ℕ) → word ≡ cond was down up → (bit_at word place == 1) ≡ cond high b a
-one_tested up down place a b true was raises lowers is word at =
-    ap (λ w. bit_at w place == 1) (at ∙ ap (λ x. cond x down up) is) ∙ tested down place b lowers
-one_tested up down place a b false was raises lowers is word at =
-    ap (λ w. bit_at w place == 1) (at ∙ ap (λ x. cond x down up) is) ∙ tested up place a raises

@@ -83,9 +83,9 @@ own r w = ap (λ b. cond b w 0) (eq-eqb r r refl)
 -- one edge after the other raises the place of its row
 
 pub raise_fits : (was now : List ℕ) (es : List (ℕ × ℕ)) (i : ℕ) → All (λ (e : ℕ × ℕ). e.0 < length was) es → i < length es →
-    ((r : ℕ) → r < length was → get_or was r 0 + total_to r es < 256) →
+    ((r : ℕ) → r < length was → get_or was r 0 + total_to r es < 2 ^ 32) →
     ((r : ℕ) → r < length was → get_or now r 0 ≡ get_or was r 0 + total_to r (take i es)) →
-    get_or now (get_or es i (0, 0)).0 0 + (get_or es i (0, 0)).1 < 256
+    get_or now (get_or es i (0, 0)).0 0 + (get_or es i (0, 0)).1 < 2 ^ 32
 raise_fits was now es i within inside room before =
     let e = get_or es i (0, 0) in
     let row = All-get_or (λ (e : ℕ × ℕ). e.0 < length was) es i (0, 0) inside within in

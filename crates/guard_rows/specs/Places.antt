@@ -1,5 +1,6 @@
--- What the two guards of a node say for each choice of the values that they read, and where the values stand now.
-use Rattle.std.specs.Prelude.{◌≡◌, ℕ, ◌+◌, ◌*◌, ◌<◌, ◌≤◌, Bool, true, false, ◌==◌, if◌then◌else◌, List, [], ◌∷◌, length, slice_index, slice_index_or, All, Option, Some, None}
+-- What the two guards of a node say for each choice of the values that they read, or for how many of these are high, and
+-- where the values stand now.
+use Rattle.std.specs.Prelude.{◌≡◌, ℕ, ◌+◌, ◌-◌, ◌*◌, ◌^◌, ◌<◌, ◌≤◌, Bool, true, false, not, ◌&&◌, ◌||◌, ◌==◌, nat_lt, nat_le, if◌then◌else◌, List, [], ◌∷◌, length, slice_index, slice_index_or, All, Option, Some, None}
 use Rattle.std.specs.Int.{bit_at}
 use Rattle.prs_core.specs.Nets.{GuardValue, NetValue, up_of, down_of}
 use Rattle.prs_core.specs.Moves.{high, guard_holds}
@@ -18,11 +19,38 @@ abbrev pub weight_of : ℕ → List ℕ → ℕ
 weight_of n [] = 0
 weight_of n (m ∷ ms) = as_bit (m == n) + 2 * weight_of n ms
 
+-- how many of these nodes are high
+abbrev pub count_of : (ℕ → Bool) → List ℕ → ℕ
+count_of v [] = 0
+count_of v (n ∷ ns) = as_bit (v n) + count_of v ns
+
+-- how many of these are the node
+abbrev pub times_in : ℕ → List ℕ → ℕ
+times_in n [] = 0
+times_in n (m ∷ ms) = as_bit (m == n) + times_in n ms
+
+-- the node that overrides the others, if there is one, is high
+abbrev pub overrides : (ℕ → Bool) → Option ℕ → Bool
+overrides v None = false
+overrides v (Some n) = v n
+
+abbrev pub override_step : ℕ → Option ℕ → ℕ
+override_step n None = 0
+override_step n (Some m) = as_bit (m == n)
+
+-- how a node's guards are evaluated: gone through; looked up at the index of the values of these nodes; by how many of
+-- these are high, unless a node that overrides them is
+pub data GuardForm : Type 0 where
+  walked : GuardForm
+  looked_up : List ℕ → GuardForm
+  by_count : List ℕ → Option ℕ → GuardForm
+
 -- bit by bit what the guard says for each choice of the values of these nodes
 abbrev pub IsWord : List ℕ → GuardValue → ℕ → Type 0
 IsWord inputs g word = (v : ℕ → Bool) → bit_at word (index_of v inputs) ≡ as_bit (guard_holds v g)
 
--- for each node two words and a place, and for each node the rows that read it, each with a weight
+-- for each node two words, or how many of its inputs have to be high, and a place; and for each node the rows that
+-- read it, each with a weight
 pub record RowsValue : Type 0 where
   pub rows : List (ℕ × ℕ)
   pub places : List ℕ
@@ -36,29 +64,51 @@ abbrev pub total_to : ℕ → List (ℕ × ℕ) → ℕ
 total_to row [] = 0
 total_to row (e ∷ es) = (if e.0 == row then e.1 else 0) + total_to row es
 
--- the place of a row: the index of the values, or 64 where the node has no row
-abbrev pub row_place : (ℕ → Bool) → Option (List ℕ) → ℕ
-row_place v None = 64
-row_place v (Some inputs) = index_of v inputs
+-- the place of a row: the index of the values; 2 ^ 30 and how many are high, and 2 ^ 29 if what overrides them is; or
+-- 64 where the node has no row
+abbrev pub row_place : (ℕ → Bool) → GuardForm → ℕ
+row_place v walked = 64
+row_place v (looked_up inputs) = index_of v inputs
+row_place v (by_count inputs over) = 2 ^ 30 + count_of v inputs + 2 ^ 29 * as_bit (overrides v over)
 
 -- what a turn of a node from low to high adds to it
-abbrev pub step_of : ℕ → Option (List ℕ) → ℕ
-step_of n None = 0
-step_of n (Some inputs) = weight_of n inputs
+abbrev pub step_of : ℕ → GuardForm → ℕ
+step_of n walked = 0
+step_of n (looked_up inputs) = weight_of n inputs
+step_of n (by_count inputs over) = times_in n inputs + 2 ^ 29 * override_step n over
+
+-- what a row says of the up guard and of the down guard at a place: bits of its words; or whether as many nodes are
+-- high as it asks for and the node that overrides them isn't, and whether none of them is high or that node is
+abbrev pub says_up : ℕ × ℕ → ℕ → Bool
+says_up row place =
+    if nat_lt place (2 ^ 30) then bit_at row.0 place == 1 else
+    (nat_le row.0 (place - 2 ^ 30) && nat_lt place (2 ^ 30 + 2 ^ 29))
+
+abbrev pub says_down : ℕ × ℕ → ℕ → Bool
+says_down row place =
+    if nat_lt place (2 ^ 30) then bit_at row.1 place == 1 else (place == 2 ^ 30 || nat_le (2 ^ 30 + 2 ^ 29) place)
 
 pub record AreWords (raises lowers : GuardValue) (inputs : List ℕ) (row : ℕ × ℕ) : Type 0 where
   pub few : length inputs ≤ 6
   pub up : IsWord inputs raises row.0
   pub down : IsWord inputs lowers row.1
 
--- the words of a node are what its two guards say
-abbrev pub IsRow : (up down : GuardValue) → Option (List ℕ) → ℕ × ℕ → Type 0
-IsRow up down None row = Unit {0}
-IsRow up down (Some inputs) row = AreWords up down inputs row
+-- the up guard holds where at least so many of these nodes are high, the down guard where none is; but while what
+-- overrides them is high, the down guard alone does
+pub record AreCounted (raises lowers : GuardValue) (inputs : List ℕ) (over : Option ℕ) (least : ℕ) : Type 0 where
+  pub few : length inputs < 2 ^ 29
+  pub up : (v : ℕ → Bool) → guard_holds v raises ≡ (nat_le least (count_of v inputs) && not (overrides v over))
+  pub down : (v : ℕ → Bool) → guard_holds v lowers ≡ ((count_of v inputs == 0) || overrides v over)
 
--- the row of a node that reads these nodes, or that it has none, is as its guards and the values say
+-- the row of a node is what its two guards say
+abbrev pub IsRow : (up down : GuardValue) → GuardForm → ℕ × ℕ → Type 0
+IsRow up down walked row = Unit {0}
+IsRow up down (looked_up inputs) row = AreWords up down inputs row
+IsRow up down (by_count inputs over) row = AreCounted up down inputs over row.0
+
+-- the row of a node, or that it has none, is as its guards and the values say
 pub record IsRowKept (net : NetValue) (values : List Bool) (r : RowsValue) (n : ℕ) : Type 0 where
-  pub inputs : Option (List ℕ)
+  pub inputs : GuardForm
   pub row : IsRow (up_of net n) (down_of net n) inputs (slice_index_or r.rows n (0, 0))
   pub place : slice_index r.places n ≡ row_place (high values) inputs
   pub steps : (m : ℕ) → m < length net.first → total_to n (slice_index_or r.edges m []) ≡ step_of m inputs

@@ -1,29 +1,37 @@
 //! The rows of a net, and the place of each in them.
 
-ghost use Rattle.std.specs.Prelude.{◌≡◌, ℕ, ◌+◌, ◌<◌, ◌≤◌, ◌==◌, if◌then◌else◌, length, slice_index, All, IfOk, IfSome, OnOk};
+ghost use Rattle.std.specs.Prelude.{◌≡◌, ℕ, ◌+◌, ◌^◌, ◌<◌, ◌≤◌, ◌==◌, length, slice_index, All, IfOk, IfSome, OnOk};
 ghost use Rattle.std.specs.Int.{bit_at};
 ghost use Rattle.prs_core.specs.declared.rule.Literal.{Literal};
 ghost use Rattle.prs_core.specs.Nets.{IsBelow};
 ghost use Rattle.prs_core.specs.Moves.{high, rule_enabled, both_ways, fired};
-ghost use Rattle.guard_rows.specs.Places.{AreRows, AreRowsBelow, AreWords, total_to};
+ghost use Rattle.guard_rows.specs.Places.{AreRows, AreRowsBelow, AreWords, says_up, says_down, total_to};
 
-use crate::edges::{Edges, add_edges, no_edges};
+use crate::counts::{COUNTED, counted_row, place_now};
+use crate::edges::{Edges, OVER, add_counts, add_edges, add_over, no_edges};
 use crate::words::{MOST, guard_word, index_now};
 use prs_core::{Guard, Net, State, Term, enabled, holds};
 use std::alloc::{AllocError, Global};
 use std::marker::Model;
 
-/// The place of a node whose guards name too many nodes for a row.
-const WIDE: u8 = 64;
+/// The place of a node that has no row.
+const WIDE: u32 = 64;
 
 /// What the guards of a net's nodes say, kept from move to move. Each node whose two guards name at most six nodes has
 /// a row: two words, whose bits are what its up guard and its down guard say for each choice of the values of these
 /// nodes. Its place is the index of the values that they have now, so that a move of a node costs one addition for each
 /// row that reads it.
+///
+/// A node whose down guard wants many nodes all low, and its up guard one of them high, or all of them, has a counted
+/// row: how many of them have to be high, and its place tells how many are. It is a merge of many requests, or a
+/// C-element that waits for many. The request that all calls of a procedure share has as many inputs as there are
+/// calls, and each call moves one of them: if its guards were gone through at each of these moves, a run would cost the
+/// square of the calls. In a net with a reset node the guards name this node as well; it overrides the others, and adds
+/// more to the place than all of them.
 #[derive(Drop)]
 pub struct GuardRows {
     rows: Vec<(u64, u64)>,
-    places: Vec<u8>,
+    places: Vec<u32>,
     edges: Vec<Edges>,
 }
 
@@ -84,24 +92,32 @@ fn row_of(inputs: &[u32], up: &Guard, down: &Guard) -> Option<(u64, u64)>
     Some((up, down))
 }
 
-/// The word of the guard that turns a node over which is high, or low.
-fn word_of(row: (u64, u64), high: bool) -> u64
-    ensures { result ≡ (if high then row.1 else row.0) }
-{
-    if high { row.1 } else { row.0 }
-}
-
-fn is_set(word: u64, place: u8) -> bool
+fn is_set(word: u64, place: u32) -> bool
     requires { place < 64 }
     ensures { result ≡ (bit_at word place == 1) }
 {
-    (word >> u32::from(place)) & 1 == 1
+    (word >> place) & 1 == 1
+}
+
+/// What the row says of the up guard and of the down guard.
+fn says(row: (u64, u64), place: u32) -> (bool, bool)
+    requires { place < 2 ^ 30 → place < 64 }
+    ensures up { result.0 ≡ says_up row place }
+    ensures down { result.1 ≡ says_down row place }
+{
+    if place < COUNTED {
+        (is_set(row.0, place), is_set(row.1, place))
+    } else {
+        let over = place >= COUNTED + OVER;
+        let enough = row.0 <= u64::from(place - COUNTED);
+        (enough && !over, place == COUNTED || over)
+    }
 }
 
 /// Adds its weight to the place of each row.
-fn raise(places: &mut [u8], edges: &[(u32, u8)])
+fn raise(places: &mut [u32], edges: &[(u32, u32)])
     requires within { All (λ (e : ℕ × ℕ). e.0 < length places.old) edges.now }
-    requires room { (r : ℕ) → r < length places.old → slice_index places.old r + total_to r edges.now < 256 }
+    requires room { (r : ℕ) → r < length places.old → slice_index places.old r + total_to r edges.now < 2 ^ 32 }
     ensures count { length places.new ≡ length places.old }
     ensures places { (r : ℕ) → r < length places.old →
         slice_index places.new r ≡ slice_index places.old r + total_to r edges.now }
@@ -112,7 +128,7 @@ fn raise(places: &mut [u8], edges: &[(u32, u8)])
 }
 
 /// Takes its weight from the place of each row.
-fn lower(places: &mut [u8], edges: &[(u32, u8)])
+fn lower(places: &mut [u32], edges: &[(u32, u32)])
     requires within { All (λ (e : ℕ × ℕ). e.0 < length places.old) edges.now }
     requires room { (r : ℕ) → r < length places.old → total_to r edges.now ≤ slice_index places.old r }
     ensures count { length places.new ≡ length places.old }
@@ -125,21 +141,53 @@ fn lower(places: &mut [u8], edges: &[(u32, u8)])
 }
 
 impl GuardRows {
-    /// Adds the row of the node, if its guards name no other nodes than these.
-    fn add(&mut self, net: &Net, state: &State, node: u32, inputs: &[u32]) -> Result<(), AllocError>
+    /// Adds the node with a counted row, or with none where its guards ask for more than how many of some nodes are
+    /// high. The list is made anew.
+    fn add_counted(
+        &mut self,
+        net: &Net,
+        state: &State,
+        node: u32,
+        inputs: &mut Vec<u32>,
+    ) -> Result<(), AllocError>
         requires state { length state.now ≡ length net.now.first }
         requires node { node < length net.now.first }
-        requires few { length inputs.now ≤ 6 }
-        requires inputs { All (λ n. n < length net.now.first) inputs.now }
         requires below { AreRowsBelow net.now state.now node self.old }
         ensures { OnOk result (AreRowsBelow net.now state.now (node + 1) self.new) }
     {
-        match row_of(inputs, net.up(node), net.down(node)) {
+        let _net = net.first();
+        match counted_row(inputs, net.up(node), net.down(node))? {
             None => {
                 self.rows.push((0, 0))?;
                 self.places.push(WIDE)?;
                 Ok(())
             }
+            Some(counts) => {
+                self.rows.push((counts.least, 0))?;
+                self.places.push(place_now(inputs, counts.over, state))?;
+                add_counts(&mut self.edges, inputs, node)?;
+                add_over(&mut self.edges, counts.over, node)
+            }
+        }
+    }
+
+    /// Adds the node with a row of words, if its guards name no other nodes than these.
+    fn add(
+        &mut self,
+        net: &Net,
+        state: &State,
+        node: u32,
+        inputs: &mut Vec<u32>,
+    ) -> Result<(), AllocError>
+        requires state { length state.now ≡ length net.now.first }
+        requires node { node < length net.now.first }
+        requires few { length inputs.old.items ≤ 6 }
+        requires inputs { All (λ n. n < length net.now.first) inputs.old.items }
+        requires below { AreRowsBelow net.now state.now node self.old }
+        ensures { OnOk result (AreRowsBelow net.now state.now (node + 1) self.new) }
+    {
+        match row_of(inputs, net.up(node), net.down(node)) {
+            None => self.add_counted(net, state, node, inputs),
             Some(row) => {
                 self.rows.push(row)?;
                 self.places.push(index_now(inputs, state))?;
@@ -164,7 +212,7 @@ impl GuardRows {
             inputs.clear();
             note_guard(&mut inputs, net.up(node))?;
             note_guard(&mut inputs, net.down(node))?;
-            rows.add(net, state, node, &inputs)?;
+            rows.add(net, state, node, &mut inputs)?;
         }
         Ok(rows)
     }
@@ -197,8 +245,8 @@ impl GuardRows {
         if place == WIDE {
             return enabled(net, state, node);
         }
-        let word = word_of(self.rows[node as usize], state.is_high(node));
-        is_set(word, place)
+        let (up, down) = says(self.rows[node as usize], place);
+        if state.is_high(node) { down } else { up }
     }
 
     /// Whether both guards of the node hold.
@@ -213,7 +261,7 @@ impl GuardRows {
         if place == WIDE {
             return holds(net.up(node), state) && holds(net.down(node), state);
         }
-        let (up, down) = self.rows[node as usize];
-        is_set(up & down, place)
+        let (up, down) = says(self.rows[node as usize], place);
+        up && down
     }
 }

@@ -70,14 +70,14 @@ pub(crate) fn guard_word(inputs: &[u32], guard: &Guard) -> Option<u64>
 }
 
 /// The index of what is so in the state.
-pub(crate) fn index_now(inputs: &[u32], state: &State) -> u8
+pub(crate) fn index_now(inputs: &[u32], state: &State) -> u32
     requires few { length inputs.now ≤ 6 }
     requires within { All (λ n. n < length state.now) inputs.now }
     ensures { result ≡ index_of (high state.now) inputs.now }
 {
     let mut index = 0;
     for place in (0..inputs.len()).rev() {
-        index = 2 * index + u8::from(state.is_high(inputs[place]));
+        index = 2 * index + u32::from(state.is_high(inputs[place]));
     }
     index
 }

@@ -1,13 +1,12 @@
-use Rattle.std.proofs.Common.{◌∙◌, sym, subst}
+use Rattle.std.proofs.Common.{◌∙◌, cond, sym, ap, subst}
 use Rattle.prs_core.specs.Nets.{up_of, down_of}
 use Rattle.prs_core.specs.Moves.{high, guard_holds}
 use Rattle.guard_rows.specs.Places.{RowsValue, AreRows}
-use Rattle.guard_rows.proofs.Masks.{one_tested}
 use Rattle.guard_rows.proofs.Turns.{read}
 use Rattle.guard_rows.proofs.rows.GuardRows.enabled.Goals as goal
 
-pub is_set-requires : goal.is_set-requires
-is_set-requires c =
+pub says-up-requires : goal.says-up-requires
+says-up-requires c =
     let s = c.self.inside in
     let net = c.args.net.now in
     let values = c.args.state.now in
@@ -15,16 +14,28 @@ is_set-requires c =
     (read net values s.rows.items s.places.items s.edges.items c.args.node are c.requires.node c.index.result.now c.index-place.result.now c.index.ensures
     c.index-place.ensures c.if-place-eq-WIDE.false).small
 
-pub returns : goal.returns
-returns c =
+pub returns-then-is_high : goal.returns-then-is_high
+returns-then-is_high c =
     let s = c.self.inside in
     let net = c.args.net.now in
     let values = c.args.state.now in
     let n = c.args.node in
-    let place = c.index-place.result.now in
     let are = subst (λ (r : RowsValue). AreRows net values r) (sym c.self.view_is) c.requires.rows in
-    let said = read net values s.rows.items s.places.items s.edges.items n are c.requires.node c.index.result.now place c.index.ensures
+    let said = read net values s.rows.items s.places.items s.edges.items n are c.requires.node c.index.result.now c.index-place.result.now c.index.ensures
     c.index-place.ensures c.if-place-eq-WIDE.false in
-    c.is_set.ensures
-    ∙ one_tested c.index.result.now.0 c.index.result.now.1 place (guard_holds (high values) (up_of net n)) (guard_holds (high values) (down_of net n))
-    (high values n) c.is_high.result said.up said.down c.is_high.ensures c.word_of-word.result c.word_of-word.ensures
+    c.says-up.ensures.down ∙ said.says.1
+    ∙ sym (ap (λ b. cond b (guard_holds (high values) (down_of net n)) (guard_holds (high values) (up_of net n)))
+    (sym c.is_high.ensures ∙ c.if-is_high.true))
+
+pub returns-else-is_high : goal.returns-else-is_high
+returns-else-is_high c =
+    let s = c.self.inside in
+    let net = c.args.net.now in
+    let values = c.args.state.now in
+    let n = c.args.node in
+    let are = subst (λ (r : RowsValue). AreRows net values r) (sym c.self.view_is) c.requires.rows in
+    let said = read net values s.rows.items s.places.items s.edges.items n are c.requires.node c.index.result.now c.index-place.result.now c.index.ensures
+    c.index-place.ensures c.if-place-eq-WIDE.false in
+    c.says-up.ensures.up ∙ said.says.0
+    ∙ sym (ap (λ b. cond b (guard_holds (high values) (down_of net n)) (guard_holds (high values) (up_of net n)))
+    (sym c.is_high.ensures ∙ c.if-is_high.false))

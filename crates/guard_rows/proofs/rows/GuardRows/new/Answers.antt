@@ -19,11 +19,10 @@ add-requires-clause-inputs c =
     subst (λ (g : GuardValue). IsBelow count g) (sym c.down.ensures) (is.down_within n [] (omega (arith, within, is.downs))) in
     let none : All (λ k. k < count) c.clear.new.self.items =
     subst (λ (ks : List ℕ). All (λ k. k < count) ks) (sym c.clear.ensures.items) (All-nil (λ k. k < count)) in
-    subst (λ (ks : List ℕ). All (λ k. k < count) ks) (sym c.deref.ensures.value)
-    (c.in_ok-note_guard-2.ensures.within count lowers (c.in_ok-note_guard.ensures.within count raises none))
+    c.in_ok-note_guard-2.ensures.within count lowers (c.in_ok-note_guard.ensures.within count raises none)
 
 pub add-requires-clause-few : goal.add-requires-clause-few
-add-requires-clause-few c = subst (λ (ks : List ℕ). length ks ≤ 6) (sym c.deref.ensures.value) c.in_ok-note_guard-2.ensures.few
+add-requires-clause-few c = c.in_ok-note_guard-2.ensures.few
 
 pub note_guard-requires-in-loop-node : goal.note_guard-requires-in-loop-node
 note_guard-requires-in-loop-node c = record { few = c.in_ok-note_guard.ensures.few }

@@ -1,4 +1,4 @@
-use Rattle.std.proofs.Common.{◌≡◌, ℕ, ◌+◌, ◌<◌, ◌≤◌, ◌∙◌, [], List, length, get_or, sym, ap, subst, true, false, arith}
+use Rattle.std.proofs.Common.{◌≡◌, ℕ, ◌+◌, ◌^◌, ◌<◌, ◌≤◌, ◌∙◌, [], List, length, get_or, sym, ap, subst, true, false, arith}
 use Rattle.std.proofs.lemmas.List.{with_items_is}
 use Rattle.prs_core.specs.Moves.{high, fired}
 use Rattle.guard_rows.specs.Places.{RowsValue, AreRows, guard_rows_of, total_to}
@@ -83,8 +83,8 @@ raise-requires-clause-room c = λ r row.
     let now : high values n ≡ false = sym c.is_high.ensures ∙ c.if-is_high.false in
     let here = c.deref_mut-else-is_high.result.now in
     let listed : r < length net.first = omega (arith, row, ap (λ (ps : List ℕ). length ps) c.deref_mut-else-is_high.ensures.value, are.places) in
-    subst (λ (es : List (ℕ × ℕ)). get_or here r 0 + total_to r es < 256) (sym same)
-    (subst (λ (ps : List ℕ). get_or ps r 0 + total_to r (get_or edges n []) < 256) (sym c.deref_mut-else-is_high.ensures.value)
+    subst (λ (es : List (ℕ × ℕ)). get_or here r 0 + total_to r es < 2 ^ 32) (sym same)
+    (subst (λ (ps : List ℕ). get_or ps r 0 + total_to r (get_or edges n []) < 2 ^ 32) (sym c.deref_mut-else-is_high.ensures.value)
     (raise_room net values s.rows.items s.places.items edges n r are (omega (arith, c.requires.state, c.requires.node)) c.requires.node listed now))
 
 pub returns-else-is_high : goal.returns-else-is_high
