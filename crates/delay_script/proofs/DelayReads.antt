@@ -17,7 +17,7 @@ use Rattle.env_script.proofs.ReadLines.{lines_more, no_line, one_line, texts_mor
 use Rattle.delay_script.specs.declared.line.DelayLine.{DelayLine}
 use Rattle.delay_script.specs.declared.fault.DelayFault.{DelayFault}
 use Rattle.delay_script.specs.declared.step.TakenDelay.{TakenDelay}
-use Rattle.delay_script.specs.DelayTables.{IsDelayTable, delay_table}
+use Rattle.delay_script.specs.DelayTables.{DelayTable, IsDelayTable, delay_table}
 use Rattle.delay_script.specs.DelayText.{SaysDelays, has_line, IsQuick, AreDelaysTold, rise_said, fall_said, IsDelayText, DelayLineFault, no_delays, no_node, again, slow, IsDelayRefused}
 use Rattle.delay_script.specs.DelaySteps.{marked_at, DelayStepFault, says_no_delays, of_no_node, of_marked, of_slow, IsTakenDelay, AreDelaysSoFar}
 use Rattle.delay_script.proofs.NameMaps.{AreDistinctNames, place_contains, rises_more, falls_more, marks_more, mark_is}
@@ -122,22 +122,13 @@ pub record AreReadTo (names : List (List ℕ)) (lines : Words) (at : ℕ) (up do
   pub ls : List DelayLine
   pub so_far : AreDelaysSoFar names (texts (take at lines)) ls up down marks
 
-pub one_each : (names : List (List ℕ)) (lines : Words) (at : ℕ) (up down : List ℕ) (marks : List Bool) → AreReadTo names lines at up down marks →
-    (length up ≡ length names) × ((length down ≡ length names) × (length marks ≡ length names))
-one_each names lines at up down marks read = (
-  ap length read.so_far.rises ∙ length-map names (rise_said read.ls),
-  (ap length read.so_far.falls ∙ length-map names (fall_said read.ls), ap length read.so_far.marks_are ∙ length-map names (has_line read.ls)),
-)
-
-pub refused_at : (names : List (List ℕ)) (text : List ℕ) (lines : Words) (at : ℕ) (d : Bor (List ℕ)) (table : List (List ℕ)) (up down : List ℕ)
-    (marks flags : List Bool) (fault : DelayFault) → texts lines ≡ lines_of text → at < length lines → AreReadTo names lines at up down marks → flags ≡ marks →
-    table ≡ names → DelayStepFault table flags (words_of (get_or lines at d).now) fault → IsDelayRefused names text fault (at + 1)
-refused_at names text lines at d table up down marks flags fault cut within read same is_table step =
+pub refused_at : (names : List (List ℕ)) (text : List ℕ) (lines : Words) (at : ℕ) (d : Bor (List ℕ)) (up down : List ℕ) (marks flags : List Bool)
+    (fault : DelayFault) → texts lines ≡ lines_of text → at < length lines → AreReadTo names lines at up down marks → flags ≡ marks →
+    DelayStepFault names flags (words_of (get_or lines at d).now) fault → IsDelayRefused names text fault (at + 1)
+refused_at names text lines at d up down marks flags fault cut within read same step =
     let line : List ℕ = (get_or lines at d).now in
-    let there : DelayStepFault names flags (words_of line) fault =
-    subst (λ (ns : List (List ℕ)). DelayStepFault ns flags (words_of line) fault) is_table step in
     let here : DelayStepFault names marks (words_of line) fault =
-    subst (λ (bs : List Bool). DelayStepFault names bs (words_of line) fault) same there in
+    subst (λ (bs : List Bool). DelayStepFault names bs (words_of line) fault) same step in
     record {
       before = texts (take at lines);
       here = line;
@@ -158,14 +149,13 @@ skip_line names lines at d up down marks within read none =
       so_far = subst (λ (ws : List (List ℕ)). AreDelaysSoFar names ws read.ls up down marks) (sym (texts_more lines at d within)) more;
     }
 
-pub take_line : (names : List (List ℕ)) (lines : Words) (at : ℕ) (d : Bor (List ℕ)) (table : List (List ℕ)) (up down ups downs : List ℕ)
-    (marks flags marked : List Bool) (t : TakenDelay) → AreDistinctNames names → at < length lines → AreReadTo names lines at up down marks → flags ≡ marks →
-    table ≡ names → IsTakenDelay table flags (words_of (get_or lines at d).now) t → ups ≡ set up t.node t.up → downs ≡ set down t.node t.down →
+pub take_line : (names : List (List ℕ)) (lines : Words) (at : ℕ) (d : Bor (List ℕ)) (up down ups downs : List ℕ) (marks flags marked : List Bool)
+    (t : TakenDelay) → AreDistinctNames names → at < length lines → AreReadTo names lines at up down marks → flags ≡ marks →
+    IsTakenDelay names flags (words_of (get_or lines at d).now) t → ups ≡ set up t.node t.up → downs ≡ set down t.node t.down →
     marked ≡ set marks t.node true → AreReadTo names lines (at + 1) ups downs marked
-take_line names lines at d table up down ups downs marks flags marked t distinct within read same is_table step is_up is_down is_marked =
+take_line names lines at d up down ups downs marks flags marked t distinct within read same step is_up is_down is_marked =
     let line : List ℕ = (get_or lines at d).now in
-    let there : IsTakenDelay names flags (words_of line) t = subst (λ (ns : List (List ℕ)). IsTakenDelay ns flags (words_of line) t) is_table step in
-    let here : IsTakenDelay names marks (words_of line) t = subst (λ (bs : List Bool). IsTakenDelay names bs (words_of line) t) same there in
+    let here : IsTakenDelay names marks (words_of line) t = subst (λ (bs : List Bool). IsTakenDelay names bs (words_of line) t) same step in
     let more = taken names (texts (take at lines)) line read.ls up down marks t distinct read.so_far here in
     record { ls = more.0; so_far = rw (is_up, is_down, is_marked, texts_more lines at d within) more.1 }
 
@@ -196,18 +186,18 @@ all_few : (f : List ℕ → ℕ) (names : List (List ℕ)) → ((name : List ℕ
 all_few f [] few = All-nil (λ delay. delay ≤ 1000000)
 all_few f (n ∷ names) few = All-cons (λ delay. delay ≤ 1000000) (f n) (map f names) (few n) (all_few f names few)
 
-pub is_table : (names : List (List ℕ)) (lines : Words) (at : ℕ) (up down : List ℕ) (marks : List Bool) (nodes : ℕ) → AreReadTo names lines at up down marks →
-    length names ≡ nodes → IsDelayTable nodes (delay_table up down)
-is_table names lines at up down marks nodes read count =
-    let each = one_each names lines at up down marks read in
-    let quick : All IsQuick read.ls = read.so_far.lines_told.good.quick in
+-- what a text says is a table of delays
+pub text_table : (names : List (List ℕ)) (text up down : List ℕ) → IsDelayText names text (delay_table up down) →
+    IsDelayTable (length up) (delay_table up down)
+text_table names text up down is =
+    let quick : All IsQuick is.lines = is.told.good.quick in
+    let rises : up ≡ map (rise_said is.lines) names = ap (λ (d : DelayTable). d.up) is.is in
+    let falls : down ≡ map (fall_said is.lines) names = ap (λ (d : DelayTable). d.down) is.is in
     record {
-      rises = each.0 ∙ count;
-      falls = each.1.0 ∙ count;
-      rises_few = subst (All (λ delay. delay ≤ 1000000)) (sym read.so_far.rises)
-          (all_few (rise_said read.ls) names (λ name. rise_quick read.ls name quick));
-      falls_few = subst (All (λ delay. delay ≤ 1000000)) (sym read.so_far.falls)
-          (all_few (fall_said read.ls) names (λ name. fall_quick read.ls name quick));
+      rises = refl;
+      falls = ap length falls ∙ (length-map names (fall_said is.lines) ∙ sym (ap length rises ∙ length-map names (rise_said is.lines)));
+      rises_few = subst (All (λ delay. delay ≤ 1000000)) (sym rises) (all_few (rise_said is.lines) names (λ name. rise_quick is.lines name quick));
+      falls_few = subst (All (λ delay. delay ≤ 1000000)) (sym falls) (all_few (fall_said is.lines) names (λ name. fall_quick is.lines name quick));
     }
 
 pub all_read : (names : List (List ℕ)) (text : List ℕ) (lines : Words) (at : ℕ) (up down : List ℕ) (marks : List Bool) → texts lines ≡ lines_of text →

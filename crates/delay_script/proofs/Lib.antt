@@ -1,3 +1,4 @@
+pub mod TableNames
 pub mod NameMaps
 pub mod SaidWords
 pub mod DelayReads

@@ -1,30 +1,18 @@
 -- Lists by names, and what one more line changes in them.
-use Rattle.std.proofs.Common.{◌≡◌, ◌≢◌, ℕ, zero, suc, ◌<◌, Bool, true, false, Some, List, [], ◌∷◌, ◌++◌, length, get_or, set, map, refl, sym, ap, ◌∙◌, inl, inr, arith, Contains}
-use Rattle.std.specs.Prelude.{◌⊎◌, ◌||◌, AllPairs, slice_get, bytes_eq, if◌then◌else◌}
+use Rattle.std.proofs.Common.{◌≡◌, ◌≢◌, ℕ, zero, suc, ◌<◌, Bool, true, false, List, [], ◌∷◌, ◌++◌, length, get_or, set, map, refl, sym, ap, ◌∙◌, inl, inr, arith, Contains}
+use Rattle.std.specs.Prelude.{◌⊎◌, ◌||◌, AllPairs, bytes_eq, if◌then◌else◌}
 use Rattle.std.proofs.lemmas.Bool.{cases_order, or_parts, or_right}
 use Rattle.std.proofs.lemmas.List.{get_or-map, get_or_default}
 use Rattle.env_script.proofs.OneMore.{same, differ}
 use Rattle.delay_script.specs.declared.line.DelayLine.{DelayLine}
 use Rattle.delay_script.specs.DelayText.{has_line, rise_said, fall_said}
-use Rattle.delay_script.specs.DelaySteps.{IsNodePlace, marked_at}
+use Rattle.delay_script.specs.DelaySteps.{marked_at}
+use Rattle.delay_script.specs.NameTables.{IsNodePlace}
 
 abbrev pub AreDistinctNames : List (List ℕ) → Type 0
 AreDistinctNames names = AllPairs (λ (a b : List ℕ). a ≢ b) names
 
 -- places
-
-got : (xs : List (List ℕ)) (k : ℕ) (y : List ℕ) → slice_get xs k ≡ Some y → IsNodePlace xs y k
-got [] k y e = absurd (cc e)
-got (x ∷ xs) zero y e =
-    let head : x ≡ y = cc e in
-    record { within = omega arith; is = head }
-got (x ∷ xs) (suc k) y e =
-    let more = got xs k y e in
-    let less : k < length xs = more.within in
-    record { within = omega arith; is = more.is }
-
-pub place_got : (xs ys : List (List ℕ)) (k : ℕ) (y : List ℕ) → xs ≡ ys → slice_get xs k ≡ Some y → IsNodePlace ys y k
-place_got xs ys k y e found = got ys k y (ap (λ (v : List (List ℕ)). slice_get v k) (sym e) ∙ found)
 
 pub place_contains : (names : List (List ℕ)) (name : List ℕ) (k : ℕ) → IsNodePlace names name k → Contains names name
 place_contains names name k here = (k, here.within, get_or_default names k name [] here.within ∙ here.is)

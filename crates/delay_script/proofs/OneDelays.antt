@@ -1,6 +1,6 @@
 -- A text says at most one table of delays, and a text that is refused says none, for one cause at one line.
-use Rattle.std.proofs.Common.{◌≡◌, ◌≢◌, ℕ, suc, ◌<◌, true, false, List, [], ◌∷◌, ◌++◌, length, get_or, map, refl, sym, ap, ◌∙◌, inl, inr, subst, arith, Contains}
-use Rattle.std.specs.Prelude.{◌⊎◌, bytes_eq}
+use Rattle.std.proofs.Common.{◌≡◌, ◌≢◌, ℕ, suc, ◌<◌, false, List, [], ◌∷◌, ◌++◌, length, get_or, refl, sym, ap, ◌∙◌, inl, inr, subst, arith, Contains}
+use Rattle.std.specs.Prelude.{◌⊎◌, bytes_eq, Result, Ok, Err, IfErr}
 use Rattle.std.specs.List.{AllZip}
 use Rattle.std.proofs.lemmas.Bool.{cases_order, or_from, both_ways}
 use Rattle.std.proofs.lemmas.List.{get_or_append_left, get_or_at, length-append}
@@ -10,8 +10,10 @@ use Rattle.env_script.proofs.OneMore.{differ}
 use Rattle.env_script.proofs.OneReading.{number_once, worded, worded_parts, worded_here, longer, same_front}
 use Rattle.delay_script.specs.declared.line.DelayLine.{DelayLine}
 use Rattle.delay_script.specs.declared.fault.DelayFault.{DelayFault}
+use Rattle.delay_script.specs.declared.fault.DelayError.{DelayError}
+use Rattle.delay_script.specs.declared.fault.DelayError.TheVariants.{Refused, NoMemory}
 use Rattle.delay_script.specs.DelayTables.{DelayTable}
-use Rattle.delay_script.specs.DelayText.{SaysDelays, has_line, IsQuick, AreDelays, AreDelaysTold, delays_said, IsDelayText, DelayLineFault, no_delays, no_node, again, slow, IsDelayRefused}
+use Rattle.delay_script.specs.DelayText.{SaysDelays, has_line, IsQuick, AreDelays, AreDelaysTold, delays_said, IsDelayText, DelayLineFault, no_delays, no_node, again, slow, IsDelayRefused, IsOnlyDelayRefusal, IsNoDelayText, OfDelayRefusal}
 
 -- Words say one thing.
 
@@ -188,3 +190,17 @@ one_refusal names text f g n m one two = by_order (cases_order (length one.befor
     by_order (inr (inr less)) =
         let more = longer two.before two.here two.behind one.before one.here one.behind (sym same) less in
         absurd (no_fault_within names one.before one.lines two.before two.here more.between two.lines g one.told more.whole two.told two.fault_here)
+
+-- What is so of every refusal is so of the one that is told.
+
+pub told_once : {T : Type 0} (names : List (List ℕ)) (text : List ℕ) (r : Result T DelayError) → IfErr r (OfDelayRefusal (IsDelayRefused names text)) →
+    IfErr r (OfDelayRefusal (IsOnlyDelayRefusal names text))
+told_once names text (Ok x) refused = tt
+told_once names text (Err (Refused fault line)) refused = λ f n other. one_refusal names text f fault n line other refused
+told_once names text (Err (NoMemory e)) refused = tt
+
+pub told_of_none : {T : Type 0} (names : List (List ℕ)) (text : List ℕ) (r : Result T DelayError) →
+    IfErr r (OfDelayRefusal (IsDelayRefused names text)) → IfErr r (OfDelayRefusal (λ fault line. IsNoDelayText names text))
+told_of_none names text (Ok x) refused = tt
+told_of_none names text (Err (Refused fault line)) refused = λ d. no_text names text d fault line refused
+told_of_none names text (Err (NoMemory e)) refused = tt

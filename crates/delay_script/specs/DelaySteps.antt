@@ -6,15 +6,11 @@ use Rattle.delay_script.specs.declared.fault.DelayFault.TheVariants.{BadLine, Un
 use Rattle.delay_script.specs.declared.step.DelayStep.{DelayStep}
 use Rattle.delay_script.specs.declared.step.DelayStep.TheVariants.{Skip, Refused, Take}
 use Rattle.delay_script.specs.declared.step.TakenDelay.{TakenDelay}
+use Rattle.delay_script.specs.NameTables.{IsNodePlace}
 use Rattle.delay_script.specs.DelayText.{SaysDelays, IsQuick, has_line, rise_said, fall_said, AreDelaysTold}
 
 abbrev pub marked_at : List Bool → ℕ → Bool
 marked_at marks place = slice_index_or marks place false
-
--- the name is at this index
-pub record IsNodePlace (names : List (List ℕ)) (name : List ℕ) (place : ℕ) : Type 0 where
-  pub within : place < length names
-  pub is : slice_index_or names place [] ≡ name
 
 -- why the words are refused, where these nodes had a line
 pub data DelayStepFault (names : List (List ℕ)) (marks : List Bool) (words : List (List ℕ)) : DelayFault → Type 0 where

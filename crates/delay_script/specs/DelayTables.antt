@@ -1,5 +1,5 @@
 -- How long the moves of a net's nodes take.
-use Rattle.std.specs.Prelude.{◌≡◌, ℕ, ◌≤◌, Bool, if◌then◌else◌, List, length, All, slice_index}
+use Rattle.std.specs.Prelude.{◌≡◌, ℕ, ◌≤◌, Bool, if◌then◌else◌, List, length, replicate, All, slice_index}
 
 -- for each node how long its rise and its fall take
 pub record DelayTable : Type 0 where
@@ -8,6 +8,10 @@ pub record DelayTable : Type 0 where
 
 abbrev pub delay_table : List ℕ → List ℕ → DelayTable
 delay_table up down = record { up = up; down = down }
+
+-- of so many nodes, each delay is 1
+abbrev pub unit_delays : (nodes : ℕ) → DelayTable
+unit_delays nodes = delay_table (replicate nodes 1) (replicate nodes 1)
 
 abbrev pub rise_delay : DelayTable → ℕ → ℕ
 rise_delay d node = slice_index d.up node

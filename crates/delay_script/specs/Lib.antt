@@ -1,6 +1,7 @@
 pub mod DelayFaults
 pub mod DelayTables
 pub mod DelayText
+pub mod NameTables
 pub mod DelaySteps
 pub mod Causes
 pub mod TimedRuns

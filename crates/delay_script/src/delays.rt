@@ -1,8 +1,8 @@
 //! The delays of a net's nodes.
 
-ghost use Rattle.std.specs.Prelude.{◌≡◌, ◌<◌, length, IfOk};
+ghost use Rattle.std.specs.Prelude.{◌≡◌, ◌<◌, length, replicate, IfOk};
 
-use std::alloc::AllocError;
+use std::alloc::{AllocError, Global};
 use std::marker::Model;
 
 /// For each node of a net how long its rise takes and how long its fall takes, whoever moves it: 0 to 1,000,000 units
@@ -25,7 +25,7 @@ impl Model for Delays {
 }
 
 impl Delays {
-    ghost use Rattle.delay_script.specs.DelayTables.{IsDelayTable, delay_table, rise_delay, fall_delay};
+    ghost use Rattle.delay_script.specs.DelayTables.{IsDelayTable, delay_table, unit_delays, rise_delay, fall_delay};
 
     /// The delays of these rises and falls, one of each for each node in order.
     pub(crate) fn new(up: Vec<u32>, down: Vec<u32>) -> Delays
@@ -33,6 +33,16 @@ impl Delays {
         ensures { result ≡ delay_table up.items down.items }
     {
         Delays { up, down }
+    }
+
+    /// The delays of so many nodes, each of which is 1.
+    pub fn units(alloc: Global, nodes: usize) -> Result<Delays, AllocError>
+        ensures units { IfOk result (λ d. d ≡ unit_delays nodes) }
+        ensures table { IfOk result (IsDelayTable nodes) }
+    {
+        let up = vec![in alloc; 1; nodes]?;
+        let down = vec![in alloc; 1; nodes]?;
+        Ok(Delays::new(up, down))
     }
 
     /// A copy of the table.

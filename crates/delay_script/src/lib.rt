@@ -6,6 +6,7 @@ mod due;
 mod fault;
 pub mod laws;
 mod line;
+mod name_table;
 mod noted;
 mod queue;
 mod reader;

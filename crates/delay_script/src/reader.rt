@@ -1,68 +1,80 @@
 //! The reader of delay files.
 
-ghost use Rattle.std.specs.Prelude.{◌≡◌, ◌≢◌, ◌-◌, ◌≤◌, ◌<◌, ◌^◌, ℕ, List, AllPairs, true, false, [], length, map, slice_set, replicate, IfOk, IfErr};
-ghost use Rattle.delay_script.specs.DelayTables.{IsDelayTable};
+ghost use Rattle.std.specs.Prelude.{◌≡◌, ◌≢◌, ◌≤◌, ◌<◌, ℕ, List, AllPairs, true, false, length, slice_set, replicate, IfOk, IfErr, OnOk};
+ghost use Rattle.delay_script.specs.DelayTables.{IsDelayTable, delay_table};
 ghost use Rattle.delay_script.specs.DelayText.{IsDelayText, IsOnlyDelays, IsNoDelayText, IsDelayRefused, IsOnlyDelayRefusal, OfDelayRefusal};
 
 use crate::delays::Delays;
 use crate::fault::DelayError;
+use crate::name_table::NameTable;
 use crate::step::{DelayStep, TakenDelay, step_of};
-use chp_base::{Added, Name, Symbols};
 use env_script::lines_of;
 use prs_core::Net;
 use std::alloc::{AllocError, Global};
 
-/// The table of these names.
-fn table_of(alloc: Global, names: &[Name]) -> Result<Symbols, AllocError>
-    requires distinct { AllPairs (λ (a b : List ℕ). a ≢ b) names.now }
-    requires few { length names.now < 2 ^ 32 - 1 }
-    ensures { IfOk result (λ table. table ≡ names.now) }
-{
-    let mut table = Symbols::new(alloc);
-    for name in names {
-        match table.add(name.copy()?)? {
-            Added::Fresh(_) => {}
-            Added::Known(_) => unreachable!(),
-        }
-    }
-    Ok(table)
+/// What was read of the nodes of a net: how long the rise and the fall of each take, and whether it had a line.
+#[derive(Drop)]
+struct Told {
+    up: Vec<u32>,
+    down: Vec<u32>,
+    marks: Vec<bool>,
 }
 
-/// The same number for each of so many nodes.
-fn alike(alloc: Global, nodes: usize, number: u32) -> Result<Vec<u32>, AllocError>
-    ensures { IfOk result (λ v. v.items ≡ replicate nodes number) }
+/// What is so of so many nodes where no line was read.
+fn nothing_told(alloc: Global, nodes: usize) -> Result<Told, AllocError>
+    ensures up { IfOk result (λ told. told.up.items ≡ replicate nodes 1) }
+    ensures down { IfOk result (λ told. told.down.items ≡ replicate nodes 1) }
+    ensures marks { IfOk result (λ told. told.marks.items ≡ replicate nodes false) }
 {
-    let mut numbers = Vec::with_capacity(alloc, nodes)?;
-    for _node in 0..nodes {
-        numbers.push(number)?;
-    }
-    Ok(numbers)
-}
-
-/// A mark for each of so many nodes, all false.
-fn unmarked(alloc: Global, nodes: usize) -> Result<Vec<bool>, AllocError>
-    ensures { IfOk result (λ v. v.items ≡ replicate nodes false) }
-{
-    let mut marks = Vec::with_capacity(alloc, nodes)?;
-    for _node in 0..nodes {
-        marks.push(false)?;
-    }
-    Ok(marks)
+    let up = vec![in alloc; 1; nodes]?;
+    let down = vec![in alloc; 1; nodes]?;
+    let marks = vec![in alloc; false; nodes]?;
+    Ok(Told { up, down, marks })
 }
 
 /// Records what a line says.
-fn note(up: &mut [u32], down: &mut [u32], marks: &mut [bool], taken: &TakenDelay)
-    requires up { taken.now.node < length up.old }
-    requires down { taken.now.node < length down.old }
-    requires marks { taken.now.node < length marks.old }
-    ensures up { up.new ≡ slice_set up.old taken.now.node taken.now.up }
-    ensures down { down.new ≡ slice_set down.old taken.now.node taken.now.down }
-    ensures marks { marks.new ≡ slice_set marks.old taken.now.node true }
+fn note(told: &mut Told, taken: &TakenDelay)
+    requires up { taken.now.node < length told.old.up.items }
+    requires down { taken.now.node < length told.old.down.items }
+    requires marks { taken.now.node < length told.old.marks.items }
+    ensures up { told.new.up.items ≡ slice_set told.old.up.items taken.now.node taken.now.up }
+    ensures down { told.new.down.items ≡ slice_set told.old.down.items taken.now.node taken.now.down }
+    ensures marks { told.new.marks.items ≡ slice_set told.old.marks.items taken.now.node true }
 {
     let place = taken.node as usize;
-    up[place] = taken.up;
-    down[place] = taken.down;
-    marks[place] = true;
+    told.up[place] = taken.up;
+    told.down[place] = taken.down;
+    told.marks[place] = true;
+}
+
+/// Records what the lines of the text say of the nodes of these names, up to the first line with a fault.
+fn read_lines(
+    alloc: Global,
+    text: &[u8],
+    names: &NameTable,
+    told: &mut Told,
+) -> Result<(), DelayError>
+    requires size { length text.now ≤ 4194304 }
+    requires distinct { AllPairs (λ (a b : List ℕ). a ≢ b) names.now }
+    requires up { told.old.up.items ≡ replicate (length names.now) 1 }
+    requires down { told.old.down.items ≡ replicate (length names.now) 1 }
+    requires marks { told.old.marks.items ≡ replicate (length names.now) false }
+    ensures read { OnOk result
+        (IsDelayText names.now text.now (delay_table told.new.up.items told.new.down.items)) }
+    ensures refused { IfErr result (OfDelayRefusal (IsDelayRefused names.now text.now)) }
+{
+    let lines = lines_of(alloc, text)?;
+    for (at, line) in lines.iter().enumerate() {
+        match step_of(alloc, names, &told.marks, line)? {
+            DelayStep::Skip => {}
+            DelayStep::Refused(fault) => {
+                let line = at as u32 + 1;
+                return Err(DelayError::Refused { fault, line });
+            }
+            DelayStep::Take(taken) => note(told, &taken),
+        }
+    }
+    Ok(())
 }
 
 /// The delays that the text says of the net's nodes. A line is the name of a node, the delay of its rise and that of
@@ -79,21 +91,8 @@ pub fn read_delays(alloc: Global, text: &[u8], net: &Net) -> Result<Delays, Dela
     ensures first { IfErr result (OfDelayRefusal (IsOnlyDelayRefusal net.now.names text.now)) }
     ensures none { IfErr result (OfDelayRefusal (λ fault line. IsNoDelayText net.now.names text.now)) }
 {
-    let names = table_of(alloc, net.names())?;
-    let nodes = net.names().len();
-    let lines = lines_of(alloc, text)?;
-    let mut up = alike(alloc, nodes, 1)?;
-    let mut down = alike(alloc, nodes, 1)?;
-    let mut marks = unmarked(alloc, nodes)?;
-    for (at, line) in lines.iter().enumerate() {
-        match step_of(alloc, &names, &marks, line)? {
-            DelayStep::Skip => {}
-            DelayStep::Refused(fault) => {
-                let line = at as u32 + 1;
-                return Err(DelayError::Refused { fault, line });
-            }
-            DelayStep::Take(taken) => note(&mut up, &mut down, &mut marks, &taken),
-        }
-    }
-    Ok(Delays::new(up, down))
+    let names = NameTable::from_names(alloc, net.names())?;
+    let mut told = nothing_told(alloc, names.len())?;
+    read_lines(alloc, text, &names, &mut told)?;
+    Ok(Delays::new(told.up, told.down))
 }

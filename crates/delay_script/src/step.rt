@@ -1,13 +1,13 @@
 //! What a line of a delay file does.
 
-ghost use Rattle.std.specs.Prelude.{◌≡◌, true, length, IfOk, IsTrue, ◌↔◌};
+ghost use Rattle.std.specs.Prelude.{◌≡◌, ℕ, List, length, IfOk, IsTrue, ◌↔◌};
 ghost use Rattle.env_script.specs.Cutting.{words_of};
-ghost use Rattle.delay_script.specs.DelayText.{IsQuick};
+ghost use Rattle.delay_script.specs.DelayText.{IsQuick, SaysDelays};
 ghost use Rattle.delay_script.specs.DelaySteps.{IsDelayStep};
 
 use crate::fault::DelayFault;
 use crate::line::{DelayLine, delay_line_in};
-use chp_base::Symbols;
+use crate::name_table::NameTable;
 use env_script::words_of;
 use std::alloc::{AllocError, Global};
 
@@ -40,10 +40,32 @@ fn is_quick(line: &DelayLine) -> bool
     line.up <= LONGEST_DELAY && line.down <= LONGEST_DELAY
 }
 
+/// What a line does that says delays, where the marked nodes of these names already had a line.
+fn step_for(names: &NameTable, marks: &[bool], line: &DelayLine) -> DelayStep
+    requires { length marks.now ≡ length names.now }
+    ensures { (words : List (List ℕ)) → SaysDelays words line.now →
+        IsDelayStep names.now marks.now words result }
+{
+    let Some(node) = names.find(&line.node) else {
+        return DelayStep::Refused(DelayFault::UnknownNode);
+    };
+    if marks[node as usize] {
+        return DelayStep::Refused(DelayFault::DoubleNode);
+    }
+    if !is_quick(line) {
+        return DelayStep::Refused(DelayFault::TooLarge);
+    }
+    DelayStep::Take(TakenDelay {
+        node,
+        up: line.up as u32,
+        down: line.down as u32,
+    })
+}
+
 /// What the line does, where the marked nodes of these names already had a line.
 pub fn step_of(
     alloc: Global,
-    names: &Symbols,
+    names: &NameTable,
     marks: &[bool],
     line: &[u8],
 ) -> Result<DelayStep, AllocError>
@@ -57,18 +79,5 @@ pub fn step_of(
     let Some(line) = delay_line_in(alloc, &words)? else {
         return Ok(DelayStep::Refused(DelayFault::BadLine));
     };
-    let Some(node) = names.find(&line.node) else {
-        return Ok(DelayStep::Refused(DelayFault::UnknownNode));
-    };
-    if marks[node as usize] {
-        return Ok(DelayStep::Refused(DelayFault::DoubleNode));
-    }
-    if !is_quick(&line) {
-        return Ok(DelayStep::Refused(DelayFault::TooLarge));
-    }
-    Ok(DelayStep::Take(TakenDelay {
-        node,
-        up: line.up as u32,
-        down: line.down as u32,
-    }))
+    Ok(step_for(names, marks, &line))
 }

@@ -1,39 +1,17 @@
--- Names of nodes are texts, and each further one gets the next number.
-use Rattle.std.proofs.Common.{◌≡◌, ℕ, zero, suc, ◌<◌, Bool, true, false, cond, List, [], ◌∷◌, ◌++◌, length, Option, Some, None, refl, ap, sym, ◌∙◌, subst, arith}
-use Rattle.std.specs.Prelude.{All, IsUtf8, IsAscii, bytes_eq, option_map, String, string_bytes, string_eq}
-use Rattle.std.specs.HashMap.{get_by_text, UpdatesBy}
+-- Each further name gets the next number.
+use Rattle.std.proofs.Common.{◌≡◌, ℕ, suc, Bool, true, false, cond, List, [], ◌∷◌, ◌++◌, length, Option, Some, None, refl, ap, sym, ◌∙◌}
+use Rattle.std.specs.Prelude.{bytes_eq, option_map, Vec}
+use Rattle.std.specs.BTreeMap.{UpdatesBy}
+use Rattle.std.specs.Cmp.{eq_by_cmp_equiv}
+use Rattle.std.specs.Cmp.Lexicographic.{slice_cmp, bytes_decides, nat_list_cmp_total, nat_list_eq_equiv}
+use Rattle.std.specs.Map.{KeepsOthers}
+use Rattle.std.specs.Ordering.{is_eq, nat_cmp}
 use Rattle.std.specs.declared.alloc.Global.{Global}
-use Rattle.std.proofs.lemmas.Map.Text.{hash_map_updates_text}
-use Rattle.std.specs.List.{list_all}
-use Rattle.std.specs.Cmp.Lexicographic.{bytes_decides}
-use Rattle.std.proofs.lemmas.Bool.{and_parts}
-use Rattle.std.proofs.lemmas.Bool.Decides.{nat_tests}
-use Rattle.std.proofs.lemmas.Str.{IsUtf8-from_ascii}
-use Rattle.std.proofs.lemmas.List.Elements.{All-head, All-tail, All-push}
-use Rattle.chp_base.specs.Names.{IsNodeName, node_part}
-use Rattle.prs_file.specs.Indexes.{place_in, Numbers, IsIndexed}
+use Rattle.std.proofs.lemmas.Map.Text.{is_eq-slice_cmp}
+use Rattle.prs_file.specs.Indexes.{place_in, Numbers, number_at, IsIndexed}
 
-part_small : (b : ℕ) → node_part b ≡ true → b < 128
-part_small b part = grind (arith, nat_tests)
-
-parts_small : (bs : List ℕ) → list_all node_part bs ≡ true → IsAscii bs
-parts_small [] parts i = omega arith
-parts_small (b ∷ bs) parts zero = part_small b (and_parts (node_part b) (list_all node_part bs) parts).0
-parts_small (b ∷ bs) parts (suc i) = parts_small bs (and_parts (node_part b) (list_all node_part bs) parts).1 i
-
-pub name_is_text : (name : List ℕ) → IsNodeName name → IsUtf8 name
-name_is_text name is = IsUtf8-from_ascii name (parts_small name is.parts)
-
--- what is no text is no name
-not_here : (n q : List ℕ) (rest : Option ℕ) (b : Bool) → bytes_eq n q ≡ b → IsNodeName n → ¬ IsUtf8 q → None ≡ rest →
-    None ≡ cond b (Some 0) (option_map (λ k. suc k) rest)
-not_here n q rest true is named none over = absurd (none (subst IsUtf8 ((bytes_decides n q).0 is) (name_is_text n named)))
-not_here n q rest false is named none over = ap (option_map (λ k. suc k)) over
-
-pub no_text : (names : List (List ℕ)) (q : List ℕ) → All IsNodeName names → ¬ IsUtf8 q → None ≡ place_in names q
-no_text [] q all none = refl
-no_text (n ∷ ns) q all none = not_here n q (place_in ns q) (bytes_eq n q) refl (All-head IsNodeName n ns all) none
-    (no_text ns q (All-tail IsNodeName n ns all) none)
+abbrev Key : Type 0
+Key = Vec ℕ Global
 
 -- one more name
 push_cases : (b e : Bool) (k : ℕ) (old new : Option ℕ) → (b ≡ true → e ≡ true → ⊥) → new ≡ cond e (Some k) old →
@@ -56,11 +34,31 @@ place_push (m ∷ ns) n q fresh =
     (λ a b. absurd (cc (parts.0, (bytes_decides m n).1 ((bytes_decides m q).0 a ∙ sym ((bytes_decides n q).0 b)))))
     (place_push ns n q parts.1)
 
-pub one_more_name : (names : List (List ℕ)) (old new : Numbers) (key : String Global) (name : List ℕ) → IsIndexed names old → string_bytes key ≡ name →
-    IsNodeName name → place_in names name ≡ None → UpdatesBy string_eq (string_eq key) old new (Some (length names)) → IsIndexed (names ++ name ∷ []) new
-one_more_name names old new key name is told named fresh updates = record {
-  found = λ q. hash_map_updates_text (string_bytes key) old new (Some (length names)) updates q
-      ∙ ap (λ bs. cond (bytes_eq bs q) (Some (length names)) (get_by_text old q)) told ∙ ap (λ o. cond (bytes_eq name q) (Some (length names)) o) (is.found q)
-      ∙ sym (place_push names name q fresh);
-  node_names = All-push IsNodeName names name is.node_names named;
-}
+-- what a change at a key's bytes leaves at any bytes
+
+abbrev Changed : Key → Numbers → Numbers → Option ℕ → Type 0
+Changed key old new w = UpdatesBy (λ (a b : Key). slice_cmp nat_cmp a.items b.items) (λ (k : Key). slice_cmp nat_cmp key.items k.items) old new w
+
+tied_apart : (bs q ks : List ℕ) → bytes_eq bs q ≡ false → is_eq (slice_cmp nat_cmp bs ks) ≡ true → is_eq (slice_cmp nat_cmp q ks) ≡ false
+tied_apart bs q ks apart tied =
+    let same : bs ≡ ks = (bytes_decides bs ks).0 (sym (is_eq-slice_cmp bs ks) ∙ tied) in
+    is_eq-slice_cmp q ks ∙ (ap (bytes_eq q) (sym same) ∙ (nat_list_eq_equiv.symm q bs ∙ apart))
+
+kept_at : (key : Key) (old new : Numbers) (w : Option ℕ) (q : List ℕ) → Changed key old new w → bytes_eq key.items q ≡ false →
+    number_at new q ≡ number_at old q
+unfolding KeepsOthers
+kept_at key old new w q changed apart =
+    changed.3 (λ (k : Key). is_eq (slice_cmp nat_cmp q k.items)) (λ a b. (eq_by_cmp_equiv nat_list_cmp_total).congr q a.items b.items)
+    (λ k. tied_apart key.items q k.items apart)
+
+changed_at : (key : Key) (old new : Numbers) (w : Option ℕ) (q : List ℕ) (b : Bool) → Changed key old new w → bytes_eq key.items q ≡ b →
+    number_at new q ≡ cond b w (number_at old q)
+changed_at key old new w q true changed is = ap (number_at new) (sym ((bytes_decides key.items q).0 is)) ∙ changed.1
+changed_at key old new w q false changed is = kept_at key old new w q changed is
+
+pub one_more_name : (names : List (List ℕ)) (old new : Numbers) (key : Key) (name : List ℕ) → IsIndexed names old → key.items ≡ name →
+    place_in names name ≡ None → Changed key old new (Some (length names)) → IsIndexed (names ++ name ∷ []) new
+one_more_name names old new key name so_far is fresh changed = λ q.
+    changed_at key old new (Some (length names)) q (bytes_eq key.items q) changed refl
+    ∙ ap (λ (bs : List ℕ). cond (bytes_eq bs q) (Some (length names)) (number_at old q)) is
+    ∙ ap (cond (bytes_eq name q) (Some (length names))) (so_far q) ∙ sym (place_push names name q fresh)

@@ -1,19 +1,23 @@
 -- Names with their numbers.
-use Rattle.std.specs.Prelude.{◌≡◌, ℕ, suc, List, [], ◌∷◌, All, Option, Some, None, option_map, bytes_eq, String, if◌then◌else◌}
-use Rattle.std.specs.HashMap.{HashMap, get_by_text}
+use Rattle.std.specs.Prelude.{◌≡◌, ℕ, suc, List, [], ◌∷◌, Option, Some, None, option_map, bytes_eq, if◌then◌else◌}
+use Rattle.std.specs.BTreeMap.{BTreeMap, get_by}
+use Rattle.std.specs.Cmp.Lexicographic.{slice_cmp}
+use Rattle.std.specs.Ordering.{nat_cmp}
 use Rattle.std.specs.declared.alloc.Global.{Global}
-use Rattle.std.specs.declared.hash.FoldHasher.{FoldHasher}
-use Rattle.std.specs.declared.hash.BuildHasherDefault.{BuildHasherDefault}
-use Rattle.chp_base.specs.Names.{IsNodeName}
+use Rattle.std.specs.declared.vec.Vec.{Vec}
 
 -- the index of a name's first occurrence in a list
 abbrev pub place_in : List (List ℕ) → List ℕ → Option ℕ
 place_in [] name = None
 place_in (n ∷ ns) name = if bytes_eq n name then Some 0 else option_map (λ k. suc k) (place_in ns name)
 
+-- numbers at the bytes of names, in order of the names
 abbrev pub Numbers : Type 0
-Numbers = HashMap (String Global) ℕ (BuildHasherDefault FoldHasher)
+Numbers = BTreeMap (Vec ℕ Global) ℕ
 
-pub record IsIndexed (names : List (List ℕ)) (numbers : Numbers) : Type 0 where
-  pub found : (name : List ℕ) → get_by_text numbers name ≡ place_in names name
-  pub node_names : All IsNodeName names
+abbrev pub number_at : Numbers → List ℕ → Option ℕ
+number_at numbers name = get_by (λ key. slice_cmp nat_cmp name key.items) numbers
+
+-- at each name the table has its number, and at what is no name none
+abbrev pub IsIndexed : List (List ℕ) → Numbers → Type 0
+IsIndexed names numbers = (name : List ℕ) → number_at numbers name ≡ place_in names name

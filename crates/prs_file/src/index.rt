@@ -1,20 +1,20 @@
 //! The names of nodes, each with its number.
 
-ghost use Rattle.std.specs.Prelude.{◌≡◌, ◌≢◌, ◌++◌, ◌∷◌, ◌<◌, ◌^◌, [], length, string_bytes, None, IfOk, OnOk, OnErr};
+ghost use Rattle.std.specs.Prelude.{◌≡◌, ◌++◌, ◌∷◌, ◌<◌, ◌^◌, [], length, None, OnOk, OnErr};
 ghost use Rattle.prs_file.specs.Indexes.{place_in};
 
 use chp_base::Name;
 use std::alloc::{AllocError, Global};
-use std::collections::HashMap;
+use std::collections::BTreeMap;
 use std::marker::Model;
-use std::str;
 
 /// The names of nodes in order of their numbers, with an index that finds the number of a name. Its view is the list
-/// of names.
+/// of names. Whoever writes a file chooses its names, so the index is in the order of the names: no choice of names
+/// makes it slow, and the work of finding one grows with the logarithm of their number.
 #[derive(Drop)]
 pub struct NodeIndex {
     names: Vec<Name>,
-    numbers: HashMap<String, u32>,
+    numbers: BTreeMap<Vec<u8>, u32>,
 }
 
 impl Model for NodeIndex {
@@ -28,16 +28,6 @@ impl Model for NodeIndex {
     ghost invariant = { λ i. IsIndexed i.names.items i.numbers };
 }
 
-/// The name as a text.
-fn text_of(alloc: Global, name: &Name) -> Result<String, AllocError>
-    ensures { IfOk result (λ text. string_bytes text ≡ name.now) }
-{
-    match str::from_utf8(name.bytes()) {
-        Ok(text) => String::from_str(alloc, text),
-        Err(_) => unreachable!(),
-    }
-}
-
 impl NodeIndex {
     /// No names.
     pub fn new(alloc: Global) -> NodeIndex
@@ -45,7 +35,7 @@ impl NodeIndex {
     {
         NodeIndex {
             names: Vec::new(alloc),
-            numbers: HashMap::new(alloc),
+            numbers: BTreeMap::new(alloc),
         }
     }
 
@@ -53,10 +43,7 @@ impl NodeIndex {
     pub fn find(&self, name: &[u8]) -> Option<u32>
         ensures { result ≡ place_in self.now name.now }
     {
-        match str::from_utf8(name) {
-            Ok(text) => self.numbers.get(text).copied(),
-            Err(_) => None,
-        }
+        self.numbers.get(name).copied()
     }
 
     /// The number of names.
@@ -81,9 +68,9 @@ impl NodeIndex {
         ensures err { OnErr result (self.new ≡ self.old) }
     {
         let number = self.names.len() as u32;
-        let text = text_of(*self.names.allocator(), &name)?;
+        let key = Vec::from_slice(*self.names.allocator(), name.bytes())?;
         self.names.reserve(1)?;
-        self.numbers.insert(text, number)?;
+        self.numbers.insert(key, number)?;
         self.names.push(name)?;
         Ok(())
     }

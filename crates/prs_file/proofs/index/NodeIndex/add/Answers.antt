@@ -1,5 +1,4 @@
 use Rattle.std.proofs.Common.{◌≡◌, ◌++◌, [], ◌∷◌, List, ℕ, length, sym, ap, subst, ◌∙◌, None}
-use Rattle.chp_base.specs.Names.{IsNodeName}
 use Rattle.prs_file.specs.Indexes.{place_in}
 use Rattle.prs_file.proofs.Names.{one_more_name}
 use Rattle.prs_file.proofs.index.NodeIndex.add.Goals as goal
@@ -11,5 +10,5 @@ invariant_of-self-2 c =
     c.in_ok-push.ensures.items ∙ ap (λ xs. xs ++ c.args.name ∷ []) c.in_ok-reserve.ensures.items in
     let count : c.len-number.result ≡ length names = c.len-number.ensures ∙ c.self.inside.names.ok.0 in
     let fresh : place_in names c.args.name ≡ None = subst (λ (ns : List (List ℕ)). place_in ns c.args.name ≡ None) (sym c.self.view_is) c.requires.fresh in
-    rw items (one_more_name names _ _ c.in_ok-text.text c.args.name c.self.invariant c.in_ok-text.ensures (subst IsNodeName c.name.view_is c.name.invariant)
+    rw items (one_more_name names c.self.inside.numbers c.insert.new.self c.in_ok-key.key c.args.name c.self.invariant (c.in_ok-key.ensures.items ∙ c.bytes.ensures.bytes)
     fresh (rw count at c.in_ok-insert.ensures.updates))
