@@ -34,7 +34,7 @@ use Rattle.command_steps.specs.References.{HoldsReference, IsReferredTo}
 use Rattle.simulation_commands.specs.RunReporting.{IsReported, alone, hazardous, compared, ending_against, ending_for}
 use Rattle.chp_cli.specs.Simulated.{HoldsCarrying, IsFileSimulated}
 use Rattle.command_words.specs.SimulateWords.{AskedRun}
-use Rattle.simulation_commands.specs.Simulating.{ran_value, simulation_for}
+use Rattle.simulation_commands.specs.Simulating.{simulation_for}
 use Rattle.command_steps.proofs.OneAnswers.{same_text}
 use Rattle.command_steps.proofs.OneMeaning.{means_once}
 
@@ -147,15 +147,15 @@ module _ (hold : (p : TypedProgram) (script : List OfferValue) → MeetsSharing 
             )
 
         module _ (s : AskedRun) (played : Played) (p : TypedProgram) (holds : HoldsCarrying given s.net p) (refers : IsReferredTo given s.against p) where
-          pub carried_done : (end : Ending) (text : List ℕ) (f : IsFileSimulated s given played (writes end text)) → ending_for f.plays.end ≡ Done → end ≡ Done
+          pub carried_done : (end : Ending) (text : List ℕ) (f : IsFileSimulated s given played (writes end text)) → ending_for f.ran.end ≡ Done → end ≡ Done
           carried_done end text f calm =
               let same : holds.net ≡ f.net = f.file.only holds.net holds.kept (subst (λ x. NetText x holds.net) (same_text holds.held f.held) holds.spelled) in
               let carries = subst (λ n. ((n.reset ≡ None) × Carries n p) ⊎ CarriesReset n p) same holds.carries in
               let sim = simulation_for f.net f.script s.steps s.power in
-              let moves = picked_moves sim f.was.log f.is.log in
-              let run : IsRun f.net f.script (start_at sim) moves = picked_run f.net f.script (start_at sim) _ f.plays.run.picks in
-              let ran = ran_value sim f.was.log f.is.log f.plays.end in
-              reported_done f.script None ran f.program end text f.plays.written calm
+              let moves = picked_moves sim f.run.was.log f.run.is.log in
+              let run : IsRun f.net f.script (start_at sim) moves = picked_run f.net f.script (start_at sim) _ f.run.run.picks in
+              reported_done f.script None f.ran f.program end text f.written calm
               (λ q is. let own = same_reference s.against p f.program refers f.referred q is in
-              subst (λ t. IsAgainst ran t f.script Agrees) (sym own.0)
-              (agrees f.net p f.script sim.high f.file.kept own.1 f.told_is.kept carries moves run ran refl refl refl))
+              subst (λ t. IsAgainst f.ran t f.script Agrees) (sym own.0)
+              (agrees f.net p f.script sim.high f.file.kept own.1 f.told_is.kept carries moves run f.ran (ap (λ (r : RanValue). r.net) f.run.led)
+              (ap (λ (r : RanValue). r.moves) f.run.led) (ap (λ (r : RanValue). r.passed) f.run.led)))

@@ -5,7 +5,6 @@ use Rattle.prs_core.specs.Nets.{NetValue, IsNet}
 use Rattle.env_script.specs.Scripts.{OfferValue}
 use Rattle.env_script.specs.Runs.{RunState, IsRun, IsAtRest, IsApart, IsSafeMove, IsPowered, after, moved}
 use Rattle.env_script.specs.declared.hazard.Hazard.{Hazard}
-use Rattle.env_script.specs.declared.hazard.Hazard.TheVariants.{BothWays as Torn, Unstable as Lost, Protocol as Broken}
 use Rattle.env_script.specs.Hazards.{hazard_of}
 use Rattle.env_script.specs.OneLength.{AllSafe}
 use Rattle.env_script.proofs.Fronts.{ends_all}
@@ -48,8 +47,7 @@ simulation_written s given played told end text (an_order {place = k} named (a_f
       script = sc;
       program = read.0;
       place = k;
-      was = plays.was;
-      is = plays.is;
+      ran = plays.ran;
       held = gives told;
       file = is;
       held_script = reads told;
@@ -57,9 +55,8 @@ simulation_written s given played told end text (an_order {place = k} named (a_f
       powered = powered;
       referred = read.1;
       named = named;
-      before = plays.before;
-      after = plays.after;
-      plays = plays.plays;
+      run = plays.run;
+      written = plays.written;
     }
 
 -- the report of a run without a hazard doesn't end in one
@@ -81,9 +78,9 @@ rest_empties None (x ∷ xs) false ended = absurd (cc ended)
 rest_empties (Some h) (x ∷ xs) spent ended = absurd (by_hazard h ended)
   where
     by_hazard : (h : Hazard) → Some (end_from h) ≡ Some AtRest → ⊥
-    by_hazard (Torn n) e = cc e
-    by_hazard (Lost n) e = cc e
-    by_hazard (Broken c) e = cc e
+    by_hazard (Hazard.BothWays n) e = cc e
+    by_hazard (Hazard.Unstable n) e = cc e
+    by_hazard (Hazard.Protocol c) e = cc e
 
 -- ---- the net of a file carries the program
 
@@ -101,21 +98,21 @@ module _ (powered : (net : NetValue) (high : Bool) → IsNet net → IsSome net.
   pub carried_safe : (a : Answer) (f : IsFileSimulated s given played a) → AllSafe f.net f.script (start_at (simulation_for f.net f.script s.steps s.power))
   carried_safe a f = all_safe powered f.net p f.script _ f.file.kept f.told_is.kept (file_carries holds f.held f.file)
 
-  pub carried_calm : (a : Answer) (f : IsFileSimulated s given played a) → ending_for f.plays.end ≡ Done
+  pub carried_calm : (a : Answer) (f : IsFileSimulated s given played a) → ending_for f.ran.end ≡ Done
   carried_calm a f =
       let sim = simulation_for f.net f.script s.steps s.power in
-      run_calm powered law f.net f.script (start_at sim) s.steps _ f.plays.end f.file.kept (carried_safe a f)
-      (picked_run f.net f.script (start_at sim) _ f.plays.run.picks) f.plays.run.ends
+      run_calm powered law f.net f.script (start_at sim) s.steps _ f.ran.end f.file.kept (carried_safe a f)
+      (picked_run f.net f.script (start_at sim) _ f.run.run.picks) f.run.run.ends
 
   pub carried_no_hazard : (end : Ending) (text : List ℕ) → IsFileSimulated s given played (writes end text) → end ≢ Hazardous
-  carried_no_hazard end text f = reported_calm f.script None _ f.program end text f.plays.written (carried_calm _ f)
+  carried_no_hazard end text f = reported_calm f.script None _ f.program end text f.written (carried_calm _ f)
 
   pub carried_ends : (a : Answer) (f : IsFileSimulated s given played a) → EndsAllAtRest s given played a f
   carried_ends a f = λ rest.
       let sim = simulation_for f.net f.script s.steps s.power in
-      let moves = picked_moves sim f.was.log f.is.log in
-      let run : IsRun f.net f.script (start_at sim) moves = picked_run f.net f.script (start_at sim) _ f.plays.run.picks in
+      let moves = picked_moves sim f.run.was.log f.run.is.log in
+      let run : IsRun f.net f.script (start_at sim) moves = picked_run f.net f.script (start_at sim) _ f.run.run.picks in
       let still : IsAtRest f.net f.script (after f.net (start_at sim) moves) =
       rests f.net f.script (after f.net (start_at sim) moves) f.file.kept
-      (rest_empties (last_hazard f.net f.script (start_at sim) moves) _ _ (f.plays.run.ends.ended ∙ ap (λ e. Some e) rest)) in
+      (rest_empties (last_hazard f.net f.script (start_at sim) moves) _ _ (f.run.run.ends.ended ∙ ap (λ e. Some e) rest)) in
       ends_all f.net f.script (start_at sim) f.file.kept (carried_safe a f) moves run still

@@ -155,8 +155,8 @@ module _ (powered : Powered) (law : (net : NetValue) (script : List OfferValue) 
       → (answer : Answer) (f : IsFileSimulated s given played answer) → SimulatedRests s given played p holds f
   simulated_rests s given played p holds answer f =
       let sim = simulation_for f.net f.script s.steps s.power in
-      file_rests given s.net p holds f.rules f.net f.held f.file f.script f.told_is.kept sim.high (picked_moves sim f.was.log f.is.log)
-      (picked_run f.net f.script (start_at sim) _ f.plays.run.picks) s.steps f.plays.end f.plays.run.ends
+      file_rests given s.net p holds f.rules f.net f.held f.file f.script f.told_is.kept sim.high (picked_moves sim f.run.was.log f.run.is.log)
+      (picked_run f.net f.script (start_at sim) _ f.run.run.picks) s.steps f.ran.end f.run.run.ends
 
   -- ---- timed
 

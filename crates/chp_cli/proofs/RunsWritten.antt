@@ -57,7 +57,7 @@ module _ (no_fault : (program : ProgramTree) (f : Fault) → IsAccepted program 
       absurd (none.never t.script (subst (λ x. IsScriptText (net_channels n) x t.script) (same_text t.held_script (gives told))
       (subst (λ (m : NetValue). IsScriptText (net_channels m) t.told t.script) same t.says)))
   net_writes place n same a (has_power is (a_file gives short (a_script {script = sc} are next))) =
-      reference_passed IsWritten no_fault given told s.against t.referable _ (λ p b plays. whole_report sc None _ p b plays.plays.written) a next
+      reference_passed IsWritten no_fault given told s.against t.referable _ (λ p b plays. whole_report sc None _ p b plays.written) a next
 
   pub simulate_writes : (a : Answer) → Simulates s given played a → is_whole (status_of a) ≡ true
   simulate_writes a (no_order none) = absurd (cc (none, t.named))

@@ -1,10 +1,10 @@
 -- Each answer of a command to files and orders that hold what it is served with is to write.
-use Rattle.std.proofs.Common.{◌≡◌, ℕ, ◌≤◌, true, false, Bool, List, [], Option, Some, None, inl, inr, refl, sym, ap, subst, arith}
+use Rattle.std.proofs.Common.{◌≡◌, ℕ, ◌≤◌, true, false, Bool, List, length, Option, Some, None, inl, inr, refl, sym, ap, subst, arith}
 use Rattle.chp_base.specs.declared.fault.Fault.{Fault}
 use Rattle.chp_meaning.specs.Ends.{held_in}
 use Rattle.chp_meaning.specs.Rounds.{rounds}
 use Rattle.chp_syntax.specs.Trees.{ProgramTree}
-use Rattle.delay_script.specs.DelayTables.{DelayTable}
+use Rattle.delay_script.specs.DelayTables.{DelayTable, unit_delays}
 use Rattle.delay_script.specs.TimedRuns.{TimedValue}
 use Rattle.env_script.specs.Environment.{net_channels}
 use Rattle.env_script.specs.Scripts.{OfferValue}
@@ -155,8 +155,7 @@ module _ (no_fault : (program : ProgramTree) (f : Fault) → IsAccepted program 
     where
       slow : (file : Option (List ℕ)) → HasDelays given file h.net.names h.delays → (a : Answer) → FromDelayFile given file h.net.names
           (traced_by w h.net h.script) a → IsRunEnd a
-      slow None says = delays_passed IsRunEnd h.net.names [] h.delays says (traced_by w h.net h.script)
-          (traced_written (trace_for w h.net h.script h.delays) w.causes)
+      slow None each = traced_written (trace_for w h.net h.script (unit_delays (length h.net.names))) w.causes
       slow (Some file) f =
           file_passed IsRunEnd given told file f.text most_of_delays f.held (λ text. FromDelays h.net.names text (traced_by w h.net h.script))
           (delays_passed IsRunEnd h.net.names f.text h.delays f.says (traced_by w h.net h.script)

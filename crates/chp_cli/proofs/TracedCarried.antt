@@ -1,7 +1,7 @@
 -- The wave of a net that carries a program.
-use Rattle.std.proofs.Common.{◌≡◌, ◌≢◌, ◌↔◌, ℕ, true, false, Bool, List, Option, Some, None}
+use Rattle.std.proofs.Common.{◌≡◌, ◌≢◌, ◌↔◌, ℕ, true, false, Bool, List, length, Option, Some, None, refl}
 use Rattle.std.specs.Prelude.{IsSome}
-use Rattle.delay_script.specs.DelayTables.{DelayTable}
+use Rattle.delay_script.specs.DelayTables.{DelayTable, unit_delays}
 use Rattle.delay_script.specs.TimedRuns.{moved_nodes, timed_start}
 use Rattle.prs_core.specs.Nets.{NetValue, IsNet}
 use Rattle.env_script.specs.Scripts.{OfferValue}
@@ -22,10 +22,10 @@ use Rattle.simulation_commands.specs.Tracing.{TracesNet, Traces, trace_for}
 use Rattle.grown_commands.proofs.SafeRuns.{all_safe, run_calm}
 use Rattle.chp_cli.proofs.CalmRuns.{file_carries}
 
--- what is written comes from delays that were read
+-- what is written comes from delays that the file says, if one is named
 delays_held : (given : Given) (file : Option (List ℕ)) (names : List (List ℕ)) (Next : DelayTable → Answer → Type 0) (end : Ending) (text : List ℕ) →
     FromDelayFile given file names Next (writes end text) → (delays : DelayTable) × HoldsDelayFile given file names delays × Next delays (writes end text)
-delays_held given None names Next end text (delays_read {delays = table} are next) = (table, are, next)
+delays_held given None names Next end text next = (unit_delays (length names), refl, next)
 delays_held given (Some file) names Next end text (a_file gives short (delays_read {delays = table} are next)) =
     (table, record { text = _; gives = gives; short = short; is = are }, next)
 

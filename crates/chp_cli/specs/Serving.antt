@@ -1,12 +1,12 @@
 -- What a command's files have to hold, and which orders and devices have to be there, for it to be served: then it
 -- doesn't refuse.
-use Rattle.std.specs.Prelude.{◌≡◌, ◌⊎◌, ℕ, ◌≤◌, Bool, true, false, List, [], length, Option, Some, None}
+use Rattle.std.specs.Prelude.{◌≡◌, ◌⊎◌, ℕ, ◌≤◌, Bool, true, false, List, length, Option, Some, None}
 use Rattle.chp_base.specs.declared.channel.Channel.{Channel}
 use Rattle.chp_meaning.specs.Ends.{held_in}
 use Rattle.chp_meaning.specs.Rounds.{rounds}
 use Rattle.chp_syntax.specs.Reading.{Reads}
 use Rattle.chp_syntax.specs.Trees.{ProgramTree}
-use Rattle.delay_script.specs.DelayTables.{DelayTable}
+use Rattle.delay_script.specs.DelayTables.{DelayTable, unit_delays}
 use Rattle.delay_script.specs.DelayText.{IsDelayText}
 use Rattle.env_script.specs.Environment.{net_channels}
 use Rattle.env_script.specs.Scripts.{OfferValue}
@@ -79,9 +79,9 @@ pub record IsDelayFile (given : Given) (file : List ℕ) (names : List (List ℕ
   pub held : HoldsText given file most_of_delays text
   pub says : IsDelayText names text delays
 
--- where no file is named, the delays are those of an empty text, each of which is 1
+-- where no file is named, each delay is 1
 abbrev pub HasDelays : Given → (file : Option (List ℕ)) → (names : List (List ℕ)) → DelayTable → Type 0
-HasDelays given None names delays = IsDelayText names [] delays
+HasDelays given None names delays = delays ≡ unit_delays (length names)
 HasDelays given (Some file) names delays = IsDelayFile given file names delays
 
 -- ---- what a command is served with

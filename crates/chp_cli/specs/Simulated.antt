@@ -1,11 +1,11 @@
 -- What follows from what `simulate` answers.
-use Rattle.std.specs.Prelude.{◌≡◌, ◌≢◌, ◌⊎◌, ℕ, ◌≤◌, Bool, false, List, length, slice_get, Option, Some, None}
+use Rattle.std.specs.Prelude.{◌≡◌, ◌≢◌, ◌⊎◌, ℕ, ◌≤◌, Bool, false, List, length, Option, Some, None}
 use Rattle.env_script.specs.Environment.{net_channels}
 use Rattle.env_script.specs.OneLength.{EndsAll}
 use Rattle.env_script.specs.Scripts.{OfferValue}
 use Rattle.env_script.specs.ScriptText.{IsScriptText}
 use Rattle.event_sim.specs.declared.ran.End.TheVariants.{AtRest}
-use Rattle.event_sim.specs.Simulating.{picked_moves, start_at}
+use Rattle.event_sim.specs.Simulating.{RanValue, picked_moves, start_at}
 use Rattle.net_compose.specs.Carries.{Carries, CarriesReset}
 use Rattle.prs_core.specs.Nets.{NetValue, IsNet}
 use Rattle.prs_file.specs.Spelling.{NetText}
@@ -18,13 +18,13 @@ use Rattle.command_answers.specs.declared.answer.Ending.{Ending}
 use Rattle.command_answers.specs.declared.answer.Ending.TheVariants.{Hazard}
 use Rattle.command_answers.specs.Answers.{Given, Answer, writes}
 use Rattle.program_commands.specs.Bodies.{Bodies, counted_with, net_for}
-use Rattle.command_steps.specs.Orders.{OrderState, Played, place_named}
+use Rattle.command_steps.specs.Orders.{Played, place_named}
 use Rattle.chp_cli.specs.Resting.{RestsInTime}
 use Rattle.command_steps.specs.References.{HoldsReference, IsToReferTo}
 use Rattle.simulation_commands.specs.RunReporting.{IsReported}
 use Rattle.command_steps.specs.RunSteps.{IsScriptOf, lacks_reset, most_of_script}
 use Rattle.command_words.specs.SimulateWords.{AskedRun}
-use Rattle.simulation_commands.specs.Simulating.{PlaysOut, simulation_for}
+use Rattle.simulation_commands.specs.Simulating.{HasPlayed, simulation_for}
 use Rattle.command_steps.specs.Steps.{IsFileOf, most_of_net, most_of_nodes}
 
 -- The files hold the rule file of a net, a script of its channels, and the program to compare with, if one is wanted;
@@ -36,8 +36,7 @@ pub record IsFileSimulated (s : AskedRun) (given : Given) (played : Played) (ans
   pub script : List OfferValue
   pub program : Option TypedProgram
   pub place : ℕ
-  pub was : OrderState
-  pub is : OrderState
+  pub ran : RanValue
   pub held : given.files s.net ≡ Some rules
   pub file : IsFileOf rules net
   pub held_script : given.files s.script ≡ Some told
@@ -45,10 +44,8 @@ pub record IsFileSimulated (s : AskedRun) (given : Given) (played : Played) (ans
   pub powered : lacks_reset s.power net.reset ≡ false
   pub referred : HoldsReference given s.against program
   pub named : place_named played.before s.order ≡ Some place
-  pub before : slice_get played.before place ≡ Some was
-  pub after : slice_get played.after place ≡ Some is
-  pub plays : PlaysOut (simulation_for net script s.steps s.power) s.seed was is
-      (λ ran. IsReported script None ran program) answer
+  pub run : HasPlayed played place s.seed (simulation_for net script s.steps s.power) ran
+  pub written : IsReported script None ran program answer
 
 -- the file holds the rule file of a net that carries the program: from its first values, or with a reset node from
 -- every power-up state
@@ -115,17 +112,17 @@ pub record IsCompiledToSimulate (s : AskedRun) (given : Given) (played : Played)
 -- as many, of each node as many
 abbrev pub EndsAllAtRest : (s : AskedRun) (given : Given) (played : Played) (answer : Answer) →
     IsFileSimulated s given played answer → Type 0
-EndsAllAtRest s given played answer f = f.plays.end ≡ AtRest →
+EndsAllAtRest s given played answer f = f.ran.end ≡ AtRest →
     let sim = simulation_for f.net f.script s.steps s.power in
-    EndsAll f.net f.script (start_at sim) (picked_moves sim f.was.log f.is.log)
+    EndsAll f.net f.script (start_at sim) (picked_moves sim f.run.was.log f.run.is.log)
 
 -- where the program comes to rest for which `compile` writes the rule file, the run does, if its limit is high enough
 abbrev pub SimulatedRests : (s : AskedRun) (given : Given) (played : Played) (p : TypedProgram) →
     HoldsCompiled given s.net p → {answer : Answer} → IsFileSimulated s given played answer → Type 0
 SimulatedRests s given played p holds f =
     let sim = simulation_for f.net f.script s.steps s.power in
-    RestsInTime holds.reset holds.bodies f.net f.script s.steps (start_at sim) (picked_moves sim f.was.log f.is.log)
-    f.plays.end
+    RestsInTime holds.reset holds.bodies f.net f.script s.steps (start_at sim)
+    (picked_moves sim f.run.was.log f.run.is.log) f.ran.end
 
 -- The report is that of a run without a hazard; where it says rest, no order makes more moves; and where a program
 -- comes to rest for which `compile` writes this rule file, so does the run, if its limit is high enough.

@@ -1,7 +1,7 @@
 -- Steps from a text or a file to the delays of a net's nodes.
-use Rattle.std.specs.Prelude.{ℕ, ◌≤◌, List, length, Option, Some, [], None}
+use Rattle.std.specs.Prelude.{◌≡◌, ℕ, ◌≤◌, List, length, Option, Some, None}
 use Rattle.delay_script.specs.declared.fault.DelayFault.{DelayFault}
-use Rattle.delay_script.specs.DelayTables.{DelayTable}
+use Rattle.delay_script.specs.DelayTables.{DelayTable, unit_delays}
 use Rattle.delay_script.specs.DelayText.{IsDelayText, IsOnlyDelays, IsNoDelayText, IsDelayRefused, IsOnlyDelayRefusal}
 use Rattle.command_answers.specs.declared.status.Status.TheVariants.{BadFile}
 use Rattle.command_answers.specs.Answers.{Given, Gives, Answer, refuses}
@@ -40,13 +40,13 @@ pub record HoldsDelays (given : Given) (file : List ℕ) (names : List (List ℕ
   pub short : length text ≤ most_of_delays
   pub is : AreDelaysOf names text delays
 
--- where a file is named, it reads the delays in it; else the delays are those of an empty text, each of which is 1
+-- where a file is named, it reads the delays in it; else each delay is 1
 abbrev pub FromDelayFile : Given → (file : Option (List ℕ)) → (names : List (List ℕ)) →
     (Next : DelayTable → Answer → Type 0) → Answer → Type 0
-FromDelayFile given None names Next = FromDelays names [] Next
+FromDelayFile given None names Next = Next (unit_delays (length names))
 FromDelayFile given (Some file) names Next = FromFile given file most_of_delays (λ text. FromDelays names text Next)
 
--- what was read there
+-- these are the delays that it goes on with
 abbrev pub HoldsDelayFile : Given → (file : Option (List ℕ)) → (names : List (List ℕ)) → DelayTable → Type 0
-HoldsDelayFile given None names delays = AreDelaysOf names [] delays
+HoldsDelayFile given None names delays = delays ≡ unit_delays (length names)
 HoldsDelayFile given (Some file) names delays = HoldsDelays given file names delays

@@ -57,7 +57,7 @@ pub fn delays_in<'a, S: Shelf>(
     delays_of_text(alloc, &text, net)
 }
 
-/// The delays of the net's nodes whose file has this name; where no file is named each is 1, as an empty text says.
+/// The delays of the net's nodes whose file has this name; where no file is named each is 1.
 pub fn delays_if<'a, S: Shelf>(
     alloc: Global,
     shelf: &mut S,
@@ -76,7 +76,10 @@ pub fn delays_if<'a, S: Shelf>(
     ensures faults { S.faults shelf.old ≤ S.faults shelf.new }
 {
     match file {
-        None => delays_of_text(alloc, b"", net),
+        None => match Delays::units(alloc, net.names().len()) {
+            Ok(delays) => Ok(delays),
+            Err(_) => Err(Stop::NoMemory),
+        },
         Some(file) => delays_in(alloc, shelf, file, net),
     }
 }

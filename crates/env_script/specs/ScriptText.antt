@@ -5,7 +5,8 @@ use Rattle.chp_base.specs.Names.{IsName}
 use Rattle.chp_base.specs.declared.channel.Channel.{Channel}
 use Rattle.chp_base.specs.declared.channel.Kind.{Kind}
 use Rattle.chp_base.specs.declared.channel.Kind.TheVariants.{In, Out, Chan}
-use Rattle.env_script.specs.declared.script.Count.TheVariants.{All as Each, Times}
+use Rattle.env_script.specs.declared.script.Count.{Count}
+use Rattle.env_script.specs.declared.script.Count.TheVariants.{Times}
 use Rattle.env_script.specs.declared.line.Said.{Said}
 use Rattle.env_script.specs.declared.line.Said.TheVariants.{Numbers, Every}
 use Rattle.env_script.specs.declared.line.Line.{Line}
@@ -93,7 +94,7 @@ abbrev pub offer_of : Kind → Option Said → OfferValue
 offer_of In (Some (Numbers ns)) = gives ns
 offer_of In _ = gives []
 offer_of Out (Some (Numbers (n ∷ []))) = takes (Times n)
-offer_of Out _ = takes Each
+offer_of Out _ = takes Count.All
 offer_of Chan _ = nothing
 
 abbrev pub script_of : List Channel → List Line → List OfferValue

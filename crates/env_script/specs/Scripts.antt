@@ -4,7 +4,7 @@ use Rattle.chp_base.specs.declared.channel.Channel.{Channel}
 use Rattle.chp_base.specs.declared.channel.Kind.{Kind}
 use Rattle.chp_base.specs.declared.channel.Kind.TheVariants.{In, Out, Chan}
 use Rattle.env_script.specs.declared.script.Count.{Count}
-use Rattle.env_script.specs.declared.script.Count.TheVariants.{All as Each, Times}
+use Rattle.env_script.specs.declared.script.Count.TheVariants.{Times}
 
 -- it sends these values, or receives so many, or has no part in a channel that is inside of the program
 pub data OfferValue : Type 0 where
@@ -17,7 +17,7 @@ offer_at script channel = slice_index_or script channel nothing
 
 -- more than this number of values is received
 abbrev pub is_over : Count → ℕ → Bool
-is_over Each n = true
+is_over Count.All n = true
 is_over (Times count) n = nat_lt n count
 
 -- the offer is one for a channel of this kind and width

@@ -8,7 +8,8 @@ use Rattle.std.proofs.lemmas.Option.{slice_get-get_or, slice_get_past}
 use Rattle.prs_core.specs.declared.wires.Wires.{Wires}
 use Rattle.prs_core.specs.Nets.{NetValue}
 use Rattle.prs_core.specs.Moves.{high, rule_enabled}
-use Rattle.env_script.specs.declared.script.Count.TheVariants.{All as Each, Times}
+use Rattle.env_script.specs.declared.script.Count.{Count}
+use Rattle.env_script.specs.declared.script.Count.TheVariants.{Times}
 use Rattle.env_script.specs.declared.script.Offer.{Offer}
 use Rattle.env_script.specs.Scripts.{OfferValue, gives, takes, nothing, offer_at}
 use Rattle.env_script.specs.Offers.{offered}
@@ -60,7 +61,7 @@ pub moves_over : (v : ℕ → Bool) (w : Wires) (one : OfferValue) (k done n : �
 moves_over v w (gives []) k done n is = absurd (cc is)
 moves_over v w (gives (x ∷ [])) k done n is = ap (λ next. sender_moves v w next n) (next_over x done k)
 moves_over v w (gives (x ∷ y ∷ xs)) k done n is = absurd (cc is)
-moves_over v w (takes Each) k done n is = absurd (cc is)
+moves_over v w (takes Count.All) k done n is = absurd (cc is)
 moves_over v w (takes (Times j)) k done n is =
     ap (λ (m : ℕ). receiver_moves v w (nat_lt (if nat_lt done k then 0 else 1) m) n) (eqb-true j 1 is)
     ∙ ap (λ more. receiver_moves v w more n) (more_over done k)
@@ -112,7 +113,7 @@ more_stands (gives xs) (gives ys) k value like counted = ap (λ (n : ℕ). gives
 more_stands (gives xs) (takes count) k value like counted = absurd (cc like)
 more_stands (gives xs) nothing k value like counted = absurd (cc like)
 more_stands (takes count) (gives ys) k value like counted = absurd (cc like)
-more_stands (takes count) (takes Each) k value like counted = absurd (cc counted)
+more_stands (takes count) (takes Count.All) k value like counted = absurd (cc counted)
 more_stands (takes count) (takes (Times j)) k value like counted = ap (λ (n : ℕ). takes (Times (n + 1))) (sym (same_some _ _ counted))
   where
     same_some : (a b : ℕ) → Some a ≡ Some b → a ≡ b

@@ -7,7 +7,6 @@ use Rattle.std.proofs.lemmas.List.Elements.{filter_passes}
 use Rattle.prs_core.specs.Nets.{NetValue, IsNet}
 use Rattle.prs_core.specs.Moves.{high}
 use Rattle.env_script.specs.declared.hazard.Hazard.{Hazard}
-use Rattle.env_script.specs.declared.hazard.Hazard.TheVariants.{BothWays as Torn, Unstable as Lost, Protocol as Broken}
 use Rattle.env_script.specs.Runs.{RunState, IsRun, after, move_enabled}
 use Rattle.env_script.specs.Hazards.{first_hazard}
 use Rattle.env_script.specs.OneLength.{AllSafe, EndsAll}
@@ -123,9 +122,9 @@ rest_empties None (x ∷ xs) false ended = absurd (cc ended)
 rest_empties (Some h) (x ∷ xs) spent ended = absurd (by_hazard h ended)
   where
     by_hazard : (h : Hazard) → Some (end_from h) ≡ Some AtRest → ⊥
-    by_hazard (Torn n) e = cc e
-    by_hazard (Lost n) e = cc e
-    by_hazard (Broken c) e = cc e
+    by_hazard (Hazard.BothWays n) e = cc e
+    by_hazard (Hazard.Unstable n) e = cc e
+    by_hazard (Hazard.Protocol c) e = cc e
 
 pub finish : (s : SimValue) (before now : List ℕ) (count : ℕ) (stage : StageValue) (last : Option Hazard) (spent : Bool) (end : End) → IsNet s.net →
     HasPicked s before now count stage last → (count == s.steps) ≡ spent → end_with last (moves_now stage) spent ≡ Some end →

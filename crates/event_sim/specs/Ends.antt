@@ -2,7 +2,6 @@
 use Rattle.std.specs.Prelude.{◌≡◌, ℕ, ◌<◌, Bool, ◌==◌, if◌then◌else◌, List, [], ◌∷◌, length, take, Option, Some, None}
 use Rattle.prs_core.specs.Nets.{NetValue}
 use Rattle.env_script.specs.declared.hazard.Hazard.{Hazard}
-use Rattle.env_script.specs.declared.hazard.Hazard.TheVariants.{BothWays as Torn, Unstable as Lost, Protocol as Broken}
 use Rattle.env_script.specs.Scripts.{OfferValue}
 use Rattle.env_script.specs.Runs.{RunState, moved, after}
 use Rattle.env_script.specs.Hazards.{first_hazard, hazard_of}
@@ -18,9 +17,9 @@ last_hazard net script st (n ∷ []) = hazard_of net script st n
 last_hazard net script st (n ∷ m ∷ ns) = last_hazard net script (moved net st n) (m ∷ ns)
 
 abbrev pub end_from : Hazard → End
-end_from (Torn n) = BothWays n
-end_from (Lost n) = Unstable n
-end_from (Broken c) = Protocol c
+end_from (Hazard.BothWays n) = BothWays n
+end_from (Hazard.Unstable n) = Unstable n
+end_from (Hazard.Protocol c) = Protocol c
 
 -- with these moves enabled, where the limit is reached or isn't
 abbrev pub calm_end : List ℕ → Bool → Option End

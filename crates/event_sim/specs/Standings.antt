@@ -4,7 +4,8 @@ use Rattle.std.specs.Prelude.{◌≡◌, ℕ, ◌+◌, Bool, true, false, not, �
 use Rattle.prs_core.specs.declared.wires.Wires.{Wires}
 use Rattle.prs_core.specs.Nets.{NetValue}
 use Rattle.prs_core.specs.Moves.{high}
-use Rattle.env_script.specs.declared.script.Count.TheVariants.{All as Each, Times}
+use Rattle.env_script.specs.declared.script.Count.{Count}
+use Rattle.env_script.specs.declared.script.Count.TheVariants.{Times}
 use Rattle.env_script.specs.Scripts.{OfferValue, gives, takes, nothing, offer_at}
 use Rattle.env_script.specs.Runs.{RunState, completed}
 use Rattle.event_sim.specs.Locality.{IndexedValue, is_ready, IsRetested}
@@ -21,7 +22,7 @@ abbrev pub is_one : OfferValue → Bool
 is_one (gives []) = false
 is_one (gives (v ∷ [])) = true
 is_one (gives (v ∷ u ∷ vs)) = false
-is_one (takes Each) = false
+is_one (takes Count.All) = false
 is_one (takes (Times k)) = k == 1
 is_one nothing = true
 
@@ -67,14 +68,14 @@ are_alike _ _ = false
 -- how many values or acceptances are offered, where that is a number
 abbrev pub number_of : OfferValue → Option ℕ
 number_of (gives values) = Some (length values)
-number_of (takes Each) = None
+number_of (takes Count.All) = None
 number_of (takes (Times k)) = Some k
 number_of nothing = None
 
 -- with one more value, in place of all before it too, or with one more acceptance
 abbrev pub one_more : ℕ → OfferValue → OfferValue
 one_more value (gives values) = gives (replicate (length values + 1) value)
-one_more value (takes Each) = takes Each
+one_more value (takes Count.All) = takes Count.All
 one_more value (takes (Times k)) = takes (Times (k + 1))
 one_more value nothing = nothing
 

@@ -7,7 +7,7 @@ use Rattle.chp_base.specs.declared.channel.Channel.{Channel}
 use Rattle.chp_base.specs.declared.channel.Kind.TheVariants.{Out, Chan}
 use Rattle.chp_base.specs.declared.fault.Fault.{Fault}
 use Rattle.chp_syntax.specs.Trees.{ProgramTree}
-use Rattle.env_script.specs.declared.script.Count.TheVariants.{All as Each}
+use Rattle.env_script.specs.declared.script.Count.{Count}
 use Rattle.env_script.specs.Environment.{net_channels}
 use Rattle.env_script.specs.Hazards.{hazard_of}
 use Rattle.env_script.specs.Runs.{RunState, IsApart, IsPowered, IsSafeMove, moved}
@@ -81,7 +81,7 @@ small_word : (seed place : ℕ) → word_at seed place % 256 < 256
 small_word seed place = omega arith
 
 inner_script : (from count stages : ℕ) →
-    IsScript (map (byte_channel Chan) (range_with_len from count) ++ byte_channel Out stages ∷ []) (replicate count nothing ++ takes Each ∷ [])
+    IsScript (map (byte_channel Chan) (range_with_len from count) ++ byte_channel Out stages ∷ []) (replicate count nothing ++ takes Count.All ∷ [])
 inner_script from zero stages = (tt, tt)
 inner_script from (suc count) stages = (tt, inner_script (from + 1) count stages)
 

@@ -1,7 +1,7 @@
 -- What `grow --sum` answers: a summary of the program that is made of the numbers.
 use Rattle.std.specs.Prelude.{◌≡◌, ℕ, ◌+◌, ◌-◌, ◌*◌, ◌==◌, ◌≤◌, if◌then◌else◌, List, [], ◌∷◌, ◌++◌, length, replicate, sum_by, None, codes, decimal}
 use Rattle.std.specs.List.{concat}
-use Rattle.env_script.specs.declared.script.Count.TheVariants.{All as Each}
+use Rattle.env_script.specs.declared.script.Count.{Count}
 use Rattle.env_script.specs.Scripts.{OfferValue, gives, takes, nothing}
 use Rattle.event_sim.specs.Simulating.{RanValue, SimValue}
 use Rattle.handshake_expand.specs.Layout.{node_count}
@@ -25,7 +25,7 @@ use Rattle.simulation_commands.specs.Simulating.{HasPlayed, simulation_for}
 -- what the environment does to a program of so many stages: it sends the four values that are drawn for the first
 -- channel, has no part in those between two stages, and receives whatever comes on the last one
 abbrev pub grown_script : (seed stages : ℕ) → List OfferValue
-grown_script seed stages = gives (drawn_values seed stages) ∷ replicate (stages - 1) nothing ++ takes Each ∷ []
+grown_script seed stages = gives (drawn_values seed stages) ∷ replicate (stages - 1) nothing ++ takes Count.All ∷ []
 
 -- the most moves
 abbrev pub most_of_summed_moves : ℕ

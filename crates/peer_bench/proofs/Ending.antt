@@ -6,7 +6,6 @@ use Rattle.std.proofs.lemmas.List.{append-nil, append_assoc, length_push}
 use Rattle.prs_core.specs.Nets.{NetValue, IsNet}
 use Rattle.prs_core.specs.Moves.{high, rule_enabled}
 use Rattle.env_script.specs.declared.hazard.Hazard.{Hazard}
-use Rattle.env_script.specs.declared.hazard.Hazard.TheVariants.{BothWays as Torn, Unstable as Lost, Protocol as Broken}
 use Rattle.env_script.specs.Scripts.{OfferValue, offer_at}
 use Rattle.env_script.specs.Environment.{all_below, in_reset, is_reset, rules_rest, raises_go, channels_move}
 use Rattle.env_script.specs.Runs.{RunState, after, moved, completed, IsAtRest}
@@ -144,9 +143,9 @@ rest_empties None (x ∷ xs) false ended = absurd (cc ended)
 rest_empties (Some h) (x ∷ xs) spent ended = absurd (by_hazard h ended)
   where
     by_hazard : (h : Hazard) → Some (end_from h) ≡ Some AtRest → ⊥
-    by_hazard (Torn n) e = cc e
-    by_hazard (Lost n) e = cc e
-    by_hazard (Broken c) e = cc e
+    by_hazard (Hazard.BothWays n) e = cc e
+    by_hazard (Hazard.Unstable n) e = cc e
+    by_hazard (Hazard.Protocol c) e = cc e
 
 -- the hazard of the last move is one under the script of its moment
 some_last : (net : NetValue) (scripts : Scripts) (st : RunState) (ns : List ℕ) →

@@ -13,7 +13,8 @@ use Rattle.prs_core.specs.declared.wires.Wires.{Wires}
 use Rattle.prs_core.specs.Nets.{NetValue, IsNet, IsChannel, IsUndriven, first_at, up_of, down_of, wires_from_outside}
 use Rattle.prs_core.specs.Moves.{high, fired, bit_value, with_bit, rail_value_of, neutral}
 use Rattle.reset_net.specs.Resets.{has_rules}
-use Rattle.env_script.specs.declared.script.Count.TheVariants.{All as Each, Times}
+use Rattle.env_script.specs.declared.script.Count.{Count}
+use Rattle.env_script.specs.declared.script.Count.TheVariants.{Times}
 use Rattle.env_script.specs.Scripts.{OfferValue, gives, takes, nothing, offer_at, is_over, Suits, IsScript}
 use Rattle.env_script.specs.Environment.{net_channels, in_reset, offer_moves, raises_next, lowers, valid}
 use Rattle.env_script.specs.Phases.{rails_keep, ack_keeps, phases_keep, phase_fault}
@@ -296,7 +297,7 @@ receives_for v w (gives xs) done n m low moves number =
     let less = next_value v xs done n w.rails (sym (when_low (v w.ack) (lowers v w.rails n) (raises_next v (slice_get xs done) w.rails n) low) ∙ moves) in
     let same = same_number (length xs) m number in
     omega arith
-receives_for v w (takes Each) done n m low moves number = absurd (cc number)
+receives_for v w (takes Count.All) done n m low moves number = absurd (cc number)
 receives_for v w (takes (Times k)) done n m low moves number =
     let more = (and_parts (n == w.ack) (if v w.ack then neutral v w.rails else valid v w.rails && is_over (Times k) done) moves).1 in
     let less = ltb-true done k (and_parts (valid v w.rails) (is_over (Times k) done)

@@ -9,7 +9,7 @@ use Rattle.prs_core.specs.declared.wires.Wires.{Wires}
 use Rattle.prs_core.specs.Nets.{NetValue}
 use Rattle.prs_core.specs.Moves.{high, neutral, rule_enabled}
 use Rattle.env_script.specs.declared.script.Count.{Count}
-use Rattle.env_script.specs.declared.script.Count.TheVariants.{All as Each, Times}
+use Rattle.env_script.specs.declared.script.Count.TheVariants.{Times}
 use Rattle.env_script.specs.Scripts.{OfferValue, gives, takes, nothing, offer_at, is_over}
 use Rattle.env_script.specs.Environment.{in_reset, is_reset, rules_rest, raises_go, raises_next, lowers, valid, offer_moves, channels_move}
 use Rattle.env_script.specs.Runs.{RunState, IsRun, after, moved, completed, move_enabled}
@@ -22,9 +22,9 @@ use Rattle.peer_bench.proofs.Noting.{offered_more, ready_more}
 use Rattle.peer_bench.proofs.Rails.{next_value}
 
 abbrev pub CountGrows : Count → Count → Type 0
-CountGrows Each Each = Unit {0}
-CountGrows Each (Times n) = ⊥
-CountGrows (Times k) Each = ⊥
+CountGrows Count.All Count.All = Unit {0}
+CountGrows Count.All (Times n) = ⊥
+CountGrows (Times k) Count.All = ⊥
 CountGrows (Times k) (Times n) = k ≤ n
 
 abbrev pub Grows : OfferValue → OfferValue → Type 0
@@ -61,9 +61,9 @@ front_get (x ∷ xs) ys zero less = refl
 front_get (x ∷ xs) ys (suc k) less = front_get xs ys k (omega arith)
 
 over_grows : (a b : Count) (done : ℕ) → CountGrows a b → is_over a done ≡ true → is_over b done ≡ true
-over_grows Each Each done grows over = refl
-over_grows Each (Times n) done grows over = absurd grows
-over_grows (Times k) Each done grows over = absurd grows
+over_grows Count.All Count.All done grows over = refl
+over_grows Count.All (Times n) done grows over = absurd grows
+over_grows (Times k) Count.All done grows over = absurd grows
 over_grows (Times k) (Times n) done grows over = let less = ltb-true done k over in lt-ltb done n (omega arith)
 
 moves_grow : (v : ℕ → Bool) (w : Wires) (o p : OfferValue) (done n : ℕ) → Grows o p → offer_moves v w o done n ≡ true → offer_moves v w p done n ≡ true
@@ -156,10 +156,10 @@ numbers_of (gives xs) (gives ys) n grows number =
 numbers_of (gives xs) (takes b) n grows number = absurd grows
 numbers_of (gives xs) nothing n grows number = absurd grows
 numbers_of (takes a) (gives ys) n grows number = absurd grows
-numbers_of (takes Each) (takes b) n grows number = by_count b grows number
+numbers_of (takes Count.All) (takes b) n grows number = by_count b grows number
   where
-    by_count : (b : Count) → CountGrows Each b → number_of (takes b) ≡ Some n → (k : ℕ) × (number_of (takes Each) ≡ Some k) × (k ≤ n)
-    by_count Each grows number = absurd (cc number)
+    by_count : (b : Count) → CountGrows Count.All b → number_of (takes b) ≡ Some n → (k : ℕ) × (number_of (takes Count.All) ≡ Some k) × (k ≤ n)
+    by_count Count.All grows number = absurd (cc number)
     by_count (Times m) grows number = absurd grows
 numbers_of (takes (Times k)) (takes b) n grows number = by_count b grows number
   where
@@ -167,7 +167,7 @@ numbers_of (takes (Times k)) (takes b) n grows number = by_count b grows number
     same_number a b e = cc
 
     by_count : (b : Count) → CountGrows (Times k) b → number_of (takes b) ≡ Some n → (j : ℕ) × (number_of (takes (Times k)) ≡ Some j) × (j ≤ n)
-    by_count Each grows number = absurd grows
+    by_count Count.All grows number = absurd grows
     by_count (Times m) grows number = let all : m ≡ n = same_number m n number in (k, refl, omega arith)
 numbers_of (takes a) nothing n grows number = absurd grows
 numbers_of nothing (gives ys) n grows number = absurd grows

@@ -6,7 +6,8 @@ use Rattle.std.proofs.lemmas.List.{length-replicate, get_or_past, get_or-set_sam
 use Rattle.prs_core.specs.declared.wires.Wires.{Wires}
 use Rattle.prs_core.specs.Nets.{NetValue, IsNet}
 use Rattle.prs_core.specs.Moves.{high}
-use Rattle.env_script.specs.declared.script.Count.TheVariants.{All as Each, Times}
+use Rattle.env_script.specs.declared.script.Count.{Count}
+use Rattle.env_script.specs.declared.script.Count.TheVariants.{Times}
 use Rattle.env_script.specs.Scripts.{OfferValue, gives, takes, nothing, offer_at}
 use Rattle.env_script.specs.Runs.{RunState, completed, moved}
 use Rattle.event_sim.specs.Passing.{completion}
@@ -65,7 +66,7 @@ number_more value n (gives xs) e = ap Some (length-replicate (length xs + 1) val
   where
     same_some : (a b : ℕ) → Some a ≡ Some b → a ≡ b
     same_some a b e = cc
-number_more value n (takes Each) e = absurd (cc e)
+number_more value n (takes Count.All) e = absurd (cc e)
 number_more value n (takes (Times k)) e = ap (λ (j : ℕ). Some (j + 1)) (same_some k n e)
   where
     same_some : (a b : ℕ) → Some a ≡ Some b → a ≡ b

@@ -7,7 +7,8 @@ use Rattle.chp_base.specs.declared.channel.Kind.{Kind}
 use Rattle.chp_base.specs.declared.channel.Kind.TheVariants.{In, Out, Chan}
 use Rattle.prs_core.specs.declared.wires.Wires.{Wires}
 use Rattle.prs_core.specs.Nets.{NetValue}
-use Rattle.env_script.specs.declared.script.Count.TheVariants.{All as Each, Times}
+use Rattle.env_script.specs.declared.script.Count.{Count}
+use Rattle.env_script.specs.declared.script.Count.TheVariants.{Times}
 use Rattle.env_script.specs.Scripts.{OfferValue, gives, takes, nothing, Suits, IsScript}
 use Rattle.env_script.specs.Runs.{RunState}
 use Rattle.event_sim.specs.Standings.{one_more, script_and, is_idle}
@@ -23,7 +24,7 @@ suits_more In width value (gives values) suits less = all_same (length values + 
 suits_more In width value (takes count) suits less = absurd suits
 suits_more In width value nothing suits less = absurd suits
 suits_more Out width value (gives values) suits less = absurd suits
-suits_more Out width value (takes Each) suits less = tt
+suits_more Out width value (takes Count.All) suits less = tt
 suits_more Out width value (takes (Times k)) suits less = tt
 suits_more Out width value nothing suits less = absurd suits
 suits_more Chan width value (gives values) suits less = absurd suits

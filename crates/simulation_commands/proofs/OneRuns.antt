@@ -1,5 +1,5 @@
 -- `simulate` has at most one answer.
-use Rattle.std.proofs.Common.{◌≡◌, ℕ, true, List, ◌++◌, Option, Some, None, refl, ap, subst}
+use Rattle.std.proofs.Common.{◌≡◌, ◌∙◌, ℕ, true, List, ◌++◌, Option, Some, None, refl, sym, ap, ap₂, subst}
 use Rattle.env_script.specs.Environment.{net_channels}
 use Rattle.env_script.specs.Scripts.{OfferValue}
 use Rattle.event_sim.specs.declared.ran.End.{End}
@@ -20,34 +20,36 @@ use Rattle.command_answers.specs.Answers.{Given, Answer, writes, OneAnswer}
 use Rattle.command_steps.specs.Orders.{OrderState, Played}
 use Rattle.simulation_commands.specs.RunReporting.{IsReported, alone, hazardous, compared, ending_against}
 use Rattle.command_words.specs.SimulateWords.{AskedRun}
-use Rattle.simulation_commands.specs.Simulating.{PlaysOut, SimulatesNet, SimulatesFile, Simulates, ran_value, simulation_for}
+use Rattle.simulation_commands.specs.Simulating.{HasPlayed, IsPlayed, SimulatesNet, SimulatesFile, Simulates, ran_value, simulation_for}
 use Rattle.command_steps.specs.Steps.{FromChecks}
 use Rattle.command_steps.proofs.OneAnswers.{file_once, net_once}
 use Rattle.command_steps.proofs.OneRunSteps.{order_once, power_once, script_once, reference_once}
 
--- ---- the run to which the growth of a log leads
+-- ---- the run to which an order led
 
-pub one_end : (s : SimValue) (was now : List ℕ) (e f : End) → EndsSo s.net s.script s.steps (start_at s) (picked_moves s was now) e →
+one_end : (s : SimValue) (was now : List ℕ) (e f : End) → EndsSo s.net s.script s.steps (start_at s) (picked_moves s was now) e →
     EndsSo s.net s.script s.steps (start_at s) (picked_moves s was now) f → e ≡ f
 one_end s was now e f is are = let p = is.ended in let q = are.ended in cc (p, q)
 
-module _ (Next : RanValue → Answer → Type 0) (next : (r : RanValue) → OneAnswer (Next r)) where
-  plays_once : (s : SimValue) (seed : ℕ) (was is : OrderState) (a b : Answer) → PlaysOut s seed was is Next a → PlaysOut s seed was is Next b → a ≡ b
-  plays_once s seed was is a b p q =
-      let same : q.end ≡ p.end = one_end s was.log is.log q.end p.end q.run.ends p.run.ends in
-      next (ran_value s was.log is.log p.end) a b p.written (subst (λ (e : End). Next (ran_value s was.log is.log e) b) same q.written)
-
-pub same_order : {held : Option OrderState} {a b : OrderState} → held ≡ Some a → held ≡ Some b → a ≡ b
+same_order : {held : Option OrderState} {a b : OrderState} → held ≡ Some a → held ≡ Some b → a ≡ b
 same_order e f = cc (e, f)
+
+pub played_once : (played : Played) (place seed : ℕ) (s : SimValue) (a b : RanValue) → HasPlayed played place seed s a →
+    HasPlayed played place seed s b → a ≡ b
+played_once played place seed s a b p q =
+    let before : q.was ≡ p.was = same_order q.before p.before in
+    let after : q.is ≡ p.is = same_order q.after p.after in
+    let run : IsPlayed s seed p.was p.is b.end =
+    subst (λ is. IsPlayed s seed p.was is b.end) after (subst (λ was. IsPlayed s seed was q.is b.end) before q.run) in
+    let led : b ≡ ran_value s p.was.log p.is.log b.end = q.led ∙ ap₂ (λ (was is : OrderState). ran_value s was.log is.log b.end) before after in
+    let ends : a.end ≡ b.end = one_end s p.was.log p.is.log a.end b.end p.run.ends run.ends in
+    p.led ∙ (ap (λ (end : End). ran_value s p.was.log p.is.log end) ends ∙ sym led)
 
 module _ (Next : RanValue → Answer → Type 0) (next : (r : RanValue) → OneAnswer (Next r)) where
   net_run_once : (played : Played) (place seed : ℕ) (s : SimValue) (a b : Answer) → SimulatesNet played place seed s Next a →
       SimulatesNet played place seed s Next b → a ≡ b
   net_run_once played place seed s a b p q =
-      let before : q.was ≡ p.was = same_order q.before p.before in
-      let after : q.is ≡ p.is = same_order q.after p.after in
-      plays_once Next next s seed p.was p.is a b p.plays
-      (subst (λ is. PlaysOut s seed p.was is Next b) after (subst (λ was. PlaysOut s seed was q.is Next b) before q.plays))
+      next p.ran a b p.written (subst (λ (ran : RanValue). Next ran b) (played_once played place seed s q.ran p.ran q.run p.run) q.written)
 
 -- ---- what is compared with what, and how it stands
 

@@ -1,7 +1,7 @@
 -- `waves` has at most one answer.
-use Rattle.std.proofs.Common.{◌≡◌, ◌∙◌, ℕ, Bool, true, false, List, [], Option, Some, None, sym, ap, subst}
+use Rattle.std.proofs.Common.{◌≡◌, ◌∙◌, ℕ, Bool, true, false, List, length, Option, Some, None, sym, ap, subst}
 use Rattle.delay_script.specs.declared.noted.NotedMove.{NotedMove}
-use Rattle.delay_script.specs.DelayTables.{DelayTable}
+use Rattle.delay_script.specs.DelayTables.{DelayTable, unit_delays}
 use Rattle.delay_script.specs.TimedRuns.{TimedValue, IsTimedRan}
 use Rattle.env_script.specs.Environment.{net_channels}
 use Rattle.event_sim.specs.Simulating.{RanValue}
@@ -38,7 +38,7 @@ module _ (moves : (t : TimedValue) (ms ns : List NotedMove) (r q : RanValue) (u 
   module _ (once : (text : List ℕ) (f g : NetFault) (l m : ℕ) → IsRefused text f l → IsRefused text g m → (f ≡ g) × (l ≡ m)) where
     delay_file_once : (given : Given) (names : List (List ℕ)) (Next : DelayTable → Answer → Type 0) → given.tells ≡ true →
         ((delays : DelayTable) → OneAnswer (Next delays)) → (file : Option (List ℕ)) → OneAnswer (FromDelayFile given file names Next)
-    delay_file_once given names Next tells next None = delays_once names [] Next next
+    delay_file_once given names Next tells next None = next (unit_delays (length names))
     delay_file_once given names Next tells next (Some file) = file_once given file _ _ tells (λ text. delays_once names text Next next)
 
     traces_file_once : (w : AskedWaves) (given : Given) → given.tells ≡ true → (net : NetValue) → OneAnswer (TracesFile w given net)

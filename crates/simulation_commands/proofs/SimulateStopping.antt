@@ -1,5 +1,5 @@
 -- The steps of `simulate` within it.
-use Rattle.std.proofs.Common.{◌≡◌, ℕ, suc, ◌≤◌, false, List, [], ◌∷◌, Option, Some, None, subst, arith}
+use Rattle.std.proofs.Common.{◌≡◌, ℕ, suc, ◌≤◌, false, List, [], ◌∷◌, Option, Some, None, arith}
 use Rattle.std.specs.Prelude.{Contains, option_to_list}
 use Rattle.env_script.specs.Environment.{net_channels}
 use Rattle.env_script.specs.Scripts.{OfferValue}
@@ -14,11 +14,10 @@ use Rattle.command_answers.specs.Replies.{Stops}
 use Rattle.simulation_commands.specs.RunReporting.{IsReported}
 use Rattle.command_steps.specs.RunSteps.{has_power, a_script, lacks_reset, an_order, FromScript, most_of_script}
 use Rattle.command_words.specs.SimulateWords.{AskedRun}
-use Rattle.simulation_commands.specs.Simulating.{HasPlayed, SimulatesAt, SimulatesNet, simulation_for, Simulates, SimulatesFile}
+use Rattle.simulation_commands.specs.Simulating.{SimulatesAt, SimulatesNet, simulation_for, Simulates, SimulatesFile}
 use Rattle.command_steps.specs.Steps.{FromFile, a_file, Never, FromNet, a_net, most_of_net}
 use Rattle.command_steps.proofs.RunStopping.{file_as, script_goes, first_file, second_file}
 use Rattle.command_steps.proofs.Stopping.{stops_in, net_goes}
-use Rattle.event_sim.specs.Simulating.{SimValue, RanValue}
 use Rattle.command_steps.proofs.Referring.{reference_goes, reference_answers}
 
 behind_two : (a b : List ℕ) (rest : List (List ℕ)) (name : List ℕ) → Contains rest name → Contains (a ∷ b ∷ rest) name
@@ -69,17 +68,6 @@ module _ (run : AskedRun) (given : Given) (played : Played) (place : ℕ) (net :
   pub report_answers : (program : Option TypedProgram) → HoldsReference given run.against program → (a : Answer) → Reports program a →
       SimulatesAt run given played place a
   report_answers program refers a is = behind_script a (reference_answers given Reports run.against program a refers is)
-
--- the run to which an order led goes on
-pub played_answers : (played : Played) (place seed : ℕ) (s : SimValue) (Next : RanValue → Answer → Type 0) (r : RanValue) (a : Answer) →
-    HasPlayed played place seed s r → Next r a → SimulatesNet played place seed s Next a
-played_answers played place seed s Next r a h is = record {
-  was = h.was;
-  is = h.is;
-  before = h.before;
-  after = h.after;
-  plays = record { end = r.end; run = h.run; written = subst (λ v. Next v a) h.led is };
-}
 
 -- ---- behind the order
 

@@ -1,5 +1,5 @@
 -- Steps of `waves` by themselves and within it.
-use Rattle.std.proofs.Common.{ℕ, suc, ◌≤◌, List, [], ◌∷◌, Option, Some, None, arith}
+use Rattle.std.proofs.Common.{ℕ, suc, ◌≤◌, List, [], ◌∷◌, Option, Some, None, subst, arith}
 use Rattle.std.specs.Prelude.{Contains, option_to_list}
 use Rattle.delay_script.specs.DelayTables.{DelayTable}
 use Rattle.env_script.specs.Environment.{net_channels}
@@ -22,13 +22,13 @@ use Rattle.simulation_commands.proofs.TimingStopping.{delays_go}
 
 module _ (given : Given) (names : List (List ℕ)) (Next : DelayTable → Answer → Type 0) where
   pub delay_file_goes : (file : Option (List ℕ)) (a : Answer) → FromDelayFile given file names Never a → FromDelayFile given file names Next a
-  delay_file_goes None a is = delays_go is
+  delay_file_goes None a is = absurd is
   delay_file_goes (Some file) a is = file_as (λ text there. delays_go there) is
 
-  -- what was read goes on
+  -- what comes of it goes on
   pub delay_file_answers : (file : Option (List ℕ)) (delays : DelayTable) (a : Answer) → HoldsDelayFile given file names delays → Next delays a →
       FromDelayFile given file names Next a
-  delay_file_answers None delays a holds is = delays_read holds is
+  delay_file_answers None delays a holds is = subst (λ (d : DelayTable). Next d a) holds is
   delay_file_answers (Some file) delays a holds is = a_file holds.gives holds.short (delays_read holds.is is)
 
 behind_both : (a b : List ℕ) (rest : List (List ℕ)) (name : List ℕ) → Contains rest name → Contains (a ∷ b ∷ rest) name

@@ -73,21 +73,12 @@ pub record HasPlayed (played : Played) (place seed : ℕ) (s : SimValue) (ran : 
   pub run : IsPlayed s seed was is ran.end
   pub led : ran ≡ ran_value s was.log is.log ran.end
 
--- an order led to a run of the simulation, and it continues with the result
-pub record PlaysOut (s : SimValue) (seed : ℕ) (was is : OrderState) (Next : RanValue → Answer → Type 0)
-    (answer : Answer) : Type 0 where
-  pub end : End
-  pub run : IsPlayed s seed was is end
-  pub written : Next (ran_value s was.log is.log end) answer
-
--- the order at this index did
+-- the order at this index led to a run of the simulation, and it continues with the result
 pub record SimulatesNet (played : Played) (place seed : ℕ) (s : SimValue) (Next : RanValue → Answer → Type 0)
     (answer : Answer) : Type 0 where
-  pub was : OrderState
-  pub is : OrderState
-  pub before : slice_get played.before place ≡ Some was
-  pub after : slice_get played.after place ≡ Some is
-  pub plays : PlaysOut s seed was is Next answer
+  pub ran : RanValue
+  pub run : HasPlayed played place seed s ran
+  pub written : Next ran answer
 
 -- the net may have the power that is asked for; the script is read after it, and then what the run is compared with
 abbrev pub SimulatesFile : AskedRun → Given → Played → (place : ℕ) → NetValue → Answer → Type 0

@@ -8,7 +8,6 @@ use Rattle.width_check.specs.Typed.{program_of as typed_of}
 use Rattle.command_answers.specs.Replies.{told_answer}
 use Rattle.simulation_commands.specs.RunReporting.{IsReported}
 use Rattle.simulation_commands.proofs.Keeping.{still_at}
-use Rattle.simulation_commands.proofs.SimulateStopping.{played_answers}
 use Rattle.command_words.proofs.Results.{ok_in}
 use Rattle.simulation_commands.proofs.simulate.report_at.Goals as goal
 
@@ -28,6 +27,8 @@ pub returns-clause-answered : goal.returns-clause-answered
 returns-clause-answered g c =
     let program = option_map typed_of c.args.program.now in
     ok_in c.reported.result _ _
-    (λ output is. played_answers _ _ _ _ (λ ran a. IsReported c.args.script None ran program a) c.in_ok-ran.ran (told_answer output)
-    (rw (← c.in_ok-sim.ensures) c.in_ok-ran.ensures.led)
-    (subst (λ (script : List OfferValue). IsReported script None c.in_ok-ran.ran program (told_answer output)) c.in_ok-told.ensures is)) c.reported.ensures
+    (λ output is. record {
+      ran = c.in_ok-ran.ran;
+      run = rw (← c.in_ok-sim.ensures) c.in_ok-ran.ensures.led;
+      written = subst (λ (script : List OfferValue). IsReported script None c.in_ok-ran.ran program (told_answer output)) c.in_ok-told.ensures is;
+    }) c.reported.ensures
