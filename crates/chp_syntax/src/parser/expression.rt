@@ -1,4 +1,5 @@
-//! Expressions.
+//! Expressions. Functions for levels of the grammar are put into their callers, since a bracket then takes less of the
+//! stack than frames of their own would; one that few brackets need keeps a frame of its own.
 
 ghost use Rattle.std.specs.Prelude.{◌≡◌, ℕ, ◌≤◌, ◌<◌, List, length, drop, map, IfOk, IfErr, OnOk};
 ghost use Rattle.chp_syntax.specs.Parts.{Good, Bad, StopsAt, WhenFault, sees, primary_front};
@@ -153,6 +154,7 @@ fn primary(alloc: Global, tokens: &[Token], at: &mut usize) -> Result<Covered, S
 
 /// expr { "," expr }
 #[cycle(expression_parts)]
+#[inline(never)]
 fn parts(alloc: Global, tokens: &[Token], at: &mut usize) -> Result<Vec<Expr>, Stop>
     requires { at.old ≤ length tokens.now }
     ensures within { at.new ≤ length tokens.now }
@@ -175,6 +177,7 @@ fn parts(alloc: Global, tokens: &[Token], at: &mut usize) -> Result<Vec<Expr>, S
 
 /// [ "~" ] e6
 #[cycle(expression_parts)]
+#[inline(always)]
 fn negated(alloc: Global, tokens: &[Token], at: &mut usize) -> Result<Covered, Stop>
     requires { at.old ≤ length tokens.now }
     ensures within { at.new ≤ length tokens.now }
@@ -228,6 +231,7 @@ fn comparison(alloc: Global, tokens: &[Token], at: &mut usize) -> Result<Covered
 
 /// e5 { ( "+" | "-" ) e5 }
 #[cycle(expression_parts)]
+#[inline(always)]
 fn sum(alloc: Global, tokens: &[Token], at: &mut usize) -> Result<Covered, Stop>
     requires { at.old ≤ length tokens.now }
     ensures within { at.new ≤ length tokens.now }
@@ -254,6 +258,7 @@ fn sum(alloc: Global, tokens: &[Token], at: &mut usize) -> Result<Covered, Stop>
 
 /// e3 { "&" e3 }
 #[cycle(expression_parts)]
+#[inline(always)]
 fn conjunction(alloc: Global, tokens: &[Token], at: &mut usize) -> Result<Covered, Stop>
     requires { at.old ≤ length tokens.now }
     ensures within { at.new ≤ length tokens.now }
@@ -280,6 +285,7 @@ fn conjunction(alloc: Global, tokens: &[Token], at: &mut usize) -> Result<Covere
 
 /// e2 { "^" e2 }
 #[cycle(expression_parts)]
+#[inline(always)]
 fn exclusive(alloc: Global, tokens: &[Token], at: &mut usize) -> Result<Covered, Stop>
     requires { at.old ≤ length tokens.now }
     ensures within { at.new ≤ length tokens.now }

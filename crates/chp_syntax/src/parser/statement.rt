@@ -1,4 +1,5 @@
-//! Statements.
+//! Statements. Functions for levels of the grammar are put into their callers, since a bracket then takes less of the
+//! stack than frames of their own would.
 
 ghost use Rattle.std.specs.Prelude.{◌≡◌, ℕ, ◌≤◌, ◌<◌, List, length, drop, IfOk, IfErr, OnOk};
 ghost use Rattle.chp_syntax.specs.declared.parser.sight.AtomFront.TheVariants as atom;
@@ -118,6 +119,7 @@ fn inside(alloc: Global, tokens: &[Token], at: &mut usize) -> Result<Stmt, Stop>
 
 /// expr "->" par
 #[cycle(statement_parts)]
+#[inline(always)]
 fn branch(alloc: Global, tokens: &[Token], at: &mut usize) -> Result<Arm, Stop>
     requires { at.old ≤ length tokens.now }
     ensures within { at.new ≤ length tokens.now }
@@ -160,6 +162,7 @@ fn choices(alloc: Global, tokens: &[Token], at: &mut usize) -> Result<Vec<Arm>, 
 
 /// atom { "," atom }
 #[cycle(statement_parts)]
+#[inline(always)]
 fn both(alloc: Global, tokens: &[Token], at: &mut usize) -> Result<Stmt, Stop>
     requires { at.old ≤ length tokens.now }
     ensures within { at.new ≤ length tokens.now }
@@ -185,6 +188,7 @@ fn both(alloc: Global, tokens: &[Token], at: &mut usize) -> Result<Stmt, Stop>
 
 /// both { ";" both }
 #[cycle(statement_parts)]
+#[inline(always)]
 fn seq(alloc: Global, tokens: &[Token], at: &mut usize) -> Result<Stmt, Stop>
     requires { at.old ≤ length tokens.now }
     ensures within { at.new ≤ length tokens.now }
