@@ -1,12 +1,13 @@
 -- What is made of a statement, member by member.
 use Rattle.std.proofs.Common.{◌≡◌, ℕ, ◌+◌, ◌<◌, ◌≤◌, Bool, true, false, List, [], ◌∷◌, ◌++◌, length, get_or, drop, Some, refl, sym, ap, ◌∙◌, subst, arith, ◌⊎◌, inl, inr}
-use Rattle.std.specs.Prelude.{◌||◌}
+use Rattle.std.specs.Prelude.{◌||◌, Result, Ok, Err, IfOk, IsOkAnd}
+use Rattle.std.specs.declared.boxed.Box.{Box}
 use Rattle.std.specs.declared.alloc.Global.{Global}
 use Rattle.std.specs.declared.vec.Vec.{Vec}
 use Rattle.chp_syntax.specs.declared.tree.Arm.{Arm}
 use Rattle.chp_syntax.specs.declared.tree.Decl.{Decl}
 use Rattle.chp_syntax.specs.declared.tree.Ident.{Ident}
-use Rattle.chp_syntax.specs.declared.tree.Stmt.{Stmt, Then, Beside, Select}
+use Rattle.chp_syntax.specs.declared.tree.Stmt.{Stmt, Then, Beside, Select, Repeat}
 use Rattle.chp_syntax.specs.Shape.{IsShapedExpression, IsShapedStatement, AreShapedMembers, AreShapedArms}
 use Rattle.chp_syntax.specs.Trees.{Expression, Statement, assigns, sends, receives, follows, besides, selects, Statements, and_member, Arms, and_arm}
 use Rattle.chp_syntax.specs.View.{expression_of, statement_of}
@@ -18,7 +19,7 @@ use Rattle.width_check.specs.Calls.{has_call, some_has_call, arm_has_call}
 use Rattle.width_check.specs.Form.{formula_form, process_form, processes_form, choices_form}
 use Rattle.width_check.specs.Places.{declared_width, use_of, written, sent_on, received_on, stored}
 use Rattle.width_check.specs.Processes as typed
-use Rattle.width_check.specs.Processes.{Formula, Process, Processes, Choices, in_turn, side_by_side, choosing}
+use Rattle.width_check.specs.Processes.{Formula, Process, Processes, Choices, in_turn, side_by_side, choosing, repeating}
 use Rattle.width_check.specs.Sound.{IsSound, is_var_in}
 use Rattle.width_check.specs.View.{formula_of, process_of}
 use Rattle.width_check.specs.Walk.{Met, met_both, met_use, met_in, met_of, met_of_each, met_of_arms, statements_in, arms_in}
@@ -93,6 +94,16 @@ pub record IsStatementReady (ds : List Decl) (s : Statement) : Type 0 where
   pub free : has_call s ≡ false
   pub sound : IsSound ds (met_of ds s)
 
+pub repeat_ready : (ds : List Decl) (s : Stmt) (body : Box Stmt Global) (f : Stmt) → s ≡ Repeat body → f ≡ body.value → IsShapedStatement (statement_of s) →
+    has_call (statement_of s) ≡ false → IsSound ds (met_of ds (statement_of s)) → IsStatementReady ds (statement_of f)
+repeat_ready ds s body f is here shaped free sound =
+    let inside : IsStatementReady ds (statement_of body.value) = record {
+      shaped = subst (λ (x : Stmt). IsShapedStatement (statement_of x)) is shaped;
+      free = sym (ap (λ (x : Stmt). has_call (statement_of x)) is) ∙ free;
+      sound = subst (λ (x : Stmt). IsSound ds (met_of ds (statement_of x))) is sound;
+    } in
+    subst (λ (x : Stmt). IsStatementReady ds (statement_of x)) (sym here) inside
+
 members_here : (ds : List Decl) (ss : List Stmt) (i : ℕ) (s : Stmt) → i < length ss → s ≡ get_or ss i s → AreMembersLeft ds (statements_in (drop i ss)) →
     AreMembersLeft ds (and_member (statement_of s) (statements_in (drop (i + 1) ss)))
 members_here ds ss i s within is left = subst (λ (us : Statements). AreMembersLeft ds us) (members_more ss i s within is) left
@@ -123,7 +134,7 @@ members_next ds ss i s within is left =
           sound_right ds (met_of ds (statement_of s)) (met_of_each ds rest) pieces;
     }
 
-pub member_made : (ds : List Decl) (ss : List Stmt) (i : ℕ) (s : Stmt) (made new : List TStmt) (t : TStmt) (total : Processes) → i < length ss →
+member_made : (ds : List Decl) (ss : List Stmt) (i : ℕ) (s : Stmt) (made new : List TStmt) (t : TStmt) (total : Processes) → i < length ss →
     s ≡ get_or ss i s → process_of t ≡ process_form ds (statement_of s) → new ≡ made ++ t ∷ [] →
     before_members made (processes_form ds (statements_in (drop i ss))) ≡ total →
     before_members new (processes_form ds (statements_in (drop (i + 1) ss))) ≡ total
@@ -132,6 +143,13 @@ member_made ds ss i s made new t total within is is_made pushed so_far =
     let begun = ap (λ (us : Statements). before_members made (processes_form ds us)) (sym (members_more ss i s within is)) ∙ so_far in
     ap (λ (ts : List TStmt). before_members ts rest) pushed ∙ one_member made t rest
     ∙ ap (λ (p : Process). before_members made (typed.and_member p rest)) is_made ∙ begun
+
+pub member_pushed : {E : Type 0} (ds : List Decl) (ss : List Stmt) (i : ℕ) (s : Stmt) (made new : List TStmt) (r : Result TStmt E) (total : Processes) →
+    i < length ss → s ≡ get_or ss i s → IfOk r (λ (t : TStmt). process_of t ≡ process_form ds (statement_of s)) →
+    IsOkAnd r (λ (t : TStmt). new ≡ made ++ t ∷ []) → before_members made (processes_form ds (statements_in (drop i ss))) ≡ total →
+    before_members new (processes_form ds (statements_in (drop (i + 1) ss))) ≡ total
+member_pushed ds ss i s made new (Ok t) total within is is_made pushed so_far = member_made ds ss i s made new t total within is is_made pushed so_far
+member_pushed ds ss i s made new (Err e) total within is is_made pushed so_far = absurd pushed
 
 pub then_made : (ds : List Decl) (s : Stmt) (v : Vec Stmt Global) (ss : List Stmt) (i : ℕ) (t : Vec TStmt Global) → s ≡ Then v → ss ≡ v.items → length ss ≤ i →
     before_members t.items (processes_form ds (statements_in (drop i ss))) ≡ processes_form ds (statements_in ss) →
@@ -207,7 +225,7 @@ arms_next ds xs i a within is left =
           sound_right ds (met_of ds s) (met_of_arms ds rest) others;
     }
 
-pub arm_made : (ds : List Decl) (xs : List Arm) (i : ℕ) (a : Arm) (made new : List TArm) (f : TExpr) (t : TStmt) (total : Choices) → i < length xs →
+arm_made : (ds : List Decl) (xs : List Arm) (i : ℕ) (a : Arm) (made new : List TArm) (f : TExpr) (t : TStmt) (total : Choices) → i < length xs →
     a ≡ get_or xs i a → formula_of f ≡ formula_form ds 1 (expression_of a.guard) → process_of t ≡ process_form ds (statement_of a.body) →
     new ≡ made ++ (record { guard = f; body = t }) ∷ []
     → before_arms made (choices_form ds (arms_in (drop i xs))) ≡ total → before_arms new (choices_form ds (arms_in (drop (i + 1) xs))) ≡ total
@@ -217,6 +235,25 @@ arm_made ds xs i a made new f t total within is is_guard is_body pushed so_far =
     ap (λ (ts : List TArm). before_arms ts rest) pushed ∙ one_arm made (record { guard = f; body = t }) rest
     ∙ ap (λ (g : Formula). before_arms made (typed.and_choice g (process_of t) rest)) is_guard
     ∙ ap (λ (p : Process). before_arms made (typed.and_choice (formula_form ds 1 (expression_of a.guard)) p rest)) is_body ∙ begun
+
+pub arm_pushed : {E : Type 0} (ds : List Decl) (xs : List Arm) (i : ℕ) (a : Arm) (made new : List TArm) (f : TExpr) (b : Result TStmt E) (total : Choices) →
+    i < length xs → a ≡ get_or xs i a → formula_of f ≡ formula_form ds 1 (expression_of a.guard) →
+    IfOk b (λ (t : TStmt). process_of t ≡ process_form ds (statement_of a.body)) →
+    IsOkAnd b (λ (t : TStmt). new ≡ made ++ (record { guard = f; body = t }) ∷ [])
+    → before_arms made (choices_form ds (arms_in (drop i xs))) ≡ total → before_arms new (choices_form ds (arms_in (drop (i + 1) xs))) ≡ total
+arm_pushed ds xs i a made new f (Ok t) total within is is_guard is_body pushed so_far =
+    arm_made ds xs i a made new f t total within is is_guard is_body pushed so_far
+arm_pushed ds xs i a made new f (Err e) total within is is_guard is_body pushed so_far = absurd pushed
+
+pub repeat_made : {E : Type 0} (ds : List Decl) (s : Stmt) (body : Box Stmt Global) (f : Stmt) (b all : Result TStmt E) → s ≡ Repeat body → f ≡ body.value →
+    IfOk b (λ (t : TStmt). process_of t ≡ process_form ds (statement_of f)) →
+    IfOk all (λ (t : TStmt). IsOkAnd b (λ (u : TStmt). process_of t ≡ repeating (process_of u)))
+    → IfOk all (λ (t : TStmt). process_of t ≡ process_form ds (statement_of s))
+repeat_made ds s body f (Ok u) (Ok t) is here made whole =
+    whole ∙ ap repeating (made ∙ ap (λ (x : Stmt). process_form ds (statement_of x)) here)
+    ∙ sym (ap (λ (x : Stmt). process_form ds (statement_of x)) is)
+repeat_made ds s body f (Err e) (Ok t) is here made whole = absurd whole
+repeat_made ds s body f b (Err e) is here made whole = tt
 
 pub select_made : (ds : List Decl) (s : Stmt) (again : Bool) (v : Vec Arm Global) (xs : List Arm) (i : ℕ) (t : Vec TArm Global) → s ≡ Select again v →
     xs ≡ v.items → length xs ≤ i → before_arms t.items (choices_form ds (arms_in (drop i xs))) ≡ choices_form ds (arms_in xs) →

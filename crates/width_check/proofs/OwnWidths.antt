@@ -112,6 +112,27 @@ chain_none decls e first v at all ls i is same here not_compared none over so_fa
     done ∙ ap (λ us. option_map capped_width (first_width decls (links_in us))) same_links ∙ left_none decls (expression_of first.value) (links_in all) none
     ∙ sym (chain_side decls e first v at all is same not_compared)
 
+pub from_none : (n : ℕ) → capped_width (0 + n) ≡ capped_width n
+from_none n =
+    let same : 0 + n ≡ n = omega arith in
+    ap capped_width same
+
+none_of : (o : Option ℕ) → option_map capped_width o ≡ None → o ≡ None
+none_of None is = refl
+none_of (Some x) is = absurd (cc is)
+
+-- a link that has no width is passed
+pub link_passed : (decls : List Decl) (ls : List Link) (i : ℕ) (l : Link) (o whole : Option ℕ) → i < length ls → l ≡ get_or ls i l →
+    o ≡ option_map capped_width (own_width decls (expression_of l.right)) → o ≡ None →
+    option_map capped_width (first_width decls (links_in (drop i ls))) ≡ whole
+    → option_map capped_width (first_width decls (links_in (drop (i + 1) ls))) ≡ whole
+link_passed decls ls i l o whole within is found not so_far =
+    let rest = first_width decls (links_in (drop (i + 1) ls)) in
+    let none = none_of (own_width decls (expression_of l.right)) (sym found ∙ not) in
+    let step : first_width decls (links_in (drop i ls)) ≡ rest = ap (first_width decls) (links_more ls i l within is)
+    ∙ ap (λ (p : Option ℕ). or_width p rest) none in
+    ap (option_map capped_width) (sym step) ∙ so_far
+
 -- expressions that are made of numbers alone
 
 pub widthless_comparison : (decls : List Decl) (e : Expr) (first : Box Expr Global) (v : Vec Link Global) (at : Span) (ls : List Link) → e ≡ Chain first v at →

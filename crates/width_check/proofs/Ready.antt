@@ -1,12 +1,12 @@
 -- What is made of an expression, member by member.
 use Rattle.std.proofs.Common.{◌≡◌, ℕ, ◌+◌, ◌<◌, ◌≤◌, true, false, List, [], ◌∷◌, ◌++◌, length, get_or, drop, Option, Some, refl, sym, ap, ◌∙◌, subst, arith}
-use Rattle.std.specs.Prelude.{unwrap_or, option_map, Contains, Result, Ok, IfOk}
+use Rattle.std.specs.Prelude.{unwrap_or, option_map, Contains, Result, Ok, Err, IfOk, IsOkAnd, IsErr}
 use Rattle.std.specs.declared.alloc.Global.{Global}
 use Rattle.std.specs.declared.boxed.Box.{Box}
 use Rattle.std.specs.declared.vec.Vec.{Vec}
 use Rattle.chp_base.specs.declared.span.Span.{Span}
 use Rattle.chp_syntax.specs.declared.tree.Decl.{Decl}
-use Rattle.chp_syntax.specs.declared.tree.Expr.{Expr, Join, Chain}
+use Rattle.chp_syntax.specs.declared.tree.Expr.{Expr, Join, Not, Chain}
 use Rattle.chp_syntax.specs.declared.tree.Link.{Link}
 use Rattle.chp_syntax.specs.declared.tree.Op.{Op}
 use Rattle.chp_syntax.specs.Shape.{IsShapedExpression, AreShapedParts, AreShapedLinks}
@@ -17,7 +17,7 @@ use Rattle.width_check.specs.declared.typed.TExpr.{TExpr}
 use Rattle.width_check.specs.declared.typed.TLink.{TLink}
 use Rattle.width_check.specs.Places.{compares, own_width}
 use Rattle.width_check.specs.Processes as typed
-use Rattle.width_check.specs.Processes.{Formula, Formulas, joined, Operations, chained, compared}
+use Rattle.width_check.specs.Processes.{Formula, Formulas, joined, inverted, Operations, chained, compared}
 use Rattle.width_check.specs.Form.{formula_form, parts_form, operations_form}
 use Rattle.width_check.specs.Sound.{AreRanged, IsSound}
 use Rattle.width_check.specs.View.{formula_of}
@@ -38,6 +38,22 @@ pub record IsReady (ds : List Decl) (w : ℕ) (e : Expression) : Type 0 where
 -- what was made stays so where it is put
 pub made_so : {E : Type 0} (r : Result TExpr E) (t : TExpr) (f : Formula) → IfOk r (λ (m : TExpr). formula_of m ≡ f) → r ≡ Ok t → formula_of t ≡ f
 made_so {E = E} r t f made is = subst (λ (o : Result TExpr E). IfOk o (λ (m : TExpr). formula_of m ≡ f)) is made
+
+-- what was made, and then put somewhere
+pub made_and_put : {E : Type 0} (r : Result TExpr E) (f : Formula) (Put : TExpr → Type 0) → IfOk r (λ (m : TExpr). formula_of m ≡ f) →
+    IsOkAnd r (λ (m : TExpr). Put m) → (t : TExpr) × (formula_of t ≡ f) × Put t
+made_and_put (Ok t) f Put made put = (t, made, put)
+made_and_put (Err e) f Put made put = absurd put
+
+pub if_err : {A E : Type 0} (r : Result A E) (P : A → Type 0) → IsErr r → IfOk r P
+if_err (Ok a) P wrong = absurd (cc wrong)
+if_err (Err e) P wrong = tt
+
+pub not_made : (ds : List Decl) (w : ℕ) (e : Expr) (inner : Box Expr Global) (at : Span) (f : Expr) (b : Box TExpr Global) → e ≡ Not inner at →
+    f ≡ inner.value → formula_of b.value ≡ formula_form ds w (expression_of f) → inverted (formula_of b.value) ≡ formula_form ds w (expression_of e)
+not_made ds w e inner at f b is here made =
+    ap inverted (made ∙ ap (λ (x : Expr). formula_form ds w (expression_of x)) here)
+    ∙ sym (ap (λ (x : Expr). formula_form ds w (expression_of x)) is)
 
 -- some parts of a join
 pub record ArePartsLeft (ds : List Decl) (parts : Expressions) : Type 0 where
@@ -87,7 +103,7 @@ part_ready ds ranged es i e o w within is left found wanted =
       sound = subst (λ (u : ℕ). IsSound ds (met_in ds u (expression_of e))) zero (sound_part ds (expression_of e) (join_parts (drop (i + 1) es)) here.sound);
     }
 
-pub part_made : (ds : List Decl) → AreRanged ds →
+part_made : (ds : List Decl) → AreRanged ds →
     (es : List Expr) (i : ℕ) (e : Expr) (o : Option ℕ) (w : ℕ) (made new : List TExpr) (t : TExpr) (total : Formulas) → i < length es → e ≡ get_or es i e →
     ArePartsLeft ds (join_parts (drop i es)) → o ≡ option_map capped_width (own_width ds (expression_of e)) → w ≡ unwrap_or o 0
     → formula_of t ≡ formula_form ds w (expression_of e) → new ≡ made ++ t ∷ [] → before_parts made (parts_form ds (join_parts (drop i es))) ≡ total →
@@ -101,6 +117,15 @@ part_made ds ranged es i e o w made new t total within is left found wanted is_m
     let begun = ap (λ (ps : Expressions). before_parts made (parts_form ds ps)) (sym (parts_more es i e within is)) ∙ so_far in
     ap (λ (ts : List TExpr). before_parts ts rest) pushed ∙ one_part made t rest
     ∙ ap (λ (f : Formula). before_parts made (typed.and_part f rest)) (is_made ∙ ap (λ (u : ℕ). formula_form ds u (expression_of e)) (sym zero)) ∙ begun
+
+pub part_pushed : {E : Type 0} (ds : List Decl) → AreRanged ds →
+    (es : List Expr) (i : ℕ) (e : Expr) (o : Option ℕ) (w : ℕ) (made new : List TExpr) (r : Result TExpr E) (total : Formulas) → i < length es →
+    e ≡ get_or es i e → ArePartsLeft ds (join_parts (drop i es)) → o ≡ option_map capped_width (own_width ds (expression_of e)) → w ≡ unwrap_or o 0
+    → IfOk r (λ (t : TExpr). formula_of t ≡ formula_form ds w (expression_of e)) → IsOkAnd r (λ (t : TExpr). new ≡ made ++ t ∷ []) →
+    before_parts made (parts_form ds (join_parts (drop i es))) ≡ total → before_parts new (parts_form ds (join_parts (drop (i + 1) es))) ≡ total
+part_pushed ds ranged es i e o w made new r total within is left found wanted is_made pushed so_far =
+    let t = made_and_put r (formula_form ds w (expression_of e)) (λ (t : TExpr). new ≡ made ++ t ∷ []) is_made pushed in
+    part_made ds ranged es i e o w made new t.0 total within is left found wanted t.1 t.2 so_far
 
 pub join_made : (ds : List Decl) (w : ℕ) (e : Expr) (v : Vec Expr Global) (at : Span) (es : List Expr) (i : ℕ) (t : Vec TExpr Global) → e ≡ Join v at →
     es ≡ v.items → length es ≤ i → before_parts t.items (parts_form ds (join_parts (drop i es))) ≡ parts_form ds (join_parts es) →
@@ -167,7 +192,7 @@ link_ready ds w ls i l within is some most left =
     let here = links_here ds w ls i l within is left in
     record { some = some; most = most; shaped = here.shaped.0; sound = sound_link ds w l.op (expression_of l.right) (links_in (drop (i + 1) ls)) here.sound }
 
-pub link_made : (ds : List Decl) (w : ℕ) (ls : List Link) (i : ℕ) (l : Link) (made new : List TLink) (t : TExpr) (total : Operations) → i < length ls →
+link_made : (ds : List Decl) (w : ℕ) (ls : List Link) (i : ℕ) (l : Link) (made new : List TLink) (t : TExpr) (total : Operations) → i < length ls →
     l ≡ get_or ls i l → formula_of t ≡ formula_form ds w (expression_of l.right) → new ≡ made ++ (record { op = l.op; right = t }) ∷ []
     → before_links made (operations_form ds w (links_in (drop i ls))) ≡ total → before_links new (operations_form ds w (links_in (drop (i + 1) ls))) ≡ total
 link_made ds w ls i l made new t total within is is_made pushed so_far =
@@ -175,6 +200,14 @@ link_made ds w ls i l made new t total within is is_made pushed so_far =
     let begun = ap (λ (us : Links). before_links made (operations_form ds w us)) (sym (links_more ls i l within is)) ∙ so_far in
     ap (λ (ts : List TLink). before_links ts rest) pushed ∙ one_link made (record { op = l.op; right = t }) rest
     ∙ ap (λ (f : Formula). before_links made (typed.and_operation l.op f rest)) is_made ∙ begun
+
+pub link_pushed : {E : Type 0} (ds : List Decl) (w : ℕ) (ls : List Link) (i : ℕ) (l : Link) (made new : List TLink) (r : Result TExpr E) (total : Operations) →
+    i < length ls → l ≡ get_or ls i l → IfOk r (λ (t : TExpr). formula_of t ≡ formula_form ds w (expression_of l.right)) →
+    IsOkAnd r (λ (t : TExpr). new ≡ made ++ (record { op = l.op; right = t }) ∷ [])
+    → before_links made (operations_form ds w (links_in (drop i ls))) ≡ total → before_links new (operations_form ds w (links_in (drop (i + 1) ls))) ≡ total
+link_pushed ds w ls i l made new r total within is is_made pushed so_far =
+    let t = made_and_put r (formula_form ds w (expression_of l.right)) (λ (t : TExpr). new ≡ made ++ (record { op = l.op; right = t }) ∷ []) is_made pushed in
+    link_made ds w ls i l made new t.0 total within is t.1 t.2 so_far
 
 plain_form : (ds : List Decl) (w : ℕ) (e : Expression) (more : Links) (at : Span) → compares more ≡ false →
     formula_form ds w (chain e more at) ≡ chained (formula_form ds w e) (operations_form ds w more)
@@ -249,7 +282,7 @@ compared_form : (ds : List Decl) (w u : ℕ) (e : Expression) (op : Op) (f : Exp
     side_width ds e more ≡ Some u → more ≡ and_link op f rest → formula_form ds w (chain e more at) ≡ compared op (formula_form ds u e) (formula_form ds u f)
 compared_form ds w u e op f rest more at is side links = rw (is, side, links) refl
 
-pub comparison_made : (ds : List Decl) (w u : ℕ) (e : Expr) (first : Box Expr Global) (v : Vec Link Global) (at : Span) (l : Link) (x y : Formula) →
+comparison_made : (ds : List Decl) (w u : ℕ) (e : Expr) (first : Box Expr Global) (v : Vec Link Global) (at : Span) (l : Link) (x y : Formula) →
     e ≡ Chain first v at → compares (links_in v.items) ≡ true → IsCompared ds first v.items l u → x ≡ formula_form ds u (expression_of first.value) →
     y ≡ formula_form ds u (expression_of l.right) → compared l.op x y ≡ formula_form ds w (expression_of e)
 comparison_made ds w u e first v at l x y is so facts left right =
@@ -257,3 +290,16 @@ comparison_made ds w u e first v at l x y is so facts left right =
     ∙ sym (compared_form ds w u (expression_of first.value) l.op (expression_of l.right) (links_in (drop 1 v.items)) (links_in v.items) at so facts.side
     facts.links)
     ∙ ap (formula_form ds w) (sym (chain_is e first v at is))
+
+pub sides_made : {E : Type 0} (ds : List Decl) (w u : ℕ) (e : Expr) (first : Box Expr Global) (v : Vec Link Global) (at : Span) (l : Link) (f : Expr)
+    (x y all : Result TExpr E) → e ≡ Chain first v at → compares (links_in v.items) ≡ true → IsCompared ds first v.items l u → f ≡ first.value →
+    IfOk x (λ (t : TExpr). formula_of t ≡ formula_form ds u (expression_of f)) →
+    IfOk y (λ (t : TExpr). formula_of t ≡ formula_form ds u (expression_of l.right)) →
+    IfOk all (λ (t : TExpr). IsOkAnd x (λ (a : TExpr). IsOkAnd y (λ (b : TExpr). formula_of t ≡ compared l.op (formula_of a) (formula_of b))))
+    → IfOk all (λ (t : TExpr). formula_of t ≡ formula_form ds w (expression_of e))
+sides_made ds w u e first v at l f (Ok x) (Ok y) (Ok t) is so facts here left right made =
+    made ∙ comparison_made ds w u e first v at l (formula_of x) (formula_of y) is so facts
+    (left ∙ ap (λ (z : Expr). formula_form ds u (expression_of z)) here) right
+sides_made ds w u e first v at l f (Ok x) (Err b) (Ok t) is so facts here left right made = absurd made
+sides_made ds w u e first v at l f (Err a) y (Ok t) is so facts here left right made = absurd made
+sides_made ds w u e first v at l f x y (Err t) is so facts here left right made = tt

@@ -1,7 +1,7 @@
 -- When a statement is one over some channels and variables, member by member and arm by arm.
-use Rattle.std.proofs.Common.{◌≡◌, ◌≢◌, ℕ, suc, ◌+◌, ◌<◌, ◌≤◌, Bool, true, false, List, [], ◌∷◌, length, get_or, drop, refl, sym, ap, ◌∙◌, subst, arith}
+use Rattle.std.proofs.Common.{◌≡◌, ◌≢◌, ℕ, suc, ◌+◌, ◌<◌, ◌≤◌, Bool, true, false, List, [], ◌∷◌, length, get_or, drop, refl, sym, ap, ◌∙◌, subst, inl, inr, arith}
 use Rattle.std.specs.Bool.{Decides}
-use Rattle.std.specs.Prelude.{nat_eq}
+use Rattle.std.specs.Prelude.{nat_eq, ◌⊎◌}
 use Rattle.std.proofs.lemmas.Bool.{le-leb, leb-true, ltb-true}
 use Rattle.std.proofs.lemmas.Bool.Decides.{Decides-eqb}
 use lib.Dec.{leb, ltb}
@@ -11,7 +11,7 @@ use Rattle.std.specs.declared.vec.Vec.{Vec}
 use Rattle.chp_base.specs.declared.channel.Channel.{Channel}
 use Rattle.width_check.specs.declared.typed.Var.{Var}
 use Rattle.width_check.specs.declared.typed.TArm.{TArm}
-use Rattle.width_check.specs.declared.typed.TStmt.{TStmt, Then, Beside, Select, Row_of-TStmt, end_of-TStmt, more_of-TStmt, Row_of-TArm, end_of-TArm, more_of-TArm, items-the_row-TStmt, items-the_row-TArm, items_hidden-the_row-TStmt-0, items_hidden-the_row-TArm-1}
+use Rattle.width_check.specs.declared.typed.TStmt.{TStmt, Skip, Then, Beside, Select, Row_of-TStmt, end_of-TStmt, more_of-TStmt, Row_of-TArm, end_of-TArm, more_of-TArm, items-the_row-TStmt, items-the_row-TArm, items_hidden-the_row-TStmt-0, items_hidden-the_row-TArm-1}
 use Rattle.width_check.specs.declared.typed.TStmt.TheBlock.{hidden-the_row-TStmt-0, hidden-the_row-TArm-1}
 use Rattle.chp_base.specs.declared.channel.Kind.TheVariants.{In, Out}
 use Rattle.width_check.specs.Processes.{Formula, Process, in_turn, side_by_side, choosing, Processes, no_members, and_member, Choices, no_choices, and_choice, member_count, choice_count}
@@ -74,6 +74,13 @@ pub member_wrong : (channels : List Channel) (vars : List Var) (ss : List TStmt)
     MembersLeft channels vars ss i → Decides r (IsProcess channels vars (process_of s)) → r ≡ false → ¬ AreProcesses channels vars (members_of ss)
 member_wrong channels vars ss i s r within is left decides so = one_wrong _ _ _ (member_here channels vars ss i s within is left) (not_so r _ decides so)
 
+pub members_so : (channels : List Channel) (vars : List Var) (ss : List TStmt) (i : ℕ) (s : TStmt) (r : Bool) → i < length ss → s ≡ get_or ss i s →
+    MembersLeft channels vars ss i → Decides r (IsProcess channels vars (process_of s)) → r ≡ true → MembersLeft channels vars ss (i + 1)
+members_so channels vars ss i s r within is left decides so =
+    let here = member_here channels vars ss i s within is left in
+    let holds = decides.0 so in
+    record { whole = λ rest. here.whole (holds, rest); rest = λ all. (here.rest all).1 }
+
 pub all_members : (channels : List Channel) (vars : List Var) (ss : List TStmt) (i : ℕ) → length ss ≤ i → MembersLeft channels vars ss i →
     AreProcesses channels vars (members_of ss)
 all_members channels vars ss i all left =
@@ -95,6 +102,15 @@ pub body_wrong : (channels : List Channel) (vars : List Var) (arms : List TArm) 
     ArmsLeft channels vars arms i → Decides b (IsProcess channels vars (process_of a.body)) → b ≡ false → ¬ AreChoices channels vars (arms_of arms)
 body_wrong channels vars arms i a b within is left decides so = second_wrong _ _ _ _ (arm_here channels vars arms i a within is left) (not_so b _ decides so)
 
+pub arms_so : (channels : List Channel) (vars : List Var) (arms : List TArm) (i : ℕ) (a : TArm) (g b : Bool) → i < length arms → a ≡ get_or arms i a →
+    ArmsLeft channels vars arms i → Decides g (IsOfWidth vars 1 (formula_of a.guard)) → g ≡ true → Decides b (IsProcess channels vars (process_of a.body)) →
+    b ≡ true → ArmsLeft channels vars arms (i + 1)
+arms_so channels vars arms i a g b within is left guard is_guard body is_body =
+    let here = arm_here channels vars arms i a within is left in
+    let one = guard.0 is_guard in
+    let other = body.0 is_body in
+    record { whole = λ rest. here.whole (one, other, rest); rest = λ all. (here.rest all).2 }
+
 pub all_arms : (channels : List Channel) (vars : List Var) (arms : List TArm) (i : ℕ) → length arms ≤ i → ArmsLeft channels vars arms i →
     AreChoices channels vars (arms_of arms)
 all_arms channels vars arms i all left =
@@ -106,20 +122,32 @@ all_arms channels vars arms i all left =
 same_answer : (r : Bool) (P : Process → Type 0) (p q : Process) → p ≡ q → Decides r (P q) → Decides r (P p)
 same_answer r P p q is = subst (λ x. Decides r (P x)) (sym is)
 
+pub told_of : (channels : List Channel) (vars : List Var) (s u : TStmt) (r : Bool) → s ≡ u → Decides r (IsProcess channels vars (process_of u)) →
+    Decides r (IsProcess channels vars (process_of s))
+told_of channels vars s u r is = subst (λ (x : TStmt). Decides r (IsProcess channels vars (process_of x))) (sym is)
+
+pub skip_told : (channels : List Channel) (vars : List Var) (s : TStmt) → s ≡ Skip → Decides true (IsProcess channels vars (process_of s))
+skip_told channels vars s is = told_of channels vars s Skip true is (λ _. tt, λ _. refl)
+
 two : (r : Bool) (n : ℕ) → Decides r (2 ≤ n) → (P : Type 0) → P → Decides r ((2 ≤ n) × P)
 two r n decides P all = (λ so. (decides.0 so, all), λ whole. decides.1 whole.0)
 
-pub then_no : (channels : List Channel) (vars : List Var) (s : TStmt) (v : Vec TStmt Global) (ss : List TStmt) → s ≡ Then v → ss ≡ v.items →
+then_no : (channels : List Channel) (vars : List Var) (s : TStmt) (v : Vec TStmt Global) (ss : List TStmt) → s ≡ Then v → ss ≡ v.items →
     ¬ AreProcesses channels vars (members_of ss) → Decides false (IsProcess channels vars (process_of s))
 then_no channels vars s v ss is items wrong =
     same_answer false (IsProcess channels vars) _ (in_turn (members_of ss)) (then_is s v is ∙ ap (λ xs. in_turn (members_of xs)) (sym items))
     (fails _ (λ whole. wrong whole.1))
 
-pub beside_no : (channels : List Channel) (vars : List Var) (s : TStmt) (v : Vec TStmt Global) (ss : List TStmt) → s ≡ Beside v → ss ≡ v.items →
+beside_no : (channels : List Channel) (vars : List Var) (s : TStmt) (v : Vec TStmt Global) (ss : List TStmt) → s ≡ Beside v → ss ≡ v.items →
     ¬ AreProcesses channels vars (members_of ss) → Decides false (IsProcess channels vars (process_of s))
 beside_no channels vars s v ss is items wrong =
     same_answer false (IsProcess channels vars) _ (side_by_side (members_of ss)) (beside_is s v is ∙ ap (λ xs. side_by_side (members_of xs)) (sym items))
     (fails _ (λ whole. wrong whole.1))
+
+pub group_no : (channels : List Channel) (vars : List Var) (s : TStmt) (v : Vec TStmt Global) (ss : List TStmt) → (s ≡ Then v) ⊎ (s ≡ Beside v) →
+    ss ≡ v.items → ¬ AreProcesses channels vars (members_of ss) → Decides false (IsProcess channels vars (process_of s))
+group_no channels vars s v ss (inl is) = then_no channels vars s v ss is
+group_no channels vars s v ss (inr is) = beside_no channels vars s v ss is
 
 pub select_no : (channels : List Channel) (vars : List Var) (s : TStmt) (again : Bool) (v : Vec TArm Global) (arms : List TArm) → s ≡ Select again v →
     arms ≡ v.items → ¬ AreChoices channels vars (arms_of arms) → Decides false (IsProcess channels vars (process_of s))
@@ -127,17 +155,22 @@ select_no channels vars s again v arms is items wrong =
     same_answer false (IsProcess channels vars) _ (choosing again (arms_of arms)) (select_is s again v is ∙ ap (λ xs. choosing again (arms_of xs)) (sym items))
     (fails _ (λ whole. wrong whole.2))
 
-pub then_so : (channels : List Channel) (vars : List Var) (s : TStmt) (v : Vec TStmt Global) (ss : List TStmt) (r : Bool) → s ≡ Then v → ss ≡ v.items →
+then_so : (channels : List Channel) (vars : List Var) (s : TStmt) (v : Vec TStmt Global) (ss : List TStmt) (r : Bool) → s ≡ Then v → ss ≡ v.items →
     AreProcesses channels vars (members_of ss) → Decides r (2 ≤ length ss) → Decides r (IsProcess channels vars (process_of s))
 then_so channels vars s v ss r is items all decides =
     same_answer r (IsProcess channels vars) _ (in_turn (members_of ss)) (then_is s v is ∙ ap (λ xs. in_turn (members_of xs)) (sym items))
     (two r _ (subst (λ n. Decides r (2 ≤ n)) (sym (members_counted ss)) decides) _ all)
 
-pub beside_so : (channels : List Channel) (vars : List Var) (s : TStmt) (v : Vec TStmt Global) (ss : List TStmt) (r : Bool) → s ≡ Beside v → ss ≡ v.items →
+beside_so : (channels : List Channel) (vars : List Var) (s : TStmt) (v : Vec TStmt Global) (ss : List TStmt) (r : Bool) → s ≡ Beside v → ss ≡ v.items →
     AreProcesses channels vars (members_of ss) → Decides r (2 ≤ length ss) → Decides r (IsProcess channels vars (process_of s))
 beside_so channels vars s v ss r is items all decides =
     same_answer r (IsProcess channels vars) _ (side_by_side (members_of ss)) (beside_is s v is ∙ ap (λ xs. side_by_side (members_of xs)) (sym items))
     (two r _ (subst (λ n. Decides r (2 ≤ n)) (sym (members_counted ss)) decides) _ all)
+
+pub group_so : (channels : List Channel) (vars : List Var) (s : TStmt) (v : Vec TStmt Global) (ss : List TStmt) (r : Bool) → (s ≡ Then v) ⊎ (s ≡ Beside v) →
+    ss ≡ v.items → AreProcesses channels vars (members_of ss) → Decides r (2 ≤ length ss) → Decides r (IsProcess channels vars (process_of s))
+group_so channels vars s v ss r (inl is) = then_so channels vars s v ss r is
+group_so channels vars s v ss r (inr is) = beside_so channels vars s v ss r is
 
 pub select_so : (channels : List Channel) (vars : List Var) (s : TStmt) (again : Bool) (v : Vec TArm Global) (arms : List TArm) (r : Bool) →
     s ≡ Select again v → arms ≡ v.items → AreChoices channels vars (arms_of arms) → Decides r ((1 ≤ length arms) × (length arms ≤ 16)) →

@@ -199,8 +199,3 @@ compared_over vars w v op e f left right same is = record {
       (left.reads, right.reads);
   agrees = refl;
 }
-
-pub record IsComparing (vars : List Var) (op : Op) (e f : Formula) : Type 0 where
-  pub compares : is_comparison op ≡ true
-  pub left : IsOfWidth vars (width_of e) e
-  pub right : IsOfWidth vars (width_of e) f

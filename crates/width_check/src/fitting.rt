@@ -1,6 +1,6 @@
 //! Checks of expressions and statements over declared channels and variables.
 
-ghost use Rattle.std.specs.Prelude.{◌≡◌, ◌≢◌, ◌<◌, ◌≤◌, ℕ, length, IfSome, IfNone};
+ghost use Rattle.std.specs.Prelude.{◌≡◌, ◌≢◌, ◌<◌, ◌≤◌, ℕ, length, true, Some, IfSome, IfNone, IsSomeAnd};
 ghost use Rattle.std.specs.Bool.{Decides};
 ghost use Rattle.width_check.specs.Typing.{var_width, IsOfWidth, IsSend, IsReceive, IsProcess};
 ghost use Rattle.width_check.specs.Values.{is_comparison};
@@ -25,6 +25,18 @@ fn has_bits(vars: &[Var], var: u32, high: u8, low: u8) -> bool
     match vars.get(var as usize) {
         Some(declared) => low <= high && high < declared.width && high <= 63,
         None => false,
+    }
+}
+
+/// The number of bits of a comparison of two sides with these, or None if it isn't one of two that have the same.
+fn compared_width(op: Op, left: Option<u8>, right: Option<u8>) -> Option<u8>
+    ensures some { IfSome result (λ width. (width ≡ 1) × (is_comparison op ≡ true)
+        × IsSomeAnd left (λ own. right ≡ Some own)) }
+    ensures none { IfNone result (is_comparison op ≡ true → IfSome left (λ own. right ≢ Some own)) }
+{
+    match (left, right) {
+        (Some(one), Some(other)) if is_comparison(op) && one == other => Some(1),
+        _ => None,
     }
 }
 
@@ -65,13 +77,7 @@ fn width_over(vars: &[Var], e: &TExpr) -> Option<u8>
             if rest.is_empty() { None } else { Some(width) }
         }
         TExpr::Compare { op, left, right } => {
-            let one = width_over(vars, left)?;
-            let other = width_over(vars, right)?;
-            if is_comparison(*op) && one == other {
-                Some(1)
-            } else {
-                None
-            }
+            compared_width(*op, width_over(vars, left), width_over(vars, right))
         }
     }
 }
@@ -143,17 +149,9 @@ pub(crate) fn is_process(channels: &[Channel], vars: &[Var], s: &TStmt) -> bool
         TStmt::Assign { var, value, .. } => is_assign(vars, *var, value),
         TStmt::Send { chan, value, .. } => is_send(channels, vars, *chan, value),
         TStmt::Receive { chan, var, .. } => is_receive(channels, vars, *chan, *var),
-        TStmt::Then { parts } => {
+        TStmt::Then { parts } | TStmt::Beside { parts } => {
             for part in parts {
                 if !is_process(channels, vars, part) {
-                    return false;
-                }
-            }
-            2 <= parts.len()
-        }
-        TStmt::Beside { parts } => {
-            for branch in parts {
-                if !is_process(channels, vars, branch) {
                     return false;
                 }
             }

@@ -1,12 +1,12 @@
 //! The typed form of a program in which nothing is wrong.
 
-ghost use Rattle.std.specs.Prelude.{◌≡◌, ◌≤◌, ◌<◌, ◌-◌, ◌^◌, true, false, Some, IfOk};
+ghost use Rattle.std.specs.Prelude.{◌≡◌, ◌≤◌, ◌<◌, ◌-◌, ◌^◌, ◌++◌, ◌∷◌, [], true, false, Some, IfOk, OnOk, IsOkAnd};
 ghost use Rattle.chp_syntax.specs.Shape.{IsShapedExpression, IsShapedStatement};
 ghost use Rattle.chp_syntax.specs.View.{expression_of, statement_of};
 ghost use Rattle.width_check.specs.Calls.{has_call};
 ghost use Rattle.width_check.specs.Form.{formula_form, process_form, var_number};
 ghost use Rattle.width_check.specs.Places.{declared_width};
-ghost use Rattle.width_check.specs.Processes.{reading};
+ghost use Rattle.width_check.specs.Processes.{compared, reading, repeating};
 ghost use Rattle.width_check.specs.Sound.{AreRanged, IsSound, is_var_in};
 ghost use Rattle.width_check.specs.View.{formula_of, process_of};
 ghost use Rattle.width_check.specs.Walk.{met_in, met_of};
@@ -14,7 +14,7 @@ ghost use Rattle.width_check.specs.Walk.{met_in, met_of};
 use crate::scope::{Scope, compares};
 use crate::typed::{TArm, TExpr, TLink, TStmt};
 use chp_base::Bits;
-use chp_syntax::{Expr, Ident, Stmt};
+use chp_syntax::{Expr, Ident, Op, Stmt};
 use std::alloc::{AllocError, Global};
 
 /// A number with its width.
@@ -58,6 +58,47 @@ fn boxed(alloc: Global, made: Result<TExpr, AllocError>) -> Result<Box<TExpr>, A
     Ok(Box::new(alloc, made?)?)
 }
 
+/// The comparison of what was made of its two sides. It takes both as results, so that the function that makes them
+/// owns no side where it may be left.
+#[inline(never)]
+fn comparison(
+    alloc: Global,
+    op: Op,
+    left: Result<TExpr, AllocError>,
+    right: Result<TExpr, AllocError>,
+) -> Result<TExpr, AllocError>
+    ensures { IfOk result (λ made. IsOkAnd left (λ l. IsOkAnd right (λ r.
+        formula_of made ≡ compared op (formula_of l) (formula_of r)))) }
+{
+    let left = boxed(alloc, left)?;
+    let right = boxed(alloc, right)?;
+    Ok(TExpr::Compare { op, left, right })
+}
+
+/// Adds what was made of a part.
+#[inline(never)]
+fn push_part(made: &mut Vec<TExpr>, part: Result<TExpr, AllocError>) -> Result<(), AllocError>
+    ensures { OnOk result (IsOkAnd part (λ e. made.new.items ≡ made.old.items ++ e ∷ [])) }
+{
+    made.push(part?)?;
+    Ok(())
+}
+
+/// Adds what was made of the right side of an operator.
+#[inline(never)]
+fn push_link(
+    made: &mut Vec<TLink>,
+    op: Op,
+    right: Result<TExpr, AllocError>,
+) -> Result<(), AllocError>
+    ensures { OnOk result (IsOkAnd right (λ e.
+        made.new.items ≡ made.old.items ++ record { op = op; right = e } ∷ [])) }
+{
+    let right = right?;
+    made.push(TLink { op, right })?;
+    Ok(())
+}
+
 /// The typed form of an expression with this expected width.
 fn make_expression(alloc: Global, scope: &Scope, e: &Expr, width: u8) -> Result<TExpr, AllocError>
     requires some { 1 ≤ width }
@@ -81,7 +122,7 @@ fn make_expression(alloc: Global, scope: &Scope, e: &Expr, width: u8) -> Result<
             let mut made = Vec::new(alloc);
             for part in parts {
                 let own = scope.own_width(part).unwrap_or(0);
-                made.push(make_expression(alloc, scope, part, own)?)?;
+                push_part(&mut made, make_expression(alloc, scope, part, own))?;
             }
             Ok(TExpr::Join { parts: made })
         }
@@ -95,26 +136,56 @@ fn make_expression(alloc: Global, scope: &Scope, e: &Expr, width: u8) -> Result<
             if compares(rest) {
                 let side = scope.side_width(first, rest).unwrap_or(0);
                 let link = &rest[0];
-                let left = boxed(alloc, make_expression(alloc, scope, first, side))?;
-                let right = boxed(alloc, make_expression(alloc, scope, &link.right, side))?;
-                return Ok(TExpr::Compare {
-                    op: link.op,
-                    left,
-                    right,
-                });
+                let left = make_expression(alloc, scope, first, side);
+                let right = make_expression(alloc, scope, &link.right, side);
+                return comparison(alloc, link.op, left, right);
             }
-            let front = boxed(alloc, make_expression(alloc, scope, first, width))?;
             let mut made = Vec::new(alloc);
             for link in rest {
-                let right = make_expression(alloc, scope, &link.right, width)?;
-                made.push(TLink { op: link.op, right })?;
+                let right = make_expression(alloc, scope, &link.right, width);
+                push_link(&mut made, link.op, right)?;
             }
+            let front = make_expression(alloc, scope, first, width);
             Ok(TExpr::Chain {
-                first: front,
+                first: boxed(alloc, front)?,
                 rest: made,
             })
         }
     }
+}
+
+/// Adds what was made of a member of a group.
+#[inline(never)]
+fn push_member(made: &mut Vec<TStmt>, member: Result<TStmt, AllocError>) -> Result<(), AllocError>
+    ensures { OnOk result (IsOkAnd member (λ s. made.new.items ≡ made.old.items ++ s ∷ [])) }
+{
+    made.push(member?)?;
+    Ok(())
+}
+
+/// Adds a guard with what was made of the statement behind it.
+#[inline(never)]
+fn push_arm(
+    made: &mut Vec<TArm>,
+    guard: TExpr,
+    body: Result<TStmt, AllocError>,
+) -> Result<(), AllocError>
+    ensures { OnOk result (IsOkAnd body (λ s.
+        made.new.items ≡ made.old.items ++ record { guard = guard; body = s } ∷ [])) }
+{
+    let body = body?;
+    made.push(TArm { guard, body })?;
+    Ok(())
+}
+
+/// The repetition of what was made.
+#[inline(never)]
+fn repeated(alloc: Global, body: Result<TStmt, AllocError>) -> Result<TStmt, AllocError>
+    ensures { IfOk result (λ made. IsOkAnd body (λ s. process_of made ≡ repeating (process_of s))) }
+{
+    Ok(TStmt::Repeat {
+        body: Box::new(alloc, body?)?,
+    })
 }
 
 /// The typed form of a statement.
@@ -152,7 +223,7 @@ pub fn make_statement(alloc: Global, scope: &Scope, s: &Stmt) -> Result<TStmt, A
         Stmt::Then { parts } | Stmt::Beside { parts } => {
             let mut made = Vec::new(alloc);
             for part in parts {
-                made.push(make_statement(alloc, scope, part)?)?;
+                push_member(&mut made, make_statement(alloc, scope, part))?;
             }
             match s {
                 Stmt::Then { .. } => Ok(TStmt::Then { parts: made }),
@@ -163,20 +234,14 @@ pub fn make_statement(alloc: Global, scope: &Scope, s: &Stmt) -> Result<TStmt, A
             let mut made = Vec::new(alloc);
             for arm in arms {
                 let guard = make_expression(alloc, scope, &arm.guard, 1)?;
-                let body = make_statement(alloc, scope, &arm.body)?;
-                made.push(TArm { guard, body })?;
+                push_arm(&mut made, guard, make_statement(alloc, scope, &arm.body))?;
             }
             Ok(TStmt::Select {
                 again: *again,
                 arms: made,
             })
         }
-        Stmt::Repeat { body } => {
-            let made = make_statement(alloc, scope, body)?;
-            Ok(TStmt::Repeat {
-                body: Box::new(alloc, made)?,
-            })
-        }
+        Stmt::Repeat { body } => repeated(alloc, make_statement(alloc, scope, body)),
         Stmt::Call { .. } => unreachable!(),
     }
 }

@@ -223,7 +223,40 @@ fn with_expression(scope: &Scope, findings: Findings, e: &Expr, wanted: Option<u
     }
 }
 
-/// `X?v`
+/// `v := e`, in a frame of its own: `with_statement` has one for each statement around it.
+#[inline(never)]
+fn with_assign(scope: &Scope, findings: Findings, target: &Ident, value: &Expr) -> Findings
+    ensures { result ≡ walk.noted scope.now.decls.now findings
+        (walk.met_of scope.now.decls.now (tree.assigns target.now (expression_of value.now))) }
+{
+    let findings = with_var(scope, findings, target);
+    with_expression(
+        scope,
+        findings,
+        value,
+        Some(capped(scope.width(&target.name))),
+    )
+    .findings
+}
+
+/// `X!e`, in a frame of its own too.
+#[inline(never)]
+fn with_send(scope: &Scope, findings: Findings, chan: &Ident, value: &Expr) -> Findings
+    ensures { result ≡ walk.noted scope.now.decls.now findings
+        (walk.met_of scope.now.decls.now (tree.sends chan.now (expression_of value.now))) }
+{
+    let findings = with_sender(scope, findings, chan);
+    with_expression(
+        scope,
+        findings,
+        value,
+        Some(capped(scope.width(&chan.name))),
+    )
+    .findings
+}
+
+/// `X?v`, likewise.
+#[inline(never)]
 fn with_receive(scope: &Scope, findings: Findings, chan: &Ident, target: &Ident) -> Findings
     ensures { result ≡ walk.noted scope.now.decls.now findings
         (walk.met_of scope.now.decls.now (tree.receives chan.now target.now)) }
@@ -241,26 +274,8 @@ fn with_statement(scope: &Scope, findings: Findings, s: &Stmt) -> Findings
 {
     match s {
         Stmt::Skip { .. } | Stmt::Call { .. } => findings,
-        Stmt::Assign { target, value } => {
-            let findings = with_var(scope, findings, target);
-            with_expression(
-                scope,
-                findings,
-                value,
-                Some(capped(scope.width(&target.name))),
-            )
-            .findings
-        }
-        Stmt::Send { chan, value } => {
-            let findings = with_sender(scope, findings, chan);
-            with_expression(
-                scope,
-                findings,
-                value,
-                Some(capped(scope.width(&chan.name))),
-            )
-            .findings
-        }
+        Stmt::Assign { target, value } => with_assign(scope, findings, target, value),
+        Stmt::Send { chan, value } => with_send(scope, findings, chan, value),
         Stmt::Receive { chan, target } => with_receive(scope, findings, chan, target),
         Stmt::Then { parts } => {
             let mut findings = findings;

@@ -1,9 +1,12 @@
-use Rattle.std.proofs.Common.{◌≡◌, ap, sym, ◌∙◌, subst, slice_index, arith}
+use Rattle.std.proofs.Common.{◌≡◌, rules, ap, sym, ◌∙◌, subst, slice_index, arith}
+use Rattle.std.proofs.lemmas.List.{get_or_read}
+use Rattle.width_check.specs.declared.typed.TExpr.{TExpr, the_lemmas}
 use Rattle.width_check.specs.Processes.{Formula, Formulas}
 use Rattle.width_check.specs.View.{formula_of}
-use Rattle.width_check.specs.Values.{widths_of, value, joined_value, IsWellFormed, AreWellFormed}
-use Rattle.width_check.proofs.Rows.{parts_of, part_at, no_more_parts, joined_parts, chained_links}
+use Rattle.width_check.specs.Values.{widths_of, value, joined_value, chained_value, IsWellFormed, AreWellFormed}
+use Rattle.width_check.proofs.Rows.{parts_of, part_at, no_more_parts, no_more_links, joined_parts, chained_links}
 use Rattle.width_check.proofs.Bounds.{join_begins, part_fits, part_joins, no_more_than, some_power, value_fits, width_some, width_most, link_fits, link_more}
+use Rattle.width_check.proofs.Shapes.{read_formed, not_formed, first_formed, left_formed, right_formed, part_formed, link_formed, some_bits, few_bits, inverted_value, compared_value}
 use Rattle.width_check.proofs.evaluate.+value.Goals as goal
 
 pub loop-part-init : goal.loop-part-init
@@ -80,3 +83,99 @@ loop-link-preserved t c =
       some = c.loop-link.invariant.some;
       most = c.loop-link.invariant.most;
     }
+
+pub returns-in-Number : goal.returns-in-Number
+returns-in-Number t c = c.value.ensures ∙ sym (ap (λ (x : TExpr). value (slice_index c.args.store.now) (formula_of x)) c.in-Number.is)
+
+pub returns-in-Not : goal.returns-in-Not
+returns-in-Not t c = inverted_value (slice_index c.args.store.now) _ _ _ _ _ _ _ c.in-Not.is c.deref.ensures c.deref-in-Not.ensures
+    c.width_of-in-Not.ensures c.greatest.ensures c.value-in-Not.ensures
+
+pub returns-in-Compare : goal.returns-in-Compare
+returns-in-Compare t c = c.operated.ensures ∙ (compared_value (slice_index c.args.store.now) _ _ _ _ _ _ _ _ _ _ c.in-Compare.is
+    c.deref-in-Compare.ensures c.deref-in-Compare-2.ensures c.deref-in-Compare-3.ensures c.width_of-in-Compare.ensures c.value-in-Compare.ensures c.value-in-Compare-2.ensures c.requires).whole
+
+pub returns-after-loop-link : goal.returns-after-loop-link
+returns-after-loop-link t c = ap (chained_value (slice_index c.args.store.now) c.width_of-width.result c.loop-link.number)
+    (sym (no_more_links c.deref-link-items.result.now c.loop-link.link-index c.loop-link-test.false)) ∙ c.loop-link.invariant.chained
+
+pub overflow_add-high : goal.overflow_add-high
+overflow_add-high t c = omega (arith, (read_formed _ _ _ _ _ c.in-Read.is c.requires).1)
+
+pub overflow_sub-high : goal.overflow_sub-high
+overflow_sub-high t c = omega (arith, (read_formed _ _ _ _ _ c.in-Read.is c.requires).0)
+
+pub operated-requires-clause-some : goal.operated-requires-clause-some
+operated-requires-clause-some t c = (compared_value (slice_index c.args.store.now) _ _ _ _ _ _ _ _ _ _ c.in-Compare.is
+    c.deref-in-Compare.ensures c.deref-in-Compare-2.ensures c.deref-in-Compare-3.ensures c.width_of-in-Compare.ensures c.value-in-Compare.ensures c.value-in-Compare-2.ensures c.requires).some
+
+pub operated-requires-clause-most : goal.operated-requires-clause-most
+operated-requires-clause-most t c = (compared_value (slice_index c.args.store.now) _ _ _ _ _ _ _ _ _ _ c.in-Compare.is
+    c.deref-in-Compare.ensures c.deref-in-Compare-2.ensures c.deref-in-Compare-3.ensures c.width_of-in-Compare.ensures c.value-in-Compare.ensures c.value-in-Compare-2.ensures c.requires).most
+
+pub operated-requires-clause-left : goal.operated-requires-clause-left
+operated-requires-clause-left t c = (compared_value (slice_index c.args.store.now) _ _ _ _ _ _ _ _ _ _ c.in-Compare.is
+    c.deref-in-Compare.ensures c.deref-in-Compare-2.ensures c.deref-in-Compare-3.ensures c.width_of-in-Compare.ensures c.value-in-Compare.ensures c.value-in-Compare-2.ensures c.requires).left
+
+pub operated-requires-clause-right : goal.operated-requires-clause-right
+operated-requires-clause-right t c = (compared_value (slice_index c.args.store.now) _ _ _ _ _ _ _ _ _ _ c.in-Compare.is
+    c.deref-in-Compare.ensures c.deref-in-Compare-2.ensures c.deref-in-Compare-3.ensures c.width_of-in-Compare.ensures c.value-in-Compare.ensures c.value-in-Compare-2.ensures c.requires).right
+
+pub operated-number-requires-clause-some : goal.operated-number-requires-clause-some
+operated-number-requires-clause-some t c = c.loop-link.invariant.some
+
+pub operated-number-requires-clause-most : goal.operated-number-requires-clause-most
+operated-number-requires-clause-most t c = c.loop-link.invariant.most
+
+pub operated-number-requires-clause-left : goal.operated-number-requires-clause-left
+operated-number-requires-clause-left t c = c.loop-link.invariant.small
+
+pub appended-number-requires-clause-width : goal.appended-number-requires-clause-width
+appended-number-requires-clause-width t c =
+    few_bits c.part-item.result _ (part_formed _ c.loop-part.part-index _ c.loop-part-test.true c.part-item.is c.loop-part.invariant.formed)
+    c.width_of.ensures
+
+pub greatest-requires-clause-some : goal.greatest-requires-clause-some
+greatest-requires-clause-some t c = some_bits c.deref.result.now _ (not_formed _ _ _ c.in-Not.is c.deref.ensures c.requires) c.width_of-in-Not.ensures
+
+pub greatest-requires-clause-most : goal.greatest-requires-clause-most
+greatest-requires-clause-most t c = few_bits c.deref.result.now _ (not_formed _ _ _ c.in-Not.is c.deref.ensures c.requires) c.width_of-in-Not.ensures
+
+pub low_bits-requires : goal.low_bits-requires
+low_bits-requires t c = omega (arith, (read_formed _ _ _ _ _ c.in-Read.is c.requires).1)
+
+pub value-requires-in-loop-part : goal.value-requires-in-loop-part
+value-requires-in-loop-part t c = (
+  search (rules, the_lemmas, get_or_read),
+  part_formed _ c.loop-part.part-index _ c.loop-part-test.true c.part-item.is c.loop-part.invariant.formed,
+)
+
+pub value-requires-in-loop-link : goal.value-requires-in-loop-link
+value-requires-in-loop-link t c = (
+  search (rules, the_lemmas, get_or_read),
+  link_formed _ _ c.loop-link.link-index _ c.loop-link-test.true c.link-item.is c.loop-link.invariant.formed,
+)
+
+pub value-requires-in-Not : goal.value-requires-in-Not
+value-requires-in-Not t c = (search (rules, the_lemmas, get_or_read), not_formed _ _ _ c.in-Not.is c.deref-in-Not.ensures c.requires)
+
+pub value-requires-in-Compare : goal.value-requires-in-Compare
+value-requires-in-Compare t c = (search (rules, the_lemmas, get_or_read), left_formed _ _ _ _ _ c.in-Compare.is c.deref-in-Compare-2.ensures c.requires)
+
+pub value-requires-in-Compare-2 : goal.value-requires-in-Compare-2
+value-requires-in-Compare-2 t c = (search (rules, the_lemmas, get_or_read), right_formed _ _ _ _ _ c.in-Compare.is c.deref-in-Compare-3.ensures c.requires)
+
+pub width_of-requires : goal.width_of-requires
+width_of-requires t c = part_formed _ c.loop-part.part-index _ c.loop-part-test.true c.part-item.is c.loop-part.invariant.formed
+
+pub width_of-width-requires : goal.width_of-width-requires
+width_of-width-requires t c = first_formed _ _ _ _ c.in-Chain.is c.deref-in-Chain.ensures c.requires
+
+pub width_of-requires-in-Not : goal.width_of-requires-in-Not
+width_of-requires-in-Not t c = not_formed _ _ _ c.in-Not.is c.deref.ensures c.requires
+
+pub width_of-requires-in-Compare : goal.width_of-requires-in-Compare
+width_of-requires-in-Compare t c = left_formed _ _ _ _ _ c.in-Compare.is c.deref-in-Compare.ensures c.requires
+
+pub value-number-requires : goal.value-number-requires
+value-number-requires t c = (search (rules, the_lemmas, get_or_read), first_formed _ _ _ _ c.in-Chain.is c.deref-in-Chain-2.ensures c.requires)

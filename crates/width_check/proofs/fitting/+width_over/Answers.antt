@@ -5,6 +5,7 @@ use Rattle.width_check.specs.Typing.{IsOfWidth}
 use Rattle.width_check.specs.View.{formula_of}
 use Rattle.width_check.proofs.Rows.{parts_of, joined_parts, links_of, chained_links}
 use Rattle.width_check.proofs.Widths.{if_none, not_zero, not_over, most_bits, join_at, join_end, join_wrong, join_wide, join_more, join_done, join_empty, links_at, links_more, links_end, links_counted, chain_none, chain_compares, chain_other, chain_done}
+use Rattle.width_check.proofs.Shapes.{number_over, read_over, read_not_over, first_not_over, compared_over_sides, compared_not_over, inner_over, inner_not_over}
 use Rattle.width_check.proofs.fitting.+width_over.Goals as goal
 use Rattle.width_check.proofs.fitting.+width_over.Goals.{then-is_comparison-via-then-is_comparison, then-is_comparison-via-else-is_comparison+then-right-width}
 
@@ -88,3 +89,35 @@ pub loop-link-preserved : goal.loop-link-preserved
 loop-link-preserved t c =
     links_more _ _ _ c.loop-link.link-index c.link-item.result _ c.loop-link-test.true c.link-item.is c.loop-link.invariant (sym c.is_comparison.ensures
     ∙ c.if-is_comparison.false) c.in_ok-right-in-Chain.ensures.some c.if-right-width.false
+
+pub returns-in_err-width-in-Chain-clause-none : goal.returns-in_err-width-in-Chain-clause-none
+returns-in_err-width-in-Chain-clause-none t c =
+    if_none _ _ (first_not_over _ _ _ _ _ c.in-Chain.is c.deref-in-Chain.ensures c.in_err-width-in-Chain.ensures.none)
+
+pub returns-in-Not-clause-some : goal.returns-in-Not-clause-some
+returns-in-Not-clause-some t c = inner_over _ _ _ _ _ c.in-Not.is c.deref.ensures c.width_over-in-Not.ensures.some
+
+pub returns-in-Not-clause-none : goal.returns-in-Not-clause-none
+returns-in-Not-clause-none t c = inner_not_over _ _ _ _ _ c.in-Not.is c.deref.ensures c.width_over-in-Not.ensures.none
+
+pub returns-in-Compare-clause-some : goal.returns-in-Compare-clause-some
+returns-in-Compare-clause-some t c = compared_over_sides _ _ _ _ _ _ _ _ _ _ c.in-Compare.is c.deref-in-Compare.ensures c.deref-in-Compare-2.ensures
+    c.width_over-in-Compare.ensures.some c.width_over-in-Compare-2.ensures.some c.compared_width.ensures.some
+
+pub returns-in-Compare-clause-none : goal.returns-in-Compare-clause-none
+returns-in-Compare-clause-none t c = compared_not_over _ _ _ _ _ _ _ _ _ _ c.in-Compare.is c.deref-in-Compare.ensures c.deref-in-Compare-2.ensures
+    c.width_over-in-Compare.ensures.some c.width_over-in-Compare.ensures.none c.width_over-in-Compare-2.ensures.some
+    c.width_over-in-Compare-2.ensures.none c.compared_width.ensures.none
+
+pub returns-in-Number-clause-some : goal.returns-in-Number-clause-some
+returns-in-Number-clause-some t c = number_over _ _ _ _ _ (ap formula_of c.in-Number.is) c.width.ensures c.in-Number.bits.some c.in-Number.bits.most
+    c.in-Number.bits.fits
+
+pub returns-then-has_bits-clause-some : goal.returns-then-has_bits-clause-some
+returns-then-has_bits-clause-some t c = read_over _ _ _ _ _ _ _ c.in-Read.is c.has_bits.ensures c.if-has_bits.true
+
+pub returns-else-has_bits-clause-none : goal.returns-else-has_bits-clause-none
+returns-else-has_bits-clause-none t c = read_not_over _ _ _ _ _ _ _ c.in-Read.is c.has_bits.ensures c.if-has_bits.false
+
+pub loop-part-init : goal.loop-part-init
+loop-part-init t c = record { sum = omega arith; most = omega arith; same = record { whole = λ all. all; rest = λ all. all } }

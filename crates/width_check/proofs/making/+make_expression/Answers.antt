@@ -1,14 +1,13 @@
 use Rattle.std.proofs.lemmas.List.{get_or_read}
-use Rattle.chp_syntax.specs.declared.tree.Expr.{Expr, the_lemmas}
-use Rattle.std.proofs.Common.{rules, refl, sym, ◌∙◌, ap, drop, arith}
+use Rattle.chp_syntax.specs.declared.tree.Expr.{the_lemmas}
+use Rattle.std.proofs.Common.{rules, refl, sym, drop, arith}
 use Rattle.chp_syntax.specs.Trees.{slice, bit}
 use Rattle.chp_syntax.specs.View.{expression_of}
 use Rattle.width_check.specs.Places.{declared_width, use_of, read}
-use Rattle.width_check.specs.Form.{formula_form}
 use Rattle.width_check.specs.Walk.{join_parts}
 use Rattle.width_check.proofs.Leaves.{good_slice, declared_most}
 use Rattle.width_check.proofs.Soundness.{number_fits, bit_within, sound_inner}
-use Rattle.width_check.proofs.Ready.{ArePartsLeft, part_ready, part_made, parts_next, join_left, join_made, first_ready, links_left, links_next, link_ready, link_made, chain_made, made_so, comparison_ready, comparison_made}
+use Rattle.width_check.proofs.Ready.{ArePartsLeft, part_ready, part_pushed, parts_next, join_left, join_made, first_ready, links_left, links_next, link_ready, link_pushed, chain_made, made_so, not_made, if_err, comparison_ready, sides_made}
 use Rattle.width_check.proofs.making.+make_expression.Goals as goal
 
 pub constant-requires-clause-fits : goal.constant-requires-clause-fits
@@ -82,10 +81,9 @@ loop-part-preserved t c =
     let left = parts_next c.args.scope.now.decls.now c.deref-part-items.result.now c.loop-part.part-index c.part-item.result c.loop-part-test.true
     c.part-item.is here in
     record {
-      made = part_made c.args.scope.now.decls.now c.requires.ranged c.deref-part-items.result.now c.loop-part.part-index c.part-item.result c.own_width.result
-          c.unwrap_or-own.result c.loop-part.made.items c.push.new.self.items c.in_ok-make_expression-in-Join.field-0 _ c.loop-part-test.true c.part-item.is
-          here c.own_width.ensures c.unwrap_or-own.ensures c.in_ok-make_expression-in-Join.ensures c.in_ok-push-in-Join.ensures.items
-          c.loop-part.invariant.made;
+      made = part_pushed c.args.scope.now.decls.now c.requires.ranged c.deref-part-items.result.now c.loop-part.part-index c.part-item.result c.own_width.result
+          c.unwrap_or-own.result c.loop-part.made.items c.push_part.new.made.items c.make_expression.result _ c.loop-part-test.true c.part-item.is
+          here c.own_width.ensures c.unwrap_or-own.ensures c.make_expression.ensures c.in_ok-push_part-in-Join.ensures c.loop-part.invariant.made;
       shaped = left.shaped;
       full = left.full;
       sound = left.sound;
@@ -112,21 +110,21 @@ make_expression-made-requires t c =
       ),
     )
 
-pub make_expression-requires-in-Chain : goal.make_expression-requires-in-Chain
-make_expression-requires-in-Chain t c =
+pub make_expression-front-requires : goal.make_expression-front-requires
+make_expression-front-requires t c =
     let r = first_ready c.args.scope.now.decls.now c.args.width c.args.e.now c.in-Chain.first c.in-Chain.rest c.in-Chain.at c.deref-in-Chain.result.now
     c.deref-in-Chain-2.result.now c.in-Chain.is c.deref-in-Chain.ensures.value c.deref-in-Chain-2.ensures (sym c.if-compares.ensures) c.requires.some
     c.requires.most c.requires.shaped c.requires.sound in
     (search (rules, the_lemmas, get_or_read), (r.some, (r.most, (c.requires.ranged, (r.shaped, r.sound)))))
 
-pub make_expression-requires-in-loop-link : goal.make_expression-requires-in-loop-link
-make_expression-requires-in-loop-link t c =
+pub make_expression-right-requires-in-loop-link : goal.make_expression-right-requires-in-loop-link
+make_expression-right-requires-in-loop-link t c =
     let r = link_ready c.args.scope.now.decls.now c.args.width c.deref-link-items.result.now c.loop-link.link-index c.link-item.result c.loop-link-test.true
     c.link-item.is c.requires.some c.requires.most (record { shaped = c.loop-link.invariant.shaped; sound = c.loop-link.invariant.sound }) in
     (search (rules, the_lemmas, get_or_read), (r.some, (r.most, (c.requires.ranged, (r.shaped, r.sound)))))
 
-pub make_expression-requires-then-compares : goal.make_expression-requires-then-compares
-make_expression-requires-then-compares t c =
+pub make_expression-left-requires : goal.make_expression-left-requires
+make_expression-left-requires t c =
     let so = rw c.deref-in-Chain.ensures.value at (sym c.if-compares.ensures) in
     let found = rw (c.deref-then-compares.ensures, c.deref-then-compares-2.ensures.value) at c.side_width.ensures in
     let facts = comparison_ready c.args.scope.now.decls.now c.requires.ranged c.args.width c.args.e.now c.in-Chain.first c.in-Chain.rest c.in-Chain.at
@@ -145,8 +143,8 @@ make_expression-requires-then-compares t c =
       ),
     )
 
-pub make_expression-requires-then-compares-2 : goal.make_expression-requires-then-compares-2
-make_expression-requires-then-compares-2 t c =
+pub make_expression-right-requires : goal.make_expression-right-requires
+make_expression-right-requires t c =
     let so = rw c.deref-in-Chain.ensures.value at (sym c.if-compares.ensures) in
     let found = rw (c.deref-then-compares.ensures, c.deref-then-compares-2.ensures.value) at c.side_width.ensures in
     let facts = comparison_ready c.args.scope.now.decls.now c.requires.ranged c.args.width c.args.e.now c.in-Chain.first c.in-Chain.rest c.in-Chain.at
@@ -161,11 +159,9 @@ returns-then-compares t c =
     let facts = comparison_ready c.args.scope.now.decls.now c.requires.ranged c.args.width c.args.e.now c.in-Chain.first c.in-Chain.rest c.in-Chain.at
     c.index-link.result.now c.side_width.result c.unwrap_or-side.result c.in-Chain.is so c.index-link.ensures c.requires.shaped c.requires.sound found
     c.unwrap_or-side.ensures in
-    comparison_made c.args.scope.now.decls.now c.args.width c.unwrap_or-side.result c.args.e.now c.in-Chain.first c.in-Chain.rest c.in-Chain.at
-    c.index-link.result.now _ _ c.in-Chain.is so facts
-    (made_so _ _ _ c.make_expression-then-compares.ensures c.in_ok-left-in-Chain.ensures
-    ∙ ap (λ (x : Expr). formula_form c.args.scope.now.decls.now c.unwrap_or-side.result (expression_of x)) c.deref-then-compares-3.ensures)
-    (made_so _ _ _ c.make_expression-then-compares-2.ensures c.in_ok-right-in-Chain.ensures)
+    sides_made c.args.scope.now.decls.now c.args.width c.unwrap_or-side.result c.args.e.now c.in-Chain.first c.in-Chain.rest c.in-Chain.at
+    c.index-link.result.now c.deref-then-compares-3.result.now c.make_expression-left.result c.make_expression-right.result c.comparison.result c.in-Chain.is so
+    facts c.deref-then-compares-3.ensures c.make_expression-left.ensures c.make_expression-right.ensures c.comparison.ensures
 
 pub loop-link-init : goal.loop-link-init
 loop-link-init t c =
@@ -179,9 +175,9 @@ loop-link-preserved t c =
     let left = links_next c.args.scope.now.decls.now c.args.width c.deref-link-items.result.now c.loop-link.link-index c.link-item.result c.loop-link-test.true
     c.link-item.is (record { shaped = c.loop-link.invariant.shaped; sound = c.loop-link.invariant.sound }) in
     record {
-      made = link_made c.args.scope.now.decls.now c.args.width c.deref-link-items.result.now c.loop-link.link-index c.link-item.result c.loop-link.made.items
-          c.push-in-loop-link.new.self.items c.in_ok-right-in-Chain-2.right _ c.loop-link-test.true c.link-item.is c.in_ok-right-in-Chain-2.ensures
-          c.in_ok-push-in-Chain.ensures.items c.loop-link.invariant.made;
+      made = link_pushed c.args.scope.now.decls.now c.args.width c.deref-link-items.result.now c.loop-link.link-index c.link-item.result c.loop-link.made.items
+          c.push_link.new.made.items c.make_expression-right-in-loop-link.result _ c.loop-link-test.true c.link-item.is
+          c.make_expression-right-in-loop-link.ensures c.in_ok-push_link-in-Chain.ensures c.loop-link.invariant.made;
       shaped = left.shaped;
       sound = left.sound;
     }
@@ -190,9 +186,37 @@ pub returns-after-loop-part : goal.returns-after-loop-part
 returns-after-loop-part t c = join_made c.args.scope.now.decls.now c.args.width c.args.e.now c.in-Join.parts c.in-Join.at c.deref-part-items.result.now
     c.loop-part.part-index c.loop-part.made c.in-Join.is c.deref-part-items.ensures.value c.loop-part-test.false c.loop-part.invariant.made
 
-pub returns-after-loop-link : goal.returns-after-loop-link
-returns-after-loop-link t c =
+pub returns-in_ok-boxed-in-Chain : goal.returns-in_ok-boxed-in-Chain
+returns-in_ok-boxed-in-Chain t c =
     chain_made c.args.scope.now.decls.now c.args.width c.args.e.now c.in-Chain.first c.in-Chain.rest c.in-Chain.at c.deref-in-Chain.result.now
-    c.deref-link-items.result.now c.loop-link.link-index c.deref-in-Chain-2.result.now c.in_ok-front-in-Chain.front c.loop-link.made c.in-Chain.is
+    c.deref-link-items.result.now c.loop-link.link-index c.deref-in-Chain-2.result.now c.in_ok-boxed-in-Chain.field-0 c.loop-link.made c.in-Chain.is
     c.deref-in-Chain.ensures.value c.deref-link-items.ensures.value (sym c.if-compares.ensures) c.deref-in-Chain-2.ensures
-    (made_so _ _ _ c.make_expression-in-Chain.ensures c.in_ok-front-in-Chain.ensures) c.loop-link-test.false c.loop-link.invariant.made
+    (made_so _ _ _ c.make_expression-front.ensures c.in_ok-boxed-in-Chain.ensures) c.loop-link-test.false c.loop-link.invariant.made
+
+pub returns-in_err-push_part-in-Join : goal.returns-in_err-push_part-in-Join
+returns-in_err-push_part-in-Join t c = if_err _ _ c.from_residual.ensures.0
+
+pub returns-in_err-push_link-in-Chain : goal.returns-in_err-push_link-in-Chain
+returns-in_err-push_link-in-Chain t c = if_err _ _ c.from_residual-in_err-push_link-in-Chain.ensures.0
+
+pub returns-in_err-boxed-in-Not : goal.returns-in_err-boxed-in-Not
+returns-in_err-boxed-in-Not t c = if_err _ _ c.from_residual-in_err-boxed-in-Not.ensures.0
+
+pub returns-in_err-boxed-in-Chain : goal.returns-in_err-boxed-in-Chain
+returns-in_err-boxed-in-Chain t c = if_err _ _ c.from_residual-in_err-boxed-in-Chain.ensures.0
+
+pub returns-in_ok-boxed-in-Not : goal.returns-in_ok-boxed-in-Not
+returns-in_ok-boxed-in-Not t c = not_made c.args.scope.now.decls.now c.args.width _ _ _ _ c.in_ok-boxed-in-Not.field-0 c.in-Not.is c.deref.ensures
+    (made_so _ _ _ c.make_expression-made.ensures c.in_ok-boxed-in-Not.ensures)
+
+pub returns-in-Bit : goal.returns-in-Bit
+returns-in-Bit t c = rw c.in-Bit.is c.read-in-Bit.ensures
+
+pub returns-in-Number : goal.returns-in-Number
+returns-in-Number t c = rw (c.in-Number.is, c.constant.ensures.width, c.constant.ensures.value) refl
+
+pub returns-in-Slice : goal.returns-in-Slice
+returns-in-Slice t c = rw c.in-Slice.is c.read.ensures
+
+pub returns-in-Whole : goal.returns-in-Whole
+returns-in-Whole t c = rw c.in-Whole.is c.read_whole.ensures

@@ -3,7 +3,8 @@ use Rattle.std.proofs.lemmas.List.{get_or_read}
 use Rattle.chp_syntax.specs.declared.tree.Stmt.{the_lemmas}
 use Rattle.chp_syntax.specs.View.{expression_of}
 use Rattle.width_check.proofs.Soundness.{is_declared}
-use Rattle.width_check.proofs.Doing.{assign_sound, send_sound, receive_sound, group_left, is_then, is_beside, member_ready, members_next, member_made, then_made, beside_made, select_left, arm_ready, arms_next, arm_made, select_made}
+use Rattle.width_check.proofs.Doing.{assign_sound, send_sound, receive_sound, group_left, is_then, is_beside, member_ready, members_next, member_pushed, then_made, beside_made, select_left, arm_ready, arms_next, arm_pushed, select_made, repeat_ready, repeat_made}
+use Rattle.width_check.proofs.Ready.{if_err}
 use Rattle.width_check.proofs.making.+make_statement.Goals as goal
 
 pub bits-requires-clause-declared : goal.bits-requires-clause-declared
@@ -50,9 +51,9 @@ loop-part-preserved t c =
     let left = members_next c.args.scope.now.decls.now c.deref-part-items.result.now c.loop-part.part-index c.part-item.result c.loop-part-test.true
     c.part-item.is (record { shaped = c.loop-part.invariant.shaped; free = c.loop-part.invariant.free; sound = c.loop-part.invariant.sound }) in
     record {
-      made = member_made c.args.scope.now.decls.now c.deref-part-items.result.now c.loop-part.part-index c.part-item.result c.loop-part.made.items
-          c.push-in-loop-part.new.self.items c.in_ok-make_statement-in-Then.field-0 _ c.loop-part-test.true c.part-item.is
-          c.in_ok-make_statement-in-Then.ensures c.in_ok-push-in-Then.ensures.items c.loop-part.invariant.made;
+      made = member_pushed c.args.scope.now.decls.now c.deref-part-items.result.now c.loop-part.part-index c.part-item.result c.loop-part.made.items
+          c.push_member.new.made.items c.make_statement-in-loop-part.result _ c.loop-part-test.true c.part-item.is
+          c.make_statement-in-loop-part.ensures c.in_ok-push_member-in-Then.ensures c.loop-part.invariant.made;
       shaped = left.shaped;
       free = left.free;
       sound = left.sound;
@@ -80,9 +81,9 @@ loop-arm-preserved t c =
     let left = arms_next c.args.scope.now.decls.now c.deref-arm-items.result.now c.loop-arm.arm-index c.arm-item.result c.loop-arm-test.true c.arm-item.is
     (record { shaped = c.loop-arm.invariant.shaped; free = c.loop-arm.invariant.free; sound = c.loop-arm.invariant.sound }) in
     record {
-      made = arm_made c.args.scope.now.decls.now c.deref-arm-items.result.now c.loop-arm.arm-index c.arm-item.result c.loop-arm.made.items
-          c.push.new.self.items c.in_ok-guard-in-Select.guard c.in_ok-body-in-Select.body _ c.loop-arm-test.true c.arm-item.is
-          c.in_ok-guard-in-Select.ensures c.in_ok-body-in-Select.ensures c.in_ok-push-in-Select.ensures.items c.loop-arm.invariant.made;
+      made = arm_pushed c.args.scope.now.decls.now c.deref-arm-items.result.now c.loop-arm.arm-index c.arm-item.result c.loop-arm.made.items
+          c.push_arm.new.made.items c.in_ok-guard-in-Select.guard c.make_statement.result _ c.loop-arm-test.true c.arm-item.is
+          c.in_ok-guard-in-Select.ensures c.make_statement.ensures c.in_ok-push_arm-in-Select.ensures c.loop-arm.invariant.made;
       shaped = left.shaped;
       free = left.free;
       sound = left.sound;
@@ -116,3 +117,38 @@ returns-in_default t c = beside_made c.args.scope.now.decls.now c.args.s.now c.i
 pub returns-after-loop-arm : goal.returns-after-loop-arm
 returns-after-loop-arm t c = select_made c.args.scope.now.decls.now c.args.s.now c.in-Select.again c.in-Select.arms c.deref-arm-items.result.now
     c.loop-arm.arm-index c.loop-arm.made c.in-Select.is c.deref-arm-items.ensures.value c.loop-arm-test.false c.loop-arm.invariant.made
+
+pub returns-in-Repeat : goal.returns-in-Repeat
+returns-in-Repeat t c = repeat_made _ _ _ _ _ _ c.in-Repeat.is c.deref.ensures c.make_statement-in-Repeat.ensures c.repeated.ensures
+
+pub returns-in_err-value-in-Assign : goal.returns-in_err-value-in-Assign
+returns-in_err-value-in-Assign t c = if_err _ _ c.from_residual.ensures.0
+
+pub returns-in_err-value-in-Send : goal.returns-in_err-value-in-Send
+returns-in_err-value-in-Send t c = if_err _ _ c.from_residual-in_err-value-in-Send.ensures.0
+
+pub returns-in_err-push_arm-in-Select : goal.returns-in_err-push_arm-in-Select
+returns-in_err-push_arm-in-Select t c = if_err _ _ c.from_residual-in_err-push_arm-in-Select.ensures.0
+
+pub returns-in_err-push_member-in-Then : goal.returns-in_err-push_member-in-Then
+returns-in_err-push_member-in-Then t c = if_err _ _ c.from_residual-in_err-push_member-in-Then.ensures.0
+
+pub returns-in-Skip : goal.returns-in-Skip
+returns-in-Skip t c = rw c.in-Skip.is refl
+
+pub make_statement-requires-in-Repeat : goal.make_statement-requires-in-Repeat
+make_statement-requires-in-Repeat t c =
+    let r = repeat_ready _ _ _ _ c.in-Repeat.is c.deref.ensures c.requires.shaped c.requires.call_free c.requires.sound in
+    (search (rules, the_lemmas, get_or_read), (c.requires.ranged, (r.shaped, (r.free, r.sound))))
+
+pub number-requires : goal.number-requires
+number-requires t c = is_declared c.args.scope.now.decls.now c.in-Assign.target.name true
+    (assign_sound c.args.scope.now.decls.now c.in-Assign.target (expression_of c.in-Assign.value) (rw c.in-Assign.is at c.requires.sound)).0
+
+pub number-requires-in-Send : goal.number-requires-in-Send
+number-requires-in-Send t c = is_declared c.args.scope.now.decls.now c.in-Send.chan.name false
+    (send_sound c.args.scope.now.decls.now c.in-Send.chan (expression_of c.in-Send.value)
+    (rw c.in-Send.is at c.requires.sound)).0
+
+pub returns-in_err-guard-in-Select : goal.returns-in_err-guard-in-Select
+returns-in_err-guard-in-Select t c = if_err _ _ c.from_residual-in_err-guard-in-Select.ensures.0

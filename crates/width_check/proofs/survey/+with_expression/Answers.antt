@@ -1,6 +1,10 @@
-use Rattle.std.proofs.Common.{refl, ◌∙◌}
-use Rattle.width_check.specs.Walk.{join_parts}
-use Rattle.width_check.proofs.OwnWidths.{part_summed, sum_done, join_own}
+use Rattle.std.proofs.Common.{refl, sym, ap, ◌∙◌, arith}
+use Rattle.std.specs.Prelude.{option_map}
+use Rattle.chp_syntax.specs.View.{expression_of}
+use Rattle.chp_syntax.specs.declared.tree.Expr.{Expr}
+use Rattle.width_check.specs.Places.{own_width}
+use Rattle.width_check.specs.Walk.{capped_width, join_parts}
+use Rattle.width_check.proofs.OwnWidths.{part_summed, sum_done, join_own, from_none}
 use Rattle.width_check.proofs.Scopes.{capped_most}
 use Rattle.width_check.proofs.Strolls.{part_step, part_done, link_step, link_done, chain_own}
 use Rattle.width_check.proofs.Swapping.{noted_parts}
@@ -49,3 +53,26 @@ returns-after-loop-link-clause-own t c = λ none.
     ∙ chain_own c.args.scope.now.decls.now _ _ _ _ _ _ _ _ _ _ _ _ _ c.in-Chain.is c.deref-in-Chain.ensures.value c.compares-comparing.ensures
     c.deref-in-Chain-2.ensures c.deref-in-Chain-3.ensures.value c.lead_to-lead.ensures c.deref-in-Chain-4.ensures
     (λ unknown. c.with_expression-surveyed-in-Chain.ensures.own (c.known.ensures ∙ unknown)) c.width-members.ensures none
+
+pub loop-link-init : goal.loop-link-init
+loop-link-init t c = refl
+
+pub loop-part-init : goal.loop-part-init
+loop-part-init t c = record { found = refl; own = from_none _; most = omega arith }
+
+pub returns-in-Bit-clause-own : goal.returns-in-Bit-clause-own
+returns-in-Bit-clause-own t c = λ none. rw c.in-Bit.is refl
+
+pub returns-in-Number-clause-own : goal.returns-in-Number-clause-own
+returns-in-Number-clause-own t c = λ none. rw c.in-Number.is refl
+
+pub returns-in-Slice-clause-own : goal.returns-in-Slice-clause-own
+returns-in-Slice-clause-own t c = λ none. rw (c.in-Slice.is, c.slice_width-own.ensures) refl
+
+pub returns-in-Whole-clause-own : goal.returns-in-Whole-clause-own
+returns-in-Whole-clause-own t c = λ none. rw (c.in-Whole.is, c.capped-own.ensures, c.width.ensures) refl
+
+pub returns-in-Not-clause-own : goal.returns-in-Not-clause-own
+returns-in-Not-clause-own t c = λ none. c.with_expression.ensures.own none
+    ∙ ap (λ (x : Expr). option_map capped_width (own_width c.args.scope.now.decls.now (expression_of x))) c.deref.ensures
+    ∙ sym (ap (λ (x : Expr). option_map capped_width (own_width c.args.scope.now.decls.now (expression_of x))) c.in-Not.is)

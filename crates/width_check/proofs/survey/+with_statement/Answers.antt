@@ -1,7 +1,3 @@
-use Rattle.std.proofs.Common.{ap, ◌∙◌}
-use Rattle.chp_syntax.specs.View.{expression_of}
-use Rattle.width_check.specs.Walk.{capped_width}
-use Rattle.width_check.proofs.Walks.{noted_assign, noted_send}
 use Rattle.width_check.proofs.Strolls.{member_step, then_done, beside_done, arm_step, arms_done}
 use Rattle.width_check.proofs.survey.+with_statement.Goals as goal
 
@@ -16,18 +12,8 @@ loop-branch-preserved t c =
 
 pub loop-arm-preserved : goal.loop-arm-preserved
 loop-arm-preserved t c =
-    arm_step _ _ c.loop-arm.arm-index _ _ _ _ _ c.loop-arm-test.true c.arm-item.is c.loop-arm.invariant c.with_expression-in-loop-arm.ensures.findings
+    arm_step _ _ c.loop-arm.arm-index _ _ _ _ _ c.loop-arm-test.true c.arm-item.is c.loop-arm.invariant c.with_expression.ensures.findings
     c.with_statement-findings-in-loop-arm.ensures
-
-pub returns-in-Assign : goal.returns-in-Assign
-returns-in-Assign t c =
-    rw c.in-Assign.is (noted_assign _ _ _ _ c.in-Assign.target (expression_of c.in-Assign.value) _ c.with_var-findings.ensures (c.capped.ensures
-    ∙ ap capped_width c.width.ensures) c.with_expression.ensures.findings)
-
-pub returns-in-Send : goal.returns-in-Send
-returns-in-Send t c =
-    rw c.in-Send.is (noted_send _ _ _ _ c.in-Send.chan (expression_of c.in-Send.value) _ c.with_sender-findings.ensures (c.capped-in-Send.ensures
-    ∙ ap capped_width c.width-in-Send.ensures) c.with_expression-in-Send.ensures.findings)
 
 pub returns-after-loop-part : goal.returns-after-loop-part
 returns-after-loop-part t c =
