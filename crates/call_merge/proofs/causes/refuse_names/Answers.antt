@@ -8,15 +8,15 @@ use Rattle.call_merge.specs.CallEnds.{IfRefusedCall}
 use Rattle.call_merge.proofs.CallEndings.{IsFirstOf, double_first, other_first, nested_first, unknown_first}
 use Rattle.call_merge.proofs.causes.refuse_names.Goals as goal
 
-pub returns-then-eq-clause-refused : goal.returns-then-eq-clause-refused
-returns-then-eq-clause-refused c =
-    let double : c.args.fault.code ≡ code.DoubleName = same_true the_type (search rules) _ _ (sym c.if-eq.ensures) in
+pub returns-then-fault-eq6-clause-refused : goal.returns-then-fault-eq6-clause-refused
+returns-then-fault-eq6-clause-refused c =
+    let double : c.args.fault.code ≡ code.DoubleName = same_true the_type (search rules) _ _ c.if-fault-eq6.true in
     subst (λ (e : CallError). IfRefusedCall (IsFirstOf (program_tree c.args.program.now)) e) (sym c.refusal.ensures)
     (double_first (program_tree c.args.program.now) c.args.fault c.requires double)
 
 pub returns-in_err-refuse_nested-clause-refused : goal.returns-in_err-refuse_nested-clause-refused
 returns-in_err-refuse_nested-clause-refused c =
-    let other : ¬ (c.args.fault.code ≡ code.DoubleName) = (λ e. let h = rw e at c.if-eq.ensures in absurd (cc h)) in
+    let other : ¬ (c.args.fault.code ≡ code.DoubleName) = (λ e. let h = rw e at c.if-fault-eq6.false in absurd (cc h)) in
     let alone = other_first (program_tree c.args.program.now) c.args.fault c.requires other in
     let refused : IfRefusedCall (IsFirstOf (program_tree c.args.program.now)) c.in_err-refuse_nested.field-0.0 =
     nested_first (program_tree c.args.program.now) c.in_err-refuse_nested.field-0.0 alone.0 c.in_err-refuse_nested.ensures.first in
@@ -24,7 +24,7 @@ returns-in_err-refuse_nested-clause-refused c =
 
 pub returns-clause-refused : goal.returns-clause-refused
 returns-clause-refused c =
-    let other : ¬ (c.args.fault.code ≡ code.DoubleName) = (λ e. let h = rw e at c.if-eq.ensures in absurd (cc h)) in
+    let other : ¬ (c.args.fault.code ≡ code.DoubleName) = (λ e. let h = rw e at c.if-fault-eq6.false in absurd (cc h)) in
     subst (λ (e : CallError). IfRefusedCall (IsFirstOf (program_tree c.args.program.now)) e) (sym c.refusal-2.ensures)
     (unknown_first (program_tree c.args.program.now) c.args.fault (other_first (program_tree c.args.program.now) c.args.fault c.requires other)
     c.in_ok-refuse_nested.ensures.none)
