@@ -1,3 +1,4 @@
+pub mod Terms
 pub mod Breaking
 pub mod Deciding
 pub mod Fans

@@ -3,6 +3,7 @@
 ghost use Rattle.std.specs.Prelude.{◌≡◌, ◌<◌, length, IfSome, IsSome, ◌↔◌};
 
 use std::marker::Model;
+use std::slice;
 
 /// Holds where its node has the wanted value.
 #[derive(Clone, Copy)]
@@ -13,21 +14,29 @@ pub struct Literal {
     pub high: bool,
 }
 
+/// The literals of a term. One alone, as in each term of a merge, takes no memory of its own.
+#[derive(Drop)]
+enum Literals {
+    One(Literal),
+    More(Vec<Literal>),
+}
+
 /// Holds where all its literals hold. It is seen as the list of them, and is never empty.
 #[derive(Drop)]
 pub struct Term {
-    literals: Vec<Literal>,
+    literals: Literals,
 }
 
 impl Model for Term {
     ghost use Rattle.std.specs.Prelude.{List, ◌<◌, length};
     ghost use Rattle.prs_core.specs.declared.rule.Literal.{Literal};
+    ghost use Rattle.prs_core.specs.Terms.{literals_of};
 
     ghost Value = { List Literal };
 
-    ghost view = { λ t. t.literals.items };
+    ghost view = { λ t. literals_of t.literals };
 
-    ghost invariant = { λ t. 0 < length t.literals.items };
+    ghost invariant = { λ t. 0 < length (literals_of t.literals) };
 }
 
 impl Term {
@@ -36,11 +45,12 @@ impl Term {
         ensures some { IsSome result ↔ (0 < length literals.items) }
         ensures value { IfSome result (λ t. t ≡ literals.items) }
     {
-        if literals.is_empty() {
-            None
-        } else {
-            Some(Term { literals })
-        }
+        let literals = match &literals[..] {
+            [] => return None,
+            [one] => Literals::One(*one),
+            _ => Literals::More(literals),
+        };
+        Some(Term { literals })
     }
 
     /// The literals, at least one.
@@ -48,7 +58,10 @@ impl Term {
         ensures value { result.now ≡ self.now }
         ensures some { 0 < length self.now }
     {
-        &self.literals
+        match &self.literals {
+            Literals::One(literal) => slice::from_ref(literal),
+            Literals::More(literals) => literals,
+        }
     }
 }
 
