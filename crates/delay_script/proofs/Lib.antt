@@ -6,6 +6,8 @@ pub mod OneDelays
 pub mod Sinces
 pub mod Coming
 pub mod DueLists
+pub mod Entries
+pub mod Bucketed
 pub mod Queued
 pub mod OnTheWay
 pub mod OneTimed

@@ -6,4 +6,5 @@ pub mod DelaySteps
 pub mod Causes
 pub mod TimedRuns
 pub mod Dues
+pub mod Calendars
 pub mod Queues

@@ -1,6 +1,8 @@
 //! Delays of a net's nodes, and runs that are timed by them.
 #![tactic(auto)]
 
+mod bucket;
+mod calendar;
 mod delays;
 mod due;
 mod fault;

@@ -3,23 +3,21 @@
 ghost use Rattle.std.specs.Prelude.{◌≡◌, ◌<◌, length, replicate, slice_set, Some, None, is_some, IfOk};
 ghost use Rattle.delay_script.specs.Dues.{IsFirstOf, due_at, without, next_due};
 
+use crate::calendar::Calendar;
 use crate::due::{Due, Next};
 use std::alloc::{AllocError, Global};
-use std::cmp::Reverse;
-use std::collections::BinaryHeap;
 use std::marker::Model;
 
-/// For each node of a net its move, where that is due. It also keeps the times and the nodes of these moves, of
-/// which the least comes first.
+/// For each node of a net its move, where that is due. The times of these moves, with their nodes, are in a calendar,
+/// which finds the first of them.
 #[derive(Drop)]
 pub(crate) struct Queue {
     dues: Vec<Option<Due>>,
-    order: BinaryHeap<Reverse<(u64, u32)>>,
+    calendar: Calendar,
 }
 
 impl Model for Queue {
     ghost use Rattle.std.specs.Prelude.{List, Option};
-    ghost use Rattle.std.specs.BinaryHeap.{heap_items, heap_capacity};
     ghost use Rattle.delay_script.specs.declared.due.Due.{Due};
     ghost use Rattle.delay_script.specs.Queues.{IsQueue};
 
@@ -27,7 +25,7 @@ impl Model for Queue {
 
     ghost view = { λ q. q.dues.items };
 
-    ghost invariant = { λ q. IsQueue q.dues.items (heap_items q.order) (heap_capacity q.order) };
+    ghost invariant = { λ q. IsQueue q.dues.items q.calendar.entries q.calendar.room };
 }
 
 /// An empty entry for each of so many nodes: no move is due.
@@ -56,8 +54,8 @@ impl Queue {
         ensures { IfOk result (λ q. q ≡ replicate nodes None) }
     {
         let dues = no_dues(alloc, nodes)?;
-        let order = BinaryHeap::with_capacity(alloc, nodes)?;
-        Ok(Queue { dues, order })
+        let calendar = Calendar::new(alloc, nodes)?;
+        Ok(Queue { dues, calendar })
     }
 
     /// Whether the node's move is due.
@@ -75,9 +73,7 @@ impl Queue {
         ensures { self.new ≡ slice_set self.old node (Some due) }
     {
         self.dues[node as usize] = Some(due);
-        if self.order.push(Reverse((due.time, node))).is_err() {
-            unreachable!()
-        }
+        self.calendar.put(due.time, node);
     }
 
     /// Removes the move that is due first, of several at the same time that of the least node.
@@ -85,7 +81,7 @@ impl Queue {
         ensures first { IsFirstOf self.old (length self.old) result }
         ensures rest { self.new ≡ without self.old result }
     {
-        let Reverse((_, node)) = self.order.pop()?;
+        let node = self.calendar.take()?;
         let place = node as usize;
         let due = self.dues[place];
         self.dues[place] = None;
