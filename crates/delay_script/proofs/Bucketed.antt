@@ -14,7 +14,7 @@ use Rattle.std.proofs.lemmas.List.Sorted.{sum_by-IsPermutation, sum_by_pushed, s
 use Rattle.std.proofs.lemmas.Map.Keys.{ge_from_not_lt}
 use Rattle.std.proofs.lemmas.List.Sums.{sum_by-cons, sum_by-append}
 use Rattle.delay_script.specs.TimedRuns.{ComesNoLater}
-use Rattle.delay_script.specs.Calendars.{BucketValue, entries_of, entries_in, others_of, bucket_at, last_of, is_before, IsFalling, IsFirstBucket, HaveNone, IsLater, AreBuckets, IsCalendar, sooner, LeadsAll, FollowsFirst, IsTaken}
+use Rattle.delay_script.specs.Calendars.{BucketValue, entries_of, entries_in, others_of, bucket_at, last_node, is_before, IsDescending, IsFirstBucket, AreEmpty, IsLater, AreBuckets, IsCalendar, sooner, LeadsAll, FollowsFirst, IsDueBefore, LeadsBuckets, TakesFirst}
 use Rattle.delay_script.proofs.Entries.{order_says, same_first, ones}
 
 -- sums
@@ -69,9 +69,9 @@ all_in P (b ∷ bs) each =
 all_empty : (P : ℕ × ℕ → Type 0) (b : BucketValue) → b.nodes ≡ [] → All P (entries_of b)
 all_empty P b none = all_of P b (λ k within. absurd (omega (arith, ap length none)))
 
--- nodes that are sorted by their reverse order fall
-pub falling_of : (xs : List (Reverse ℕ)) → IsSorted (λ (x y : Reverse ℕ). nat_cmp y.0 x.0) xs → IsFalling (map (λ (n : Reverse ℕ). n.0) xs)
-falling_of xs sorted k within =
+-- nodes that are sorted by their reverse order descend
+pub descending_of : (xs : List (Reverse ℕ)) → IsSorted (λ (x y : Reverse ℕ). nat_cmp y.0 x.0) xs → IsDescending (map (λ (n : Reverse ℕ). n.0) xs)
+descending_of xs sorted k within =
     let d : Reverse ℕ = record { 0 = 0 } in
     let long = length-map xs (λ (n : Reverse ℕ). n.0) in
     let order = ge_from_not_lt (get_or xs k d).0 (get_or xs (k + 1) d).0 (sorted k d (omega arith) (omega (arith, within, long))) in
@@ -82,19 +82,19 @@ falling_of xs sorted k within =
       get_or-map (λ (n : Reverse ℕ). n.0) xs (k + 1) d 0 (omega (arith, within, long)),
     )
 
--- along nodes that fall the last is the least
-pub falls_to : (ns : List ℕ) → IsFalling ns → (k n : ℕ) → k + n < length ns → get_or ns (k + n) 0 ≤ get_or ns k 0
-falls_to ns falls k zero within = let e : k + 0 ≡ k = omega arith in subst (λ (i : ℕ). get_or ns i 0 ≤ get_or ns k 0) (sym e) (omega arith)
-falls_to ns falls k (suc n) within =
+-- of nodes in descending order the last is the least
+pub descends_to : (ns : List ℕ) → IsDescending ns → (k n : ℕ) → k + n < length ns → get_or ns (k + n) 0 ≤ get_or ns k 0
+descends_to ns descends k zero within = let e : k + 0 ≡ k = omega arith in subst (λ (i : ℕ). get_or ns i 0 ≤ get_or ns k 0) (sym e) (omega arith)
+descends_to ns descends k (suc n) within =
     let e : k + suc n ≡ k + n + 1 = omega arith in
-    let before = falls_to ns falls k n (omega arith) in
-    let step = falls (k + n) (omega arith) in
+    let before = descends_to ns descends k n (omega arith) in
+    let step = descends (k + n) (omega arith) in
     subst (λ (i : ℕ). get_or ns i 0 ≤ get_or ns k 0) (sym e) (omega (arith, before, step))
 
-pub last_least : (ns : List ℕ) → IsFalling ns → (k : ℕ) → k < length ns → last_of ns ≤ get_or ns k 0
-last_least ns falls k within =
+pub last_least : (ns : List ℕ) → IsDescending ns → (k : ℕ) → k < length ns → last_node ns ≤ get_or ns k 0
+last_least ns descends k within =
     let e : k + (length ns - 1 - k) ≡ length ns - 1 = omega arith in
-    subst (λ (i : ℕ). get_or ns i 0 ≤ get_or ns k 0) e (falls_to ns falls k (length ns - 1 - k) (omega arith))
+    subst (λ (i : ℕ). get_or ns i 0 ≤ get_or ns k 0) e (descends_to ns descends k (length ns - 1 - k) (omega arith))
 
 -- where there is room for one more, each bucket and the heap have it
 pub room_near : (reached : BucketValue) (later : List BucketValue) (others : List (Reverse (ℕ × ℕ))) (slots room place : ℕ) →
@@ -128,7 +128,7 @@ pub put_near : (reached : BucketValue) (later : List BucketValue) (others : List
     IsCalendar reached (set later place b) others slots room
 put_near reached later others slots room place b is after home within same = record {
   buckets = record {
-    falls = is.buckets.falls;
+    descends = is.buckets.descends;
     room_is = is.buckets.room_is;
     count = length-set later place b ∙ is.buckets.count;
     each = λ q less. by_place q less (cases_eq q place);
@@ -152,7 +152,7 @@ put_near reached later others slots room place b is after home within same = rec
 -- the buckets are looked at one after the other
 
 abbrev pub IsFirstSoFar : List BucketValue → ℕ → Option ℕ → Type 0
-IsFirstSoFar bs count first = MatchOption first (HaveNone bs count) (λ (p : ℕ). IsFirstBucket bs count p)
+IsFirstSoFar bs count first = MatchOption first (AreEmpty bs count) (λ (p : ℕ). IsFirstBucket bs count p)
 
 has_some : (b : BucketValue) → not (length b.nodes == 0) ≡ true → 0 < length b.nodes
 has_some b some = by_length (length b.nodes == 0) refl some
@@ -219,10 +219,10 @@ first_comes bs p (Some o) is before = record {
 
 -- the first of the later buckets in place of the one that is reached, which is empty
 pub turned : (reached next : BucketValue) (later : List BucketValue) (room place : ℕ) → AreBuckets reached later room → reached.nodes ≡ [] →
-    IsFirstBucket later (length later) place → IsPermutation (bucket_at later place).nodes next.nodes → IsFalling next.nodes →
+    IsFirstBucket later (length later) place → IsPermutation (bucket_at later place).nodes next.nodes → IsDescending next.nodes →
     next.time ≡ (bucket_at later place).time → next.room ≡ (bucket_at later place).room → AreBuckets next (set later place reached) room
-turned reached next later room place is none first same falls time room_same = record {
-  falls = falls;
+turned reached next later room place is none first same descends time room_same = record {
+  descends = descends;
   room_is = omega (arith, (is.each place within).room_is, room_same);
   count = length-set later place reached ∙ is.count;
   each = λ q less. by_place q less (cases_eq q place);
@@ -274,15 +274,16 @@ sums_turned f reached next later place within none same time =
 -- the last node of the bucket that is reached is the first, if it comes before all of the heap
 pub lead_first : (reached : BucketValue) (later : List BucketValue) (others : List (Reverse (ℕ × ℕ))) (room : ℕ) → AreBuckets reached later room →
     LeadsAll reached others →
-    All (λ (o : ℕ × ℕ). ComesNoLater reached.time (last_of reached.nodes) o.0 o.1) (entries_of reached ++ (entries_in later ++ others_of others))
+    All (λ (o : ℕ × ℕ). ComesNoLater reached.time (last_node reached.nodes) o.0 o.1) (entries_of reached ++ (entries_in later ++ others_of others))
 lead_first reached later others room is leads =
-    All-append P (entries_of reached) (entries_in later ++ others_of others) (all_of P reached (λ k within. inr (refl, last_least reached.nodes is.falls k within)))
+    All-append P (entries_of reached) (entries_in later ++ others_of others)
+    (all_of P reached (λ k within. inr (refl, last_least reached.nodes is.descends k within)))
     (All-append P (entries_in later) (others_of others)
     (all_in P later (λ p within. all_of P (bucket_at later p) (λ k some. inl ((is.each p (omega (arith, within, is.count))).after (omega arith)))))
     (All-map P (λ (e : Reverse (ℕ × ℕ)). e.0) others leads.first))
   where
     P : ℕ × ℕ → Type 0
-    P o = ComesNoLater reached.time (last_of reached.nodes) o.0 o.1
+    P o = ComesNoLater reached.time (last_node reached.nodes) o.0 o.1
 
 pub lead_sums : (f : ℕ × ℕ → ℕ) (reached left : BucketValue) (n : ℕ) → reached.nodes ≡ left.nodes ++ n ∷ [] → left.time ≡ reached.time →
     sum_by f (entries_of reached) ≡ f (reached.time, n) + sum_by f (entries_of left)
@@ -341,13 +342,13 @@ pub from_ok : {T E : Type 0} (r : Result T E) (P : Type 0) → is_ok r ≡ true 
 from_ok (Ok x) P done p = p
 from_ok (Err e) P done p = absurd (cc done)
 
-pub last_is : (ns rest : List ℕ) (n : ℕ) → ns ≡ rest ++ n ∷ [] → last_of ns ≡ n
+pub last_is : (ns rest : List ℕ) (n : ℕ) → ns ≡ rest ++ n ∷ [] → last_node ns ≡ n
 last_is ns rest n parts =
-    ap last_of parts ∙ get_or_at rest n [] 0 _ (omega (arith, length-append rest (n ∷ [])))
+    ap last_node parts ∙ get_or_at rest n [] 0 _ (omega (arith, length-append rest (n ∷ [])))
 
 -- else the first of the heap is
 pub top_first : (reached : BucketValue) (later : List BucketValue) (others : List (Reverse (ℕ × ℕ))) (room : ℕ) (x : Reverse (ℕ × ℕ)) →
-    AreBuckets reached later room → FollowsFirst reached others → (reached.nodes ≡ [] → HaveNone later (length later)) → x ≡ get_or others 0 x →
+    AreBuckets reached later room → FollowsFirst reached others → (reached.nodes ≡ [] → LeadsBuckets others later) → x ≡ get_or others 0 x →
     IsUpperBound sooner x others →
     All (λ (o : ℕ × ℕ). ComesNoLater x.0.0 x.0.1 o.0 o.1) (entries_of reached ++ (entries_in later ++ others_of others))
 top_first reached later others room x is follows none at top = by_nodes reached.nodes refl
@@ -360,6 +361,9 @@ top_first reached later others room x is follows none at top = by_nodes reached.
         (All-weaker (λ (e : Reverse (ℕ × ℕ)). is_lt (sooner x e) ≡ false) (λ (e : Reverse (ℕ × ℕ)). P e.0)
         (λ e off. order_says x.0.0 x.0.1 e.0.0 e.0.1 off) others (All-from_recursion (λ (e : Reverse (ℕ × ℕ)). is_lt (sooner x e) ≡ false) others top))
 
+    before : (t : ℕ) → IsDueBefore others t → x.0.0 < t
+    before t due = subst (λ (y : Reverse (ℕ × ℕ)). y.0.0 < t) (sym at) (due.1 x)
+
     behind : (t n u m w k : ℕ) → ComesNoLater t n u m → (u ≡ w) → m ≤ k → ComesNoLater t n w k
     behind t n u m w k (inl less) same le = inl (omega arith)
     behind t n u m w k (inr equal) same le = inr (omega (arith, equal.0, same), omega (arith, equal.1, le))
@@ -371,17 +375,19 @@ top_first reached later others room x is follows none at top = by_nodes reached.
     by_nodes : (ns : List ℕ) → reached.nodes ≡ ns → All P (entries_of reached ++ (entries_in later ++ others_of others))
     by_nodes [] here =
         All-append P (entries_of reached) (entries_in later ++ others_of others) (all_empty P reached here)
-        (All-append P (entries_in later) (others_of others) (all_in P later (λ p within. all_empty P (bucket_at later p) (none here p within))) all_others)
+        (All-append P (entries_in later) (others_of others)
+        (all_in P later (λ p within. all_of P (bucket_at later p)
+        (λ k some. inl (before (bucket_at later p).time (none here p within (omega arith)))))) all_others)
     by_nodes (n ∷ ns) here =
         All-append P (entries_of reached) (entries_in later ++ others_of others)
-        (all_of P reached (λ k within. behind _ _ _ _ _ _ ahead refl (last_least reached.nodes is.falls k within)))
+        (all_of P reached (λ k within. behind _ _ _ _ _ _ ahead refl (last_least reached.nodes is.descends k within)))
         (All-append P (entries_in later) (others_of others)
         (all_in P later (λ p within. all_of P (bucket_at later p)
         (λ k some. far_behind _ _ _ _ _ _ ahead ((is.each p (omega (arith, within, is.count))).after (omega arith))))) all_others)
       where
-        ahead : ComesNoLater x.0.0 x.0.1 reached.time (last_of reached.nodes)
-        ahead = subst (λ (y : Reverse (ℕ × ℕ)). ComesNoLater y.0.0 y.0.1 reached.time (last_of reached.nodes)) (sym at)
-            (follows (omega (arith, ap length here)) x).1
+        ahead : ComesNoLater x.0.0 x.0.1 reached.time (last_node reached.nodes)
+        ahead = subst (λ (y : Reverse (ℕ × ℕ)). ComesNoLater y.0.0 y.0.1 reached.time (last_node reached.nodes)) (sym at)
+            ((follows (omega (arith, ap length here))).1 x)
 
 pub top_sums : (f : ℕ × ℕ → ℕ) (others rest : List (Reverse (ℕ × ℕ))) (x : Reverse (ℕ × ℕ)) → IsPermutation others (x ∷ rest) →
     sum_by f (others_of others) ≡ f x.0 + sum_by f (others_of rest)
@@ -395,8 +401,8 @@ top_sums f others rest x popped =
 pub left_kept : (reached left : BucketValue) (later : List BucketValue) (room : ℕ) (gone : List ℕ) → AreBuckets reached later room →
     reached.nodes ≡ left.nodes ++ gone → left.time ≡ reached.time → left.room ≡ reached.room → AreBuckets left later room
 left_kept reached left later room gone is parts time same = record {
-  falls = λ k within.
-      let before = is.falls k (omega (arith, within, ap length parts, length-append left.nodes gone)) in
+  descends = λ k within.
+      let before = is.descends k (omega (arith, within, ap length parts, length-append left.nodes gone)) in
       omega (
         arith,
         before,
@@ -427,7 +433,7 @@ AreAs old reached later others = (f : ℕ × ℕ → ℕ) → sum_by f old ≡ s
 
 pub lead_taken : (old : List (ℕ × ℕ)) (reached left : BucketValue) (later : List BucketValue) (others : List (Reverse (ℕ × ℕ))) (room : ℕ) (r : Option ℕ) →
     AreAs old reached later others → AreBuckets reached later room → LeadsAll reached others → reached.nodes ≡ left.nodes ++ option_to_list r →
-    left.time ≡ reached.time → IfSome r (λ (n : ℕ). (time : ℕ) × IsTaken (time, n) old (entries_of left ++ (entries_in later ++ others_of others)))
+    left.time ≡ reached.time → IfSome r (λ (n : ℕ). (time : ℕ) × TakesFirst (time, n) old (entries_of left ++ (entries_in later ++ others_of others)))
 lead_taken old reached left later others room None alike is leads parts time = tt
 lead_taken old reached left later others room (Some n) alike is leads parts time = (
   reached.time,
@@ -450,10 +456,11 @@ lead_taken old reached left later others room (Some n) alike is leads parts time
 
 pub top_taken : (old : List (ℕ × ℕ)) (reached : BucketValue) (later : List BucketValue) (others rest : List (Reverse (ℕ × ℕ))) (room : ℕ)
     (x : Reverse (ℕ × ℕ)) → AreAs old reached later others → AreBuckets reached later room → FollowsFirst reached others →
-    (reached.nodes ≡ [] → HaveNone later (length later)) → x ≡ get_or others 0 x → IsUpperBound sooner x others → IsPermutation others (x ∷ rest) →
-    IsTaken x.0 old (entries_of reached ++ (entries_in later ++ others_of rest))
+    (reached.nodes ≡ [] → LeadsBuckets others later) → x ≡ get_or others 0 x → IsUpperBound sooner x others → IsPermutation others (x ∷ rest) →
+    TakesFirst x.0 old (entries_of reached ++ (entries_in later ++ others_of rest))
 top_taken old reached later others rest room x alike is follows none at top popped = record {
-  first = same_first x.0 old (entries_of reached ++ (entries_in later ++ others_of others)) alike (top_first reached later others room x is follows none at top);
+  first = same_first x.0 old (entries_of reached ++ (entries_in later ++ others_of others)) alike
+      (top_first reached later others room x is follows none at top);
   sums = λ f. alike f ∙ regrouped _ _ _ _ _ _ _ (sum_parts f (entries_of reached) (entries_in later) (others_of others))
       (sum_parts f (entries_of reached) (entries_in later) (others_of rest)) (top_sums f others rest x popped);
 }
@@ -461,7 +468,7 @@ top_taken old reached later others rest room x alike is follows none at top popp
     regrouped : (s t r l o x q : ℕ) → s ≡ r + (l + o) → t ≡ r + (l + q) → o ≡ x + q → s ≡ x + t
     regrouped s t r l o x q one two three = omega arith
 
-sum_none : (f : ℕ × ℕ → ℕ) (bs : List BucketValue) → HaveNone bs (length bs) → sum_by f (entries_in bs) ≡ 0
+sum_none : (f : ℕ × ℕ → ℕ) (bs : List BucketValue) → AreEmpty bs (length bs) → sum_by f (entries_in bs) ≡ 0
 sum_none f [] none = refl
 sum_none f (b ∷ bs) none =
     both _ _ _ (sum_by-append f (entries_of b) (entries_in bs)) (sum_empty f b (none 0 (omega arith)))
@@ -472,11 +479,12 @@ sum_none f (b ∷ bs) none =
 
 -- where nothing leads and the heap is empty there is nothing
 pub none_left : (old : List (ℕ × ℕ)) (reached : BucketValue) (later : List BucketValue) (others : List (Reverse (ℕ × ℕ))) →
-    AreAs old reached later others → FollowsFirst reached others → (reached.nodes ≡ [] → HaveNone later (length later)) → others ≡ [] → old ≡ []
+    AreAs old reached later others → FollowsFirst reached others → (reached.nodes ≡ [] → LeadsBuckets others later) → others ≡ [] → old ≡ []
 none_left old reached later others alike follows none empty =
     nil_from_length old (sym (ones old) ∙ alike (λ (e : ℕ × ℕ). 1)
     ∙ all _ _ _ _ (sum_parts (λ (e : ℕ × ℕ). 1) (entries_of reached) (entries_in later) (others_of others)) (sum_empty (λ (e : ℕ × ℕ). 1) reached here)
-    (sum_none (λ (e : ℕ × ℕ). 1) later (none here)) (ap (λ (es : List (Reverse (ℕ × ℕ))). sum_by (λ (e : ℕ × ℕ). 1) (others_of es)) empty))
+    (sum_none (λ (e : ℕ × ℕ). 1) later (λ p within. no_nodes p within (bucket_at later p).nodes refl))
+    (ap (λ (es : List (Reverse (ℕ × ℕ))). sum_by (λ (e : ℕ × ℕ). 1) (others_of es)) empty))
   where
     all : (s r l o : ℕ) → s ≡ r + (l + o) → r ≡ 0 → l ≡ 0 → o ≡ 0 → s ≡ 0
     all s r l o one two three four = omega arith
@@ -486,4 +494,15 @@ none_left old reached later others alike follows none empty =
       where
         by_nodes : (ns : List ℕ) → reached.nodes ≡ ns → reached.nodes ≡ []
         by_nodes [] e = e
-        by_nodes (n ∷ ns) e = absurd (omega (arith, (follows (omega (arith, ap length e)) (record { 0 = (0, 0) })).0, ap length empty))
+        by_nodes (n ∷ ns) e = absurd (omega (arith, (follows (omega (arith, ap length e))).0, ap length empty))
+
+    no_nodes : (p : ℕ) → p < length later → (ns : List ℕ) → (bucket_at later p).nodes ≡ ns → (bucket_at later p).nodes ≡ []
+    no_nodes p within [] e = e
+    no_nodes p within (n ∷ ns) e = absurd (omega (arith, (none here p within (omega (arith, ap length e))).0, ap length empty))
+
+-- where the heap's first is due before the first bucket it is before all
+pub leads_buckets : (others : List (Reverse (ℕ × ℕ))) (later : List BucketValue) (place : ℕ) → IsFirstBucket later (length later) place →
+    IsDueBefore others (bucket_at later place).time → LeadsBuckets others later
+leads_buckets others later place first due p within some =
+    let order = first.first p within some in
+    (due.0, λ none. omega (arith, order, due.1 none))

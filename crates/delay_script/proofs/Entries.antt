@@ -21,10 +21,10 @@ order_says t n u m says = by_order (nat_lt u t) (u == t) (nat_lt m n) refl refl 
     by_order false false c ea eb ec e = let le = ltb-false u t ea in let apart = eqb-false u t eb in inl (omega arith)
 
 -- the same as a test
-abbrev pub precedes : ℕ × ℕ → ℕ × ℕ → Bool
+abbrev precedes : ℕ × ℕ → ℕ × ℕ → Bool
 precedes e o = nat_lt e.0 o.0 || ((e.0 == o.0) && not (nat_lt o.1 e.1))
 
-pub precedes_says : (e o : ℕ × ℕ) → precedes e o ≡ true → ComesNoLater e.0 e.1 o.0 o.1
+precedes_says : (e o : ℕ × ℕ) → precedes e o ≡ true → ComesNoLater e.0 e.1 o.0 o.1
 precedes_says e o says = by_test (nat_lt e.0 o.0) (e.0 == o.0) (nat_lt o.1 e.1) refl refl refl says
   where
     by_test : (a b c : Bool) → nat_lt e.0 o.0 ≡ a → (e.0 == o.0) ≡ b → nat_lt o.1 e.1 ≡ c → (a || (b && not c)) ≡ true → ComesNoLater e.0 e.1 o.0 o.1
@@ -33,7 +33,7 @@ precedes_says e o says = by_test (nat_lt e.0 o.0) (e.0 == o.0) (nat_lt o.1 e.1) 
     by_test false true true ea eb ec s = absurd (cc s)
     by_test false false c ea eb ec s = absurd (cc s)
 
-pub says_precedes : (e o : ℕ × ℕ) → ComesNoLater e.0 e.1 o.0 o.1 → precedes e o ≡ true
+says_precedes : (e o : ℕ × ℕ) → ComesNoLater e.0 e.1 o.0 o.1 → precedes e o ≡ true
 says_precedes e o (inl less) = ap (λ (b : Bool). b || ((e.0 == o.0) && not (nat_lt o.1 e.1))) (lt-ltb e.0 o.0 less)
 says_precedes e o (inr same) = by_first (nat_lt e.0 o.0)
   where
@@ -60,7 +60,7 @@ passes_of_zero false e = absurd (apart 1 e refl)
     apart : (a : ℕ) → a ≡ 0 → a ≡ 1 → ⊥
     apart a e f = omega arith
 
-pub all_of_zero : {X : Type 0} (p : X → Bool) (xs : List X) → sum_by (failures p) xs ≡ 0 → All (λ x. p x ≡ true) xs
+all_of_zero : {X : Type 0} (p : X → Bool) (xs : List X) → sum_by (failures p) xs ≡ 0 → All (λ x. p x ≡ true) xs
 all_of_zero {X} p [] none = All-nil (λ (y : X). p y ≡ true)
 all_of_zero {X} p (x ∷ xs) none =
     All-cons (λ (y : X). p y ≡ true) x xs (passes_of_zero (p x) (left _ _ both)) (all_of_zero p xs (right _ _ both))

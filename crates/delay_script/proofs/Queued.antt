@@ -8,7 +8,7 @@ use Rattle.std.proofs.lemmas.List.Elements.{All-nil, All-cons, All-head, All-tai
 use Rattle.std.proofs.lemmas.List.Sums.{sum_by-cons}
 use Rattle.delay_script.specs.declared.due.Due.{Due}
 use Rattle.delay_script.specs.TimedRuns.{ComesNoLater}
-use Rattle.delay_script.specs.Calendars.{IsTaken}
+use Rattle.delay_script.specs.Calendars.{TakesFirst}
 use Rattle.delay_script.specs.Dues.{due_at, IsFirstOf, next_due, without}
 use Rattle.delay_script.specs.Queues.{entries_from, IsQueue}
 use Rattle.delay_script.proofs.Entries.{failures, zero_of_all, passes_of_zero, same_first, ones}
@@ -140,7 +140,7 @@ taken_due dues entries rest e same taken =
     by_due None here at = absurd (cc at)
     by_due (Some due) here at = (due, here, eqb-true due.time e.0 at)
 
-pub taken_first : (dues : List (Option Due)) (entries rest : List (ℕ × ℕ)) (e : ℕ × ℕ) → SameSums dues entries → IsTaken e entries rest →
+pub taken_first : (dues : List (Option Due)) (entries rest : List (ℕ × ℕ)) (e : ℕ × ℕ) → SameSums dues entries → TakesFirst e entries rest →
     IsFirstOf dues (length dues) (next_due e.1 (due_at dues e.1))
 taken_first dues entries rest e same taken =
     let own = taken_due dues entries rest e same taken.sums in
@@ -178,10 +178,10 @@ put_room dues entries room n is within none =
     fits : (h s t l m r : ℕ) → h ≡ s → t ≡ 1 + s → t ≤ l → l ≡ m → m ≤ r → h < r
     fits h s t l m r one two three four five = omega arith
 
-pub put_is : (dues : List (Option Due)) (entries later : List (ℕ × ℕ)) (room same_room n : ℕ) (due : Due) → IsQueue dues entries room → n < length dues →
-    due_at dues n ≡ None → ((f : ℕ × ℕ → ℕ) → sum_by f later ≡ f (due.time, n) + sum_by f entries) → same_room ≡ room →
-    IsQueue (set dues n (Some due)) later same_room
-put_is dues entries later room same_room n due is within none put same = record {
+pub put_is : (dues : List (Option Due)) (entries more : List (ℕ × ℕ)) (room same_room n : ℕ) (due : Due) → IsQueue dues entries room → n < length dues →
+    due_at dues n ≡ None → ((f : ℕ × ℕ → ℕ) → sum_by f more ≡ f (due.time, n) + sum_by f entries) → same_room ≡ room →
+    IsQueue (set dues n (Some due)) more same_room
+put_is dues entries more room same_room n due is within none put same = record {
   sums = λ f. let e : n ≡ 0 + n = omega arith in
       put f ∙ ap (λ (k : ℕ). f (due.time, n) + k) (is.sums f) ∙ ap (λ (i : ℕ). f (due.time, i) + sum_by f (entries_from 0 dues)) e
       ∙ sym (sum_put f 0 dues n due within none);

@@ -1,4 +1,4 @@
--- Nodes by the times at which they are due: those of one time in a bucket, the others in a heap.
+-- Nodes by the times at which they are due: in buckets of one time each, and in a heap.
 use Rattle.std.specs.Prelude.{◌≡◌, ℕ, ◌+◌, ◌-◌, ◌<◌, ◌≤◌, ◌%◌, Bool, not, ◌&&◌, ◌==◌, nat_lt, List, [], ◌∷◌, ◌++◌, length, map, slice_index, slice_index_or, All, Option, Some, None}
 use Rattle.std.specs.BinaryHeap.{IsHeap}
 use Rattle.std.specs.List.{sum_by}
@@ -24,12 +24,12 @@ abbrev pub entries_in : List BucketValue → List (ℕ × ℕ)
 entries_in [] = []
 entries_in (b ∷ bs) = entries_of b ++ entries_in bs
 
--- no node is greater than the one before it
-abbrev pub IsFalling : List ℕ → Type 0
-IsFalling ns = (k : ℕ) → k + 1 < length ns → slice_index ns (k + 1) ≤ slice_index ns k
+-- in descending order
+abbrev pub IsDescending : List ℕ → Type 0
+IsDescending ns = (k : ℕ) → k + 1 < length ns → slice_index ns (k + 1) ≤ slice_index ns k
 
-abbrev pub last_of : List ℕ → ℕ
-last_of ns = slice_index ns (length ns - 1)
+abbrev pub last_node : List ℕ → ℕ
+last_node ns = slice_index ns (length ns - 1)
 
 abbrev pub bucket_at : List BucketValue → ℕ → BucketValue
 bucket_at bs place = slice_index_or bs place (record { time = 0; nodes = []; room = 0 })
@@ -47,18 +47,19 @@ pub record IsFirstBucket (bs : List BucketValue) (count place : ℕ) : Type 0 wh
   pub first : (p : ℕ) → p < count → 0 < length (bucket_at bs p).nodes →
       (bucket_at bs place).time ≤ (bucket_at bs p).time
 
-abbrev pub HaveNone : List BucketValue → ℕ → Type 0
-HaveNone bs count = (p : ℕ) → p < count → (bucket_at bs p).nodes ≡ []
+-- so many buckets have no nodes
+abbrev pub AreEmpty : List BucketValue → ℕ → Type 0
+AreEmpty bs count = (p : ℕ) → p < count → (bucket_at bs p).nodes ≡ []
 
 -- one of the later times, if it has nodes: its place is the remainder of its time
-pub record IsLater (reached place room : ℕ) (b : BucketValue) : Type 0 where
+pub record IsLater (reached_time place room : ℕ) (b : BucketValue) : Type 0 where
   pub room_is : room ≤ b.room
-  pub after : 0 < length b.nodes → reached < b.time
+  pub after : 0 < length b.nodes → reached_time < b.time
   pub home : 0 < length b.nodes → b.time % 16 ≡ place
 
--- the bucket of the time that is reached, in order, and those of the later times
+-- the bucket of the time that is reached, and those of the later times
 pub record AreBuckets (reached : BucketValue) (later : List BucketValue) (room : ℕ) : Type 0 where
-  pub falls : IsFalling reached.nodes
+  pub descends : IsDescending reached.nodes
   pub room_is : room ≤ reached.room
   pub count : length later ≡ 16
   pub each : (place : ℕ) → place < 16 → IsLater reached.time place room (bucket_at later place)
@@ -67,6 +68,7 @@ pub record AreBuckets (reached : BucketValue) (later : List BucketValue) (room :
 abbrev pub sooner : Reverse (ℕ × ℕ) → Reverse (ℕ × ℕ) → Ordering
 sooner x y = ordering_then (nat_cmp y.0.0 x.0.0) (nat_cmp y.0.1 x.0.1)
 
+-- the buckets, and the heap in its order, with room for so many nodes in each
 pub record IsCalendar (reached : BucketValue) (later : List BucketValue) (others : List (Reverse (ℕ × ℕ)))
     (slots room : ℕ) : Type 0 where
   pub buckets : AreBuckets reached later room
@@ -88,14 +90,24 @@ calendar_of reached later others room =
 -- the last node of the bucket comes before all of the heap
 pub record LeadsAll (b : BucketValue) (others : List (Reverse (ℕ × ℕ))) : Type 0 where
   pub some : 0 < length b.nodes
-  pub first : All (λ (e : Reverse (ℕ × ℕ)). ComesNoLater b.time (last_of b.nodes) e.0.0 e.0.1) others
+  pub first : All (λ (e : Reverse (ℕ × ℕ)). ComesNoLater b.time (last_node b.nodes) e.0.0 e.0.1) others
 
--- or behind the first of the heap
+-- the last node of the bucket, if there is one, comes no earlier than the first of the heap
 abbrev pub FollowsFirst : BucketValue → List (Reverse (ℕ × ℕ)) → Type 0
-FollowsFirst b others = 0 < length b.nodes → (top : Reverse (ℕ × ℕ)) → (0 < length others)
-    × ComesNoLater (slice_index_or others 0 top).0.0 (slice_index_or others 0 top).0.1 b.time (last_of b.nodes)
+FollowsFirst b others = 0 < length b.nodes → (0 < length others) × ((none : Reverse (ℕ × ℕ)) →
+    ComesNoLater (slice_index_or others 0 none).0.0 (slice_index_or others 0 none).0.1 b.time (last_node b.nodes))
+
+-- the heap's first is due before this time
+abbrev pub IsDueBefore : List (Reverse (ℕ × ℕ)) → ℕ → Type 0
+IsDueBefore others time =
+    (0 < length others) × ((none : Reverse (ℕ × ℕ)) → (slice_index_or others 0 none).0.0 < time)
+
+-- it is due before all nodes of these buckets
+abbrev pub LeadsBuckets : List (Reverse (ℕ × ℕ)) → List BucketValue → Type 0
+LeadsBuckets others bs = (place : ℕ) → place < length bs → 0 < length (bucket_at bs place).nodes →
+    IsDueBefore others (bucket_at bs place).time
 
 -- the first entry by time and node is taken, and all others stay, each as often (all sums over them agree)
-pub record IsTaken (e : ℕ × ℕ) (old new : List (ℕ × ℕ)) : Type 0 where
+pub record TakesFirst (e : ℕ × ℕ) (old new : List (ℕ × ℕ)) : Type 0 where
   pub first : All (λ (o : ℕ × ℕ). ComesNoLater e.0 e.1 o.0 o.1) old
   pub sums : (f : ℕ × ℕ → ℕ) → sum_by f old ≡ f e + sum_by f new

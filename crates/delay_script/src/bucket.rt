@@ -1,8 +1,8 @@
 //! The nodes that are due at one time.
 
-ghost use Rattle.std.specs.Prelude.{◌≡◌, ◌-◌, ◌<◌, ◌==◌, ◌||◌, [], ◌∷◌, ◌++◌, length, slice_index, option_to_list, IfOk, IfSome, IfNone};
+ghost use Rattle.std.specs.Prelude.{◌≡◌, true, ◌-◌, ◌<◌, ◌==◌, ◌||◌, [], ◌∷◌, ◌++◌, length, slice_index, option_to_list, IfOk, IfSome, IfNone};
 ghost use Rattle.std.specs.List.Sorted.{IsPermutation};
-ghost use Rattle.delay_script.specs.Calendars.{IsFalling};
+ghost use Rattle.delay_script.specs.Calendars.{IsDescending};
 
 use std::alloc::{AllocError, Global};
 use std::cmp::Reverse;
@@ -56,18 +56,19 @@ impl Bucket {
 
     /// Adds a node, which is due at this time as all others are. It allocates no memory.
     pub(crate) fn add(&mut self, time: u64, node: u32)
-        requires { length self.old.nodes < self.old.room }
+        requires room { length self.old.nodes < self.old.room }
+        requires time { ((length self.old.nodes == 0) || (self.old.time == time)) ≡ true }
         ensures { self.new ≡ record { time = time; nodes = self.old.nodes ++ node ∷ []; room = self.old.room } }
     {
         self.time = time;
         self.nodes.push_reserved(Reverse(node));
     }
 
-    /// Puts the greatest node first.
+    /// Sorts the nodes, the greatest first.
     pub(crate) fn sort(&mut self)
         ensures time { self.new.time ≡ self.old.time }
         ensures same { IsPermutation self.old.nodes self.new.nodes }
-        ensures falls { IsFalling self.new.nodes }
+        ensures descends { IsDescending self.new.nodes }
         ensures room { self.new.room ≡ self.old.room }
     {
         self.nodes.sort_unstable();

@@ -1,9 +1,9 @@
 //! Nodes by the times at which they are due.
 
-ghost use Rattle.std.specs.Prelude.{◌≡◌, ℕ, ◌+◌, ◌<◌, true, false, [], length, replicate, vec_len, IfOk, IfSome, IfNone};
+ghost use Rattle.std.specs.Prelude.{◌≡◌, ℕ, ◌+◌, ◌<◌, true, false, [], length, replicate, IfOk, IfSome, IfNone};
 ghost use Rattle.std.specs.BinaryHeap.{heap_items, IsHeap};
 ghost use Rattle.std.specs.List.{sum_by};
-ghost use Rattle.delay_script.specs.Calendars.{AreBuckets, entries_of, entries_in, is_before, HaveNone, IsFirstBucket, LeadsAll, FollowsFirst, IsTaken, sooner};
+ghost use Rattle.delay_script.specs.Calendars.{AreBuckets, entries_of, entries_in, is_before, AreEmpty, IsFirstBucket, LeadsAll, FollowsFirst, IsDueBefore, LeadsBuckets, TakesFirst, sooner};
 
 use crate::bucket::Bucket;
 use std::alloc::{AllocError, Global};
@@ -15,9 +15,9 @@ use std::mem;
 /// How many of the later times have a bucket each. Most moves are due within a few units of time.
 const AHEAD: usize = 16;
 
-/// Nodes by the times at which they are due, seen as the list of the times and the nodes. The nodes of the time that is
-/// reached are in order. Those of a later time are in the bucket at the remainder of that time, if it has none of
-/// another time, and all others are in a heap.
+/// Nodes by the times at which they are due, seen as the list of the times and the nodes. The nodes of `reached` are in
+/// order. Each bucket of `later` has nodes of one later time, whose remainder is its place. All others are in a heap:
+/// those that were due no later than `reached` when they came, and those whose bucket was in use for another time.
 #[derive(Drop)]
 pub(crate) struct Calendar {
     reached: Bucket,
@@ -64,7 +64,7 @@ fn is_before(buckets: &[Bucket], place: usize, other: Option<usize>) -> bool
 /// The bucket whose nodes are due first, if one has some.
 fn first_bucket(buckets: &[Bucket]) -> Option<usize>
     ensures some { IfSome result (λ place. IsFirstBucket buckets.now (length buckets.now) place) }
-    ensures none { IfNone result (HaveNone buckets.now (length buckets.now)) }
+    ensures none { IfNone result (AreEmpty buckets.now (length buckets.now)) }
 {
     let mut first = None;
     for place in 0..buckets.len() {
@@ -75,13 +75,24 @@ fn first_bucket(buckets: &[Bucket]) -> Option<usize>
     first
 }
 
-/// Turns to the first of the later times, where all nodes of the time that is reached were taken.
-fn turn(reached: &mut Bucket, later: &mut Vec<Bucket>)
+/// Whether the first node of the heap is due before this time.
+fn is_due_before(others: &BinaryHeap<Reverse<(u64, u32)>>, time: u64) -> bool
+    ensures { result ≡ true → IsDueBefore (heap_items others.now) time }
+{
+    match others.peek() {
+        None => false,
+        Some(Reverse((first, _))) => *first < time,
+    }
+}
+
+/// Turns to the first of the later times, where all nodes of the time that is reached were taken, and the heap has none
+/// that is due before.
+fn turn(reached: &mut Bucket, later: &mut Vec<Bucket>, others: &BinaryHeap<Reverse<(u64, u32)>>)
     ensures kept { (room : ℕ) → AreBuckets reached.old later.old.items room →
         AreBuckets reached.new later.new.items room }
     ensures sums { (f : ℕ × ℕ → ℕ) → sum_by f (entries_of reached.new) + sum_by f (entries_in later.new.items) ≡
         sum_by f (entries_of reached.old) + sum_by f (entries_in later.old.items) }
-    ensures all { reached.new.nodes ≡ [] → HaveNone later.new.items (vec_len later.new) }
+    ensures all { reached.new.nodes ≡ [] → LeadsBuckets (heap_items others.now) later.new.items }
 {
     if !reached.is_empty() {
         return;
@@ -89,11 +100,14 @@ fn turn(reached: &mut Bucket, later: &mut Vec<Bucket>)
     let Some(place) = first_bucket(later) else {
         return;
     };
+    if is_due_before(others, later[place].time()) {
+        return;
+    }
     mem::swap(reached, &mut later[place]);
     reached.sort();
 }
 
-/// Whether the last node of the bucket, which are in order, comes before all of the heap.
+/// Whether the bucket's last node comes before all of the heap.
 fn is_first(reached: &Bucket, others: &BinaryHeap<Reverse<(u64, u32)>>) -> bool
     requires { IsHeap sooner (heap_items others.now) }
     ensures here { result ≡ true → LeadsAll reached.now (heap_items others.now) }
@@ -138,12 +152,12 @@ impl Calendar {
 
     /// Removes the first node, by time and then by number.
     pub(crate) fn take(&mut self) -> Option<u32>
-        ensures some { IfSome result (λ node. (time : ℕ) × IsTaken (time, node) self.old.entries self.new.entries) }
+        ensures some { IfSome result (λ node. (time : ℕ) × TakesFirst (time, node) self.old.entries self.new.entries) }
         ensures none { IfNone result (self.old.entries ≡ []) }
         ensures left { IfNone result (self.new.entries ≡ []) }
         ensures room { self.new.room ≡ self.old.room }
     {
-        turn(&mut self.reached, &mut self.later);
+        turn(&mut self.reached, &mut self.later, &self.others);
         if is_first(&self.reached, &self.others) {
             return self.reached.pop();
         }

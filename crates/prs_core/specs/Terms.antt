@@ -4,6 +4,6 @@ use Rattle.prs_core.specs.declared.rule.Literal.{Literal}
 use Rattle.prs_core.specs.declared.rule.Literals.{Literals}
 use Rattle.prs_core.specs.declared.rule.Literals.TheVariants.{One, More}
 
-abbrev pub literals_of : Literals → List Literal
-literals_of (One l) = l ∷ []
-literals_of (More ls) = ls.items
+abbrev pub term_literals : Literals → List Literal
+term_literals (One l) = l ∷ []
+term_literals (More ls) = ls.items

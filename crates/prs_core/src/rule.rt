@@ -30,13 +30,13 @@ pub struct Term {
 impl Model for Term {
     ghost use Rattle.std.specs.Prelude.{List, ◌<◌, length};
     ghost use Rattle.prs_core.specs.declared.rule.Literal.{Literal};
-    ghost use Rattle.prs_core.specs.Terms.{literals_of};
+    ghost use Rattle.prs_core.specs.Terms.{term_literals};
 
     ghost Value = { List Literal };
 
-    ghost view = { λ t. literals_of t.literals };
+    ghost view = { λ t. term_literals t.literals };
 
-    ghost invariant = { λ t. 0 < length (literals_of t.literals) };
+    ghost invariant = { λ t. 0 < length (term_literals t.literals) };
 }
 
 impl Term {

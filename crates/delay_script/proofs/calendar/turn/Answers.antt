@@ -17,7 +17,8 @@ returns-clause-sums c = λ f.
     let first : IsFirstBucket later (length later) place =
     subst (λ (bs : List BucketValue). IsFirstBucket bs (length bs) place) c.deref.ensures.value c.in-Some.ensures.some in
     let at : c.swap.new.x ≡ bucket_at later place =
-    c.swap.ensures.x_after ∙ get_or_read later place c.index_mut.result.now first.within c.index_mut.ensures.value (record { time = 0; nodes = []; room = 0 }) in
+    c.swap.ensures.x_after
+    ∙ get_or_read later place c.index_mut.result.now first.within c.index_mut.ensures.value (record { time = 0; nodes = []; room = 0 }) in
     let none : reached.nodes ≡ [] = nil_from_length reached.nodes (eqb-true (length reached.nodes) 0 (sym c.is_empty.ensures ∙ c.if-not-is_empty.false)) in
     ap (λ (b : BucketValue). sum_by f (entries_of next) + sum_by f (entries_in (set later place b))) c.swap.ensures.y_after
     ∙ sums_turned f reached next later place first.within none (subst (λ (b : BucketValue). IsPermutation b.nodes next.nodes) at c.sort.ensures.same)
@@ -31,7 +32,8 @@ returns-clause-all c = λ empty.
     let first : IsFirstBucket later (length later) place =
     subst (λ (bs : List BucketValue). IsFirstBucket bs (length bs) place) c.deref.ensures.value c.in-Some.ensures.some in
     let at : c.swap.new.x ≡ bucket_at later place =
-    c.swap.ensures.x_after ∙ get_or_read later place c.index_mut.result.now first.within c.index_mut.ensures.value (record { time = 0; nodes = []; room = 0 }) in
+    c.swap.ensures.x_after
+    ∙ get_or_read later place c.index_mut.result.now first.within c.index_mut.ensures.value (record { time = 0; nodes = []; room = 0 }) in
     absurd (omega (
       arith,
       first.some,

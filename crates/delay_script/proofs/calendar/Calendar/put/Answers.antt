@@ -15,12 +15,17 @@ add-requires c =
     let s = c.self.inside in
     let later = s.later.items in
     let place = c.args.time % 16 in
+    let none : BucketValue = record { time = 0; nodes = []; room = 0 } in
     let fewer = subst (λ (v : CalendarValue). length v.entries < v.room) (sym c.self.view_is) c.requires in
-    let within : place < 16 = omega arith in
-    let here = get_or_read later place c.index_mut.result.now (omega (arith, within, c.self.invariant.buckets.count)) c.index_mut.ensures.value
-    (record { time = 0; nodes = []; room = 0 }) in
-    subst (λ (b : BucketValue). length b.nodes < b.room) (sym here)
-    (room_near s.reached later (heap_items s.others) (heap_capacity s.others) s.room place c.self.invariant within fewer)
+    let small : place < 16 = omega arith in
+    let within : place < length later = omega (arith, small, c.self.invariant.buckets.count) in
+    let here = get_or_read later place c.index_mut.result.now within c.index_mut.ensures.value none in
+    let read = get_or_read later place c.index.result.now within c.index.ensures none in
+    record {
+      room = subst (λ (b : BucketValue). length b.nodes < b.room) (sym here)
+          (room_near s.reached later (heap_items s.others) (heap_capacity s.others) s.room place c.self.invariant small fewer);
+      time = ap (λ (b : BucketValue). (length b.nodes == 0) || (b.time == c.args.time)) (here ∙ sym read) ∙ sym c.takes.ensures ∙ c.if-takes.true;
+    }
 
 pub returns-then-takes-clause-sums : goal.returns-then-takes-clause-sums
 returns-then-takes-clause-sums c = λ f.

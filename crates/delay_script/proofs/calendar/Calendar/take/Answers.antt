@@ -4,7 +4,7 @@ use Rattle.std.specs.BinaryHeap.{IsHeap}
 use Rattle.std.specs.List.{sum_by}
 use Rattle.std.specs.declared.cmp.Reverse.{Reverse}
 use Rattle.std.proofs.lemmas.List.{nil_from_length}
-use Rattle.delay_script.specs.Calendars.{CalendarValue, HaveNone, FollowsFirst, entries_of, entries_in, others_of, sooner}
+use Rattle.delay_script.specs.Calendars.{CalendarValue, FollowsFirst, LeadsBuckets, entries_of, entries_in, others_of, sooner}
 use Rattle.delay_script.proofs.Bucketed.{left_kept, turned_sums, lead_taken, top_taken, none_left, AreAs}
 use Rattle.delay_script.proofs.calendar.Calendar.take.Goals as goal
 
@@ -42,7 +42,7 @@ returns-in_err-node-clause-none c =
     ∙ turned_sums f s.reached c.turn.new.reached s.later.items c.turn.new.later.items heap (c.turn.ensures.sums f) in
     subst (λ (o : Option ℕ). IfNone o (c.args.self.now.entries ≡ [])) (sym c.from_residual.ensures)
     (none_left c.args.self.now.entries c.turn.new.reached c.turn.new.later.items heap alike (c.is_first.ensures.there c.if-is_first.false)
-    (subst (λ (k : ℕ). c.turn.new.reached.nodes ≡ [] → HaveNone c.turn.new.later.items k) c.turn.new.later.ok.0 c.turn.ensures.all)
+    c.turn.ensures.all
     (nil_from_length heap (omega (arith, c.in_err-node.ensures.none, s.others.data.ok.0))))
 
 pub returns-in_err-node-clause-left : goal.returns-in_err-node-clause-left
@@ -56,7 +56,7 @@ returns-in_err-node-clause-left c =
     subst (λ (o : Option ℕ). IfNone o (entries_of reached ++ (entries_in later ++ others_of heap) ≡ [])) (sym c.from_residual.ensures)
     (none_left (entries_of reached ++ (entries_in later ++ others_of heap)) reached later heap (λ f. refl)
     (subst (λ (es : List (Reverse (ℕ × ℕ))). FollowsFirst reached es) same (c.is_first.ensures.there c.if-is_first.false))
-    (subst (λ (k : ℕ). reached.nodes ≡ [] → HaveNone later k) c.turn.new.later.ok.0 c.turn.ensures.all) (sym same ∙ empty))
+    (subst (λ (es : List (Reverse (ℕ × ℕ))). reached.nodes ≡ [] → LeadsBuckets es later) same c.turn.ensures.all) (sym same ∙ empty))
 
 pub invariant_of-self-2 : goal.invariant_of-self-2
 invariant_of-self-2 c = record {
@@ -76,6 +76,6 @@ returns-clause-some c =
       x.0.0,
       top_taken c.args.self.now.entries c.turn.new.reached c.turn.new.later.items heap (heap_items c.pop-2.new.self) s.room x alike
           (c.turn.ensures.kept s.room c.self.invariant.buckets) (c.is_first.ensures.there c.if-is_first.false)
-          (subst (λ (k : ℕ). c.turn.new.reached.nodes ≡ [] → HaveNone c.turn.new.later.items k) c.turn.new.later.ok.0 c.turn.ensures.all)
+          c.turn.ensures.all
           c.in_ok-node.ensures.top (c.in_ok-node.ensures.heap_order c.self.invariant.ordered).1 c.in_ok-node.ensures.permutation,
     )
