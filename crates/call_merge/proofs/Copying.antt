@@ -1,5 +1,6 @@
 -- Members that are copied one after the other, each by the same map of statements.
 use Rattle.std.proofs.Common.{◌≡◌, ℕ, ◌≤◌, Bool, List, [], ◌∷◌, map, length, take, refl, sym, ap, ◌∙◌, ◌⊎◌, inl, inr}
+use Rattle.std.specs.Prelude.{Result, Ok, Err, IfOk}
 use Rattle.std.specs.declared.alloc.Global.{Global}
 use Rattle.std.specs.declared.boxed.Box.{Box}
 use Rattle.std.specs.declared.vec.Vec.{Vec}
@@ -95,6 +96,25 @@ select_mapped {f} {each} {arms} {guards} into s again v w xs i is items all so_f
     ∙ (ap (λ us. selects again (onto and_guarded us no_arms)) (all_copied guarded_of (mapped_arm f guards) w.items xs v.items i all items so_far)
     ∙ (ap (λ us. selects again us) (sym (mapped_arms into v.items))
     ∙ (sym (into.choices again (onto and_guarded (map guarded_of v.items) no_arms)) ∙ sym (ap f (ap statement_of is ∙ select_tree again v)))))
+
+-- the same of what a box has, if it was made
+pub grouped_mapped : {E : Type 0} {f : Statement → Statement} {each : Statements → Statements} {arms : Arms → Arms} {guards : Expression → Expression}
+    → GoesInto f each arms guards
+    → (s : Stmt) (made : Result (Box Stmt Global) E) (v w : Vec Stmt Global) (ss : List Stmt) (i : ℕ) → (s ≡ Then v) ⊎ (s ≡ Beside v) → ss ≡ v.items →
+    length ss ≤ i → map statement_of w.items ≡ map (λ t. f (statement_of t)) (take i ss) →
+    ((u : Vec Stmt Global) → s ≡ Then u → IfOk made (λ (b : Box Stmt Global). b.value ≡ Then w)) →
+    ((u : Vec Stmt Global) → s ≡ Beside u → IfOk made (λ (b : Box Stmt Global). b.value ≡ Beside w)) →
+    IfOk made (λ (b : Box Stmt Global). statement_of b.value ≡ f (statement_of s))
+grouped_mapped into s (Ok b) v w ss i is items all so_far turns sides = group_mapped into s b.value v w ss i is items all so_far turns sides
+grouped_mapped into s (Err e) v w ss i is items all so_far turns sides = tt
+
+pub selected_mapped : {E : Type 0} {f : Statement → Statement} {each : Statements → Statements} {arms : Arms → Arms} {guards : Expression → Expression}
+    → GoesInto f each arms guards
+    → (s : Stmt) (made : Result (Box Stmt Global) E) (again : Bool) (v w : Vec Arm Global) (xs : List Arm) (i : ℕ) → s ≡ Select again v → xs ≡ v.items →
+    length xs ≤ i → map guarded_of w.items ≡ map (mapped_arm f guards) (take i xs) →
+    IfOk made (λ (b : Box Stmt Global). b.value ≡ Select again w) → IfOk made (λ (b : Box Stmt Global). statement_of b.value ≡ f (statement_of s))
+selected_mapped into s (Ok b) again v w xs i is items all so_far same = ap statement_of same ∙ select_mapped into s again v w xs i is items all so_far
+selected_mapped into s (Err e) again v w xs i is items all so_far same = tt
 
 -- the map that changes nothing
 pub goes_nowhere : GoesInto (λ s. s) (λ us. us) (λ xs. xs) (λ e. e)

@@ -1,8 +1,10 @@
 -- Members that are split one after the other.
 use Rattle.std.proofs.Common.{◌≡◌, ℕ, ◌+◌, ◌<◌, ◌≤◌, Bool, List, [], ◌∷◌, ◌++◌, map, length, get_or, drop, refl, sym, ap, ◌∙◌, subst, arith, ◌⊎◌, inl, inr, length-append, append-nil, append_assoc}
+use Rattle.std.specs.Prelude.{Result, Ok, Err, IfOk, OnOk, IsOk}
 use Rattle.std.specs.List.{flat_map}
 use Rattle.std.proofs.lemmas.List.{map-append, drop_more, drop_all}
 use Rattle.std.specs.declared.alloc.Global.{Global}
+use Rattle.std.specs.declared.boxed.Box.{Box}
 use Rattle.std.specs.declared.vec.Vec.{Vec}
 use Rattle.chp_syntax.specs.declared.tree.Arm.{Arm}
 use Rattle.chp_syntax.specs.declared.tree.Decl.{Decl}
@@ -10,6 +12,7 @@ use Rattle.chp_syntax.specs.declared.tree.Ident.{Ident}
 use Rattle.chp_syntax.specs.declared.tree.Proc.{Proc}
 use Rattle.chp_syntax.specs.declared.tree.Stmt.{Stmt, Then, Beside, Select}
 use Rattle.chp_syntax.specs.Trees.{Statement, follows, besides, selects, Statements, and_member, Arms, and_arm, Procedure}
+use Rattle.chp_syntax.specs.Grammar.{Guarded, guarded}
 use Rattle.chp_syntax.specs.View.{expression_of, statement_of, procedure_of, guarded_of, and_guarded, onto}
 use Rattle.chp_syntax.proofs.Rows.{then_tree, beside_tree, select_tree}
 use Rattle.width_check.specs.Walk.{statements_in, arms_in}
@@ -159,6 +162,65 @@ select_split ds ns s again v w xs i n m is items over so_far =
     ∙ (ap (λ us. selects again us)
     (ap (λ us. onto and_guarded (map guarded_of w.items) (split_arms ds ns m us)) (sym (arms_end xs i over)) ∙ so_far)
     ∙ (ap (λ (ys : List Arm). selects again (split_arms ds ns n (arms_in ys))) items ∙ sym (ap (split_statement ds ns n) (select_is s again v is))))
+
+-- the same where a member, an arm or the whole comes in a box, if it was made
+
+pub member_added : {E : Type 0} (ds : List Decl) (ns : List (List ℕ)) (ss : List Stmt) (i : ℕ) (s : Stmt) (r : Result (Box Stmt Global) E)
+    (old new : List Stmt) (n m : ℕ) (whole : Statements) → i < length ss → s ≡ get_or ss i s
+    → onto and_member (map statement_of old) (split_members ds ns n (statements_in (drop i ss))) ≡ whole
+    → IfOk r (λ (b : Box Stmt Global). statement_of b.value ≡ split_statement ds ns n (statement_of s))
+    → OnOk r (m ≡ n + length (own_readers ds (statement_of s))) → IsOk r → IfOk r (λ (b : Box Stmt Global). new ≡ old ++ b.value ∷ [])
+    → onto and_member (map statement_of new) (split_members ds ns m (statements_in (drop (i + 1) ss))) ≡ whole
+member_added ds ns ss i s (Ok b) old new n m whole within is so_far made place ok next =
+    member_split ds ns ss i s b.value old new n m whole within is so_far made place next
+member_added ds ns ss i s (Err e) old new n m whole within is so_far made place ok next = absurd (cc ok)
+
+pub of_made : {T E : Type 0} (r : Result T E) (P : Type 0) → IsOk r → OnOk r P → P
+of_made (Ok x) P ok p = p
+of_made (Err e) P ok p = absurd (cc ok)
+
+pub if_made : {T E : Type 0} (r : Result T E) (P : Type 0) → P → OnOk r P
+if_made (Ok x) P p = p
+if_made (Err e) P p = tt
+
+onto_last : {B U : Type 0} (more : B → U → U) (bs : List B) (b : B) (us : U) → onto more (bs ++ b ∷ []) us ≡ onto more bs (more b us)
+onto_last more [] b us = refl
+onto_last more (c ∷ bs) b us = ap (more c) (onto_last more bs b us)
+
+pub arm_added : {E : Type 0} (ds : List Decl) (ns : List (List ℕ)) (xs : List Arm) (i : ℕ) (a : Arm) (r : Result (Box Stmt Global) E) (old new : List Arm)
+    (n m : ℕ) (whole : Arms) → i < length xs → a ≡ get_or xs i a
+    → onto and_guarded (map guarded_of old) (split_arms ds ns n (arms_in (drop i xs))) ≡ whole
+    → IfOk r (λ (b : Box Stmt Global). statement_of b.value ≡ split_statement ds ns n (statement_of a.body))
+    → OnOk r (m ≡ n + length (own_readers ds (statement_of a.body))) → IsOk r
+    → IfOk r (λ (b : Box Stmt Global). map guarded_of new ≡ map guarded_of old ++ guarded (expression_of a.guard) (statement_of b.value) ∷ [])
+    → onto and_guarded (map guarded_of new) (split_arms ds ns m (arms_in (drop (i + 1) xs))) ≡ whole
+arm_added ds ns xs i a (Ok b) old new n m whole within is so_far made place ok next =
+    let rest = arms_in (drop (i + 1) xs) in
+    ap (λ (gs : List Guarded). onto and_guarded gs (split_arms ds ns m rest)) next
+    ∙ (onto_last and_guarded (map guarded_of old) (guarded (expression_of a.guard) (statement_of b.value)) (split_arms ds ns m rest)
+    ∙ (ap (λ z. onto and_guarded (map guarded_of old) (and_arm (expression_of a.guard) z (split_arms ds ns m rest))) made
+    ∙ (ap (λ k. onto and_guarded (map guarded_of old)
+    (and_arm (expression_of a.guard) (split_statement ds ns n (statement_of a.body)) (split_arms ds ns k rest))) place
+    ∙ (ap (λ us. onto and_guarded (map guarded_of old) (split_arms ds ns n us)) (sym (arms_more xs i a within is)) ∙ so_far))))
+arm_added ds ns xs i a (Err e) old new n m whole within is so_far made place ok next = absurd (cc ok)
+
+pub grouped_split : {E : Type 0} (ds : List Decl) (ns : List (List ℕ)) (s : Stmt) (made : Result (Box Stmt Global) E) (v w : Vec Stmt Global)
+    (ss : List Stmt) (i n m : ℕ) → (s ≡ Then v) ⊎ (s ≡ Beside v) → ss ≡ v.items → length ss ≤ i
+    → onto and_member (map statement_of w.items) (split_members ds ns m (statements_in (drop i ss))) ≡ split_members ds ns n (statements_in ss)
+    → ((u : Vec Stmt Global) → s ≡ Then u → IfOk made (λ (b : Box Stmt Global). b.value ≡ Then w))
+    → ((u : Vec Stmt Global) → s ≡ Beside u → IfOk made (λ (b : Box Stmt Global). b.value ≡ Beside w))
+    → IfOk made (λ (b : Box Stmt Global). statement_of b.value ≡ split_statement ds ns n (statement_of s))
+grouped_split ds ns s (Ok b) v w ss i n m is items over so_far turns sides = group_split ds ns s b.value v w ss i n m is items over so_far turns sides
+grouped_split ds ns s (Err e) v w ss i n m is items over so_far turns sides = tt
+
+pub selected_split : {E : Type 0} (ds : List Decl) (ns : List (List ℕ)) (s : Stmt) (made : Result (Box Stmt Global) E) (again : Bool) (v w : Vec Arm Global)
+    (xs : List Arm) (i n m : ℕ) → s ≡ Select again v → xs ≡ v.items → length xs ≤ i
+    → onto and_guarded (map guarded_of w.items) (split_arms ds ns m (arms_in (drop i xs))) ≡ split_arms ds ns n (arms_in xs)
+    → IfOk made (λ (b : Box Stmt Global). b.value ≡ Select again w)
+    → IfOk made (λ (b : Box Stmt Global). statement_of b.value ≡ split_statement ds ns n (statement_of s))
+selected_split ds ns s (Ok b) again v w xs i n m is items over so_far same =
+    ap statement_of same ∙ select_split ds ns s again v w xs i n m is items over so_far
+selected_split ds ns s (Err e) again v w xs i n m is items over so_far same = tt
 
 -- what is needed at the members of a statement is what is needed at it
 

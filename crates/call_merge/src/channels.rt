@@ -1,12 +1,14 @@
 //! The program of a program's calls alone: its procedures are channels, and its calls are sends.
 
-ghost use Rattle.std.specs.Prelude.{◌≡◌, map, IfOk};
-ghost use Rattle.chp_syntax.specs.View.{program_tree as tree_of, procedure_of, statement_of};
-ghost use Rattle.call_merge.specs.CallSites.{no_place, call_channel, call_sends, calls_program};
+ghost use Rattle.std.specs.Prelude.{◌≡◌, ◌++◌, ◌∷◌, [], map, IfOk, OnOk, IsOk};
+ghost use Rattle.chp_syntax.specs.Trees.{sends};
+ghost use Rattle.chp_syntax.specs.Grammar.{guarded};
+ghost use Rattle.chp_syntax.specs.View.{program_tree as tree_of, procedure_of, statement_of, guarded_of};
+ghost use Rattle.call_merge.specs.CallSites.{no_place, zero_expression, call_channel, call_sends, calls_program};
 
-use crate::copies::{boxed, copied_name, group_like};
+use crate::copies::{Made, add, add_arm, copied_name, grouped, repeated, selected, sent, skipped};
 use chp_base::Span;
-use chp_syntax::{Arm, Decl, DeclKind, Expr, Proc, Program, Stmt};
+use chp_syntax::{Arm, Decl, DeclKind, Expr, Ident, Proc, Program, Stmt};
 use std::alloc::{AllocError, Global};
 
 /// What is made stands in no text.
@@ -32,49 +34,56 @@ fn call_channels(alloc: Global, procs: &[Proc]) -> Result<Vec<Decl>, AllocError>
     Ok(made)
 }
 
+/// Adds an arm whose guard is 0.
+#[inline(never)]
+fn add_zero_arm(alloc: Global, arms: &mut Vec<Arm>, body: Made) -> Result<(), AllocError>
+    ensures made { OnOk result (IsOk body) }
+    ensures added { OnOk result (IfOk body (λ b. map guarded_of arms.new.items ≡
+        map guarded_of arms.old.items ++ guarded zero_expression (statement_of b.value) ∷ [])) }
+{
+    let zero = Expr::Number {
+        value: 0,
+        at: NOWHERE,
+    };
+    add_arm(alloc, arms, &zero, body)
+}
+
+/// A send of 0 on the channel of this name.
+#[inline(never)]
+fn zero_sent(alloc: Global, chan: &Ident) -> Made
+    ensures { IfOk result (λ made. statement_of made.value ≡ sends chan.now zero_expression) }
+{
+    let zero = Expr::Number {
+        value: 0,
+        at: NOWHERE,
+    };
+    sent(alloc, chan, &zero)
+}
+
 /// The statement with each call a send of 0, each guard 0, and all else skipped.
-fn call_sends(alloc: Global, s: &Stmt) -> Result<Stmt, AllocError>
-    ensures { IfOk result (λ made. statement_of made ≡ call_sends (statement_of s.now)) }
+fn call_sends(alloc: Global, s: &Stmt) -> Made
+    ensures { IfOk result (λ made. statement_of made.value ≡ call_sends (statement_of s.now)) }
 {
     match s {
         Stmt::Skip { .. } | Stmt::Assign { .. } | Stmt::Send { .. } | Stmt::Receive { .. } => {
-            Ok(Stmt::Skip { at: NOWHERE })
+            skipped(alloc, NOWHERE)
         }
         Stmt::Then { parts } | Stmt::Beside { parts } => {
             let mut made = Vec::new(alloc);
             for part in parts {
-                made.push(call_sends(alloc, part)?)?;
+                add(&mut made, call_sends(alloc, part))?;
             }
-            Ok(group_like(s, made))
+            grouped(alloc, s, made)
         }
         Stmt::Select { again, arms } => {
             let mut made = Vec::new(alloc);
             for arm in arms {
-                let body = call_sends(alloc, &arm.body)?;
-                let guard = Expr::Number {
-                    value: 0,
-                    at: NOWHERE,
-                };
-                made.push(Arm { guard, body })?;
+                add_zero_arm(alloc, &mut made, call_sends(alloc, &arm.body))?;
             }
-            Ok(Stmt::Select {
-                again: *again,
-                arms: made,
-            })
+            selected(alloc, *again, made)
         }
-        Stmt::Repeat { body } => {
-            let made = call_sends(alloc, body);
-            Ok(Stmt::Repeat {
-                body: boxed(alloc, made)?,
-            })
-        }
-        Stmt::Call { of } => Ok(Stmt::Send {
-            chan: copied_name(of)?,
-            value: Expr::Number {
-                value: 0,
-                at: NOWHERE,
-            },
-        }),
+        Stmt::Repeat { body } => repeated(alloc, call_sends(alloc, body)),
+        Stmt::Call { of } => zero_sent(alloc, of),
     }
 }
 
@@ -87,6 +96,6 @@ pub(crate) fn calls_program(alloc: Global, program: &Program) -> Result<Program,
     Ok(Program {
         decls,
         procs: Vec::new(alloc),
-        body,
+        body: Box::into_inner(body),
     })
 }

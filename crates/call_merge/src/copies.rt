@@ -1,13 +1,21 @@
 //! Copies of the parts of a program.
 
-ghost use Rattle.std.specs.Prelude.{◌≡◌, IfOk, Ok};
+ghost use Rattle.std.specs.Prelude.{◌≡◌, ◌++◌, ◌∷◌, [], map, IfOk, OnOk, IsOk, Ok};
 ghost use Rattle.std.specs.declared.alloc.Global.{Global as memory};
 ghost use Rattle.std.specs.declared.vec.Vec.{Vec as row};
-ghost use Rattle.chp_syntax.specs.declared.tree.Stmt.{Stmt as node, Then, Beside};
-ghost use Rattle.chp_syntax.specs.View.{expression_of, statement_of};
+ghost use Rattle.chp_syntax.specs.declared.tree.Stmt.{Stmt as node, Then, Beside, Select};
+ghost use Rattle.chp_syntax.specs.Trees.{skips, assigns, sends, receives, repeats, calls};
+ghost use Rattle.chp_syntax.specs.Grammar.{guarded};
+ghost use Rattle.chp_syntax.specs.View.{expression_of, statement_of, guarded_of};
 
+use chp_base::Span;
 use chp_syntax::{Arm, Decl, Expr, Ident, Link, Stmt};
 use std::alloc::{AllocError, Global};
+
+/// A statement that was made, in a box of its own. Functions that go through a tree return these: a statement takes
+/// more than a hundred bytes, and what such a function keeps on the stack is there once for each level of the tree. So
+/// the functions that make a statement, or add one to others, aren't put into it.
+pub(crate) type Made = Result<Box<Stmt>, AllocError>;
 
 /// What was made, in a box of its own.
 pub(crate) fn boxed<T: Drop>(
@@ -17,17 +25,6 @@ pub(crate) fn boxed<T: Drop>(
     ensures { IfOk result (λ b. made ≡ Ok b.value) }
 {
     Ok(Box::new(alloc, made?)?)
-}
-
-/// A group of these members, of the kind of the group `s`: one after the other, or beside each other.
-pub(crate) fn group_like(s: &Stmt, members: Vec<Stmt>) -> Stmt
-    ensures turns { (parts : row node memory) → s.now ≡ Then parts → result ≡ Then members }
-    ensures sides { (parts : row node memory) → s.now ≡ Beside parts → result ≡ Beside members }
-{
-    match s {
-        Stmt::Then { .. } => Stmt::Then { parts: members },
-        _ => Stmt::Beside { parts: members },
-    }
 }
 
 /// Copies a name with its place.
@@ -114,51 +111,137 @@ pub(crate) fn copied_expression(alloc: Global, e: &Expr) -> Result<Expr, AllocEr
     }
 }
 
+/// `skip`
+#[inline(never)]
+pub(crate) fn skipped(alloc: Global, at: Span) -> Made
+    ensures { IfOk result (λ made. statement_of made.value ≡ skips at) }
+{
+    Ok(Box::new(alloc, Stmt::Skip { at })?)
+}
+
+/// A copy of an assignment.
+#[inline(never)]
+fn assigned(alloc: Global, target: &Ident, value: &Expr) -> Made
+    ensures { IfOk result (λ made. statement_of made.value ≡ assigns target.now (expression_of value.now)) }
+{
+    let target = copied_name(target)?;
+    let value = copied_expression(alloc, value)?;
+    Ok(Box::new(alloc, Stmt::Assign { target, value })?)
+}
+
+/// A copy of a send.
+#[inline(never)]
+pub(crate) fn sent(alloc: Global, chan: &Ident, value: &Expr) -> Made
+    ensures { IfOk result (λ made. statement_of made.value ≡ sends chan.now (expression_of value.now)) }
+{
+    let chan = copied_name(chan)?;
+    let value = copied_expression(alloc, value)?;
+    Ok(Box::new(alloc, Stmt::Send { chan, value })?)
+}
+
+/// A copy of a receive.
+#[inline(never)]
+fn received(alloc: Global, chan: &Ident, target: &Ident) -> Made
+    ensures { IfOk result (λ made. statement_of made.value ≡ receives chan.now target.now) }
+{
+    let chan = copied_name(chan)?;
+    let target = copied_name(target)?;
+    Ok(Box::new(alloc, Stmt::Receive { chan, target })?)
+}
+
+/// A copy of a call.
+#[inline(never)]
+pub(crate) fn called(alloc: Global, of: &Ident) -> Made
+    ensures { IfOk result (λ made. statement_of made.value ≡ calls of.now) }
+{
+    let of = copied_name(of)?;
+    Ok(Box::new(alloc, Stmt::Call { of })?)
+}
+
+/// Adds what was made to the members.
+#[inline(never)]
+pub(crate) fn add(members: &mut Vec<Stmt>, made: Made) -> Result<(), AllocError>
+    ensures made { OnOk result (IsOk made) }
+    ensures added { OnOk result (IfOk made (λ b. members.new.items ≡ members.old.items ++ b.value ∷ [])) }
+{
+    members.push(Box::into_inner(made?))?;
+    Ok(())
+}
+
+/// A group of these members, of the kind of the group `s`: one after the other, or beside each other.
+#[inline(never)]
+pub(crate) fn grouped(alloc: Global, s: &Stmt, members: Vec<Stmt>) -> Made
+    ensures turns { (parts : row node memory) → s.now ≡ Then parts →
+        IfOk result (λ made. made.value ≡ Then members) }
+    ensures sides { (parts : row node memory) → s.now ≡ Beside parts →
+        IfOk result (λ made. made.value ≡ Beside members) }
+{
+    let made = match s {
+        Stmt::Then { .. } => Stmt::Then { parts: members },
+        _ => Stmt::Beside { parts: members },
+    };
+    Ok(Box::new(alloc, made)?)
+}
+
+/// Adds an arm with a copy of the guard, and the body that was made.
+#[inline(never)]
+pub(crate) fn add_arm(
+    alloc: Global,
+    arms: &mut Vec<Arm>,
+    guard: &Expr,
+    body: Made,
+) -> Result<(), AllocError>
+    ensures made { OnOk result (IsOk body) }
+    ensures added { OnOk result (IfOk body (λ b. map guarded_of arms.new.items ≡
+        map guarded_of arms.old.items ++ guarded (expression_of guard.now) (statement_of b.value) ∷ [])) }
+{
+    let body = Box::into_inner(body?);
+    let guard = copied_expression(alloc, guard)?;
+    arms.push(Arm { guard, body })?;
+    Ok(())
+}
+
+/// A selection with these arms.
+#[inline(never)]
+pub(crate) fn selected(alloc: Global, again: bool, arms: Vec<Arm>) -> Made
+    ensures { IfOk result (λ made. made.value ≡ Select again arms) }
+{
+    Ok(Box::new(alloc, Stmt::Select { again, arms })?)
+}
+
+/// The repetition of what was made.
+#[inline(never)]
+pub(crate) fn repeated(alloc: Global, body: Made) -> Made
+    ensures made { OnOk result (IsOk body) }
+    ensures repeats { IfOk result (λ made. IfOk body (λ b. statement_of made.value ≡ repeats (statement_of b.value))) }
+{
+    Ok(Box::new(alloc, Stmt::Repeat { body: body? })?)
+}
+
 /// Copies a statement.
-pub(crate) fn copied(alloc: Global, s: &Stmt) -> Result<Stmt, AllocError>
-    ensures { IfOk result (λ made. statement_of made ≡ statement_of s.now) }
+pub(crate) fn copied(alloc: Global, s: &Stmt) -> Made
+    ensures { IfOk result (λ made. statement_of made.value ≡ statement_of s.now) }
 {
     match s {
-        Stmt::Skip { at } => Ok(Stmt::Skip { at: *at }),
-        Stmt::Assign { target, value } => Ok(Stmt::Assign {
-            target: copied_name(target)?,
-            value: copied_expression(alloc, value)?,
-        }),
-        Stmt::Send { chan, value } => Ok(Stmt::Send {
-            chan: copied_name(chan)?,
-            value: copied_expression(alloc, value)?,
-        }),
-        Stmt::Receive { chan, target } => Ok(Stmt::Receive {
-            chan: copied_name(chan)?,
-            target: copied_name(target)?,
-        }),
+        Stmt::Skip { at } => skipped(alloc, *at),
+        Stmt::Assign { target, value } => assigned(alloc, target, value),
+        Stmt::Send { chan, value } => sent(alloc, chan, value),
+        Stmt::Receive { chan, target } => received(alloc, chan, target),
         Stmt::Then { parts } | Stmt::Beside { parts } => {
             let mut made = Vec::new(alloc);
             for part in parts {
-                made.push(copied(alloc, part)?)?;
+                add(&mut made, copied(alloc, part))?;
             }
-            Ok(group_like(s, made))
+            grouped(alloc, s, made)
         }
         Stmt::Select { again, arms } => {
             let mut made = Vec::new(alloc);
             for arm in arms {
-                let guard = copied_expression(alloc, &arm.guard)?;
-                let body = copied(alloc, &arm.body)?;
-                made.push(Arm { guard, body })?;
+                add_arm(alloc, &mut made, &arm.guard, copied(alloc, &arm.body))?;
             }
-            Ok(Stmt::Select {
-                again: *again,
-                arms: made,
-            })
+            selected(alloc, *again, made)
         }
-        Stmt::Repeat { body } => {
-            let made = copied(alloc, body);
-            Ok(Stmt::Repeat {
-                body: boxed(alloc, made)?,
-            })
-        }
-        Stmt::Call { of } => Ok(Stmt::Call {
-            of: copied_name(of)?,
-        }),
+        Stmt::Repeat { body } => repeated(alloc, copied(alloc, body)),
+        Stmt::Call { of } => called(alloc, of),
     }
 }

@@ -15,14 +15,16 @@ ghost use Rattle.call_merge.specs.Inlining.{inlined_statement, IsInlined, HasToo
 
 use crate::bodies::Procedures;
 use crate::causes::refuse_calls;
-use crate::copies::{boxed, copied, copied_decls, copied_expression, copied_name, group_like};
+use crate::copies::{
+    Made, add, add_arm, called, copied, copied_decls, grouped, repeated, selected,
+};
 use crate::error::CallError;
 use crate::firsts::FirstDecls;
 use crate::forms::inlined_forms;
 use crate::own_vars::own_vars;
 use crate::splits::split_procedures;
 use chp_base::Symbols;
-use chp_syntax::{Arm, Decl, Proc, Program, Stmt};
+use chp_syntax::{Decl, Proc, Program, Stmt};
 use std::alloc::{AllocError, Global};
 
 /// The most forms of an inlined program.
@@ -43,9 +45,9 @@ fn names_of(alloc: Global, procs: &[Proc]) -> Result<Symbols, AllocError>
 }
 
 /// The statement with each call its procedure's body.
-fn inlined(alloc: Global, procs: &Procedures, s: &Stmt) -> Result<Stmt, AllocError>
+fn inlined(alloc: Global, procs: &Procedures, s: &Stmt) -> Made
     ensures { IfOk result (λ made.
-        statement_of made ≡ inlined_statement (procedures_in procs.now) (statement_of s.now)) }
+        statement_of made.value ≡ inlined_statement (procedures_in procs.now) (statement_of s.now)) }
 {
     match s {
         Stmt::Skip { .. } | Stmt::Assign { .. } | Stmt::Send { .. } | Stmt::Receive { .. } => {
@@ -54,33 +56,22 @@ fn inlined(alloc: Global, procs: &Procedures, s: &Stmt) -> Result<Stmt, AllocErr
         Stmt::Then { parts } | Stmt::Beside { parts } => {
             let mut made = Vec::new(alloc);
             for part in parts {
-                made.push(inlined(alloc, procs, part)?)?;
+                add(&mut made, inlined(alloc, procs, part))?;
             }
-            Ok(group_like(s, made))
+            grouped(alloc, s, made)
         }
         Stmt::Select { again, arms } => {
             let mut made = Vec::new(alloc);
             for arm in arms {
-                let guard = copied_expression(alloc, &arm.guard)?;
-                let body = inlined(alloc, procs, &arm.body)?;
-                made.push(Arm { guard, body })?;
+                let body = inlined(alloc, procs, &arm.body);
+                add_arm(alloc, &mut made, &arm.guard, body)?;
             }
-            Ok(Stmt::Select {
-                again: *again,
-                arms: made,
-            })
+            selected(alloc, *again, made)
         }
-        Stmt::Repeat { body } => {
-            let made = inlined(alloc, procs, body);
-            Ok(Stmt::Repeat {
-                body: boxed(alloc, made)?,
-            })
-        }
+        Stmt::Repeat { body } => repeated(alloc, inlined(alloc, procs, body)),
         Stmt::Call { of } => match procs.find(&of.name) {
             Some(body) => copied(alloc, &body.procedure.body),
-            None => Ok(Stmt::Call {
-                of: copied_name(of)?,
-            }),
+            None => called(alloc, of),
         },
     }
 }
@@ -126,7 +117,7 @@ fn with_bodies(alloc: Global, program: &Program, split: SplitBodies) -> Result<P
     Ok(Program {
         decls,
         procs: Vec::new(alloc),
-        body,
+        body: Box::into_inner(body),
     })
 }
 

@@ -6,12 +6,14 @@ ghost use Rattle.call_merge.specs.Bodies.{procedures_of};
 ghost use Rattle.call_merge.specs.CallSplits.{reads_itself, own_readers, all_own_readers, through_own, split_statement, split_procedures, own_names};
 
 use crate::bodies::Body;
-use crate::copies::{boxed, copied, copied_expression, copied_name, group_like};
+use crate::copies::{
+    Made, add, add_arm, copied, copied_expression, copied_name, grouped, repeated, selected,
+};
 use crate::firsts::FirstDecls;
 use crate::forms::statement_forms;
 use crate::own_vars::reads_itself;
 use chp_base::Name;
-use chp_syntax::{Arm, Decl, Expr, Ident, Proc, Program, Stmt};
+use chp_syntax::{Decl, Expr, Ident, Proc, Program, Stmt};
 use std::alloc::{AllocError, Global};
 
 /// The variable, where the target stands.
@@ -25,9 +27,10 @@ fn name_at(name: &Name, target: &Ident) -> Result<Ident, AllocError>
 }
 
 /// `h := e; x := h`
-fn through_own(alloc: Global, name: &Name, target: &Ident, value: &Expr) -> Result<Stmt, AllocError>
+#[inline(never)]
+fn through_own(alloc: Global, name: &Name, target: &Ident, value: &Expr) -> Made
     ensures { IfOk result (λ made.
-        statement_of made ≡ through_own name.now target.now (expression_of value.now)) }
+        statement_of made.value ≡ through_own name.now target.now (expression_of value.now)) }
 {
     let mut parts = Vec::new(alloc);
     parts.push(Stmt::Assign {
@@ -40,21 +43,15 @@ fn through_own(alloc: Global, name: &Name, target: &Ident, value: &Expr) -> Resu
             of: name_at(name, target)?,
         },
     })?;
-    Ok(Stmt::Then { parts })
+    Ok(Box::new(alloc, Stmt::Then { parts })?)
 }
 
 /// The statement with each assignment that reads its own target in halves, by the variables from a place on. The place
 /// moves behind those that are used.
-fn split(
-    alloc: Global,
-    decls: &FirstDecls,
-    vars: &[Decl],
-    place: &mut usize,
-    s: &Stmt,
-) -> Result<Stmt, AllocError>
+fn split(alloc: Global, decls: &FirstDecls, vars: &[Decl], place: &mut usize, s: &Stmt) -> Made
     requires { place.old + length (own_readers decls.now (statement_of s.now)) ≤ length vars.now }
     ensures made { IfOk result (λ made.
-        statement_of made ≡ split_statement decls.now (own_names vars.now) place.old (statement_of s.now)) }
+        statement_of made.value ≡ split_statement decls.now (own_names vars.now) place.old (statement_of s.now)) }
     ensures place { OnOk result (place.new ≡ place.old + length (own_readers decls.now (statement_of s.now))) }
 {
     match s {
@@ -72,28 +69,19 @@ fn split(
         Stmt::Then { parts } | Stmt::Beside { parts } => {
             let mut made = Vec::new(alloc);
             for part in parts {
-                made.push(split(alloc, decls, vars, place, part)?)?;
+                add(&mut made, split(alloc, decls, vars, place, part))?;
             }
-            Ok(group_like(s, made))
+            grouped(alloc, s, made)
         }
         Stmt::Select { again, arms } => {
             let mut made = Vec::new(alloc);
             for arm in arms {
-                let guard = copied_expression(alloc, &arm.guard)?;
-                let body = split(alloc, decls, vars, place, &arm.body)?;
-                made.push(Arm { guard, body })?;
+                let body = split(alloc, decls, vars, place, &arm.body);
+                add_arm(alloc, &mut made, &arm.guard, body)?;
             }
-            Ok(Stmt::Select {
-                again: *again,
-                arms: made,
-            })
+            selected(alloc, *again, made)
         }
-        Stmt::Repeat { body } => {
-            let made = split(alloc, decls, vars, place, body);
-            Ok(Stmt::Repeat {
-                body: boxed(alloc, made)?,
-            })
-        }
+        Stmt::Repeat { body } => repeated(alloc, split(alloc, decls, vars, place, body)),
     }
 }
 
@@ -126,7 +114,7 @@ pub(crate) fn split_procedures(
     for procedure in &program.procs {
         let name = copied_name(&procedure.name)?;
         let body = split(alloc, decls, vars, &mut place, &procedure.body)?;
-        made.push(body_of(alloc, name, body))?;
+        made.push(body_of(alloc, name, Box::into_inner(body)))?;
     }
     Ok(made)
 }

@@ -1,12 +1,13 @@
-use Rattle.call_merge.proofs.Copying.{group_mapped, select_mapped}
+use Rattle.call_merge.proofs.Copying.{grouped_mapped, selected_mapped}
 use Rattle.call_merge.proofs.Mapping.{goes_sends}
 use Rattle.call_merge.proofs.channels.+call_sends.Goals as goal
 
 pub returns-after-loop-part : goal.returns-after-loop-part
-returns-after-loop-part t c = group_mapped goes_sends c.args.s.now c.group_like.result c.in-Then.parts c.loop-part.made
+returns-after-loop-part t c = grouped_mapped goes_sends c.args.s.now c.grouped.result c.in-Then.parts c.loop-part.made
     c.deref-part-items.result.now c.loop-part.part-index c.in-Then.is c.deref-part-items.ensures.value c.loop-part-test.false c.loop-part.invariant
-    c.group_like.ensures.turns c.group_like.ensures.sides
+    c.grouped.ensures.turns c.grouped.ensures.sides
 
 pub returns-after-loop-arm : goal.returns-after-loop-arm
-returns-after-loop-arm t c = select_mapped goes_sends c.args.s.now c.in-Select.again c.in-Select.arms c.loop-arm.made
+returns-after-loop-arm t c = selected_mapped goes_sends c.args.s.now c.selected.result c.in-Select.again c.in-Select.arms c.loop-arm.made
     c.deref-arm-items.result.now c.loop-arm.arm-index c.in-Select.is c.deref-arm-items.ensures.value c.loop-arm-test.false c.loop-arm.invariant
+    c.selected.ensures

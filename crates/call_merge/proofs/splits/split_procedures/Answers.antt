@@ -17,8 +17,9 @@ pub loop-procedure-preserved : goal.loop-procedure-preserved
 loop-procedure-preserved c = record {
   made = procedure_split c.args.decls.now (own_names c.args.vars.now) c.deref-procedure-items.result.now c.loop-procedure.procedure-index
       c.procedure-item.result
-      c.body_of.result c.in_ok-body.body _ _ _ _ _ c.loop-procedure-test.true c.procedure-item.is c.loop-procedure.invariant.made
-      (c.body_of.ensures.name ∙ c.in_ok-name.ensures) c.body_of.ensures.body c.in_ok-body.ensures.made c.in_ok-body.ensures.place c.in_ok-push.ensures.items;
+      c.body_of.result c.in_ok-body.body.value _ _ _ _ _ c.loop-procedure-test.true c.procedure-item.is c.loop-procedure.invariant.made
+      (c.body_of.ensures.name ∙ c.in_ok-name.ensures) (c.body_of.ensures.body ∙ c.into_inner.ensures)
+      c.in_ok-body.ensures.made c.in_ok-body.ensures.place c.in_ok-push.ensures.items;
   place = procedure_placed c.args.decls.now c.deref-procedure-items.result.now c.loop-procedure.procedure-index c.procedure-item.result _ _ _
       c.loop-procedure-test.true c.procedure-item.is c.loop-procedure.invariant.place c.in_ok-body.ensures.place;
 }

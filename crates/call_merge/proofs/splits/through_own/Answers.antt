@@ -15,7 +15,8 @@ returns c =
     let moves = Assign c.in_ok-copied_name.field-0 (Whole c.in_ok-name_at-2.field-0) in
     let both = two_pushed c.new-parts.result.items c.push.new.self.items c.push-2.new.self.items keeps moves c.new-parts.ensures.items
     c.in_ok-push.ensures.items c.in_ok-push-2.ensures.items in
-    then_tree c.push-2.new.self
+    ap statement_of c.in_ok-new.ensures.ok
+    ∙ (then_tree c.push-2.new.self
     ∙ (ap (λ (xs : List Stmt). follows (onto and_member (map statement_of xs) no_members)) both
     ∙ halves c.args.name.now c.args.target.now _ _ _ _ _ c.in_ok-name_at.ensures c.in_ok-copied_expression.ensures c.in_ok-copied_name.ensures
-    c.in_ok-name_at-2.ensures)
+    c.in_ok-name_at-2.ensures))
