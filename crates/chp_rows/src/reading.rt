@@ -1,5 +1,8 @@
 //! What a text is read as.
 
+ghost use Rattle.chp_syntax.specs.Shape.{IsShaped};
+ghost use Rattle.chp_syntax.specs.View.{program_tree};
+
 use crate::printer::put_program;
 use case_text::put_bytes;
 use chp_base::TextError;
@@ -7,10 +10,20 @@ use chp_syntax::{Program, Token, TokenKind, parse, tokens};
 use sharing_check::{Disjoint, share};
 use std::alloc::{AllocError, Global};
 use std::fmt::Write;
-use width_check::{is_call_free, resolve};
+use width_check::{Typed, is_call_free, resolve};
 
 /// The most bytes of a program text.
 const MOST: usize = 262_144;
+
+/// The program with its names resolved, where it has neither procedures nor calls.
+fn resolved(alloc: Global, program: &Program) -> Option<Typed>
+    requires { IsShaped (program_tree program.now) }
+{
+    if program.decls.len() > MOST || !is_call_free(program) {
+        return None;
+    }
+    resolve(alloc, program).ok()
+}
 
 /// The accepted program that the text is. `None` where the text is too long or refused, has procedures or calls, or
 /// memory runs out.
@@ -18,18 +31,8 @@ pub fn accepted(alloc: Global, text: &[u8]) -> Option<Disjoint> {
     if text.len() > MOST {
         return None;
     }
-    let Ok(program) = parse(alloc, text) else {
-        return None;
-    };
-    if program.decls.len() > MOST {
-        return None;
-    }
-    if !is_call_free(&program) {
-        return None;
-    }
-    let Ok(typed) = resolve(alloc, &program) else {
-        return None;
-    };
+    let program = parse(alloc, text).ok()?;
+    let typed = resolved(alloc, &program)?;
     share(alloc, typed).ok()
 }
 
@@ -52,26 +55,32 @@ fn put_tree(alloc: Global, page: &mut String, program: &Program) -> Result<Vec<u
     Ok(printed)
 }
 
-/// The program that the text is, printed with brackets round each group in a group, and the same of what was printed;
-/// or the number of the cause and the place for which it is refused.
-pub fn show(alloc: Global, text: &[u8], page: &mut String) -> Result<(), AllocError> {
+/// The program that the text is, printed with brackets round each group in a group; `None` where it is refused, and then
+/// the number of the cause and the place are put.
+fn put_text(
+    alloc: Global,
+    text: &[u8],
+    page: &mut String,
+) -> Result<Option<Vec<u8>>, AllocError> {
     if text.len() > MOST {
-        return page.push_str("too long\n");
+        page.push_str("too long\n")?;
+        return Ok(None);
     }
-    let printed = match parse(alloc, text) {
-        Ok(program) => put_tree(alloc, page, &program)?,
-        Err(error) => return put_refusal(page, &error),
-    };
-    if printed.len() > MOST {
-        return page.push_str("too long\n");
-    }
-    match parse(alloc, &printed) {
-        Ok(program) => {
-            put_tree(alloc, page, &program)?;
-            Ok(())
+    match parse(alloc, text) {
+        Ok(program) => Ok(Some(put_tree(alloc, page, &program)?)),
+        Err(error) => {
+            put_refusal(page, &error)?;
+            Ok(None)
         }
-        Err(error) => put_refusal(page, &error),
     }
+}
+
+/// What the text is read as, and the same of what was printed.
+pub fn show(alloc: Global, text: &[u8], page: &mut String) -> Result<(), AllocError> {
+    if let Some(printed) = put_text(alloc, text, page)? {
+        put_text(alloc, &printed, page)?;
+    }
+    Ok(())
 }
 
 fn put_token(page: &mut String, token: &Token) -> Result<(), AllocError> {

@@ -119,6 +119,30 @@ fn put_history(page: &mut String, chan: u32, values: &[u64]) -> Result<(), Alloc
     page.push('\n')
 }
 
+/// Makes so many moves at most, and tells which nodes moved, and the hazard at which the run ended, if it did.
+fn put_moves(
+    alloc: Global,
+    run: &mut Run,
+    most: u32,
+    page: &mut String,
+) -> Result<(), AllocError>
+    ensures { OnOk result (run.new.net ≡ run.old.net) }
+{
+    page.push_str("moved")?;
+    let hazard = moves(alloc, run, most, page)?;
+    put_hazard(page, hazard)
+}
+
+/// What has passed on each of so many channels.
+fn put_passed(page: &mut String, run: &Run, channels: u32) -> Result<(), AllocError>
+    requires { channels ≤ length run.now.now.histories }
+{
+    for chan in 0..channels {
+        put_history(page, chan, run.history(chan))?;
+    }
+    Ok(())
+}
+
 /// The run of so many moves at most of the net under the script: which nodes moved, the hazard at which the run ended,
 /// if it did, whether `done` is high, and what has passed on each channel.
 fn put_run(
@@ -134,18 +158,13 @@ fn put_run(
         return page.push_str("no run\n");
     };
     let mut run = Run::new(alloc, net, script)?;
-    page.push_str("moved")?;
-    let hazard = moves(alloc, &mut run, most, page)?;
-    put_hazard(page, hazard)?;
+    put_moves(alloc, &mut run, most, page)?;
     page.push_str(if run.is_high(1) {
         "done high\n"
     } else {
         "done low\n"
     })?;
-    for chan in 0..channels {
-        put_history(page, chan, run.history(chan))?;
-    }
-    Ok(())
+    put_passed(page, &run, channels)
 }
 
 /// The run of so many moves at most, which the line gives, where it gives a number.
