@@ -4,3 +4,4 @@ pub mod Staying
 pub mod Named
 pub mod Running
 pub mod BenchStopping
+pub mod PeersPassed

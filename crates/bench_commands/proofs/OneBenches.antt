@@ -7,8 +7,6 @@ use Rattle.peer_bench.specs.declared.note.Note.{Note}
 use Rattle.peer_bench.specs.Benches.{SetupValue, IsBenchRun}
 use Rattle.peer_bench.specs.Growing.{script_by}
 use Rattle.prs_core.specs.Nets.{NetValue}
-use Rattle.prs_file.specs.declared.fault.NetFault.{NetFault}
-use Rattle.prs_file.specs.Reading.{IsRefused}
 use Rattle.command_answers.specs.Answers.{Given, Answer, OneAnswer}
 use Rattle.command_steps.specs.Orders.{OrderState}
 use Rattle.command_steps.proofs.OneAnswers.{file_once, net_once}
@@ -72,9 +70,8 @@ bench_net_once handed place which seed s a b x y =
     (subst (λ is. AgainstPeer s seed x.was is handed.peers which b) (same_item x.after y.after)
     (subst (λ was. AgainstPeer s seed was y.is handed.peers which b) (same_item x.before y.before) y.against))
 
-module _ (once : (text : List ℕ) (f g : NetFault) (l m : ℕ) → IsRefused text f l → IsRefused text g m → (f ≡ g) × (l ≡ m)) where
-  pub benches_once : (b : AskedBench) (given : Given) (handed : HandedIn) → given.tells ≡ true → OneAnswer (Benches b given handed)
-  benches_once b given handed told = order_once handed.orders b.order (BenchesBy b given handed)
-      (λ place. peer_once handed.peers b.peer (BenchesAt b given handed place)
-      (λ which. file_once given b.net _ _ told (λ text. net_once text (λ net. BenchesNet handed place which b.seed (setup_for net b.steps))
-      (λ net. bench_net_once handed place which b.seed (setup_for net b.steps)) (once text))))
+pub benches_once : (b : AskedBench) (given : Given) (handed : HandedIn) → given.tells ≡ true → OneAnswer (Benches b given handed)
+benches_once b given handed told = order_once handed.orders b.order (BenchesBy b given handed)
+    (λ place. peer_once handed.peers b.peer (BenchesAt b given handed place)
+    (λ which. file_once given b.net _ _ told (λ text. net_once text (λ net. BenchesNet handed place which b.seed (setup_for net b.steps))
+    (λ net. bench_net_once handed place which b.seed (setup_for net b.steps)))))

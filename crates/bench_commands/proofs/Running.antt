@@ -132,7 +132,8 @@ module _ {P : Type 0} (f : P → PeerValue) (xs ys : List P) (which : ℕ) (item
 
 -- ---- one change after another
 
-keeps_both : (which : Option ℕ) (a b c : List PeerValue) → KeepsPeers which (peered_by a b) → KeepsPeers which (peered_by b c) → KeepsPeers which (peered_by a c)
+keeps_both : (which : Option ℕ) (a b c : List PeerValue) → KeepsPeers which (peered_by a b) → KeepsPeers which (peered_by b c)
+    → KeepsPeers which (peered_by a c)
 keeps_both which a b c one two = record { names = two.names ∙ one.names; others = λ k other. two.others k other ∙ one.others k other }
 
 pub stay_both : {X : Type 0} (which : Option ℕ) (a b c : List X) → OthersStay which a b → OthersStay which b c → OthersStay which a c
@@ -171,7 +172,8 @@ module _ {O P : Type 0} (order : O → OrderState) (peer : P → PeerValue) (os 
 pub others_apart : {X : Type 0} (xs ys : List X) (which : ℕ) → ((k : ℕ) → (k ≡ which → ⊥) → slice_get ys k ≡ slice_get xs k) → OthersStay (Some which) xs ys
 others_apart xs ys which stay = λ k other. stay k (λ same. other (ap (λ n. Some n) (sym same)))
 
-module _ {P : Type 0} (f : P → PeerValue) {xs ys old new : List P} {which place : ℕ} (same_old : old ≡ xs) (same_new : new ≡ ys) (same_place : place ≡ which) where
+module _ {P : Type 0} (f : P → PeerValue) {xs ys old new : List P} {which place : ℕ} (same_old : old ≡ xs) (same_new : new ≡ ys)
+    (same_place : place ≡ which) where
   pub reported_as : {s t : SetupValue} {was is : List ℕ} {answer : Answer} → t ≡ s → RunsAgainst s was is (peered_by (map f xs) (map f ys)) which answer →
       RunsAgainst t was is (peered_by (map f old) (map f new)) place answer
   reported_as same_setup r = rw (same_old, same_new, same_place, same_setup) r

@@ -46,7 +46,8 @@ module _ {P : Type 0} (f : P → PeerValue) where
           twice (Some x) = refl
 
       by_place : (i : ℕ) → (i ≡ k) ⊎ (i ≡ k → ⊥) → option_map (λ x. (f x).name) (slice_get ys i) ≡ option_map (λ x. (f x).name) (slice_get xs i)
-      by_place i (inl same) = ap (λ j. option_map (λ x. (f x).name) (slice_get ys j)) same ∙ (named ∙ ap (λ j. option_map (λ x. (f x).name) (slice_get xs j)) (sym same))
+      by_place i (inl same) = ap (λ j. option_map (λ x. (f x).name) (slice_get ys j)) same
+          ∙ (named ∙ ap (λ j. option_map (λ x. (f x).name) (slice_get xs j)) (sym same))
       by_place i (inr apart) = ap (option_map (λ x. (f x).name)) (stay i (λ e. apart (same_place e)))
         where
           same_place : Some k ≡ Some i → i ≡ k

@@ -1,17 +1,14 @@
 -- What the run on a bench of a net that carries a program comes to.
-use Rattle.std.proofs.Common.{◌≡◌, ◌≢◌, ◌≤◌, ◌⊎◌, ℕ, Bool, true, false, List, length, Option, None, inl, inr, refl, sym, ap, subst, arith}
+use Rattle.std.proofs.Common.{◌≡◌, ◌≢◌, ◌⊎◌, ℕ, Bool, true, false, List, None, inl, inr, ap}
 use Rattle.std.specs.Prelude.{IsSome}
 use Rattle.chp_meaning.specs.Laws.{RoundsHold}
-use Rattle.chp_meaning.specs.Rounds.{rounds}
-use Rattle.env_script.specs.Environment.{net_channels}
 use Rattle.env_script.specs.OneLength.{AllSafe}
-use Rattle.env_script.specs.Runs.{IsRun, IsAtRest, IsPowered, after, begin_at, moves_since_reset}
-use Rattle.env_script.specs.Scripts.{OfferValue, IsScript}
+use Rattle.env_script.specs.Runs.{IsAtRest, IsPowered, after}
+use Rattle.env_script.specs.Scripts.{OfferValue}
 use Rattle.event_sim.specs.declared.ran.End.{End}
 use Rattle.event_sim.specs.declared.ran.End.TheVariants.{AtRest, Spent}
 use Rattle.event_sim.specs.Following.{power_of}
 use Rattle.event_sim.specs.Simulating.{RanValue}
-use Rattle.net_compose.specs.Carries.{Carries, CarriesReset, IsSettled}
 use Rattle.peer_bench.specs.declared.note.Note.{Note}
 use Rattle.peer_bench.specs.Asking.{PeerValue}
 use Rattle.peer_bench.specs.Benches.{SetupValue, IsBenchRun, bench_moves, bench_start}
@@ -32,8 +29,8 @@ use Rattle.grown_commands.proofs.SafeRuns.{all_safe}
 use Rattle.simulation_commands.specs.RunReporting.{ending_for}
 use Rattle.chp_cli.specs.BenchedFiles.{BenchedFollows, IsFileBenched}
 use Rattle.chp_cli.specs.Simulated.{HoldsCarrying, HoldsCompiled}
-use Rattle.chp_cli.proofs.AgreeingRuns.{follows, since_few}
 use Rattle.chp_cli.proofs.CalmRuns.{file_carries, reported_calm}
+use Rattle.chp_cli.proofs.RoundsFollowed.{followed, meets_sharing}
 
 pub bench_written : (b : AskedBench) (given : Given) (handed : HandedIn) → given.tells ≡ true → (end : Ending) (text : List ℕ) →
     Benches b given handed (writes end text) → IsFileBenched b given handed (writes end text)
@@ -66,42 +63,15 @@ module _ (powered : (net : NetValue) (high : Bool) → IsNet net → IsSome net.
       (done_calm against.ran.end (calm (setup_for f.net b.steps) _ _ _ _ against.ran f.file.kept run
       (all_safe powered f.net p _ false f.file.kept run.suits (file_carries holds f.held f.file))))
 
-  module _ (hold : (p : TypedProgram) (script : List OfferValue) → MeetsSharing p.body → RoundsHold p script) where
-    -- at rest all has passed that the program passes
-    settled : (n : NetValue) (p : TypedProgram) (script : List OfferValue) → IsNet n → IsScript (net_channels n) script →
-        ((n.reset ≡ None) × Carries n p) ⊎ CarriesReset n p → (ns : List ℕ) → IsRun n script (bench_start n) ns →
-        IsAtRest n script (after n (bench_start n) ns) → (m : ℕ) × (m ≤ length ns) × IsSettled (after n (bench_start n) ns) (rounds p script m)
-    settled n p script net suits (inl c) ns run rest =
-        let low : power_of n false ≡ n.first = first_values n c.0 in
-        let fits : IsScript p.channels script = subst (λ cs. IsScript cs script) c.1.channels suits in (
-          length ns,
-          omega arith,
-          subst (λ v. IsSettled (after n (begin_at n v) ns) (rounds p script (length ns))) (sym low)
-              ((c.1.runs script fits ns (subst (λ v. IsRun n script (begin_at n v) ns) low run)).rest
-              (subst (λ v. IsAtRest n script (after n (begin_at n v) ns)) low rest)),
-        )
-      where
-        first_values : (n : NetValue) → n.reset ≡ None → power_of n false ≡ n.first
-        first_values n none = rw none refl
-    settled n p script net suits (inr c) ns run rest =
-        let fits : IsScript p.channels script = subst (λ cs. IsScript cs script) c.channels suits in (
-          moves_since_reset n.reset ns,
-          since_few n.reset ns,
-          (c.runs script fits (power_of n false) (powered n false net (subst (λ (o : Option ℕ). IsSome o) (sym c.reset.1) refl)) ns run).0.rest rest,
-        )
-
-    pub benched_follow : ((s : SetupValue) (picks : List ℕ) (notes : List Note) (was is : PeerValue) (ran : RanValue) → IsNet s.net →
-        IsBenchRun (λ p. p) s picks notes was is ran → ran.end ≡ AtRest →
-        IsAtRest s.net (script_by s.net notes) (after s.net (bench_start s.net) (bench_moves s.net notes picks)))
-        → ((given : Given) (file : List ℕ) (p : TypedProgram) → HoldsCompiled given file p → HoldsCarrying given file p)
-        → (b : AskedBench) (given : Given) (handed : HandedIn) (p : TypedProgram) → HoldsCompiled given b.net p → (answer : Answer)
-        (f : IsFileBenched b given handed answer) → BenchedFollows b given handed p f
-    benched_follow rests carry b given handed p holds answer f =
-        let against = f.benched.against in
-        let run = against.run.run in
-        let carries = file_carries (carry given b.net p holds) f.held f.file in
-        let sharing : MeetsSharing p.body = subst (λ (t : TypedProgram). MeetsSharing t.body) (sym holds.form) holds.accepted.sharing in
-        record {
-          prefix = follows hold powered f.net p _ false f.file.kept sharing run.suits carries _ run.run;
-          rest = λ still. settled f.net p _ f.file.kept run.suits carries _ run.run (rests (setup_for f.net b.steps) _ _ _ _ against.ran f.file.kept run still);
-        }
+  pub benched_follow : (hold : (p : TypedProgram) (script : List OfferValue) → MeetsSharing p.body → RoundsHold p script)
+      → ((s : SetupValue) (picks : List ℕ) (notes : List Note) (was is : PeerValue) (ran : RanValue) → IsNet s.net →
+      IsBenchRun (λ p. p) s picks notes was is ran → ran.end ≡ AtRest →
+      IsAtRest s.net (script_by s.net notes) (after s.net (bench_start s.net) (bench_moves s.net notes picks)))
+      → ((given : Given) (file : List ℕ) (p : TypedProgram) → HoldsCompiled given file p → HoldsCarrying given file p)
+      → (b : AskedBench) (given : Given) (handed : HandedIn) (p : TypedProgram) → HoldsCompiled given b.net p → (answer : Answer)
+      (f : IsFileBenched b given handed answer) → BenchedFollows b given handed p f
+  benched_follow hold rests carry b given handed p holds answer f =
+      let against = f.benched.against in
+      let run = against.run.run in
+      followed powered hold f.net p _ false f.file.kept (meets_sharing holds) run.suits (file_carries (carry given b.net p holds) f.held f.file) _ run.run
+      against.ran.end (λ still. rests (setup_for f.net b.steps) _ _ _ _ against.ran f.file.kept run still)

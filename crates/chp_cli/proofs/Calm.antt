@@ -1,11 +1,11 @@
 -- How a call ends that simulates a rule file which `compile` wrote.
-use Rattle.std.proofs.Common.{◌≡◌, ◌≢◌, ℕ, true, List, Option, Some, None, refl, subst}
+use Rattle.std.proofs.Common.{◌≡◌, ◌≢◌, ℕ, true, List, Option, Some, refl, subst}
 use Rattle.command_answers.specs.declared.answer.Ending.{Ending}
 use Rattle.command_answers.specs.declared.answer.Ending.TheVariants as ending
 use Rattle.command_answers.specs.declared.status.Status.{Status}
 use Rattle.command_answers.specs.declared.status.Status.TheVariants.{Done, RefusedText, Usage, Read, Write, Hazard, NoMemory, TooLarge, BadFile, NoOrder, NoChannel, NoPeer, Differs}
 use Rattle.command_answers.specs.Answers.{Given, Answer, writes, status_with}
-use Rattle.command_words.specs.CommandWords.{Asked, compiles, migrates, checks, expands, simulates, times, benches, traces, unwaves, runs, grows}
+use Rattle.command_words.specs.CommandWords.{Asked, simulates, times, benches, traces}
 use Rattle.chp_cli.specs.Commands.{IsAnswer}
 use Rattle.chp_cli.specs.CompiledRuns.{IsComparedWith, IsSteady, RunsCompiled}
 use Rattle.chp_cli.specs.Ends.{AnswersTo, Ends, formless, whole, cut_off, refused, unread, no_memory}
@@ -24,7 +24,8 @@ use Rattle.chp_cli.specs.TracedFiles.{IsCalmTrace}
 use Rattle.command_words.specs.WavesWords.{AskedWaves}
 use Rattle.simulation_commands.specs.Tracing.{Traces}
 use Rattle.width_check.specs.Processes.{TypedProgram}
-use Rattle.chp_cli.proofs.Ending.{no_refusal}
+use Rattle.command_answers.proofs.StatusKinds.{no_refusal}
+use Rattle.chp_cli.proofs.EachCommand.{each_run}
 
 ending_hazard : (end : Ending) → status_with end ≡ Hazard → end ≡ ending.Hazard
 ending_hazard ending.Done e = absurd (cc e)
@@ -36,7 +37,7 @@ ending_differs ending.Done e = absurd (cc e)
 ending_differs ending.Hazard e = absurd (cc e)
 ending_differs ending.Differs e = refl
 
-not_whole : (status : Status) → is_refusing status ≡ true → is_whole status ≡ true → ⊥
+pub not_whole : (status : Status) → is_refusing status ≡ true → is_whole status ≡ true → ⊥
 not_whole Done r w = cc r
 not_whole Hazard r w = cc r
 not_whole Differs r w = cc r
@@ -85,30 +86,22 @@ module _ (asked : Option Asked) (given : Given) (handed : HandedIn) (rb ra pb pa
   whole_of no_memory e = absurd (cc e)
 
 -- of each command that makes a run
-module _ (given : Given) (handed : HandedIn) (p : TypedProgram) (carries : (file : List ℕ) → HoldsCompiled given file p → HoldsCarrying given file p) where
+module _ (given : Given) (handed : HandedIn) (p : TypedProgram) (carries : (file : List ℕ) → HoldsCompiled given file p → HoldsCarrying given file p)
+    (rb ra pb pa : ℕ) (asked : Option Asked) (compiled : RunsCompiled asked given p) (status : Status) (appended line : List ℕ) where
+  abbrev EndedBy : Option Asked → Type 0
+  EndedBy a = Ends a given handed rb ra pb pa status appended line
+
   pub calm_for : ((s : AskedRun) → HoldsCarrying given s.net p → (end : Ending) (text : List ℕ) → Simulates s given handed.orders (writes end text)
       → end ≢ ending.Hazard)
       → ((t : AskedTiming) → HoldsCarrying given t.net p → (end : Ending) (text : List ℕ) → SimulatesTimed t given (writes end text) → end ≢ ending.Hazard)
       → ((b : AskedBench) → HoldsCarrying given b.net p → (end : Ending) (text : List ℕ) → Benches b given handed (writes end text) → end ≢ ending.Hazard)
       → ((w : AskedWaves) → HoldsCarrying given w.net p → (end : Ending) (text : List ℕ) → Traces w given (writes end text) → end ≢ ending.Hazard)
-      → (rb ra pb pa : ℕ) (asked : Option Asked) → RunsCompiled asked given p → {status : Status} {appended line : List ℕ}
-      → Ends asked given handed rb ra pb pa status appended line → status ≢ Hazard
-  calm_for run timing bench wave rb ra pb pa None h e = absurd h
-  calm_for run timing bench wave rb ra pb pa (Some (simulates s)) h e =
-      calm_of (Some (simulates s)) given handed rb ra pb pa (simulates s) refl (run s (carries s.net h)) e
-  calm_for run timing bench wave rb ra pb pa (Some (times t)) h e =
-      calm_of (Some (times t)) given handed rb ra pb pa (times t) refl (timing t (carries t.net h)) e
-  calm_for run timing bench wave rb ra pb pa (Some (benches b)) h e =
-      calm_of (Some (benches b)) given handed rb ra pb pa (benches b) refl (bench b (carries b.net h)) e
-  calm_for run timing bench wave rb ra pb pa (Some (traces w)) h e =
-      calm_of (Some (traces w)) given handed rb ra pb pa (traces w) refl (wave w (carries w.net h)) e
-  calm_for run timing bench wave rb ra pb pa (Some (compiles c)) h e = absurd h
-  calm_for run timing bench wave rb ra pb pa (Some (migrates net)) h e = absurd h
-  calm_for run timing bench wave rb ra pb pa (Some (checks file)) h e = absurd h
-  calm_for run timing bench wave rb ra pb pa (Some (expands file)) h e = absurd h
-  calm_for run timing bench wave rb ra pb pa (Some (unwaves file)) h e = absurd h
-  calm_for run timing bench wave rb ra pb pa (Some (runs r)) h e = absurd h
-  calm_for run timing bench wave rb ra pb pa (Some (grows growth)) h e = absurd h
+      → EndedBy asked → status ≢ Hazard
+  calm_for run timing bench wave = each_run given p (λ a. EndedBy a → status ≢ Hazard)
+      (λ s h. calm_of (Some (simulates s)) given handed rb ra pb pa (simulates s) refl (run s (carries s.net h)))
+      (λ t h. calm_of (Some (times t)) given handed rb ra pb pa (times t) refl (timing t (carries t.net h)))
+      (λ b h. calm_of (Some (benches b)) given handed rb ra pb pa (benches b) refl (bench b (carries b.net h)))
+      (λ w h. calm_of (Some (traces w)) given handed rb ra pb pa (traces w) refl (wave w (carries w.net h))) asked compiled
 
   pub agreed_for : ((s : AskedRun) → HoldsCarrying given s.net p → IsReferredTo given s.against p → (end : Ending) (text : List ℕ)
       → Simulates s given handed.orders (writes end text) → end ≡ ending.Done)
@@ -116,24 +109,12 @@ module _ (given : Given) (handed : HandedIn) (p : TypedProgram) (carries : (file
       → SimulatesTimed t given (writes end text) → end ≡ ending.Done)
       → ((b : AskedBench) → HoldsCarrying given b.net p → (end : Ending) (text : List ℕ) → Benches b given handed (writes end text) → end ≡ ending.Done)
       → ((w : AskedWaves) → HoldsCarrying given w.net p → (end : Ending) (text : List ℕ) → Traces w given (writes end text) → end ≡ ending.Done)
-      → (rb ra pb pa : ℕ) (asked : Option Asked) → RunsCompiled asked given p → IsComparedWith asked given p → {status : Status} {appended line : List ℕ}
-      → Ends asked given handed rb ra pb pa status appended line → status ≢ Differs
-  agreed_for run timing bench wave rb ra pb pa None h with_it e = absurd h
-  agreed_for run timing bench wave rb ra pb pa (Some (simulates s)) h with_it e =
-      agreed_of (Some (simulates s)) given handed rb ra pb pa (simulates s) refl (run s (carries s.net h) with_it) e
-  agreed_for run timing bench wave rb ra pb pa (Some (times t)) h with_it e =
-      agreed_of (Some (times t)) given handed rb ra pb pa (times t) refl (timing t (carries t.net h) with_it) e
-  agreed_for run timing bench wave rb ra pb pa (Some (benches b)) h with_it e =
-      agreed_of (Some (benches b)) given handed rb ra pb pa (benches b) refl (bench b (carries b.net h)) e
-  agreed_for run timing bench wave rb ra pb pa (Some (traces w)) h with_it e =
-      agreed_of (Some (traces w)) given handed rb ra pb pa (traces w) refl (wave w (carries w.net h)) e
-  agreed_for run timing bench wave rb ra pb pa (Some (compiles c)) h with_it e = absurd h
-  agreed_for run timing bench wave rb ra pb pa (Some (migrates net)) h with_it e = absurd h
-  agreed_for run timing bench wave rb ra pb pa (Some (checks file)) h with_it e = absurd h
-  agreed_for run timing bench wave rb ra pb pa (Some (expands file)) h with_it e = absurd h
-  agreed_for run timing bench wave rb ra pb pa (Some (unwaves file)) h with_it e = absurd h
-  agreed_for run timing bench wave rb ra pb pa (Some (runs r)) h with_it e = absurd h
-  agreed_for run timing bench wave rb ra pb pa (Some (grows growth)) h with_it e = absurd h
+      → IsComparedWith asked given p → EndedBy asked → status ≢ Differs
+  agreed_for run timing bench wave = each_run given p (λ a. IsComparedWith a given p → EndedBy a → status ≢ Differs)
+      (λ s h with_it. agreed_of (Some (simulates s)) given handed rb ra pb pa (simulates s) refl (run s (carries s.net h) with_it))
+      (λ t h with_it. agreed_of (Some (times t)) given handed rb ra pb pa (times t) refl (timing t (carries t.net h) with_it))
+      (λ b h with_it. agreed_of (Some (benches b)) given handed rb ra pb pa (benches b) refl (bench b (carries b.net h)))
+      (λ w h with_it. agreed_of (Some (traces w)) given handed rb ra pb pa (traces w) refl (wave w (carries w.net h))) asked compiled
 
   pub steady_for : ((s : AskedRun) → HoldsCarrying given s.net p → (end : Ending) (text : List ℕ) → Simulates s given handed.orders (writes end text)
       → IsCalmRun s given handed.orders end text)
@@ -143,25 +124,17 @@ module _ (given : Given) (handed : HandedIn) (p : TypedProgram) (carries : (file
       → IsCalmBench b given handed end text)
       → ((w : AskedWaves) → HoldsCarrying given w.net p → (end : Ending) (text : List ℕ) → Traces w given (writes end text)
       → IsCalmTrace w given end text)
-      → (rb ra pb pa : ℕ) (asked : Option Asked) → RunsCompiled asked given p → {status : Status} {appended line : List ℕ}
-      → Ends asked given handed rb ra pb pa status appended line → is_whole status ≡ true → IsSteady asked given handed status appended
-  steady_for run timing bench wave rb ra pb pa None h e written = absurd h
-  steady_for run timing bench wave rb ra pb pa (Some (simulates s)) h e written =
+      → EndedBy asked → is_whole status ≡ true → IsSteady asked given handed status appended
+  steady_for run timing bench wave = each_run given p (λ a. EndedBy a → is_whole status ≡ true → IsSteady a given handed status appended)
+      (λ s h e written.
       let (end, same, is) = whole_of (Some (simulates s)) given handed rb ra pb pa (simulates s) refl e written in
-      (end, same, run s (carries s.net h) end _ is)
-  steady_for run timing bench wave rb ra pb pa (Some (times t)) h e written =
+      (end, same, run s (carries s.net h) end _ is))
+      (λ t h e written.
       let (end, same, is) = whole_of (Some (times t)) given handed rb ra pb pa (times t) refl e written in
-      (end, same, timing t (carries t.net h) end _ is)
-  steady_for run timing bench wave rb ra pb pa (Some (benches b)) h e written =
+      (end, same, timing t (carries t.net h) end _ is))
+      (λ b h e written.
       let (end, same, is) = whole_of (Some (benches b)) given handed rb ra pb pa (benches b) refl e written in
-      (end, same, bench b (carries b.net h) end _ is)
-  steady_for run timing bench wave rb ra pb pa (Some (traces w)) h e written =
+      (end, same, bench b (carries b.net h) end _ is))
+      (λ w h e written.
       let (end, same, is) = whole_of (Some (traces w)) given handed rb ra pb pa (traces w) refl e written in
-      (end, same, wave w (carries w.net h) end _ is)
-  steady_for run timing bench wave rb ra pb pa (Some (compiles c)) h e written = absurd h
-  steady_for run timing bench wave rb ra pb pa (Some (migrates net)) h e written = absurd h
-  steady_for run timing bench wave rb ra pb pa (Some (checks file)) h e written = absurd h
-  steady_for run timing bench wave rb ra pb pa (Some (expands file)) h e written = absurd h
-  steady_for run timing bench wave rb ra pb pa (Some (unwaves file)) h e written = absurd h
-  steady_for run timing bench wave rb ra pb pa (Some (runs r)) h e written = absurd h
-  steady_for run timing bench wave rb ra pb pa (Some (grows growth)) h e written = absurd h
+      (end, same, wave w (carries w.net h) end _ is)) asked compiled

@@ -8,8 +8,9 @@ use Rattle.env_script.specs.declared.hazard.Hazard.{Hazard}
 use Rattle.env_script.specs.Hazards.{hazard_of}
 use Rattle.env_script.specs.OneLength.{AllSafe}
 use Rattle.env_script.proofs.Fronts.{ends_all}
+use Rattle.event_sim.specs.declared.ran.End.{End}
 use Rattle.event_sim.specs.declared.ran.End.TheVariants.{AtRest}
-use Rattle.event_sim.specs.Ends.{end_from, end_with, last_hazard}
+use Rattle.event_sim.specs.Ends.{EndsSo, end_from, end_with, last_hazard}
 use Rattle.event_sim.specs.Following.{power_of}
 use Rattle.event_sim.specs.Simulating.{RanValue, picked_moves, start_at}
 use Rattle.history_report.specs.declared.comparison.Against.{Against}
@@ -71,7 +72,7 @@ reported_calm script time r p end text alone calm = λ e. cc (calm, e)
 reported_calm script time r p end text (hazardous hazard) calm = λ e. cc (calm, hazard)
 reported_calm script time r p end text (compared x also is) calm = against_calm x
 
-pub rest_empties : (last : Option Hazard) (xs : List ℕ) (spent : Bool) → end_with last xs spent ≡ Some AtRest → xs ≡ []
+rest_empties : (last : Option Hazard) (xs : List ℕ) (spent : Bool) → end_with last xs spent ≡ Some AtRest → xs ≡ []
 rest_empties last [] spent ended = refl
 rest_empties None (x ∷ xs) true ended = absurd (cc ended)
 rest_empties None (x ∷ xs) false ended = absurd (cc ended)
@@ -81,6 +82,12 @@ rest_empties (Some h) (x ∷ xs) spent ended = absurd (by_hazard h ended)
     by_hazard (Hazard.BothWays n) e = cc e
     by_hazard (Hazard.Unstable n) e = cc e
     by_hazard (Hazard.Protocol c) e = cc e
+
+-- where a run has ended at rest no move is enabled
+pub at_rest : (net : NetValue) (script : List OfferValue) (st : RunState) (ns : List ℕ) (steps : ℕ) (end : End) → IsNet net → EndsSo net script steps st ns end
+    → end ≡ AtRest → IsAtRest net script (after net st ns)
+at_rest net script st ns steps end kept ends rest =
+    rests net script (after net st ns) kept (rest_empties (last_hazard net script st ns) _ _ (ends.ended ∙ ap (λ e. Some e) rest))
 
 -- ---- the net of a file carries the program
 
@@ -112,7 +119,5 @@ module _ (powered : (net : NetValue) (high : Bool) → IsNet net → IsSome net.
       let sim = simulation_for f.net f.script s.steps s.power in
       let moves = picked_moves sim f.run.was.log f.run.is.log in
       let run : IsRun f.net f.script (start_at sim) moves = picked_run f.net f.script (start_at sim) _ f.run.run.picks in
-      let still : IsAtRest f.net f.script (after f.net (start_at sim) moves) =
-      rests f.net f.script (after f.net (start_at sim) moves) f.file.kept
-      (rest_empties (last_hazard f.net f.script (start_at sim) moves) _ _ (f.run.run.ends.ended ∙ ap (λ e. Some e) rest)) in
+      let still = at_rest f.net f.script (start_at sim) moves s.steps f.ran.end f.file.kept f.run.run.ends rest in
       ends_all f.net f.script (start_at sim) f.file.kept (carried_safe a f) moves run still

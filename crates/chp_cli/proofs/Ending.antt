@@ -1,51 +1,18 @@
 -- What follows from the way in which a call ended.
-use Rattle.std.proofs.Common.{◌≡◌, ◌≢◌, ℕ, List, [], true, false, Option, Some, None, ◌⊎◌, inl, inr, refl, sym, ap, subst}
+use Rattle.std.proofs.Common.{◌≡◌, ◌≢◌, ℕ, List, [], false, Option, Some, None, ◌⊎◌, inl, inr, refl, sym, ap, subst}
 use Rattle.chp_edge.specs.Faults.{Rose, IsReadFault}
-use Rattle.command_answers.specs.declared.answer.Ending.{Ending}
-use Rattle.command_answers.specs.declared.answer.Ending.TheVariants as ending
-use Rattle.command_answers.specs.declared.answer.Refusal.{Refusal}
-use Rattle.command_answers.specs.declared.answer.Refusal.TheVariants as refusal
 use Rattle.command_answers.specs.declared.answer.Stop.{Stop}
 use Rattle.command_answers.specs.declared.answer.Stop.TheVariants as stopped
 use Rattle.command_answers.specs.declared.status.Status.{Status}
 use Rattle.command_answers.specs.declared.status.Status.TheVariants.{Usage, Read, Write, NoMemory}
-use Rattle.command_answers.specs.Answers.{Given, Answer, writes, refuses, misses, OneAnswer, status_of, status_with}
+use Rattle.command_answers.specs.Answers.{Given, Answer, writes, refuses, misses, OneAnswer, status_of}
 use Rattle.command_words.specs.CommandWords.{Asked}
-use Rattle.chp_cli.specs.Commands.{IsAnswer, files_of}
+use Rattle.chp_cli.specs.Commands.{EndsServed, IsAnswer, files_of}
 use Rattle.chp_cli.specs.Ends.{AnswersTo, IsFile, Ends, formless, whole, cut_off, refused, unread, no_memory}
 use Rattle.bench_commands.specs.HandedIn.{HandedIn}
 use Rattle.command_answers.specs.Replies.{Stops, refusing, refusal_status, refusal_line, stop_status, stop_line}
-use Rattle.chp_cli.specs.Serving.{EndsServed}
-use Rattle.command_answers.specs.Statuses.{is_whole, is_refusing}
-
-whole_status : (end : Ending) → is_whole (status_with end) ≡ true
-whole_status ending.Done = refl
-whole_status ending.Hazard = refl
-whole_status ending.Differs = refl
-
-pub refusing_status : (r : Refusal) → is_refusing (refusal_status r) ≡ true
-refusing_status (refusal.Text fault) = refl
-refusing_status (refusal.TooLong name limit) = refl
-refusing_status (refusal.TooManyNodes count) = refl
-refusing_status (refusal.TooManyForms count) = refl
-refusing_status refusal.TooManyValues = refl
-refusing_status (refusal.BadNet fault line) = refl
-refusing_status (refusal.BadScript fault line) = refl
-refusing_status (refusal.BadDelays fault line) = refl
-refusing_status (refusal.BadWave fault line) = refl
-refusing_status refusal.NoReset = refl
-refusing_status (refusal.NoOrder name) = refl
-refusing_status (refusal.NoChannel name) = refl
-refusing_status (refusal.NoPeer name) = refl
-
--- the statuses of whole outputs and of refusals are none of the call's own
-own_status : (end : Ending) → (status_with end ≢ Usage) × (status_with end ≢ Read) × (status_with end ≢ Write)
-own_status ending.Done = (λ e. cc, λ e. cc, λ e. cc)
-own_status ending.Hazard = (λ e. cc, λ e. cc, λ e. cc)
-own_status ending.Differs = (λ e. cc, λ e. cc, λ e. cc)
-
-pub no_refusal : (s other : Status) → is_refusing s ≡ true → is_refusing other ≡ false → s ≢ other
-no_refusal s other is not same = cc (ap is_refusing same, is, not)
+use Rattle.command_answers.specs.Statuses.{is_whole}
+use Rattle.command_answers.proofs.StatusKinds.{no_refusal, own_status, refusing_status, whole_status}
 
 pub answers_of : (asked : Option Asked) (given : Given) (handed : HandedIn) (command : Asked) (answer : Answer) → asked ≡ Some command →
     IsAnswer command given handed answer → AnswersTo asked given handed answer

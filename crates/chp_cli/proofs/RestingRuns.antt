@@ -41,7 +41,7 @@ use Rattle.chp_cli.specs.TimedFiles.{IsFileTimed, TimedRunRests}
 use Rattle.chp_cli.specs.TracedFiles.{IsFileTraced, TracedRests}
 use Rattle.command_words.specs.WavesWords.{AskedWaves}
 use Rattle.grown_commands.proofs.SafeRuns.{all_safe, safe_calm}
-use Rattle.chp_cli.proofs.CalmRuns.{file_carries, rest_empties}
+use Rattle.chp_cli.proofs.CalmRuns.{file_carries, at_rest}
 use Rattle.chp_cli.proofs.FilesCompiled.{AreCompiled, firsts_counted, same_channels}
 use Rattle.chp_cli.proofs.FilesPaced.{ArePaced, ArePacedReset}
 use Rattle.command_steps.proofs.OneAnswers.{same_text}
@@ -189,8 +189,7 @@ module _ (powered : Powered) (law : (net : NetValue) (script : List OfferValue) 
         has_lasted : (late : ℕ) → (late < time) ⊎ (r.end ≡ AtRest) → HasLasted net script st ms late
         has_lasted late (inl after_it) = inl (subst (λ t. late < t) ran.time after_it)
         has_lasted late (inr rest) =
-            inr (rests net script (after net st (moved_nodes ms)) is.kept
-            (rest_empties (last_hazard net script st (moved_nodes ms)) _ _ (ran.ends.ended ∙ ap (λ e. Some e) rest)))
+            inr (at_rest net script st (moved_nodes ms) steps r.end is.kept ran.ends rest)
 
     pub timed_rests : (t : AskedTiming) (given : Given) (p : TypedProgram) (holds : HoldsCompiled given t.net p) (answer : Answer)
         → (f : IsFileTimed t given answer) → TimedRunRests t given p holds f

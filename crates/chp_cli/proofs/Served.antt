@@ -20,8 +20,7 @@ use Rattle.command_answers.specs.declared.status.Status.TheVariants as statuses
 use Rattle.command_answers.specs.Answers.{Given, Answer, writes, status_of, status_with}
 use Rattle.command_steps.specs.BufferSteps.{FromBuffer}
 use Rattle.program_commands.specs.Checking.{Checks, AcceptedReport}
-use Rattle.command_words.specs.CommandWords.{Asked, compiles, migrates, checks, expands, simulates, times, benches, traces, unwaves, runs, grows}
-use Rattle.chp_cli.specs.Commands.{IsAnswer}
+use Rattle.chp_cli.specs.Commands.{EndsUncompared}
 use Rattle.program_commands.specs.Expanding.{Expands, TreeReport}
 use Rattle.grown_commands.specs.Growing.{GrowsTo}
 use Rattle.bench_commands.specs.HandedIn.{HandedIn}
@@ -35,7 +34,8 @@ use Rattle.event_sim.specs.declared.ran.End.{End}
 use Rattle.event_sim.specs.declared.ran.End.TheVariants.{AtRest, Spent, Unstable, BothWays, Protocol}
 use Rattle.event_sim.specs.Simulating.{RanValue}
 use Rattle.simulation_commands.specs.RunReporting.{IsReported, alone, ending_for}
-use Rattle.chp_cli.specs.Serving.{EndsServed, EndsUncompared, HasDelays, IsServed, IsToBench, IsToCheck, IsToExpand, IsToGrow, IsToRun, IsToTime, IsToTrace, IsToUnwave}
+use Rattle.command_steps.specs.FileContents.{HasDelays}
+use Rattle.chp_cli.specs.Serving.{IsToBench, IsToCheck, IsToExpand, IsToGrow, IsToRun, IsToTime, IsToTrace, IsToUnwave}
 use Rattle.command_answers.specs.Statuses.{is_whole}
 use Rattle.command_steps.specs.Steps.{FromNodes, FromNet, IsFaulty, most_of_net}
 use Rattle.grown_commands.specs.Summing.{SumsUp, summing_order}
@@ -45,9 +45,9 @@ use Rattle.simulation_commands.specs.Timing.{SimulatesTimed, TimesFile, TimesNet
 use Rattle.command_words.specs.WavesWords.{AskedWaves}
 use Rattle.simulation_commands.specs.Tracing.{Traces, TracesFile, TracesNet, trace_for}
 use Rattle.simulation_commands.specs.Unwaving.{FromWave, PrintsChanges, Unwaves, no_wave, a_wave, most_of_wave}
-use Rattle.chp_cli.proofs.RunsWritten.{simulate_writes, whole_report}
-use Rattle.chp_cli.proofs.StepsPassed.{file_passed, nodes_passed, buffer_passed, net_passed, order_passed, peer_passed, power_passed, script_passed, delays_passed, text_passed, reference_passed}
-use Rattle.chp_cli.proofs.Written.{compile_writes, migrate_writes}
+use Rattle.chp_cli.proofs.RunsWritten.{whole_report}
+use Rattle.bench_commands.proofs.PeersPassed.{peer_passed}
+use Rattle.command_steps.proofs.StepsPassed.{file_passed, nodes_passed, buffer_passed, net_passed, order_passed, power_passed, script_passed, delays_passed, text_passed, reference_passed}
 
 -- the command ends well, or the whole output is written
 abbrev IsDone : Answer → Type 0
@@ -88,7 +88,7 @@ traced_written t causes a is = subst IsRunEnd (sym is.written) (run_end is.ran.e
 summed_written : (growth : Growth) (played : Played) (place : ℕ) (a : Answer) → SumsUp growth played place a → IsDone a
 summed_written growth played place a is = ap status_of is.written
 
-grown_written : (sum : Bool) (growth : Growth) (played : Played) → IsToGrow sum played → (a : Answer) → GrowsTo sum growth played a → IsDone a
+pub grown_written : (sum : Bool) (growth : Growth) (played : Played) → IsToGrow sum played → (a : Answer) → GrowsTo sum growth played a → IsDone a
 grown_written false growth played t a is = ap status_of is
 grown_written true growth played t a is =
     order_passed IsDone played summing_order t.place t.named (SumsUp growth played) (summed_written growth played t.place) a is
@@ -99,17 +99,17 @@ wave_passed text wave is a (a_wave are e) = ap status_of e
 
 module _ (no_fault : (program : ProgramTree) (f : Fault) → IsAccepted program → ¬ IsFaulty program f) (given : Given) (handed : HandedIn)
     (told : given.tells ≡ true) where
-  check_written : (file : List ℕ) → IsToCheck given file → (a : Answer) → Checks given file a → IsDone a
+  pub check_written : (file : List ℕ) → IsToCheck given file → (a : Answer) → Checks given file a → IsDone a
   check_written file t =
       text_passed IsDone no_fault given told file t.source.text t.program t.plain t.source.held t.source.reads t.source.means t.source.accepted
       AcceptedReport (λ a is. done _ a is.told)
 
-  expand_written : (file : List ℕ) → IsToExpand given file → (a : Answer) → Expands given file a → IsDone a
+  pub expand_written : (file : List ℕ) → IsToExpand given file → (a : Answer) → Expands given file a → IsDone a
   expand_written file t =
       text_passed IsDone no_fault given told file t.source.text t.program t.plain t.source.held t.source.reads t.source.means t.source.accepted
       (λ p plain. FromNodes (typed_form plain) TreeReport) (nodes_passed IsDone (typed_form t.plain) t.few TreeReport (done _))
 
-  run_written : (r : AskedRounds) → IsToRun r given → (a : Answer) → Runs r given a → IsDone a
+  pub run_written : (r : AskedRounds) → IsToRun r given → (a : Answer) → Runs r given a → IsDone a
   run_written r t =
       let p = typed_form t.made in
       text_passed IsDone no_fault given told r.file t.source.text t.program t.plain t.source.held t.source.reads t.source.means t.source.accepted
@@ -120,7 +120,7 @@ module _ (no_fault : (program : ProgramTree) (f : Fault) → IsAccepted program 
       (script_passed IsDone p.channels t.offers.text t.script t.offers.says (λ script. ReportsRounds p script r.rounds)
       (rounds_written p t.script r.rounds t.few))))
 
-  time_written : (t : AskedTiming) → IsToTime t given → (a : Answer) → SimulatesTimed t given a → IsWritten a
+  pub time_written : (t : AskedTiming) → IsToTime t given → (a : Answer) → SimulatesTimed t given a → IsWritten a
   time_written t h =
       let n = h.net in
       file_passed IsWritten given told t.net h.rules.text most_of_net h.rules.held (λ text. FromNet text (TimesFile t given))
@@ -135,7 +135,7 @@ module _ (no_fault : (program : ProgramTree) (f : Fault) → IsAccepted program 
       reported : (p : Option TypedProgram) (a : Answer) → TimesNet (timing_for t h.net h.script h.delays) p a → IsWritten a
       reported p a is = whole_report h.script (Some is.time) is.ran p a is.written
 
-  bench_written : (b : AskedBench) → IsToBench b given handed → (a : Answer) → Benches b given handed a → IsRunEnd a
+  pub bench_written : (b : AskedBench) → IsToBench b given handed → (a : Answer) → Benches b given handed a → IsRunEnd a
   bench_written b h =
       order_passed IsRunEnd handed.orders b.order h.place h.named (BenchesBy b given handed)
       (peer_passed IsRunEnd handed.peers b.peer h.which h.peer (BenchesAt b given handed h.place)
@@ -145,7 +145,7 @@ module _ (no_fault : (program : ProgramTree) (f : Fault) → IsAccepted program 
       (λ net. BenchesNet handed h.place h.which b.seed (setup_for net b.steps))
       (λ a is. alone_ends a is.against.written))))
 
-  trace_written : (w : AskedWaves) → IsToTrace w given → (a : Answer) → Traces w given a → IsRunEnd a
+  pub trace_written : (w : AskedWaves) → IsToTrace w given → (a : Answer) → Traces w given a → IsRunEnd a
   trace_written w h =
       let n = h.net in
       file_passed IsRunEnd given told w.net h.rules.text most_of_net h.rules.held (λ text. FromNet text (TracesFile w given))
@@ -161,19 +161,6 @@ module _ (no_fault : (program : ProgramTree) (f : Fault) → IsAccepted program 
           (delays_passed IsRunEnd h.net.names f.text h.delays f.says (traced_by w h.net h.script)
           (traced_written (trace_for w h.net h.script h.delays) w.causes))
 
-  unwave_written : (file : List ℕ) → IsToUnwave given file → (a : Answer) → Unwaves given file a → IsDone a
+  pub unwave_written : (file : List ℕ) → IsToUnwave given file → (a : Answer) → Unwaves given file a → IsDone a
   unwave_written file t =
       file_passed IsDone given told file t.text most_of_wave t.held (λ text. FromWave text PrintsChanges) (wave_passed t.text t.wave t.is)
-
-  pub served_written : (command : Asked) → IsServed command given handed → (a : Answer) → IsAnswer command given handed a → EndsServed command (status_of a)
-  served_written (compiles c) t a is = compile_writes c no_fault given told t a is
-  served_written (migrates net) t a is = migrate_writes given net told t a is
-  served_written (checks file) t a is = check_written file t a is
-  served_written (expands file) t a is = expand_written file t a is
-  served_written (simulates run) t a is = simulate_writes no_fault run given handed.orders told t a is
-  served_written (times timing) t a is = time_written timing t a is
-  served_written (benches b) t a is = bench_written b t a is
-  served_written (traces w) t a is = trace_written w t a is
-  served_written (unwaves file) t a is = unwave_written file t a is
-  served_written (runs r) t a is = run_written r t a is
-  served_written (grows growth) t a is = grown_written growth.sum growth handed.orders t a is

@@ -17,7 +17,7 @@ use Rattle.program_commands.specs.Migrating.{Migrates, IsToMigrate, named_reset,
 use Rattle.command_steps.specs.Steps.{IsFaulty, accepted, no_file, long_file, a_file, a_program, no_net, a_net, most_of_nodes}
 use Rattle.command_steps.proofs.OneAnswers.{same_text, too_long, not_there}
 use Rattle.program_commands.proofs.OneWritten.{bodies_once}
-use Rattle.chp_cli.proofs.StepsPassed.{buffer_passed, text_passed}
+use Rattle.command_steps.proofs.StepsPassed.{buffer_passed, text_passed}
 
 abbrev IsDone : Answer → Type 0
 IsDone a = status_of a ≡ Done

@@ -1,12 +1,6 @@
 -- What follows from what `bench` answers.
-use Rattle.std.specs.Prelude.{◌≡◌, ◌≢◌, ℕ, ◌≤◌, List, length, Some}
-use Rattle.chp_meaning.specs.Rounds.{rounds}
-use Rattle.env_script.specs.Runs.{after}
-use Rattle.env_script.specs.Scripts.{OfferValue}
-use Rattle.event_sim.specs.declared.ran.End.{End}
-use Rattle.event_sim.specs.declared.ran.End.TheVariants.{AtRest}
+use Rattle.std.specs.Prelude.{◌≡◌, ◌≢◌, ℕ, List, Some}
 use Rattle.event_sim.specs.Simulating.{growth}
-use Rattle.net_compose.specs.Carries.{IsFollowing, IsSettled}
 use Rattle.peer_bench.specs.Benches.{bench_start, bench_moves}
 use Rattle.peer_bench.specs.Growing.{script_by}
 use Rattle.prs_core.specs.Nets.{NetValue}
@@ -20,6 +14,7 @@ use Rattle.command_answers.specs.Answers.{Given, Answer, writes}
 use Rattle.command_steps.specs.Orders.{place_named}
 use Rattle.command_steps.specs.Steps.{IsFileOf}
 use Rattle.command_words.specs.BenchWords.{AskedBench}
+use Rattle.chp_cli.specs.Followed.{FollowsRounds}
 use Rattle.chp_cli.specs.Simulated.{HoldsCompiled}
 
 -- the file holds the rule file of a net; and the order and the device of the wanted names led to a run of this net on a
@@ -35,22 +30,14 @@ pub record IsFileBenched (b : AskedBench) (given : Given) (handed : HandedIn) (a
   pub peer : peer_named handed.peers.before b.peer ≡ Some which
   pub benched : BenchesNet handed place which b.seed (setup_for net b.steps) answer
 
--- Some moves of a net under a script, which ended so, have passed on each channel a prefix of what as many rounds of
--- the program pass under the script; and at rest all that the program passes, which goes no further after some round.
-pub record FollowsRounds (p : TypedProgram) (net : NetValue) (script : List OfferValue) (moves : List ℕ) (end : End) :
-    Type 0 where
-  pub prefix : IsFollowing (after net (bench_start net) moves) (rounds p script (length moves))
-  pub rest : end ≡ AtRest → (n : ℕ) × (n ≤ length moves)
-      × IsSettled (after net (bench_start net) moves) (rounds p script n)
-
--- so the run does for the program for which `compile` writes the rule file, under the script of all that the device
--- offered and took
+-- what has passed there follows the rounds of the program for which `compile` writes the rule file, under the script of
+-- all that the device offered and took
 abbrev pub BenchedFollows : (b : AskedBench) (given : Given) (handed : HandedIn) (p : TypedProgram) →
     {answer : Answer} → IsFileBenched b given handed answer → Type 0
 BenchedFollows b given handed p f =
     let against = f.benched.against in
     let notes = notes_grown against.peer_was against.peer_is in
-    FollowsRounds p f.net (script_by f.net notes)
+    FollowsRounds p f.net (script_by f.net notes) (bench_start f.net)
     (bench_moves f.net notes (growth f.benched.was.log f.benched.is.log)) against.ran.end
 
 -- The report is that of a run on a bench without a hazard, which passes what the rounds of a program pass for which

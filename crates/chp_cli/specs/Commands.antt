@@ -1,15 +1,18 @@
--- The list of all commands: what each reads and answers.
-use Rattle.std.specs.Prelude.{ℕ, List, [], ◌∷◌, Option, None, option_to_list}
+-- The list of all commands: what each reads and answers, and what it is served with.
+use Rattle.std.specs.Prelude.{◌≡◌, ◌⊎◌, ℕ, true, List, [], ◌∷◌, Option, None, option_to_list}
+use Rattle.command_answers.specs.declared.status.Status.{Status}
+use Rattle.command_answers.specs.declared.status.Status.TheVariants.{Done, Hazard}
 use Rattle.command_answers.specs.Answers.{Given, Answer}
+use Rattle.command_answers.specs.Statuses.{is_whole}
 use Rattle.bench_commands.specs.HandedIn.{HandedIn}
 use Rattle.bench_commands.specs.OnBench.{Benches}
 use Rattle.bench_commands.specs.Peers.{peer_named}
 use Rattle.peer_bench.specs.Asking.{PeerValue}
 use Rattle.program_commands.specs.Checking.{Checks}
-use Rattle.program_commands.specs.Compiling.{Compiles}
+use Rattle.program_commands.specs.Compiling.{Compiles, IsToCompile}
 use Rattle.program_commands.specs.Expanding.{Expands}
 use Rattle.grown_commands.specs.Growing.{Grows, grow_order}
-use Rattle.program_commands.specs.Migrating.{Migrates}
+use Rattle.program_commands.specs.Migrating.{IsToMigrate, Migrates}
 use Rattle.round_commands.specs.RoundsReporting.{Runs}
 use Rattle.command_steps.specs.Orders.{OrderState, place_named}
 use Rattle.simulation_commands.specs.Simulating.{Simulates}
@@ -17,6 +20,7 @@ use Rattle.simulation_commands.specs.Timing.{SimulatesTimed}
 use Rattle.simulation_commands.specs.Tracing.{Traces}
 use Rattle.simulation_commands.specs.Unwaving.{Unwaves}
 use Rattle.clap.specs.Words.{Text}
+use Rattle.chp_cli.specs.Serving.{IsToBench, IsToCheck, IsToExpand, IsToGrow, IsToRun, IsToSimulate, IsToTime, IsToTrace, IsToUnwave}
 use Rattle.command_words.specs.CommandWords.{Asked, compiles, migrates, checks, expands, simulates, times, benches, traces, unwaves, runs, grows}
 
 abbrev pub IsAnswer : Asked → Given → HandedIn → Answer → Type 0
@@ -57,3 +61,32 @@ order_of _ orders = None
 abbrev pub peer_of : Asked → List PeerValue → Option ℕ
 peer_of (benches b) peers = peer_named peers b.peer
 peer_of _ peers = None
+
+-- ---- serving
+
+-- a run that is compared with no program ends well, or with a hazard
+abbrev pub EndsUncompared : Status → Type 0
+EndsUncompared status = (status ≡ Done) ⊎ (status ≡ Hazard)
+
+-- the statuses with which a command ends that is served: `simulate`, `bench` and `waves` report how the run ended, any
+-- other command ends well
+abbrev pub EndsServed : Asked → Status → Type 0
+EndsServed (simulates run) status = is_whole status ≡ true
+EndsServed (times timing) status = is_whole status ≡ true
+EndsServed (benches b) status = EndsUncompared status
+EndsServed (traces w) status = EndsUncompared status
+EndsServed _ status = status ≡ Done
+
+-- what each command is served with: then it doesn't refuse
+abbrev pub IsToServe : Asked → Given → HandedIn → Type 0
+IsToServe (compiles c) given handed = IsToCompile c given
+IsToServe (migrates net) given handed = IsToMigrate given net
+IsToServe (checks file) given handed = IsToCheck given file
+IsToServe (expands file) given handed = IsToExpand given file
+IsToServe (simulates run) given handed = IsToSimulate run given handed.orders
+IsToServe (times timing) given handed = IsToTime timing given
+IsToServe (benches b) given handed = IsToBench b given handed
+IsToServe (traces w) given handed = IsToTrace w given
+IsToServe (unwaves file) given handed = IsToUnwave given file
+IsToServe (runs r) given handed = IsToRun r given
+IsToServe (grows growth) given handed = IsToGrow growth.sum handed.orders

@@ -28,8 +28,8 @@ IsComparedWith (Some (benches b)) given p = Unit {0}
 IsComparedWith (Some (traces w)) given p = Unit {0}
 IsComparedWith _ given p = ⊥
 
--- The text reports the run of the command's files, which has no hazard, and does what its program does, where `compile`
--- writes the rule file for one.
+-- The text reports the run of the command's files, which has no hazard and follows the rounds of a program for which
+-- `compile` writes the rule file; and but on a bench it comes to rest where that does.
 abbrev pub IsCalm : Option Asked → Given → HandedIn → Ending → (text : List ℕ) → Type 0
 IsCalm (Some (simulates s)) given handed end text = IsCalmRun s given handed.orders end text
 IsCalm (Some (times t)) given handed end text = IsCalmTiming t given end text

@@ -6,6 +6,7 @@ use Rattle.chp_edge.specs.Faults.{Rose}
 use Rattle.chp_edge.specs.declared.shelf.Shelf.{Ghosts as ShelfMembers}
 use Rattle.chp_edge.specs.declared.sink.Sink.{Ghosts as SinkMembers}
 use Rattle.event_sim.specs.declared.picker.Picker.{Ghosts as PickerMembers}
+use Rattle.event_sim.specs.Asking.{PickerValue, picker_value}
 use Rattle.peer_bench.specs.declared.peer.Peer.{Ghosts as PeerMembers}
 use Rattle.command_answers.specs.Answers.{Given, given_by}
 use Rattle.command_words.specs.CommandWords.{Asked}
@@ -47,6 +48,13 @@ pub record NothingFails {S : Type 0} (shelf : ShelfMembers S) (before after : S)
   pub written : ¬ Fails sink.faults first last
 
 -- ---- orders and peers, each in a box, whose ghost members its table of methods brings
+
+-- what is known of an order as a scheduler
+abbrev pub picker_seen : {B : Type 0} {Order : B → Type 0} →
+    ((box : DynBox B Global Order) → PickerMembers (Order box.vtable)) → DynBox B Global Order → PickerValue
+picker_seen order box = picker_value ((order box).name box.value) ((order box).log box.value)
+    ((order box).spare box.value) ((order box).nodes box.value) ((order box).seeded box.value)
+    ((order box).choice box.value)
 
 -- what is known of all of them before the call and after it
 abbrev pub handed_of : {B : Type 0} {Order : B → Type 0} {D : Type 0} {Device : D → Type 0} →

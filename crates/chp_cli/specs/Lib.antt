@@ -1,11 +1,13 @@
 pub mod Resting
+pub mod Followed
 pub mod Simulated
+pub mod Serving
 pub mod Commands
 pub mod TimedFiles
 pub mod TracedFiles
 pub mod BenchedFiles
 pub mod Ends
 pub mod Handed
-pub mod Serving
 pub mod CompiledRuns
+pub mod ServedRuns
 pub use Rattle.chp_edge.specs.Faults

@@ -1,9 +1,8 @@
 -- What follows from what `simulate` answers.
-use Rattle.std.specs.Prelude.{◌≡◌, ◌≢◌, ◌⊎◌, ℕ, ◌≤◌, Bool, false, List, length, Option, Some, None}
+use Rattle.std.specs.Prelude.{◌≡◌, ◌≢◌, ◌⊎◌, ℕ, ◌≤◌, Bool, false, List, Option, Some, None}
 use Rattle.env_script.specs.Environment.{net_channels}
 use Rattle.env_script.specs.OneLength.{EndsAll}
 use Rattle.env_script.specs.Scripts.{OfferValue}
-use Rattle.env_script.specs.ScriptText.{IsScriptText}
 use Rattle.event_sim.specs.declared.ran.End.TheVariants.{AtRest}
 use Rattle.event_sim.specs.Simulating.{RanValue, picked_moves, start_at}
 use Rattle.net_compose.specs.Carries.{Carries, CarriesReset}
@@ -19,13 +18,14 @@ use Rattle.command_answers.specs.declared.answer.Ending.TheVariants.{Hazard}
 use Rattle.command_answers.specs.Answers.{Given, Answer, writes}
 use Rattle.program_commands.specs.Bodies.{Bodies, counted_with, net_for}
 use Rattle.command_steps.specs.Orders.{Played, place_named}
+use Rattle.chp_cli.specs.Followed.{FollowsRounds}
 use Rattle.chp_cli.specs.Resting.{RestsInTime}
-use Rattle.command_steps.specs.References.{HoldsReference, IsToReferTo}
+use Rattle.command_steps.specs.References.{HoldsReference}
 use Rattle.simulation_commands.specs.RunReporting.{IsReported}
-use Rattle.command_steps.specs.RunSteps.{IsScriptOf, lacks_reset, most_of_script}
+use Rattle.command_steps.specs.RunSteps.{IsScriptOf, lacks_reset}
 use Rattle.command_words.specs.SimulateWords.{AskedRun}
 use Rattle.simulation_commands.specs.Simulating.{HasPlayed, simulation_for}
-use Rattle.command_steps.specs.Steps.{IsFileOf, most_of_net, most_of_nodes}
+use Rattle.command_steps.specs.Steps.{IsFileOf, most_of_nodes}
 
 -- The files hold the rule file of a net, a script of its channels, and the program to compare with, if one is wanted;
 -- and the order of the wanted name led to a run of this net under this script, which is reported.
@@ -73,41 +73,6 @@ pub record HoldsCompiled (given : Given) (file : List ℕ) (p : TypedProgram) : 
   pub few : counted_with bodies ≤ most_of_nodes
   pub spells : NetText text (net_for reset bodies)
 
--- the files hold what can be simulated: a rule file within its limit, of a net that can have the power that is asked
--- for, a script of its channels within its own, and an accepted program, if one is wanted; and there is an order of the
--- wanted name
-pub record IsToSimulate (s : AskedRun) (given : Given) (played : Played) : Type 0 where
-  pub rules : List ℕ
-  pub net : NetValue
-  pub told : List ℕ
-  pub script : List OfferValue
-  pub place : ℕ
-  pub held : given.files s.net ≡ Some rules
-  pub short : length rules ≤ most_of_net
-  pub kept : IsNet net
-  pub spelled : NetText rules net
-  pub powered : lacks_reset s.power net.reset ≡ false
-  pub held_script : given.files s.script ≡ Some told
-  pub short_script : length told ≤ most_of_script
-  pub says : IsScriptText (net_channels net) told script
-  pub referable : IsToReferTo given s.against
-  pub named : place_named played.before s.order ≡ Some place
-
--- The files hold such a rule file of the program (`HoldsCompiled`), with a reset node if a power is asked for, a script
--- of the program's channels within its limit, and an accepted program, if one is wanted; and there is an order of the
--- wanted name.
-pub record IsCompiledToSimulate (s : AskedRun) (given : Given) (played : Played) (p : TypedProgram) : Type 0 where
-  pub told : List ℕ
-  pub script : List OfferValue
-  pub place : ℕ
-  pub holds : HoldsCompiled given s.net p
-  pub powered : lacks_reset s.power (net_for holds.reset holds.bodies).reset ≡ false
-  pub held_script : given.files s.script ≡ Some told
-  pub short_script : length told ≤ most_of_script
-  pub says : IsScriptText p.channels told script
-  pub referable : IsToReferTo given s.against
-  pub named : place_named played.before s.order ≡ Some place
-
 -- where it reports rest, no run from that state has more moves than the one that was made, and each one that rests has
 -- as many, of each node as many
 abbrev pub EndsAllAtRest : (s : AskedRun) (given : Given) (played : Played) (answer : Answer) →
@@ -124,10 +89,19 @@ SimulatedRests s given played p holds f =
     RestsInTime holds.reset holds.bodies f.net f.script s.steps (start_at sim)
     (picked_moves sim f.run.was.log f.run.is.log) f.ran.end
 
--- The report is that of a run without a hazard; where it says rest, no order makes more moves; and where a program
--- comes to rest for which `compile` writes this rule file, so does the run, if its limit is high enough.
+-- what has passed follows the rounds of the program for which `compile` writes the rule file, under the script
+abbrev pub SimulatedFollows : (s : AskedRun) (given : Given) (played : Played) (p : TypedProgram) → {answer : Answer} →
+    IsFileSimulated s given played answer → Type 0
+SimulatedFollows s given played p f =
+    let sim = simulation_for f.net f.script s.steps s.power in
+    FollowsRounds p f.net f.script (start_at sim) (picked_moves sim f.run.was.log f.run.is.log) f.ran.end
+
+-- The report is that of a run without a hazard; where it says rest, no order makes more moves. The run follows the
+-- rounds of a program for which `compile` writes this rule file; and where that comes to rest, so does the run, if its
+-- limit is high enough.
 pub record IsCalmRun (s : AskedRun) (given : Given) (played : Played) (end : Ending) (report : List ℕ) : Type 0 where
   pub run : IsFileSimulated s given played (writes end report)
   pub calm : end ≢ Hazard
   pub one_length : EndsAllAtRest s given played (writes end report) run
+  pub follows : (p : TypedProgram) → HoldsCompiled given s.net p → SimulatedFollows s given played p run
   pub rests : (p : TypedProgram) (holds : HoldsCompiled given s.net p) → SimulatedRests s given played p holds run

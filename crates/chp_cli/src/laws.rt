@@ -10,21 +10,22 @@ ghost use Rattle.program_commands.specs.Compiling.{Compiles, IsFaithfulFile, IsF
 ghost use Rattle.command_words.specs.CompileWords.{AskedCompilation};
 ghost use Rattle.program_commands.specs.Migrating.{Migrates, IsToMigrate};
 ghost use Rattle.command_words.specs.CommandWords.{Asked};
-ghost use Rattle.chp_cli.specs.Commands.{IsAnswer};
+ghost use Rattle.chp_cli.specs.Commands.{EndsServed, IsAnswer, IsToServe};
 ghost use Rattle.command_steps.specs.Orders.{Played};
 ghost use Rattle.bench_commands.specs.HandedIn.{HandedIn};
 ghost use Rattle.bench_commands.specs.OnBench.{Benches};
 ghost use Rattle.chp_cli.specs.BenchedFiles.{BenchedFollows, IsFileBenched};
 ghost use Rattle.command_words.specs.BenchWords.{AskedBench};
-ghost use Rattle.chp_cli.specs.Serving.{EndsServed, IsServed};
-ghost use Rattle.command_steps.specs.References.{IsReferredTo};
-ghost use Rattle.chp_cli.specs.Simulated.{EndsAllAtRest, HoldsCarrying, HoldsCompiled, IsCompiledToSimulate, IsFileSimulated, IsToSimulate, SimulatedRests};
+ghost use Rattle.chp_cli.specs.Serving.{IsToBench, IsToSimulate, IsToTime, IsToTrace};
+ghost use Rattle.chp_cli.specs.ServedRuns.{IsCompiledToBench, IsCompiledToSimulate, IsCompiledToTime, IsCompiledToTrace};
+ghost use Rattle.command_steps.specs.References.{IsReferredTo, IsToReferTo};
+ghost use Rattle.chp_cli.specs.Simulated.{EndsAllAtRest, HoldsCarrying, HoldsCompiled, IsFileSimulated, SimulatedFollows, SimulatedRests};
 ghost use Rattle.command_words.specs.SimulateWords.{AskedRun, AskedTiming};
 ghost use Rattle.simulation_commands.specs.Simulating.{Simulates};
 ghost use Rattle.command_answers.specs.Statuses.{is_whole};
-ghost use Rattle.chp_cli.specs.TimedFiles.{IsFileTimed, TimedRunRests};
+ghost use Rattle.chp_cli.specs.TimedFiles.{IsFileTimed, TimedFollows, TimedRunRests};
 ghost use Rattle.simulation_commands.specs.Timing.{SimulatesTimed};
-ghost use Rattle.chp_cli.specs.TracedFiles.{IsFileTraced, TracedRests};
+ghost use Rattle.chp_cli.specs.TracedFiles.{IsFileTraced, TracedFollows, TracedRests};
 ghost use Rattle.command_words.specs.WavesWords.{AskedWaves};
 ghost use Rattle.simulation_commands.specs.Tracing.{Traces};
 ghost use Rattle.width_check.specs.Form.{typed_form};
@@ -45,14 +46,11 @@ pub fn one_answer()
     ensures { (command : Asked) (given : Given) (handed : HandedIn) → given.tells ≡ true →
         OneAnswer (IsAnswer command given handed) }
 {
-    chp_syntax::laws::one_fault();
-    prs_file::laws::one_refusal();
     width_check::laws::one_fault();
     sharing_check::laws::one_shared_fault();
     history_report::laws::one_comparison();
     delay_script::laws::one_timed_run();
     wave_file::laws::one_causes_text();
-    wave_file::laws::one_wave_refusal();
 }
 
 /// Law: what `compile` writes for a file is the one text of the net of what the one program means that its text reads
@@ -113,7 +111,7 @@ pub fn simulates_all()
 /// its only answers are to write: `simulate`, `bench` and `waves` how the run ended, any other that all went well.
 pub fn serves_all()
     ensures { (command : Asked) (given : Given) (handed : HandedIn) → given.tells ≡ true →
-        IsServed command given handed → (answer : Answer) → IsAnswer command given handed answer →
+        IsToServe command given handed → (answer : Answer) → IsAnswer command given handed answer →
         EndsServed command (status_of answer) }
 {
     width_check::laws::one_fault();
@@ -179,11 +177,18 @@ pub fn compiled_files_carry()
 }
 
 /// Law: each rule file that `compile` wrote is within the limit of rule files. So under each script of the program's
-/// channels within its own limit, with any power if it has a reset node, it can be simulated: the only answers of
-/// `simulate` are to write.
+/// channels within its own limit, with any power if it has a reset node, it can be simulated and written as a wave,
+/// where delays are wanted by each delay file of its nodes within their limit; it can be compared with an accepted
+/// program, and put on a bench. (That these commands write then is the law `serves_all`.)
 pub fn compiled_files_are_simulated()
-    ensures { (s : AskedRun) (given : Given) (played : Played) (p : TypedProgram) →
-        IsCompiledToSimulate s given played p → IsToSimulate s given played }
+    ensures simulated { (s : AskedRun) (given : Given) (played : Played) (p : TypedProgram) →
+        IsToReferTo given s.against → IsCompiledToSimulate s given played p → IsToSimulate s given played }
+    ensures timed { (t : AskedTiming) (given : Given) (p : TypedProgram) → IsToReferTo given t.against →
+        IsCompiledToTime t given p → IsToTime t given }
+    ensures benched { (b : AskedBench) (given : Given) (handed : HandedIn) (p : TypedProgram) →
+        IsCompiledToBench b given handed p → IsToBench b given handed }
+    ensures traced { (w : AskedWaves) (given : Given) (p : TypedProgram) → IsCompiledToTrace w given p →
+        IsToTrace w given }
 {
     files_as_promised();
 }
@@ -262,6 +267,23 @@ pub fn benched_runs_follow()
     chp_meaning::laws::rounds_hold();
     power_is_powered();
     bench_rests_are_rests();
+    compiled_files_carry();
+}
+
+/// Law: a run of a rule file that `compile` wrote, by an order, by delays or written as a wave, passes on each channel
+/// a prefix of what as many rounds of the program as it has moves pass under the script, and where it reports rest all
+/// that the program passes.
+pub fn compiled_runs_follow()
+    ensures simulated { (s : AskedRun) (given : Given) (played : Played) (p : TypedProgram) →
+        HoldsCompiled given s.net p → (answer : Answer) (f : IsFileSimulated s given played answer) →
+        SimulatedFollows s given played p f }
+    ensures timed { (t : AskedTiming) (given : Given) (p : TypedProgram) → HoldsCompiled given t.net p →
+        (answer : Answer) (f : IsFileTimed t given answer) → TimedFollows t given p f }
+    ensures traced { (w : AskedWaves) (given : Given) (p : TypedProgram) → HoldsCompiled given w.net p →
+        (answer : Answer) (f : IsFileTraced w given answer) → TracedFollows w given p f }
+{
+    chp_meaning::laws::rounds_hold();
+    power_is_powered();
     compiled_files_carry();
 }
 

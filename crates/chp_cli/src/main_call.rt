@@ -3,9 +3,10 @@
 ghost use Rattle.std.specs.Prelude.{◌≡◌, ◌≢◌, ℕ, List, [], None, Some, true, false, IfOk, IfErr, ◌⊎◌};
 ghost use Rattle.chp_edge.specs.Faults.{IsReadFault};
 ghost use Rattle.command_answers.specs.Answers.{Answer, status_of};
-ghost use Rattle.command_words.specs.CommandWords.{Asked, IsWithinBounds, asked, asked_by, compiles};
+ghost use Rattle.command_words.specs.CommandWords.{Asked, IsWithinBounds, asked, asked_by, compiles, simulates};
 ghost use Rattle.command_words.specs.CompileWords.{AskedCompilation};
-ghost use Rattle.chp_cli.specs.Commands.{IsAnswer, files_of};
+ghost use Rattle.command_words.specs.SimulateWords.{AskedRun};
+ghost use Rattle.chp_cli.specs.Commands.{EndsServed, IsAnswer, IsToServe, files_of};
 ghost use Rattle.chp_cli.specs.Ends.{AnswersTo, Ends, IsFile};
 ghost use Rattle.chp_cli.specs.Handed.{
   Fails,
@@ -16,21 +17,24 @@ ghost use Rattle.chp_cli.specs.Handed.{
   StaysBut,
   given_of,
   handed_of,
+  picker_seen,
 };
 ghost use Rattle.command_answers.specs.Replies.{Stops, end_line, end_status, stop_status};
 ghost use Rattle.program_commands.specs.Compiling.{IsFaithfulFile};
 ghost use Rattle.program_commands.specs.RepliesTold.{reply_bytes, told_reply};
-ghost use Rattle.chp_cli.specs.Serving.{EndsServed, IsServed};
+ghost use Rattle.chp_cli.specs.ServedRuns.{IsCompiledToServe};
 ghost use Rattle.chp_cli.specs.CompiledRuns.{IsComparedWith, IsSteady, RunsCompiled};
 ghost use Rattle.command_answers.specs.Statuses.{is_whole};
+ghost use Rattle.simulation_commands.specs.Asked.{AsksOrder};
 ghost use Rattle.simulation_commands.specs.Simulating.{StaysUnasked};
 ghost use Rattle.width_check.specs.Processes.{TypedProgram};
 
 use crate::laws::{
     benched_right, benched_runs_are_safe, benched_runs_follow, carried_runs_agree,
-    carried_runs_are_safe, carried_runs_have_one_length, compiled_files_carry, compiled_runs_rest,
-    one_answer, serves_all, simulated_right, timed_right, timed_runs_agree, timed_runs_are_safe,
-    traced_right, traced_runs_are_safe,
+    carried_runs_are_safe, carried_runs_have_one_length, compiled_files_are_simulated,
+    compiled_files_carry, compiled_runs_follow, compiled_runs_rest, one_answer, serves_all,
+    simulated_right, timed_right, timed_runs_agree, timed_runs_are_safe, traced_right,
+    traced_runs_are_safe,
 };
 use crate::players::Players;
 use bench_commands::bench::bench;
@@ -64,6 +68,8 @@ fn answer<'a, S: Shelf>(
         (handed_of Picker-box Peer-box players.old players.new) (told_reply reply)) }
     ensures carried { IfOk result (λ reply. (c : AskedCompilation) → asked command.now ≡ compiles c →
         S.tells shelf.old ≡ true → IsFaithfulFile c (given_of S.Shelf shelf.old) (reply_bytes reply)) }
+    ensures shown { IfOk result (λ reply. (run : AskedRun) → asked command.now ≡ simulates run → AsksOrder
+        (picker_seen Picker-box) run (given_of S.Shelf shelf.old) players.old.orders.items players.new.orders.items) }
     ensures stopped { IfErr result (Stops (IsAnswer (asked command.now) (given_of S.Shelf shelf.old)
         (handed_of Picker-box Peer-box players.old players.new)) (files_of (asked command.now))
         (given_of S.Shelf shelf.old) (S.faults shelf.old) (S.faults shelf.new)) }
@@ -112,6 +118,9 @@ fn run<'a, S: Shelf, K: Sink>(
     ensures carried { (c : AskedCompilation) → asked_by words.now ≡ Some (compiles c) → S.tells shelf.old ≡ true →
         end_status result ≡ Status.Done → (file : List ℕ) × IsAppended K.Sink out.old out.new file
         × IsFaithfulFile c (given_of S.Shelf shelf.old) file }
+    ensures shown { (run : AskedRun) → asked_by words.now ≡ Some (simulates run) → is_whole (end_status result) ≡ true →
+        AsksOrder (picker_seen Picker-box) run (given_of S.Shelf shelf.old) players.old.orders.items
+        players.new.orders.items }
     ensures stay { StaysBut Picker-box Peer-box (asked_by words.now) players.old players.new }
     ensures unasked { StaysUnasked (end_status result) players.old players.new }
     ensures shelf { KeepsShelf S.Shelf shelf.old shelf.new }
@@ -141,22 +150,32 @@ fn run<'a, S: Shelf, K: Sink>(
 /// shelf is observable, for the same orders and devices before and after. Three things may come between: the shelf
 /// fails at a file of the command (`Read`), the output fails before its end (`Write`), or it is out of memory
 /// (`NoMemory`), which may come at any point and has a status of its own. Where the files hold what the command is
-/// served with, and the order and the device that it asks for are there, the answer is to write.
+/// served with, and the order and the device that it asks for are there, the answer is to write. All that is said of
+/// files here and below is so where the shelf is observable.
 ///
 /// The rule file that `compile` writes is the one text of a net that carries the file's program, with `--buffer` the
 /// program with the buffer, and keeps pace with it. This is said where the shelf is observable and the status is 0; and
 /// that it is this file which was written, where the output is observable.
 ///
 /// A run of a rule file that `compile` wrote, by an order, by delays or written as a wave, finds no hazard under any
-/// script, and compared with its own program it agrees. Where one by an order reports rest, no order makes more moves.
+/// script, and compared with its own program it agrees. Compared with that or with none it ends well, but for a fault
+/// of a device or where memory runs out, if the other files that it wants hold a script of the program's channels and
+/// delays of the net's nodes within their limits, if its order is there, and the net has a reset node where a power is
+/// asked for: such a rule file is never too long. So does one on a bench, if its order and its device are there. On
+/// each channel it passes a prefix of what as many rounds of the program as it has moves pass under the script, and
+/// where it reports rest all that the program passes. Where one by an order reports rest, no order makes more moves.
 /// Where its program comes to rest under the script, so does the run, if the limit is high enough. With delays of at
-/// most some time it does so no later than the most moves at that time each; and where its last move comes later than
-/// 2 · (2 nodes + 1) of these times for each of n rounds of the program, with a reset node two more, or it rests, it
-/// has passed what these rounds pass. (Where calls share bodies, twice as many for each round, by the nodes of the net
-/// in which each call has a copy.)
+/// most some time it does so no later than the most moves at that time each; and where its last move comes later than 2
+/// · (2 nodes + 1) of these times for each of n rounds of the program, with a reset node two more, or it rests, it has
+/// passed what these rounds pass. (Where calls share bodies, twice as many for each round, by the nodes of the net in
+/// which each call has a copy.)
 ///
-/// A run of such a file on a bench finds no hazard against whatever device. What has passed is a prefix of what its
-/// program passes under the script of all that the device offered and took, and all of it where it reports rest.
+/// A run of a rule file that `compile` wrote on a bench finds no hazard against whatever device. What has passed is a
+/// prefix of what its program passes under the script of all that the device offered and took, and all of it where it
+/// reports rest.
+///
+/// Where `simulate` writes all of its report, the order that it asks for got its seed, and was then asked before each
+/// move of the run with the list of all moves that are enabled; its picks are the new entries of its log.
 ///
 /// Of the handed-in orders and devices only the one order and the one device that the command asks for are used, if it
 /// asks for such, and none where it refuses: the others are the very objects that they were, and all have their names
@@ -174,13 +193,15 @@ pub fn chp_main<S: Shelf, K: Sink, W: Sink>(
         (K.faults out.old) (K.faults out.new) result appended line × IsAppended K.Sink out.old out.new appended
         × (¬ Fails W.faults say.old say.new → IsAppended W.Sink say.old say.new line) }
     ensures complete { (answer : Answer) → NothingFails S.Shelf shelf.old shelf.new K.Sink out.old out.new →
-        AnswersTo (asked_by words.now) (given_of S.Shelf shelf.old)
-        (handed_of Picker-box Peer-box players.old players.new) answer →
-        (result ≡ status_of answer) ⊎ (result ≡ Status.NoMemory) }
+        AnswersTo (asked_by words.now) (given_of S.Shelf shelf.old) (handed_of Picker-box Peer-box players.old
+        players.new) answer → (result ≡ status_of answer) ⊎ (result ≡ Status.NoMemory) }
     ensures served { (command : Asked) → NothingFails S.Shelf shelf.old shelf.new K.Sink out.old out.new →
-        asked_by words.now ≡ Some command → IsServed command (given_of S.Shelf shelf.old)
-        (handed_of Picker-box Peer-box players.old players.new) →
-        EndsServed command result ⊎ (result ≡ Status.NoMemory) }
+        asked_by words.now ≡ Some command → IsToServe command (given_of S.Shelf shelf.old) (handed_of Picker-box
+        Peer-box players.old players.new) → EndsServed command result ⊎ (result ≡ Status.NoMemory) }
+    ensures compiled { (p : TypedProgram) → NothingFails S.Shelf shelf.old shelf.new K.Sink out.old out.new →
+        IsCompiledToServe (asked_by words.now) (given_of S.Shelf shelf.old) (handed_of Picker-box Peer-box
+        players.old players.new) p → IsComparedWith (asked_by words.now) (given_of S.Shelf shelf.old) p →
+        (result ≡ Status.Done) ⊎ (result ≡ Status.NoMemory) }
     ensures usage { result ≡ Status.Usage → asked_by words.now ≡ None }
     ensures read { result ≡ Status.Read → (name : List ℕ) × IsFile (asked_by words.now) name
         × IsReadFault (S.faults shelf.old) (S.faults shelf.new) (S.tells shelf.old) (S.holds shelf.old name) }
@@ -188,6 +209,8 @@ pub fn chp_main<S: Shelf, K: Sink, W: Sink>(
     ensures silent { is_whole result ≡ false → result ≢ Status.Write → IsAppended K.Sink out.old out.new [] }
     ensures stay { StaysBut Picker-box Peer-box (asked_by words.now) players.old players.new }
     ensures unasked { StaysUnasked result players.old players.new }
+    ensures shown { (run : AskedRun) → asked_by words.now ≡ Some (simulates run) → is_whole result ≡ true → AsksOrder
+        (picker_seen Picker-box) run (given_of S.Shelf shelf.old) players.old.orders.items players.new.orders.items }
     ensures carried { (c : AskedCompilation) → asked_by words.now ≡ Some (compiles c) → S.tells shelf.old ≡ true →
         result ≡ Status.Done → (file : List ℕ) × IsAppended K.Sink out.old out.new file
         × IsFaithfulFile c (given_of S.Shelf shelf.old) file }
@@ -208,6 +231,7 @@ pub fn chp_main<S: Shelf, K: Sink, W: Sink>(
     serves_all();
     simulated_right();
     compiled_files_carry();
+    compiled_files_are_simulated();
     carried_runs_are_safe();
     carried_runs_agree();
     timed_right();
@@ -217,6 +241,7 @@ pub fn chp_main<S: Shelf, K: Sink, W: Sink>(
     traced_right();
     traced_runs_are_safe();
     compiled_runs_rest();
+    compiled_runs_follow();
     benched_right();
     benched_runs_are_safe();
     benched_runs_follow();

@@ -3,7 +3,7 @@ use Rattle.std.specs.Prelude.{ℕ, List, Contains, ◌⊎◌}
 use Rattle.chp_edge.specs.Faults.{Rose, IsReadFault}
 use Rattle.command_answers.specs.declared.answer.Output.{Output}
 use Rattle.command_answers.specs.declared.answer.Refusal.{Refusal}
-use Rattle.command_answers.specs.declared.answer.Refusal.TheVariants.{Text, TooLong, TooManyNodes, TooManyForms, TooManyValues, BadNet, BadScript, BadDelays, BadWave, NoReset, NoOrder, NoChannel, NoPeer}
+use Rattle.command_answers.specs.declared.answer.Refusal.TheVariants.{Text, TooLong, TooManyNodes, TooManyForms, TooManyValues, BadFile, NoReset, NoOrder, NoChannel, NoPeer}
 use Rattle.command_answers.specs.declared.answer.Stop.{Stop}
 use Rattle.command_answers.specs.declared.answer.Stop.TheVariants.{Refused, Unread, NoMemory}
 use Rattle.command_answers.specs.declared.answer.End.{End}
@@ -11,7 +11,7 @@ use Rattle.command_answers.specs.declared.answer.End.TheVariants.{Whole, CutOff,
 use Rattle.command_answers.specs.declared.status.Status.{Status}
 use Rattle.command_answers.specs.declared.status.Status.TheVariants as status
 use Rattle.command_answers.specs.Answers.{Given, Answer, writes, refuses, misses, status_with, line_with}
-use Rattle.command_answers.specs.Lines.{usage_line, read_line, write_line, no_memory_line, refused_line, too_long_line, nodes_line, forms_line, values_line, bad_net_line, bad_script_line, bad_delays_line, bad_wave_line, no_reset_line, no_order_line, no_channel_line, no_peer_line}
+use Rattle.command_answers.specs.Lines.{usage_line, read_line, write_line, no_memory_line, refused_line, too_long_line, nodes_line, forms_line, values_line, bad_file_line, no_reset_line, no_order_line, no_channel_line, no_peer_line}
 
 abbrev pub told_answer : Output → Answer
 told_answer output = writes output.end output.text.items
@@ -22,10 +22,7 @@ refusal_status (TooLong name limit) = status.TooLarge
 refusal_status (TooManyNodes count) = status.TooLarge
 refusal_status (TooManyForms count) = status.TooLarge
 refusal_status TooManyValues = status.TooLarge
-refusal_status (BadNet fault line) = status.BadFile
-refusal_status (BadScript fault line) = status.BadFile
-refusal_status (BadDelays fault line) = status.BadFile
-refusal_status (BadWave fault line) = status.BadFile
+refusal_status (BadFile number cause line) = status.BadFile
 refusal_status NoReset = status.BadFile
 refusal_status (NoOrder name) = status.NoOrder
 refusal_status (NoChannel name) = status.NoChannel
@@ -37,10 +34,7 @@ refusal_line (TooLong name limit) = too_long_line name.now limit
 refusal_line (TooManyNodes count) = nodes_line count
 refusal_line (TooManyForms count) = forms_line count
 refusal_line TooManyValues = values_line
-refusal_line (BadNet fault line) = bad_net_line fault line
-refusal_line (BadScript fault line) = bad_script_line fault line
-refusal_line (BadDelays fault line) = bad_delays_line fault line
-refusal_line (BadWave fault line) = bad_wave_line fault line
+refusal_line (BadFile number cause line) = bad_file_line number cause.now line
 refusal_line NoReset = no_reset_line
 refusal_line (NoOrder name) = no_order_line name.now
 refusal_line (NoChannel name) = no_channel_line name.now

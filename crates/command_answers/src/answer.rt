@@ -6,10 +6,6 @@ ghost use Rattle.command_answers.specs.Replies.{refusal_status, stop_status, end
 
 use crate::status::Status;
 use chp_base::Fault;
-use delay_script::DelayFault;
-use env_script::ScriptFault;
-use prs_file::NetFault;
-use wave_file::WaveFault;
 
 /// How a command ends whose whole output was written.
 #[derive(Clone, Copy)]
@@ -47,7 +43,10 @@ pub enum Refusal<'a> {
     /// A program text is refused.
     Text(Fault),
     /// The file of this name has more bytes than this limit.
-    TooLong { name: &'a str, limit: usize },
+    TooLong {
+        name: &'a str,
+        limit: usize,
+    },
     /// The circuit of the program has so many nodes, which are more than it may have.
     TooManyNodes(u64),
     /// The program would have so many statements and expressions with its calls replaced, which are more than it may
@@ -55,14 +54,13 @@ pub enum Refusal<'a> {
     TooManyForms(u64),
     /// More values pass in the rounds than may be held.
     TooManyValues,
-    /// A rule file is refused at this line.
-    BadNet { fault: NetFault, line: u32 },
-    /// A script is refused at this line.
-    BadScript { fault: ScriptFault, line: u32 },
-    /// A delay file is refused at this line.
-    BadDelays { fault: DelayFault, line: u32 },
-    /// A wave file is refused at this line.
-    BadWave { fault: WaveFault, line: u32 },
+    /// A rule file, a script, a delay file or a wave file is refused at this line, for the cause of this number and
+    /// name (`bad_net`, `bad_script`, `bad_delays`, `bad_wave` make it).
+    BadFile {
+        number: u8,
+        cause: &'a str,
+        line: u32,
+    },
     /// The net has no reset node, and its power-up was asked for.
     NoReset,
     /// There is no order of this name.
@@ -83,11 +81,7 @@ impl Refusal<'_> {
             | Refusal::TooManyNodes(_)
             | Refusal::TooManyForms(_)
             | Refusal::TooManyValues => Status::TooLarge,
-            Refusal::BadNet { .. }
-            | Refusal::BadScript { .. }
-            | Refusal::BadDelays { .. }
-            | Refusal::BadWave { .. }
-            | Refusal::NoReset => Status::BadFile,
+            Refusal::BadFile { .. } | Refusal::NoReset => Status::BadFile,
             Refusal::NoOrder(_) => Status::NoOrder,
             Refusal::NoChannel(_) => Status::NoChannel,
             Refusal::NoPeer(_) => Status::NoPeer,

@@ -4,17 +4,13 @@
 ghost use Rattle.std.specs.Prelude.{◌≡◌, ◌≤◌, ◌++◌, true, OnOk, OnErr};
 ghost use Rattle.std.specs.List.{flat_map};
 ghost use Rattle.chp_edge.specs.Faults.{Rose};
-ghost use Rattle.command_answers.specs.Lines.{refused_line, bad_file_line, too_long_line, nodes_line, forms_line, delay_fault_name, fault_name, net_fault_name, script_fault_name, wave_fault_name, has_two_places};
+ghost use Rattle.command_answers.specs.Lines.{refused_line, bad_file_line, too_long_line, nodes_line, forms_line, fault_name, has_two_places};
 ghost use Rattle.command_answers.specs.Replies.{refusal_line, stop_line, end_line};
 
 use crate::answer::{End, Ending, Refusal, Stop};
 use chp_base::{Fault, FaultCode};
 use chp_edge::{Failed, Sink, write_all};
-use delay_script::DelayFault;
-use env_script::ScriptFault;
 use itoa::Buffer;
-use prs_file::NetFault;
-use wave_file::WaveFault;
 
 /// Writes the pieces one after the other, up to the first fault.
 fn put_pieces<W: Sink>(say: &mut W, pieces: &[&str]) -> Result<(), Failed>
@@ -129,61 +125,6 @@ fn say_refused_text<W: Sink>(say: &mut W, fault: &Fault)
     }
 }
 
-/// The name of the cause for which a rule file is refused.
-fn name_of_net_fault(fault: NetFault) -> &'static str
-    ensures { result.now ≡ net_fault_name fault }
-{
-    match fault {
-        NetFault::BadLine => "BadLine",
-        NetFault::UnknownNode => "UnknownNode",
-        NetFault::DoubleRule => "DoubleRule",
-        NetFault::DrivenWire => "DrivenWire",
-        NetFault::TooMany => "TooMany",
-        NetFault::BadVersion => "BadVersion",
-        NetFault::OutOfOrder => "OutOfOrder",
-        NetFault::DoubleName => "DoubleName",
-        NetFault::BadFirst => "BadFirst",
-    }
-}
-
-/// The name of the cause for which a script is refused.
-fn name_of_script_fault(fault: ScriptFault) -> &'static str
-    ensures { result.now ≡ script_fault_name fault }
-{
-    match fault {
-        ScriptFault::BadLine => "BadLine",
-        ScriptFault::NoSuchChannel => "NoSuchChannel",
-        ScriptFault::TooWide => "TooWide",
-        ScriptFault::DoubleChannel => "DoubleChannel",
-        ScriptFault::TooManyValues => "TooManyValues",
-    }
-}
-
-/// The name of the cause for which a delay file is refused.
-fn name_of_delay_fault(fault: DelayFault) -> &'static str
-    ensures { result.now ≡ delay_fault_name fault }
-{
-    match fault {
-        DelayFault::BadLine => "BadLine",
-        DelayFault::UnknownNode => "UnknownNode",
-        DelayFault::TooLarge => "TooLarge",
-        DelayFault::DoubleNode => "DoubleNode",
-    }
-}
-
-/// The name of the cause for which a wave file is refused.
-fn name_of_wave_fault(fault: WaveFault) -> &'static str
-    ensures { result.now ≡ wave_fault_name fault }
-{
-    match fault {
-        WaveFault::BadLine => "BadLine",
-        WaveFault::UnknownId => "UnknownId",
-        WaveFault::TimeBack => "TimeBack",
-        WaveFault::NoChange => "NoChange",
-        WaveFault::TooMany => "TooMany",
-    }
-}
-
 /// Says the line of a file that is refused: the cause's number and name, and the line.
 fn say_bad_file<W: Sink>(say: &mut W, number: u8, name: &str, line: u32)
     ensures faults { W.faults say.old ≤ W.faults say.new }
@@ -250,18 +191,11 @@ fn say_refusal<W: Sink>(say: &mut W, refusal: &Refusal)
         Refusal::TooManyNodes(count) => say_nodes(say, *count),
         Refusal::TooManyForms(count) => say_forms(say, *count),
         Refusal::TooManyValues => say_pieces(say, &["chp: 7 values over 1048576\n"]),
-        Refusal::BadNet { fault, line } => {
-            say_bad_file(say, fault.number(), name_of_net_fault(*fault), *line);
-        }
-        Refusal::BadScript { fault, line } => {
-            say_bad_file(say, fault.number(), name_of_script_fault(*fault), *line);
-        }
-        Refusal::BadDelays { fault, line } => {
-            say_bad_file(say, fault.number(), name_of_delay_fault(*fault), *line);
-        }
-        Refusal::BadWave { fault, line } => {
-            say_bad_file(say, fault.number(), name_of_wave_fault(*fault), *line);
-        }
+        Refusal::BadFile {
+            number,
+            cause,
+            line,
+        } => say_bad_file(say, *number, cause, *line),
         Refusal::NoReset => say_pieces(say, &["chp: 8 49 NoReset at line 1\n"]),
         Refusal::NoOrder(name) => say_pieces(say, &["chp: 9 order ", name, "\n"]),
         Refusal::NoChannel(name) => say_pieces(say, &["chp: 16 channel ", name, "\n"]),

@@ -13,3 +13,4 @@ pub mod OrderNames
 pub mod OneRunSteps
 pub mod TextNames
 pub mod MeantShapes
+pub mod StepsPassed

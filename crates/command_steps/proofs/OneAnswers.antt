@@ -6,10 +6,7 @@ use Rattle.chp_base.specs.declared.fault.Fault.{Fault}
 use Rattle.chp_base.specs.declared.fault.FaultCode.{FaultCode}
 use Rattle.chp_syntax.specs.Trees.{ProgramTree}
 use Rattle.chp_syntax.specs.declared.tree.Decl.{Decl}
-use Rattle.chp_syntax.specs.Refusals.{RefusedText as IsRefusedText}
 use Rattle.prs_core.specs.Nets.{NetValue}
-use Rattle.prs_file.specs.declared.fault.NetFault.{NetFault}
-use Rattle.prs_file.specs.Reading.{IsRefused}
 use Rattle.slack_buffer.specs.BufferedTrees.{IsFreeNumber, IsInnerChannel, buffered_tree}
 use Rattle.width_check.specs.Accepted.{IsAccepted}
 use Rattle.width_check.specs.Faults.{naming_faults, HasNone, IsFirstFault}
@@ -51,22 +48,19 @@ same_fault f g code at other =
     let made : FaultCode → Span → Span → Fault = λ c s t. record { code = c; at = s; other = t } in
     ap (λ c. made c f.at f.other) code ∙ (ap (λ s. made g.code s f.other) at ∙ ap (λ t. made g.code g.at t) other)
 
-module _ (text : List ℕ) (Next : ProgramTree → Answer → Type 0) (next : (program : ProgramTree) → OneAnswer (Next program))
-    (cause : (k j : FaultCode) (s t : Span) → IsRefusedText text k s → IsRefusedText text j t → k ≡ j)
-    (place : (k j : FaultCode) (s t : Span) → IsRefusedText text k s → IsRefusedText text j t → s ≡ t) where
+module _ (text : List ℕ) (Next : ProgramTree → Answer → Type 0) (next : (program : ProgramTree) → OneAnswer (Next program)) where
   pub program_once : (a b : Answer) → FromProgram text Next a → FromProgram text Next b → a ≡ b
   program_once a b (no_program {fault = f} n) (no_program {fault = g} m) =
-      let at = place f.code g.code f.at g.at n.cause m.cause in
-      ap (λ h. refuses RefusedText (refused_line h)) (same_fault f g (cause f.code g.code f.at g.at n.cause m.cause) at (n.other ∙ (at ∙ sym m.other)))
+      let same = m.only f.code f.at n.cause in
+      ap (λ h. refuses RefusedText (refused_line h)) (same_fault f g same.0 same.1 (n.other ∙ (same.1 ∙ sym m.other)))
   program_once a b (no_program n) (a_program {program = p} is m) = absurd (n.never p is.reads)
   program_once a b (a_program {program = p} is n) (no_program m) = absurd (m.never p is.reads)
   program_once a b (a_program {program = p} is n) (a_program {program = q} are m) = next p a b n (subst (λ r. Next r b) (is.only q are.reads) m)
 
-module _ (text : List ℕ) (Next : NetValue → Answer → Type 0) (next : (net : NetValue) → OneAnswer (Next net))
-    (once : (f g : NetFault) (l m : ℕ) → IsRefused text f l → IsRefused text g m → (f ≡ g) × (l ≡ m)) where
+module _ (text : List ℕ) (Next : NetValue → Answer → Type 0) (next : (net : NetValue) → OneAnswer (Next net)) where
   pub net_once : (a b : Answer) → FromNet text Next a → FromNet text Next b → a ≡ b
   net_once a b (no_net {fault = f} {line = l} n) (no_net {fault = g} {line = k} m) =
-      let same = once f g l k n.cause m.cause in
+      let same = m.only f l n.cause in
       ap (λ h. refuses BadFile (bad_net_line h l)) same.0 ∙ ap (λ i. refuses BadFile (bad_net_line g i)) same.1
   net_once a b (no_net n) (a_net {net = p} is m) = absurd (n.never p is.kept is.spelled)
   net_once a b (a_net {net = p} is n) (no_net m) = absurd (m.never p is.kept is.spelled)
@@ -167,12 +161,10 @@ module _ (program : ProgramTree) (chan : Option (List ℕ)) (Next : TypedProgram
   buffer_once a b (has_channel p is n) (has_channel q are m) =
       next (typed_form p) a b n (subst (λ (r : ProgramTree). Next (typed_form r) b) (one_buffered program chan q p are is) m)
 
-module _ (cause : (text : List ℕ) (k j : FaultCode) (s t : Span) → IsRefusedText text k s → IsRefusedText text j t → k ≡ j)
-    (place : (text : List ℕ) (k j : FaultCode) (s t : Span) → IsRefusedText text k s → IsRefusedText text j t → s ≡ t)
-    (checked : (program : ProgramTree) (Next : ProgramTree → Answer → Type 0) → ((plain : ProgramTree) → OneAnswer (Next plain)) →
+module _ (checked : (program : ProgramTree) (Next : ProgramTree → Answer → Type 0) → ((plain : ProgramTree) → OneAnswer (Next plain)) →
     OneAnswer (FromChecks program Next)) where
   pub program_file_once : (given : Given) (file : List ℕ) (chan : Option (List ℕ)) (Next : TypedProgram → Answer → Type 0) → given.tells ≡ true →
       ((p : TypedProgram) → OneAnswer (Next p)) → OneAnswer (FromProgramFile given file chan Next)
   program_file_once given file chan Next told next = file_once given file _ _ told
       (λ text. program_once text (λ program. FromChecks program (λ plain. FromBuffer plain chan Next))
-      (λ program. checked program (λ plain. FromBuffer plain chan Next) (λ plain. buffer_once plain chan Next next)) (cause text) (place text))
+      (λ program. checked program (λ plain. FromBuffer plain chan Next) (λ plain. buffer_once plain chan Next next)))

@@ -35,7 +35,8 @@ least_once taken a b f g = go (cases_order f.number g.number)
 both : {v w : Decl} {vs ws : List Decl} → v ≡ w → vs ≡ ws → v ∷ vs ≡ w ∷ ws
 both {v} {w} {vs} {ws} front rest = ap (λ (d : Decl). d ∷ vs) front ∙ ap (λ (ds : List Decl). w ∷ ds) rest
 
-own_vars_once : (decls : List Decl) (xs : List Ident) (taken : List (List ℕ)) (vs ws : List Decl) → AreOwnVars decls taken xs vs → AreOwnVars decls taken xs ws →
+own_vars_once : (decls : List Decl) (xs : List Ident) (taken : List (List ℕ)) (vs ws : List Decl) → AreOwnVars decls taken xs vs
+    → AreOwnVars decls taken xs ws →
     vs ≡ ws
 own_vars_once decls [] taken [] [] f g = refl
 own_vars_once decls [] taken [] (w ∷ ws) f g = absurd g

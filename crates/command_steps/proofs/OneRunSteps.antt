@@ -3,10 +3,7 @@ use Rattle.std.proofs.Common.{◌≡◌, ◌∙◌, ℕ, Bool, true, List, Optio
 use Rattle.chp_base.specs.declared.channel.Channel.{Channel}
 use Rattle.env_script.specs.Scripts.{OfferValue}
 use Rattle.prs_core.specs.Nets.{NetValue}
-use Rattle.chp_base.specs.declared.fault.FaultCode.{FaultCode}
-use Rattle.chp_base.specs.declared.span.Span.{Span}
 use Rattle.chp_syntax.specs.Trees.{ProgramTree}
-use Rattle.chp_syntax.specs.Refusals.{RefusedText as IsRefusedText}
 use Rattle.width_check.specs.Form.{typed_form}
 use Rattle.width_check.specs.Processes.{TypedProgram}
 use Rattle.command_answers.specs.declared.status.Status.TheVariants.{BadFile}
@@ -46,15 +43,13 @@ module _ (channels : List Channel) (text : List ℕ) (Next : List OfferValue →
   script_once a b (a_script {script = s} is n) (no_script m) = absurd (m.never s is.told)
   script_once a b (a_script {script = s} is n) (a_script {script = t} are m) = next s a b n (subst (λ r. Next r b) (is.only t are.told) m)
 
-module _ (cause : (text : List ℕ) (k j : FaultCode) (s t : Span) → IsRefusedText text k s → IsRefusedText text j t → k ≡ j)
-    (place : (text : List ℕ) (k j : FaultCode) (s t : Span) → IsRefusedText text k s → IsRefusedText text j t → s ≡ t)
-    (checked : (program : ProgramTree) (Next : ProgramTree → Answer → Type 0) → ((plain : ProgramTree) → OneAnswer (Next plain)) →
+module _ (checked : (program : ProgramTree) (Next : ProgramTree → Answer → Type 0) → ((plain : ProgramTree) → OneAnswer (Next plain)) →
     OneAnswer (FromChecks program Next)) where
   pub reference_once : (given : Given) → given.tells ≡ true → (Next : Option TypedProgram → Answer → Type 0) →
       ((p : Option TypedProgram) → OneAnswer (Next p)) → (file : Option (List ℕ)) → OneAnswer (FromReference given file Next)
   reference_once given told Next next None = next None
   reference_once given told Next next (Some file) = file_once given file _ _ told
-      (λ text. program_once text _ (λ program. checked program _ (λ plain. next (Some (typed_form plain)))) (cause text) (place text))
+      (λ text. program_once text _ (λ program. checked program _ (λ plain. next (Some (typed_form plain)))))
 
 module _ (names : List (List ℕ)) (text : List ℕ) (Next : DelayTable → Answer → Type 0) (next : (delays : DelayTable) → OneAnswer (Next delays)) where
   pub delays_once : (a b : Answer) → FromDelays names text Next a → FromDelays names text Next b → a ≡ b

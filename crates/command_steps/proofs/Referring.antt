@@ -52,5 +52,6 @@ pub reference_fails : (given : Given) (file : Option (List ℕ)) (name : List �
 reference_fails given file name is before after stop stops =
     subst (λ f. Stops (FromReference given f Never) (option_to_list f) given before after stop) (sym is)
     (stops_in (FromFile given name most_of_text (λ text. FromProgram text OnlyChecks)) (FromReference given (Some name) Never)
-    (λ answer there. file_as (λ text read. program_as (λ tree so. checks_as (λ plain never. absurd never) so) read) there) (name ∷ []) (name ∷ []) given before before
+    (λ answer there. file_as (λ text read. program_as (λ tree so. checks_as (λ plain never. absurd never) so) read) there) (name ∷ [])
+    (name ∷ []) given before before
     after (λ one own. own) (omega arith) stop stops)

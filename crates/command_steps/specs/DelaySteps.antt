@@ -19,8 +19,8 @@ pub record AreDelaysOf (names : List (List ℕ)) (text : List ℕ) (delays : Del
   pub told : IsDelayText names text delays
   pub only : IsOnlyDelays names text delays
 
--- the text gives no delays for them, for this cause at this line
-pub record AreNoDelaysOf (names : List (List ℕ)) (text : List ℕ) (fault : DelayFault) (line : ℕ) : Type 0 where
+-- the text gives no delays for them, for this cause at this line, and for no other
+pub record IsNoDelaysOf (names : List (List ℕ)) (text : List ℕ) (fault : DelayFault) (line : ℕ) : Type 0 where
   pub never : IsNoDelayText names text
   pub cause : IsDelayRefused names text fault line
   pub only : IsOnlyDelayRefusal names text fault line
@@ -28,7 +28,7 @@ pub record AreNoDelaysOf (names : List (List ℕ)) (text : List ℕ) (fault : De
 -- it reads the text as delays of these nodes
 pub data FromDelays (names : List (List ℕ)) (text : List ℕ) (Next : DelayTable → Answer → Type 0) : Answer → Type 0
   where
-    delays_refused : {fault : DelayFault} {line : ℕ} → AreNoDelaysOf names text fault line →
+    delays_refused : {fault : DelayFault} {line : ℕ} → IsNoDelaysOf names text fault line →
         FromDelays names text Next (refuses BadFile (bad_delays_line fault line))
     delays_read : {delays : DelayTable} {answer : Answer} → AreDelaysOf names text delays → Next delays answer →
         FromDelays names text Next answer

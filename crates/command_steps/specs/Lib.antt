@@ -8,3 +8,4 @@ pub mod HeldPrograms
 pub mod References
 pub mod HeldBuffered
 pub mod DelaySteps
+pub mod FileContents

@@ -41,7 +41,7 @@ pub record IsScriptOf (channels : List Channel) (text : List ℕ) (script : List
   pub told : IsScriptText channels text script
   pub only : IsOnlyScript channels text script
 
--- the text is no script of the channels, for this cause at this line
+-- the text is no script of the channels, for this cause at this line, and for no other
 pub record IsNoScriptOf (channels : List Channel) (text : List ℕ) (fault : ScriptFault) (line : ℕ) : Type 0 where
   pub never : IsNoScript channels text
   pub cause : IsScriptRefused channels text fault line

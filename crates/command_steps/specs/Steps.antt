@@ -62,11 +62,12 @@ pub record IsTextOf (text : List ℕ) (program : ProgramTree) : Type 0 where
   pub reads : Reads text program
   pub only : (other : ProgramTree) → Reads text other → other ≡ program
 
--- the text reads as no program, for this cause
+-- the text reads as no program, for this cause, and for no other
 pub record IsNoProgram (text : List ℕ) (fault : Fault) : Type 0 where
   pub never : (program : ProgramTree) → ¬ Reads text program
   pub cause : IsRefusedText text fault.code fault.at
   pub other : fault.other ≡ fault.at
+  pub only : (code : FaultCode) (at : Span) → IsRefusedText text code at → (code ≡ fault.code) × (at ≡ fault.at)
 
 -- it reads the text as a program
 pub data FromProgram (text : List ℕ) (Next : ProgramTree → Answer → Type 0) : Answer → Type 0 where
@@ -122,10 +123,11 @@ pub record IsFileOf (text : List ℕ) (net : NetValue) : Type 0 where
   pub spelled : NetText text net
   pub only : (other : NetValue) → IsNet other → NetText text other → other ≡ net
 
--- the text is no rule file, for this cause at this line
+-- the text is no rule file, for this cause at this line, and for no other
 pub record IsNoNet (text : List ℕ) (fault : NetFault) (line : ℕ) : Type 0 where
   pub never : (net : NetValue) → IsNet net → ¬ NetText text net
   pub cause : IsRefused text fault line
+  pub only : (other : NetFault) (at : ℕ) → IsRefused text other at → (other ≡ fault) × (at ≡ line)
 
 -- it reads the text as a rule file
 pub data FromNet (text : List ℕ) (Next : NetValue → Answer → Type 0) : Answer → Type 0 where

@@ -10,7 +10,7 @@ ghost use Rattle.command_steps.specs.DelaySteps.{AreDelaysOf, FromDelays, HoldsD
 
 use crate::files::text_of_file;
 use chp_edge::Shelf;
-use command_answers::{Refusal, Stop};
+use command_answers::{Stop, bad_delays};
 use delay_script::{DelayError, Delays, read_delays};
 use prs_core::Net;
 use std::alloc::Global;
@@ -27,9 +27,7 @@ fn delays_of_text<'a>(alloc: Global, text: &[u8], net: &Net) -> Result<Delays, S
 {
     match read_delays(alloc, text, net) {
         Ok(delays) => Ok(delays),
-        Err(DelayError::Refused { fault, line }) => {
-            Err(Stop::Refused(Refusal::BadDelays { fault, line }))
-        }
+        Err(DelayError::Refused { fault, line }) => Err(Stop::Refused(bad_delays(fault, line))),
         Err(DelayError::NoMemory(_)) => Err(Stop::NoMemory),
     }
 }

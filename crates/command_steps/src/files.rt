@@ -16,10 +16,12 @@ ghost use Rattle.command_steps.specs.Steps.{FromChecks, FromFile, FromNet, FromN
 use call_merge::{CallError, inline};
 use chp_base::TextError;
 use chp_edge::{ReadEnd, Shelf, read_all};
+use chp_syntax::laws::one_fault;
 use chp_syntax::{Program, parse};
-use command_answers::{Refusal, Stop};
+use command_answers::{Refusal, Stop, bad_net};
 use handshake_expand::count_nodes;
 use prs_core::Net;
+use prs_file::laws::one_refusal;
 use prs_file::{NetReadError, read_net};
 use sharing_check::{Disjoint, share};
 use std::alloc::Global;
@@ -74,6 +76,7 @@ pub fn program_of_text<'a>(alloc: Global, text: &[u8]) -> Result<Program, Stop<'
     ensures stopped { IfErr result (Halts (FromProgram text.now Never)) }
 {
     few_declared();
+    one_fault();
     match parse(alloc, text) {
         Ok(program) => Ok(program),
         Err(TextError::Refused(fault)) => Err(Stop::Refused(Refusal::Text(fault))),
@@ -159,11 +162,10 @@ pub fn net_of_text<'a>(alloc: Global, text: &[u8]) -> Result<Net, Stop<'a>>
     ensures read { IfOk result (λ net. IsFileOf text.now net) }
     ensures stopped { IfErr result (Halts (FromNet text.now Never)) }
 {
+    one_refusal();
     match read_net(alloc, text) {
         Ok(net) => Ok(net),
-        Err(NetReadError::Refused { fault, line }) => {
-            Err(Stop::Refused(Refusal::BadNet { fault, line }))
-        }
+        Err(NetReadError::Refused { fault, line }) => Err(Stop::Refused(bad_net(fault, line))),
         Err(NetReadError::NoMemory(_)) => Err(Stop::NoMemory),
     }
 }

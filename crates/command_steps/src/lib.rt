@@ -18,4 +18,4 @@ pub use files::{
 pub use order_places::place_of;
 pub use program_files::accepted_program;
 pub use reference::reference_in;
-pub use run_files::{channels_of, net_in, script_in};
+pub use run_files::{net_in, net_script_in, script_in};

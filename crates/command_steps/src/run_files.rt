@@ -12,7 +12,7 @@ ghost use Rattle.command_steps.specs.Steps.{FromFile, FromNet, Never, most_of_ne
 use crate::files::{MOST_OF_NET, net_of_text, text_of_file};
 use chp_base::Channel;
 use chp_edge::Shelf;
-use command_answers::{Refusal, Stop};
+use command_answers::{Stop, bad_script};
 use env_script::{Script, ScriptError, read_script};
 use prs_core::Net;
 use std::alloc::{AllocError, Global};
@@ -51,7 +51,7 @@ fn copied_channels(alloc: Global, net: &Net) -> Result<Vec<Channel>, AllocError>
 }
 
 /// The channels of the net.
-pub fn channels_of(alloc: Global, net: &Net) -> Result<Vec<Channel>, AllocError>
+fn channels_of(alloc: Global, net: &Net) -> Result<Vec<Channel>, AllocError>
     ensures channels { IfOk result (λ channels. channels.items ≡ net_channels net.now) }
     ensures distinct { IfOk result (λ channels.
         AllPairs (λ (a b : ChannelValue). a.name ≢ b.name) channels.items) }
@@ -73,9 +73,7 @@ fn script_of_text<'a>(alloc: Global, text: &[u8], channels: &[Channel]) -> Resul
 {
     match read_script(alloc, text, channels) {
         Ok(script) => Ok(script),
-        Err(ScriptError::Refused { fault, line }) => {
-            Err(Stop::Refused(Refusal::BadScript { fault, line }))
-        }
+        Err(ScriptError::Refused { fault, line }) => Err(Stop::Refused(bad_script(fault, line))),
         Err(ScriptError::NoMemory(_)) => Err(Stop::NoMemory),
     }
 }
@@ -102,4 +100,28 @@ pub fn script_in<'a, S: Shelf>(
 {
     let text = text_of_file(alloc, shelf, file, MOST_OF_SCRIPT)?;
     script_of_text(alloc, &text, channels)
+}
+
+/// The script of the net's channels whose file has this name.
+pub fn net_script_in<'a, S: Shelf>(
+    alloc: Global,
+    shelf: &mut S,
+    file: &'a str,
+    net: &Net,
+) -> Result<Script, Stop<'a>>
+    ensures read { IfOk result (λ script. HoldsScript (given_by (S.tells shelf.old) (S.holds shelf.old))
+        file.entry.now (net_channels net.now) script) }
+    ensures stopped { IfErr result (Stops
+        (FromFile (given_by (S.tells shelf.old) (S.holds shelf.old)) file.entry.now most_of_script
+        (λ text. FromScript (net_channels net.now) text Never))
+        (file.entry.now ∷ []) (given_by (S.tells shelf.old) (S.holds shelf.old)) (S.faults shelf.old)
+        (S.faults shelf.new)) }
+    ensures same { S.tells shelf.new ≡ S.tells shelf.old }
+    ensures kept { S.holds shelf.new ≡ S.holds shelf.old }
+    ensures faults { S.faults shelf.old ≤ S.faults shelf.new }
+{
+    match channels_of(alloc, net) {
+        Ok(channels) => script_in(alloc, shelf, file, &channels),
+        Err(_) => Err(Stop::NoMemory),
+    }
 }

@@ -52,7 +52,8 @@ or_none (Some r) = refl
 
 -- the row of a flag that was met stays the first
 module _ (name own : Text) (rows : List Row) (more : Option Row) where
-  stays : has_row own rows ≡ true → option_or (row_at name rows) more ≡ option_or (row_at name rows) (cond (bytes_eq own name) (Some (default_row (of own a_flag))) more)
+  stays : has_row own rows ≡ true → option_or (row_at name rows) more
+      ≡ option_or (row_at name rows) (cond (bytes_eq own name) (Some (default_row (of own a_flag))) more)
   stays met = go (bytes_eq own name) refl (row_at name rows) refl
     where
       go : (b : Bool) → bytes_eq own name ≡ b → (o : Option Row) → row_at name rows ≡ o →
@@ -143,7 +144,8 @@ module _ (arguments : List Argument) (met : ArgumentsMet) where
   one_more false c v vs = refl
 
   pub values_told : (i : ℕ) (some : List Argument) → list_all (tells_flags arguments) some ≡ true
-      → cond (list_all (λ (r : Rule). not r.required || is_given r.id last_rows) (rules_from i some)) (Some (map (λ (a : Argument). first_of a.name last_rows) some)) None
+      → cond (list_all (λ (r : Rule). not r.required || is_given r.id last_rows) (rules_from i some))
+      (Some (map (λ (a : Argument). first_of a.name last_rows) some)) None
       ≡ told_texts some met
   values_told i [] test = refl
   values_told i (a ∷ rest) test =

@@ -110,7 +110,8 @@ by_long i [] name = refl
 by_long i (a ∷ rest) name = one a.name a.kind (bytes_eq a.name name) refl (rules_from (index_after i (rule_for a)) rest)
     (argument_called rest name) (by_long (index_after i (rule_for a)) rest name)
   where
-    one : (own : Text) (k : ArgumentKind) (b : Bool) → bytes_eq own name ≡ b → (rules : List Rule) (o : Option Argument) → arg_by_long rules name ≡ option_map filled_rule o
+    one : (own : Text) (k : ArgumentKind) (b : Bool) → bytes_eq own name ≡ b → (rules : List Rule) (o : Option Argument)
+        → arg_by_long rules name ≡ option_map filled_rule o
         → arg_by_long (with_index i (filled_rule (of own k)) ∷ rules) name
         ≡ option_map filled_rule (cond (not (is_a_word k) && bytes_eq own name) (Some (of own k)) o)
     one own a_word b is rules o e = e

@@ -37,7 +37,8 @@ words_own arguments (a ∷ rest) all =
     let tests = both_true (is_own arguments a) (list_all (is_own arguments) rest) all in
     go a.name a.kind tests.0 (words_own arguments rest tests.1)
   where
-    go : (name : Text) (k : ArgumentKind) → is_own arguments (of name k) ≡ true → AreOwn arguments (word_names rest) → AreOwn arguments (word_names (of name k ∷ rest))
+    go : (name : Text) (k : ArgumentKind) → is_own arguments (of name k) ≡ true → AreOwn arguments (word_names rest)
+        → AreOwn arguments (word_names (of name k ∷ rest))
     go name a_word own more = (own, more)
     go name a_flag own more = more
     go name (an_option needed) own more = more
@@ -106,7 +107,8 @@ module _ (name : Text) (arguments : List Argument) where
       go None long = stops (at h waiting p false) word rest (short_turn name c arguments rules h waiting p word skip ends long (short_word word u is ends long))
       go (Some l) long = stops (at h waiting p false) word rest (doomed_turn name c arguments rules h waiting p word l.0 l.1 ends long e)
 
-  lost_dashes : (h : Held) (waiting : Waiting) (p : ℕ) (left : List Text) → Comes c p left → settle_passes c false h ≡ false → (word : Text) (rest : List Text) →
+  lost_dashes : (h : Held) (waiting : Waiting) (p : ℕ) (left : List Text) → Comes c p left → settle_passes c false h ≡ false
+      → (word : Text) (rest : List Text) →
       bytes_eq word dashes ≡ true → outcome (at h waiting p false) (word ∷ rest) ≡ None
   lost_dashes h waiting p left comes e word rest is =
       ap (λ (w : Text). outcome (at h waiting p false) (w ∷ rest)) ((bytes_eq-Decides word dashes).0 is)
@@ -132,7 +134,8 @@ module _ (name : Text) (arguments : List Argument) where
   -- ---- the reading
 
   -- after `--` any word is one of the form
-  after_tail : list_all (tells_flags arguments) arguments ≡ true → (h : Held) (p : ℕ) (left : List Text) (met : ArgumentsMet) → Stands c h met → Comes c p left →
+  after_tail : list_all (tells_flags arguments) arguments ≡ true → (h : Held) (p : ℕ) (left : List Text) (met : ArgumentsMet) → Stands c h met
+      → Comes c p left →
       AreOwn arguments left → (rest : List Text) → outcome (at h idle p true) rest ≡ told (read_words arguments after_dashes left met rest)
   after_tail all h p left met s comes own [] = over all h p met true s
   after_tail all h p [] met s comes own (word ∷ rest) = stops (at h idle p true) word rest (full_any name c arguments rules h idle p word comes)
@@ -170,7 +173,8 @@ module _ (name : Text) (arguments : List Argument) where
 
   -- what the words to come are read as
   Reads : List (String Global) → Type 0
-  Reads words = (waits : Option (Text × Bool)) (h : Held) (p : ℕ) (left : List Text) (met : ArgumentsMet) → Stands c h met → Comes c p left → AreOwn arguments left →
+  Reads words = (waits : Option (Text × Bool)) (h : Held) (p : ℕ) (left : List Text) (met : ArgumentsMet) → Stands c h met → Comes c p left
+      → AreOwn arguments left →
       IsAwaited waits → outcome (stage waits h p) (texts_of words) ≡ told (read_words arguments (place_of waits) left met (texts_of words))
 
   module _ (clear : is_clear arguments ≡ true) where
@@ -181,7 +185,8 @@ module _ (name : Text) (arguments : List Argument) where
     flags = (both_true _ _ (both_true _ _ clear).1).0
 
     -- one more word
-    module _ (h : Held) (p : ℕ) (left : List Text) (met : ArgumentsMet) (s : Stands c h met) (comes : Comes c p left) (own : AreOwn arguments left) (word : Text)
+    module _ (h : Held) (p : ℕ) (left : List Text) (met : ArgumentsMet) (s : Stands c h met) (comes : Comes c p left) (own : AreOwn arguments left)
+        (word : Text)
         (ws : List (String Global)) (u : IsUtf8 word) (next : Reads ws) where
       abbrev here : List Text → Option (List (Option Text))
       here words = told (read_words arguments anywhere left met words)
@@ -201,11 +206,13 @@ module _ (name : Text) (arguments : List Argument) where
             stops (at h idle p false) word (texts_of ws) (flag_twice name c arguments rules h p met s word called n t (long, is) was) ∙ rw was refl
         by_kind n a_flag None long is named mine false was =
             goes_on (at h idle p false) (at (reacted c (filled_rule (of n a_flag)) [] h) idle p false) word (texts_of ws)
-            (flag_turn name c arguments rules h p met s word called n t (long, is) was) (flag_walked name c arguments rules h p met s word called n t (long, is))
+            (flag_turn name c arguments rules h p met s word called n t (long, is) was)
+            (flag_walked name c arguments rules h p met s word called n t (long, is))
             ∙ rw was (next None (reacted c (filled_rule (of n a_flag)) [] h) p left (met ++ (of n a_flag, codes "true") ∷ [])
             (reacts_stands name c arguments rules h met s n a_flag (codes "true") refl was) comes own tt)
         by_kind n (an_option needed) (Some value) long is named mine true was =
-            stops (at h idle p false) word (texts_of ws) (attached_twice name c arguments rules h p met s word called n t needed value (long, is) was) ∙ rw was refl
+            stops (at h idle p false) word (texts_of ws)
+            (attached_twice name c arguments rules h p met s word called n t needed value (long, is) was) ∙ rw was refl
         by_kind n (an_option needed) (Some value) long is named mine false was =
             goes_on (at h idle p false) (at (reacted c (filled_rule (of n (an_option needed))) (value ∷ []) h) idle p false) word (texts_of ws)
             (attached_turn name c arguments rules h p met s word called n t needed value (long, is) was)
@@ -214,7 +221,8 @@ module _ (name : Text) (arguments : List Argument) where
             (reacts_stands name c arguments rules h met s n (an_option needed) value tt was) comes own tt)
         by_kind n (an_option needed) None long is named mine b was =
             goes_on (at h idle p false) (at (awaits c n h) (option n) p false) word (texts_of ws)
-            (option_turn name c arguments rules h p met s word called n t needed (long, is)) (option_walked name c arguments rules h p met s word called n t needed (long, is))
+            (option_turn name c arguments rules h p met s word called n t needed (long, is))
+            (option_walked name c arguments rules h p met s word called n t needed (long, is))
             ∙ next (Some (n, needed)) h p left met s comes own mine
 
         by_argument : (value : Option Text) → long_of word ≡ Some (called, value) → (o : Option Argument) → argument_called arguments called ≡ o
@@ -280,7 +288,8 @@ module _ (name : Text) (arguments : List Argument) where
             go true t = lost_dashes (awaits c n h) (option n) p left comes (awaits_lost h n needed mine) word (texts_of ws) t
             go false t = lost_flag (awaits c n h) (option n) p s.skip (awaits_lost h n needed mine) word (texts_of ws) u is t
         value_turns b false t is = rw is (goes_on (at (awaits c n h) (option n) p false) (at (holds c n word h) idle p false) word (texts_of ws)
-            (value_turn name c arguments rules h p n word (plain_word word is)) (value_walked name c arguments rules h p n needed word mine (plain_word word is))
+            (value_turn name c arguments rules h p n word (plain_word word is))
+            (value_walked name c arguments rules h p n needed word mine (plain_word word is))
             ∙ value_met is (was_met n met) refl)
 
     reads : (words : List (String Global)) → Reads words

@@ -136,7 +136,8 @@ awaits c name h = record (settled c h) { pending = Some (name, []) }
 abbrev pub holds : List Rule → Text → Text → Held → Held
 holds c name text h = record (settled c h) { pending = Some (name, text ∷ []) }
 
-no_row : (c : List Rule) (h : Held) (met : ArgumentsMet) (name : Text) (b : Bool) → Stands c h met → was_met name met ≡ b → has_row name (settled_rows c h.pending h.rows) ≡ b
+no_row : (c : List Rule) (h : Held) (met : ArgumentsMet) (name : Text) (b : Bool) → Stands c h met → was_met name met ≡ b
+    → has_row name (settled_rows c h.pending h.rows) ≡ b
 no_row c h met name b s is = ap (has_row name) s.rows ∙ (made_has name met ∙ is)
 
 no_command : (waiting : Waiting) (word : Text) → subcommand_met [] waiting word ≡ None
@@ -191,10 +192,12 @@ module _ (name : Text) (c : List Rule) (arguments : List Argument) (rules : AreR
     pub flag_valued : (value : Text) → Calls a_flag (Some value) → passes (at h idle p false) word ≡ false
     flag_valued value is = rw (ends, is.0, by_name a_flag is.1) refl
 
-    pub attached_turn : (needed : Bool) (value : Text) → Calls (an_option needed) (Some value) → was_met own met ≡ false → passes (at h idle p false) word ≡ true
+    pub attached_turn : (needed : Bool) (value : Text) → Calls (an_option needed) (Some value) → was_met own met ≡ false
+        → passes (at h idle p false) word ≡ true
     attached_turn needed value is none = rw (ends, is.0, by_name (an_option needed) is.1, s.passes, no_row c h met own false s none) refl
 
-    pub attached_twice : (needed : Bool) (value : Text) → Calls (an_option needed) (Some value) → was_met own met ≡ true → passes (at h idle p false) word ≡ false
+    pub attached_twice : (needed : Bool) (value : Text) → Calls (an_option needed) (Some value) → was_met own met ≡ true
+        → passes (at h idle p false) word ≡ false
     attached_twice needed value is twice = rw (ends, is.0, by_name (an_option needed) is.1, s.passes, no_row c h met own true s twice) refl
 
     pub attached_walked : (needed : Bool) (value : Text) → Calls (an_option needed) (Some value) →
@@ -257,7 +260,8 @@ module _ (name : Text) (c : List Rule) (arguments : List Argument) (rules : AreR
         go (an_option needed) flag j found = rw (found, s.rows) (used_once j own (an_option needed) text met tt none)
 
   -- an argument was met by its name
-  pub reacts_stands : (h : Held) (met : ArgumentsMet) (s : Stands c h met) (own : Text) (k : ArgumentKind) (text : Text) → Fits k text → was_met own met ≡ false →
+  pub reacts_stands : (h : Held) (met : ArgumentsMet) (s : Stands c h met) (own : Text) (k : ArgumentKind) (text : Text) → Fits k text
+      → was_met own met ≡ false →
       Stands c (reacted c (filled_rule (of own k)) (uses k text) h) (met ++ (of own k, text) ∷ [])
   reacts_stands h met s own k text fits none = record { skip = s.skip; passes = refl; rows = go k fits }
     where

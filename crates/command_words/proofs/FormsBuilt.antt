@@ -17,7 +17,8 @@ pub form_more : (name : Text) (all : List Named) (i : ℕ) (past : Named) (form 
 form_more name all i past form more rule within so_far adds made =
     adds ∙ (ap₂ with_rule so_far made ∙ ap (λ (rules : List Rule). on_top (λ s. record s { rules = rules }) (bare_form name)) rules_are)
   where
-    rules_are : map rule_for (map argument_of (take i all)) ++ rule_for (argument_of (get_or all i past)) ∷ [] ≡ map rule_for (map argument_of (take (i + 1) all))
+    rules_are : map rule_for (map argument_of (take i all)) ++ rule_for (argument_of (get_or all i past)) ∷ []
+        ≡ map rule_for (map argument_of (take (i + 1) all))
     rules_are = sym (map-append rule_for (map argument_of (take i all)) (argument_of (get_or all i past) ∷ []))
         ∙ ap (map rule_for) (sym (map-append argument_of (take i all) (get_or all i past ∷ [])) ∙ ap (map argument_of) (sym (take_more all i past within)))
 

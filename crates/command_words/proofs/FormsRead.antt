@@ -1,5 +1,5 @@
 -- What the matches of a form say of its arguments.
-use Rattle.std.proofs.Common.{◌≡◌, ◌∙◌, cond, true, refl, ap, ap₂, List, [], ◌∷◌, map, Option, Some, None, is_some, option_map}
+use Rattle.std.proofs.Common.{◌≡◌, ◌∙◌, cond, refl, ap, ap₂, List, [], ◌∷◌, map, Option, Some, None, is_some, option_map}
 use Rattle.std.specs.Prelude.{IfSome}
 use Rattle.std.specs.declared.alloc.Global.{Global}
 use Rattle.std.specs.declared.string.String.{String}
@@ -14,25 +14,13 @@ use Rattle.command_words.specs.CommandWords.{arguments_of}
 use Rattle.command_words.specs.Forms.{texts_of}
 use Rattle.command_words.specs.PlainForms.{Argument, plain_words}
 use Rattle.command_words.specs.declared.command.Verb.{Verb}
-use Rattle.command_words.specs.declared.command.Verb.TheVariants as verb
-use Rattle.command_words.proofs.FormTaken.{form_is, is_clear}
+use Rattle.command_words.proofs.FormTaken.{form_is}
+use Rattle.command_words.proofs.PlainCommands.{well_made}
 
 found_texts : (found : Found) (arguments : List Argument) →
     texts_found arguments found ≡ map (λ (a : Argument). first_of a.name (rows_of found)) arguments
 found_texts found [] = refl
 found_texts found (a ∷ rest) = ap₂ (λ (text : Option Text) more. text ∷ more) (first_value-rows found a.name) (found_texts found rest)
-
-all_clear : (v : Verb) → is_clear (arguments_of v) ≡ true
-all_clear verb.Compile = refl
-all_clear verb.Migrate = refl
-all_clear verb.Check = refl
-all_clear verb.Expand = refl
-all_clear verb.Simulate = refl
-all_clear verb.Bench = refl
-all_clear verb.Waves = refl
-all_clear verb.Unwave = refl
-all_clear verb.Run = refl
-all_clear verb.Grow = refl
 
 module _ (arguments : List Argument) where
   abbrev texts_by : App → List Text → Option (List (Option Text))
@@ -52,4 +40,4 @@ pub found_plainly : (v : Verb) (name : Text) (words : List (String Global)) (for
     → IfSome found (λ m. rows_of (found_of m) ≡ matches_of form (texts_of words))
     → option_map (λ (m : ArgMatches). texts_found (arguments_of v) (found_of m)) found ≡ plain_words (arguments_of v) (texts_of words)
 found_plainly v name words form found is taken rows = found_is (arguments_of v) form (texts_of words) found taken rows
-    ∙ (ap (λ (f : App). texts_by (arguments_of v) f (texts_of words)) is ∙ form_is name (arguments_of v) (all_clear v) words)
+    ∙ (ap (λ (f : App). texts_by (arguments_of v) f (texts_of words)) is ∙ form_is name (arguments_of v) (well_made v).0 words)

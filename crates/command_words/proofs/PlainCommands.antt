@@ -1,11 +1,12 @@
 -- What the forms of the commands come to in plain words.
-use Rattle.std.proofs.Common.{◌≡◌, ◌∙◌, ap, List, [], ◌∷◌, None, Option, Some, option_map, refl}
+use Rattle.std.proofs.Common.{◌≡◌, ◌∙◌, ap, true, List, [], ◌∷◌, None, Option, Some, option_map, refl}
 use Rattle.std.specs.Prelude.{option_and_then}
+use Rattle.std.specs.List.{list_all}
 use Rattle.std.specs.String.{string_bytes}
 use Rattle.std.specs.declared.alloc.Global.{Global}
 use Rattle.std.specs.declared.string.String.{String}
 use Rattle.clap.specs.Walk.{Text}
-use Rattle.command_words.specs.CommandWords.{Asked, benches, checks, command_of, command_with, compiles, expands, file_arguments, file_by, file_of, grows, migrates, plain_command, plain_with, runs, simulate_asked, traces, unwaves, verb_of}
+use Rattle.command_words.specs.CommandWords.{Asked, arguments_of, benches, checks, command_of, command_with, compiles, expands, file_arguments, file_by, file_of, grows, migrates, plain_command, plain_with, runs, simulate_asked, traces, unwaves, verb_of}
 use Rattle.command_words.specs.BenchWords.{bench_arguments, bench_by, bench_of}
 use Rattle.command_words.specs.CompileWords.{compile_arguments, compile_by, compile_of}
 use Rattle.command_words.specs.Forms.{texts_of}
@@ -16,7 +17,22 @@ use Rattle.command_words.specs.SimulateWords.{simulate_arguments, simulate_by, s
 use Rattle.command_words.specs.WavesWords.{waves_arguments, waves_by, waves_of}
 use Rattle.command_words.specs.declared.command.Verb.{Verb}
 use Rattle.command_words.specs.declared.command.Verb.TheVariants as verb
-use Rattle.command_words.proofs.FormTaken.{asks_plainly}
+use Rattle.command_words.specs.WrittenForms.{are_named_apart, is_callable}
+use Rattle.command_words.proofs.FormTaken.{asks_plainly, is_clear}
+
+-- Of each form: an argument's name is its own, it can be called by it, and no two have the same.
+pub well_made : (v : Verb) → (is_clear (arguments_of v) ≡ true) × (list_all (is_callable (arguments_of v)) (arguments_of v) ≡ true)
+    × (are_named_apart (arguments_of v) ≡ true)
+well_made verb.Compile = (refl, refl, refl)
+well_made verb.Migrate = (refl, refl, refl)
+well_made verb.Check = (refl, refl, refl)
+well_made verb.Expand = (refl, refl, refl)
+well_made verb.Simulate = (refl, refl, refl)
+well_made verb.Bench = (refl, refl, refl)
+well_made verb.Waves = (refl, refl, refl)
+well_made verb.Unwave = (refl, refl, refl)
+well_made verb.Run = (refl, refl, refl)
+well_made verb.Grow = (refl, refl, refl)
 
 -- what a command makes of what is asked for may be said before or after
 mapped : {R : Type 0} (by : List (Option Text) → Option R) (asks : R → Asked) (o : Option (List (Option Text)))
@@ -52,6 +68,7 @@ pub command_is : (words : List (String Global)) → command_of (texts_of words) 
 command_is [] = refl
 command_is (first ∷ rest) = go (verb_of (string_bytes first))
   where
-    go : (v : Option Verb) → option_and_then (λ v. command_with v (string_bytes first) (texts_of rest)) v ≡ option_and_then (λ v. plain_with v (texts_of rest)) v
+    go : (v : Option Verb) → option_and_then (λ v. command_with v (string_bytes first) (texts_of rest)) v
+        ≡ option_and_then (λ v. plain_with v (texts_of rest)) v
     go None = refl
     go (Some v) = with_is v (string_bytes first) rest

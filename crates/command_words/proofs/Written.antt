@@ -64,7 +64,8 @@ still_fresh name k text (b ∷ rest) met apart fresh =
       still_fresh name k text rest met parts.1 fresh.1,
     )
 
-fresh_by : (name : Text) (k : ArgumentKind) (text : Option Text) (rest : List Argument) (met : ArgumentsMet) → is_named_apart name rest ≡ true → IsFresh rest met →
+fresh_by : (name : Text) (k : ArgumentKind) (text : Option Text) (rest : List Argument) (met : ArgumentsMet) → is_named_apart name rest ≡ true
+    → IsFresh rest met →
     IsFresh rest (met ++ met_by k name text)
 fresh_by name a_word (Some t) rest met own fresh = still_fresh name a_word t rest met own fresh
 fresh_by name a_word None rest met own fresh = subst (IsFresh rest) (sym (append-nil met)) fresh
@@ -109,7 +110,11 @@ called arguments (x ∷ xs) k named test =
     let all : (not (is_empty (x ∷ xs)) && (not (has_byte 61 (x ∷ xs)) && own)) ≡ true = rw named at test in
     let tests = both_true (not (has_byte 61 (x ∷ xs))) own (both_true (not (is_empty (x ∷ xs))) (not (has_byte 61 (x ∷ xs)) && own) all).1 in
     let none = not_true (has_byte 61 (x ∷ xs)) tests.0 in
-    record { some = refl; long = rw none (ap (λ (n : Text). Some (n, None)) (all_before (x ∷ xs) none)); argument = go (argument_called arguments (x ∷ xs)) refl tests.1 }
+    record {
+      some = refl;
+      long = rw none (ap (λ (n : Text). Some (n, None)) (all_before (x ∷ xs) none));
+      argument = go (argument_called arguments (x ∷ xs)) refl tests.1;
+    }
   where
     go : (o : Option Argument) → argument_called arguments (x ∷ xs) ≡ o → option_map_or (λ (b : Argument). same_argument_kind b.kind k) o false ≡ true
         → argument_called arguments (x ∷ xs) ≡ Some (of (x ∷ xs) k)
@@ -147,7 +152,8 @@ module _ (arguments : List Argument) where
   one_read name (an_option true) None rest words met test is fresh = absurd is
   one_read name (an_option false) None rest words met test is fresh = rw (append-nil met) refl
 
-  read_on : (rest : List Argument) (texts : List (Option Text)) (met : ArgumentsMet) → list_all (is_callable arguments) rest ≡ true → are_named_apart rest ≡ true
+  read_on : (rest : List Argument) (texts : List (Option Text)) (met : ArgumentsMet) → list_all (is_callable arguments) rest ≡ true
+      → are_named_apart rest ≡ true
       → AreTexts rest texts → IsFresh rest met → reads rest met (written_words rest texts) ≡ Some (met ++ all_met rest texts)
   read_on [] [] met tests apart are fresh = ap (λ (m : ArgumentsMet). Some m) (sym (append-nil met))
   read_on [] (text ∷ more) met tests apart are fresh = absurd are
@@ -228,7 +234,8 @@ told_on (a ∷ rest) (text ∷ more) before apart are fresh =
     joined first others text more one two = rw (one, two) refl
 
 -- the words that are written for these texts give each argument its text
-pub written_read : (arguments : List Argument) (texts : List (Option Text)) → list_all (is_callable arguments) arguments ≡ true → are_named_apart arguments ≡ true
+pub written_read : (arguments : List Argument) (texts : List (Option Text)) → list_all (is_callable arguments) arguments ≡ true
+    → are_named_apart arguments ≡ true
     → AreTexts arguments texts → plain_words arguments (written_words arguments texts) ≡ Some texts
 unfolding plain_words
 written_read arguments texts callable apart are =

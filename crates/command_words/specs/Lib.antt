@@ -10,4 +10,3 @@ pub mod WrittenForms
 pub mod BuiltForms
 pub mod GrowWords
 pub mod CommandWords
-pub mod WrittenCommands

@@ -11,7 +11,7 @@ ghost use Rattle.command_steps.specs.Steps.{FromNet, IsFileOf, most_of_net};
 
 use chp_base::Name;
 use chp_edge::Shelf;
-use command_answers::{Ending, Output, Refusal, Stop};
+use command_answers::{Ending, Output, Stop, bad_net};
 use command_steps::{MOST_OF_NET, net_of_text, text_of_file};
 use prs_core::Net;
 use prs_file::{NetFault, print_net};
@@ -56,9 +56,8 @@ fn migrate_net<'a>(alloc: Global, text: Vec<u8>, net: Net) -> Result<Output, Sto
         });
     }
     if let Some(node) = reset_place(net.names()) {
-        let fault = NetFault::DoubleName;
         let line = node as u32 + 2;
-        return Err(Stop::Refused(Refusal::BadNet { fault, line }));
+        return Err(Stop::Refused(bad_net(NetFault::DoubleName, line)));
     }
     match reset_text(alloc, net) {
         Ok(text) => Ok(Output {

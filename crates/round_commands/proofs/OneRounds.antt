@@ -1,9 +1,6 @@
 -- `run` has at most one answer.
 use Rattle.std.proofs.Common.{◌≡◌, ℕ, ◌<◌, ◌≤◌, true, List, refl, arith}
-use Rattle.chp_base.specs.declared.fault.FaultCode.{FaultCode}
-use Rattle.chp_base.specs.declared.span.Span.{Span}
 use Rattle.chp_syntax.specs.Trees.{ProgramTree}
-use Rattle.chp_syntax.specs.Refusals.{RefusedText as IsRefusedText}
 use Rattle.env_script.specs.Scripts.{OfferValue}
 use Rattle.width_check.specs.Processes.{TypedProgram}
 use Rattle.command_answers.specs.Answers.{Given, Answer, OneAnswer}
@@ -27,10 +24,8 @@ report_once p script n a b (spent within can) (too_full over) = too_many over wi
 report_once p script n a b (spent within can) (at_rest also still) = absurd (still can)
 report_once p script n a b (spent within can) (spent also could) = refl
 
-module _ (cause : (text : List ℕ) (k j : FaultCode) (s t : Span) → IsRefusedText text k s → IsRefusedText text j t → k ≡ j)
-    (place : (text : List ℕ) (k j : FaultCode) (s t : Span) → IsRefusedText text k s → IsRefusedText text j t → s ≡ t)
-    (checked : (program : ProgramTree) (Next : ProgramTree → Answer → Type 0) → ((plain : ProgramTree) → OneAnswer (Next plain)) →
+module _ (checked : (program : ProgramTree) (Next : ProgramTree → Answer → Type 0) → ((plain : ProgramTree) → OneAnswer (Next plain)) →
     OneAnswer (FromChecks program Next)) where
   pub rounds_once : (r : AskedRounds) (given : Given) → given.tells ≡ true → OneAnswer (Runs r given)
-  rounds_once r given told = program_file_once cause place checked given r.file r.buffer (RunsProgram r given) told
+  rounds_once r given told = program_file_once checked given r.file r.buffer (RunsProgram r given) told
       (λ p. file_once given r.script _ _ told (λ words. script_once p.channels words _ (λ script. report_once p script r.rounds)))

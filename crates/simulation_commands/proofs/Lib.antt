@@ -2,6 +2,7 @@ pub mod OneRuns
 pub mod OneTimings
 pub mod OneTraces
 pub mod Keeping
+pub mod Asking
 pub mod TimingStopping
 pub mod TraceStopping
 pub mod Reporting

@@ -6,12 +6,7 @@ use Rattle.event_sim.specs.declared.ran.End.{End}
 use Rattle.event_sim.specs.Ends.{EndsSo}
 use Rattle.event_sim.specs.Simulating.{SimValue, RanValue, picked_moves, start_at}
 use Rattle.prs_core.specs.Nets.{NetValue}
-use Rattle.prs_file.specs.declared.fault.NetFault.{NetFault}
-use Rattle.prs_file.specs.Reading.{IsRefused}
-use Rattle.chp_base.specs.declared.fault.FaultCode.{FaultCode}
-use Rattle.chp_base.specs.declared.span.Span.{Span}
 use Rattle.chp_syntax.specs.Trees.{ProgramTree}
-use Rattle.chp_syntax.specs.Refusals.{RefusedText as IsRefusedText}
 use Rattle.history_report.specs.declared.comparison.Against.{Against}
 use Rattle.history_report.specs.Comparing.{IsAgainst, against_line}
 use Rattle.history_report.specs.Reports.{report_of}
@@ -63,21 +58,18 @@ module _ (law : (r : RanValue) (p : TypedProgram) (script : List OfferValue) (a 
   reported_once script time r (Some p) a b (compared x calm is) (compared y also are) =
       ap (λ (against : Against). writes (ending_against against) (report_of r time ++ against_line r.net against)) (law r p script x y is are)
 
-module _ (cause : (text : List ℕ) (k j : FaultCode) (s t : Span) → IsRefusedText text k s → IsRefusedText text j t → k ≡ j)
-    (placed : (text : List ℕ) (k j : FaultCode) (s t : Span) → IsRefusedText text k s → IsRefusedText text j t → s ≡ t)
-    (checked : (program : ProgramTree) (Next : ProgramTree → Answer → Type 0) → ((plain : ProgramTree) → OneAnswer (Next plain)) →
+module _ (checked : (program : ProgramTree) (Next : ProgramTree → Answer → Type 0) → ((plain : ProgramTree) → OneAnswer (Next plain)) →
     OneAnswer (FromChecks program Next))
-    (once : (text : List ℕ) (f g : NetFault) (l m : ℕ) → IsRefused text f l → IsRefused text g m → (f ≡ g) × (l ≡ m))
     (law : (r : RanValue) (p : TypedProgram) (script : List OfferValue) (a b : Against) → IsAgainst r p script a → IsAgainst r p script b → a ≡ b) where
   file_run_once : (run : AskedRun) (given : Given) (played : Played) → given.tells ≡ true → (place : ℕ) (net : NetValue) →
       OneAnswer (SimulatesFile run given played place net)
   file_run_once run given played told place net = power_once net run.power _
       (file_once given run.script _ _ told (λ text. script_once (net_channels net) text _
-      (λ script. reference_once cause placed checked given told _
+      (λ script. reference_once checked given told _
       (λ p. net_run_once (λ ran. IsReported script None ran p) (λ ran. reported_once law script None ran p) played place run.seed
       (simulation_for net script run.steps run.power)) run.against)))
 
   pub simulate_once : (run : AskedRun) (given : Given) (played : Played) → given.tells ≡ true → OneAnswer (Simulates run given played)
   simulate_once run given played told = order_once played run.order _
       (λ place. file_once given run.net _ _ told (λ text. net_once text (SimulatesFile run given played place)
-      (file_run_once run given played told place) (once text)))
+      (file_run_once run given played told place)))

@@ -1,9 +1,6 @@
 -- `simulate` with delays has at most one answer.
 use Rattle.std.proofs.Common.{◌≡◌, ℕ, true, List, Option, Some, subst}
-use Rattle.chp_base.specs.declared.fault.FaultCode.{FaultCode}
-use Rattle.chp_base.specs.declared.span.Span.{Span}
 use Rattle.chp_syntax.specs.Trees.{ProgramTree}
-use Rattle.chp_syntax.specs.Refusals.{RefusedText as IsRefusedText}
 use Rattle.delay_script.specs.declared.noted.NotedMove.{NotedMove}
 use Rattle.delay_script.specs.TimedRuns.{TimedValue, IsTimedRan}
 use Rattle.env_script.specs.Environment.{net_channels}
@@ -12,8 +9,6 @@ use Rattle.event_sim.specs.Simulating.{RanValue}
 use Rattle.history_report.specs.declared.comparison.Against.{Against}
 use Rattle.history_report.specs.Comparing.{IsAgainst}
 use Rattle.prs_core.specs.Nets.{NetValue}
-use Rattle.prs_file.specs.declared.fault.NetFault.{NetFault}
-use Rattle.prs_file.specs.Reading.{IsRefused}
 use Rattle.width_check.specs.Processes.{TypedProgram}
 use Rattle.command_answers.specs.Answers.{Given, Answer, OneAnswer}
 use Rattle.simulation_commands.specs.RunReporting.{IsReported}
@@ -34,16 +29,13 @@ module _ (ran : (t : TimedValue) (ms ns : List NotedMove) (r q : RanValue) (u v 
       reported_once law t.script (Some x.time) x.ran p a b x.written
       (subst (λ u. IsReported t.script (Some u) x.ran p b) times (subst (λ r. IsReported t.script (Some y.time) r p b) rans y.written))
 
-  module _ (cause : (text : List ℕ) (k j : FaultCode) (s t : Span) → IsRefusedText text k s → IsRefusedText text j t → k ≡ j)
-      (place : (text : List ℕ) (k j : FaultCode) (s t : Span) → IsRefusedText text k s → IsRefusedText text j t → s ≡ t)
-      (checked : (program : ProgramTree) (Next : ProgramTree → Answer → Type 0) → ((plain : ProgramTree) → OneAnswer (Next plain)) →
-      OneAnswer (FromChecks program Next))
-      (once : (text : List ℕ) (f g : NetFault) (l m : ℕ) → IsRefused text f l → IsRefused text g m → (f ≡ g) × (l ≡ m)) where
+  module _ (checked : (program : ProgramTree) (Next : ProgramTree → Answer → Type 0) → ((plain : ProgramTree) → OneAnswer (Next plain)) →
+      OneAnswer (FromChecks program Next)) where
     timed_file_once : (t : AskedTiming) (given : Given) → given.tells ≡ true → (net : NetValue) → OneAnswer (TimesFile t given net)
     timed_file_once t given told net = power_once net t.power _
         (file_once given t.script _ _ told (λ text. script_once (net_channels net) text _
         (λ script. file_once given t.delays _ _ told (λ words. delays_once net.names words _
-        (λ delays. reference_once cause place checked given told _ (λ p. times_net_once (timing_for t net script delays) p) t.against)))))
+        (λ delays. reference_once checked given told _ (λ p. times_net_once (timing_for t net script delays) p) t.against)))))
 
     pub times_once : (t : AskedTiming) (given : Given) → given.tells ≡ true → OneAnswer (SimulatesTimed t given)
-    times_once t given told = file_once given t.net _ _ told (λ text. net_once text (TimesFile t given) (timed_file_once t given told) (once text))
+    times_once t given told = file_once given t.net _ _ told (λ text. net_once text (TimesFile t given) (timed_file_once t given told))

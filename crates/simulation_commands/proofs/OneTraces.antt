@@ -6,8 +6,6 @@ use Rattle.delay_script.specs.TimedRuns.{TimedValue, IsTimedRan}
 use Rattle.env_script.specs.Environment.{net_channels}
 use Rattle.event_sim.specs.Simulating.{RanValue}
 use Rattle.prs_core.specs.Nets.{NetValue}
-use Rattle.prs_file.specs.declared.fault.NetFault.{NetFault}
-use Rattle.prs_file.specs.Reading.{IsRefused}
 use Rattle.wave_file.specs.CauseChains.{TellsCauses}
 use Rattle.command_answers.specs.Answers.{Given, Answer, writes, OneAnswer}
 use Rattle.simulation_commands.specs.RunReporting.{ending_for}
@@ -35,15 +33,14 @@ module _ (moves : (t : TimedValue) (ms ns : List NotedMove) (r q : RanValue) (u 
       x.written ∙ (ap (λ (s : List ℕ). writes (ending_for x.ran.end) s) text
       ∙ (ap (λ (r : RanValue). writes (ending_for r.end) y.text) ran ∙ sym y.written))
 
-  module _ (once : (text : List ℕ) (f g : NetFault) (l m : ℕ) → IsRefused text f l → IsRefused text g m → (f ≡ g) × (l ≡ m)) where
-    delay_file_once : (given : Given) (names : List (List ℕ)) (Next : DelayTable → Answer → Type 0) → given.tells ≡ true →
-        ((delays : DelayTable) → OneAnswer (Next delays)) → (file : Option (List ℕ)) → OneAnswer (FromDelayFile given file names Next)
-    delay_file_once given names Next tells next None = next (unit_delays (length names))
-    delay_file_once given names Next tells next (Some file) = file_once given file _ _ tells (λ text. delays_once names text Next next)
+  delay_file_once : (given : Given) (names : List (List ℕ)) (Next : DelayTable → Answer → Type 0) → given.tells ≡ true →
+      ((delays : DelayTable) → OneAnswer (Next delays)) → (file : Option (List ℕ)) → OneAnswer (FromDelayFile given file names Next)
+  delay_file_once given names Next tells next None = next (unit_delays (length names))
+  delay_file_once given names Next tells next (Some file) = file_once given file _ _ tells (λ text. delays_once names text Next next)
 
-    traces_file_once : (w : AskedWaves) (given : Given) → given.tells ≡ true → (net : NetValue) → OneAnswer (TracesFile w given net)
-    traces_file_once w given tells net = file_once given w.script _ _ tells (λ text. script_once (net_channels net) text _
-        (λ script. delay_file_once given net.names _ tells (λ delays. traces_net_once (trace_for w net script delays) w.causes) w.delays))
+  traces_file_once : (w : AskedWaves) (given : Given) → given.tells ≡ true → (net : NetValue) → OneAnswer (TracesFile w given net)
+  traces_file_once w given tells net = file_once given w.script _ _ tells (λ text. script_once (net_channels net) text _
+      (λ script. delay_file_once given net.names _ tells (λ delays. traces_net_once (trace_for w net script delays) w.causes) w.delays))
 
-    pub traces_once : (w : AskedWaves) (given : Given) → given.tells ≡ true → OneAnswer (Traces w given)
-    traces_once w given tells = file_once given w.net _ _ tells (λ text. net_once text (TracesFile w given) (traces_file_once w given tells) (once text))
+  pub traces_once : (w : AskedWaves) (given : Given) → given.tells ≡ true → OneAnswer (Traces w given)
+  traces_once w given tells = file_once given w.net _ _ tells (λ text. net_once text (TracesFile w given) (traces_file_once w given tells))

@@ -1,5 +1,6 @@
 pub mod RunReporting
 pub mod Simulating
+pub mod Asked
 pub mod Timing
 pub mod Tracing
 pub mod Unwaving

@@ -19,10 +19,11 @@ pub record IsWaveIn (text : List ℕ) (wave : WaveValue) : Type 0 where
   pub told : IsWaveText text wave
   pub only : (other : WaveValue) → IsWaveText text other → other ≡ wave
 
--- the text is that of no wave, for this cause at this line
+-- the text is that of no wave, for this cause at this line, and for no other
 pub record IsNoWave (text : List ℕ) (fault : WaveFault) (line : ℕ) : Type 0 where
   pub never : (wave : WaveValue) → ¬ IsWaveText text wave
   pub cause : IsWaveRefused text fault line
+  pub only : (other : WaveFault) (at : ℕ) → IsWaveRefused text other at → (other ≡ fault) × (at ≡ line)
 
 -- it reads the text as a wave
 pub data FromWave (text : List ℕ) (Next : WaveValue → Answer → Type 0) : Answer → Type 0 where

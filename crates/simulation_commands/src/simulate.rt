@@ -3,10 +3,12 @@
 ghost use Rattle.std.specs.Prelude.{◌≡◌, ◌<◌, ◌≤◌, ◌∷◌, false, length, map, IfOk, IfErr, OnOk, None, Some, option_map, option_to_list};
 ghost use Rattle.env_script.specs.Environment.{net_channels};
 ghost use Rattle.env_script.specs.Scripts.{IsScript};
+ghost use Rattle.event_sim.specs.Asking.{picker_value};
 ghost use Rattle.command_answers.specs.Answers.{given_by};
 ghost use Rattle.command_words.specs.CommandWords.{run_asked};
 ghost use Rattle.command_steps.specs.Orders.{IsPlayedAt, KeepsOrders, order_state, place_named, played_by};
 ghost use Rattle.command_answers.specs.Replies.{Stops, stop_status, told_answer};
+ghost use Rattle.simulation_commands.specs.Asked.{AsksAt, AsksOrder, IsAskedAt, IsAskedThrough};
 ghost use Rattle.simulation_commands.specs.RunReporting.{IsReported};
 ghost use Rattle.command_steps.specs.RunSteps.{lacks_reset};
 ghost use Rattle.simulation_commands.specs.Simulating.{OthersStay, StaysUnasked, HasPlayed, IsPlayed, Simulates, SimulatesAt, SimulatesNet, ran_value, simulation_for};
@@ -16,7 +18,7 @@ ghost use Rattle.width_check.specs.Typed.{program_of as typed_of};
 use crate::run_reports::{copied_script, reported};
 use chp_edge::Shelf;
 use command_answers::{Output, Refusal, Stop};
-use command_steps::{channels_of, net_in, place_of, reference_in, script_in};
+use command_steps::{net_in, net_script_in, place_of, reference_in};
 use command_words::Simulation;
 use env_script::Script;
 use event_sim::{Picker, Ran, Sim};
@@ -77,6 +79,9 @@ fn play(picker: &mut Box<dyn Picker>, sim: Sim, seed: u64, room: Room) -> Result
         IsPlayed sim seed (order_state (name picker.old) (log picker.old) (seeded picker.old))
         (order_state (name picker.new) (log picker.new) (seeded picker.new)) ran.end) }
     ensures led { IfOk result (λ ran. ran ≡ ran_value sim (log picker.old) (log picker.new) ran.end) }
+    ensures asked { IfOk result (λ ran. IsAskedThrough
+        (λ p. picker_value (name p) (log p) (spare p) (nodes p) (seeded p) (choice p))
+        sim seed picker.old picker.new) }
     ensures name { name picker.new ≡ name picker.old }
 {
     prepare(picker, seed, room)?;
@@ -98,6 +103,9 @@ pub fn play_at(
         (map (λ order. order_state (name order) (log order) (seeded order)) orders.old.items)
         (map (λ order. order_state (name order) (log order) (seeded order)) orders.new.items))
         place seed sim ran) }
+    ensures asked { IfOk result (λ ran. IsAskedAt
+        (λ p. picker_value (name p) (log p) (spare p) (nodes p) (seeded p) (choice p))
+        place sim seed orders.old.items orders.new.items) }
     ensures played { IsPlayedAt place (played_by
         (map (λ order. order_state (name order) (log order) (seeded order)) orders.old.items)
         (map (λ order. order_state (name order) (log order) (seeded order)) orders.new.items)) }
@@ -125,6 +133,10 @@ fn report_at(
         (map (λ order. order_state (name order) (log order) (seeded order)) orders.new.items))
         place run.now.seed (simulation_for net script run.now.steps run.now.power)
         (λ ran. IsReported script None ran (option_map typed_of program.now)) (told_answer output)) }
+    ensures asked { IfOk result (λ output. IsAskedAt
+        (λ p. picker_value (name p) (log p) (spare p) (nodes p) (seeded p) (choice p))
+        place (simulation_for net script run.now.steps run.now.power) run.now.seed
+        orders.old.items orders.new.items) }
     ensures played { IsPlayedAt place (played_by
         (map (λ order. order_state (name order) (log order) (seeded order)) orders.old.items)
         (map (λ order. order_state (name order) (log order) (seeded order)) orders.new.items)) }
@@ -155,6 +167,10 @@ fn simulate_at<'a, S: Shelf>(
         (map (λ order. order_state (name order) (log order) (seeded order)) orders.old.items)
         (map (λ order. order_state (name order) (log order) (seeded order)) orders.new.items))
         place (told_answer output)) }
+    ensures asked { IfOk result (λ output. AsksAt
+        (λ p. picker_value (name p) (log p) (spare p) (nodes p) (seeded p) (choice p))
+        (run_asked run.now) (given_by (S.tells shelf.old) (S.holds shelf.old)) place
+        orders.old.items orders.new.items) }
     ensures stopped { IfErr result (Stops (SimulatesAt (run_asked run.now)
         (given_by (S.tells shelf.old) (S.holds shelf.old)) (played_by
         (map (λ order. order_state (name order) (log order) (seeded order)) orders.old.items)
@@ -175,11 +191,7 @@ fn simulate_at<'a, S: Shelf>(
     if is_powerless(&net, run.power) {
         return Err(Stop::Refused(Refusal::NoReset));
     }
-    let channels = match channels_of(alloc, &net) {
-        Ok(channels) => channels,
-        Err(_) => return Err(Stop::NoMemory),
-    };
-    let script = script_in(alloc, shelf, run.script, &channels)?;
+    let script = net_script_in(alloc, shelf, run.script, &net)?;
     let program = reference_in(alloc, shelf, run.against)?;
     match report_at(alloc, orders, place, net, script, &program, run) {
         Ok(output) => Ok(output),
@@ -200,6 +212,10 @@ pub fn simulate<'a, S: Shelf>(
         (map (λ order. order_state (name order) (log order) (seeded order)) orders.old.items)
         (map (λ order. order_state (name order) (log order) (seeded order)) orders.new.items))
         (told_answer output)) }
+    ensures asked { IfOk result (λ output. AsksOrder
+        (λ p. picker_value (name p) (log p) (spare p) (nodes p) (seeded p) (choice p))
+        (run_asked run.now) (given_by (S.tells shelf.old) (S.holds shelf.old))
+        orders.old.items orders.new.items) }
     ensures stopped { IfErr result (Stops (Simulates (run_asked run.now)
         (given_by (S.tells shelf.old) (S.holds shelf.old)) (played_by
         (map (λ order. order_state (name order) (log order) (seeded order)) orders.old.items)

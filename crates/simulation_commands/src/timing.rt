@@ -16,7 +16,7 @@ use crate::run_reports::{copied_script, reported};
 use crate::simulate::is_powerless;
 use chp_edge::Shelf;
 use command_answers::{Output, Refusal, Stop};
-use command_steps::{channels_of, delays_in, net_in, reference_in, script_in};
+use command_steps::{delays_in, net_in, net_script_in, reference_in};
 use command_words::Timing;
 use delay_script::{Delays, Timed};
 use env_script::Script;
@@ -87,11 +87,7 @@ pub fn time<'a, S: Shelf>(
     if is_powerless(&net, timing.power) {
         return Err(Stop::Refused(Refusal::NoReset));
     }
-    let channels = match channels_of(alloc, &net) {
-        Ok(channels) => channels,
-        Err(_) => return Err(Stop::NoMemory),
-    };
-    let script = script_in(alloc, shelf, timing.script, &channels)?;
+    let script = net_script_in(alloc, shelf, timing.script, &net)?;
     let delays = delays_in(alloc, shelf, timing.delays, &net)?;
     let program = reference_in(alloc, shelf, timing.against)?;
     match report_timed(alloc, net, script, delays, &program, timing) {

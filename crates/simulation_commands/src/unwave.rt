@@ -6,7 +6,7 @@ ghost use Rattle.command_answers.specs.Replies.{Halts, Stops, told_answer};
 ghost use Rattle.simulation_commands.specs.Unwaving.{FromWave, PrintsChanges, Unwaves, most_of_wave};
 
 use chp_edge::Shelf;
-use command_answers::{Ending, Output, Refusal, Stop};
+use command_answers::{Ending, Output, Stop, bad_wave};
 use command_steps::text_of_file;
 use std::alloc::Global;
 use wave_file::laws::{one_wave, one_wave_refusal};
@@ -28,9 +28,7 @@ fn told_text<'a>(alloc: Global, text: &[u8]) -> Result<Output, Stop<'a>>
             text,
             end: Ending::Done,
         }),
-        Err(WaveError::Refused { fault, line }) => {
-            Err(Stop::Refused(Refusal::BadWave { fault, line }))
-        }
+        Err(WaveError::Refused { fault, line }) => Err(Stop::Refused(bad_wave(fault, line))),
         Err(WaveError::NoMemory(_)) => Err(Stop::NoMemory),
     }
 }

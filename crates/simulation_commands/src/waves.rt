@@ -21,7 +21,7 @@ ghost use Rattle.simulation_commands.specs.Tracing.{IsTraceText, Traces, TracesN
 use crate::run_reports::ending_for;
 use chp_edge::Shelf;
 use command_answers::{Output, Stop};
-use command_steps::{channels_of, delays_if, net_in, script_in};
+use command_steps::{delays_if, net_in, net_script_in};
 use command_words::Waves;
 use delay_script::{Delays, Noted, NotedRan};
 use env_script::Script;
@@ -109,11 +109,7 @@ pub fn waves<'a, S: Shelf>(
     ensures faults { S.faults shelf.old ≤ S.faults shelf.new }
 {
     let net = net_in(alloc, shelf, asked.net)?;
-    let channels = match channels_of(alloc, &net) {
-        Ok(channels) => channels,
-        Err(_) => return Err(Stop::NoMemory),
-    };
-    let script = script_in(alloc, shelf, asked.script, &channels)?;
+    let script = net_script_in(alloc, shelf, asked.script, &net)?;
     let delays = delays_if(alloc, shelf, asked.delays, &net)?;
     match trace(alloc, net, script, delays, asked) {
         Ok(output) => Ok(output),

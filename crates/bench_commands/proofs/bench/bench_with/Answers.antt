@@ -8,7 +8,8 @@ use Rattle.bench_commands.proofs.bench.bench_with.Goals as goal
 pub returns-in_err-make_ready-clause-peers : goal.returns-in_err-make_ready-clause-peers
 returns-in_err-make_ready-clause-peers g c =
     let e = c.make_ready.ensures in
-    ready_keeps _ c.args.peers.now.items c.args.peers.now.items c.args.which c.index_mut.result.now c.make_ready.new.peer c.requires.which c.index_mut.ensures.value e.name e.log e.due e.willing
+    ready_keeps _ c.args.peers.now.items c.args.peers.now.items c.args.which c.index_mut.result.now c.make_ready.new.peer
+    c.requires.which c.index_mut.ensures.value e.name e.log e.due e.willing
 
 pub returns-in_err-make_ready-clause-peers_others : goal.returns-in_err-make_ready-clause-peers_others
 returns-in_err-make_ready-clause-peers_others g c = others_at _ _ _
@@ -30,7 +31,8 @@ pub returns-clause-peers : goal.returns-clause-peers
 returns-clause-peers g c =
     let e = c.make_ready.ensures in
     keeps_then _ _ c.args.peers.now.items _ c.report_on.new.peers.items
-    (ready_keeps _ c.args.peers.now.items c.report_on.new.peers.items c.args.which c.index_mut.result.now c.make_ready.new.peer c.requires.which
+    (ready_keeps _ c.args.peers.now.items c.report_on.new.peers.items c.args.which c.index_mut.result.now c.make_ready.new.peer
+    c.requires.which
     c.index_mut.ensures.value e.name e.log e.due e.willing) c.report_on.ensures.peers
 
 pub returns-clause-peers_others : goal.returns-clause-peers_others

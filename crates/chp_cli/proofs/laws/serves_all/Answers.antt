@@ -1,5 +1,5 @@
 use Rattle.command_steps.proofs.OneAnswers.{no_fault}
-use Rattle.chp_cli.proofs.Served.{served_written}
+use Rattle.chp_cli.proofs.EachCommand.{served_written}
 use Rattle.chp_cli.proofs.laws.serves_all.Goals as goal
 
 pub returns : goal.returns

@@ -1,12 +1,15 @@
-use Rattle.std.proofs.Common.{◌≡◌, ℕ, [], refl, subst}
+use Rattle.std.proofs.Common.{◌≡◌, ℕ, List, [], refl, subst}
+use Rattle.event_sim.specs.Asking.{PickerValue}
 use Rattle.command_answers.specs.declared.answer.Stop.{Stop}
 use Rattle.command_words.specs.declared.grow_words.Growth.{Growth}
-use Rattle.command_words.specs.CommandWords.{asked, compiles}
+use Rattle.command_words.specs.CommandWords.{asked, compiles, simulates, run_asked}
 use Rattle.command_words.specs.CompileWords.{AskedCompilation, compilation_asked}
+use Rattle.command_words.specs.SimulateWords.{AskedRun}
 use Rattle.command_words.proofs.Results.{ok_in}
 use Rattle.program_commands.specs.Compiling.{IsFaithfulFile}
 use Rattle.program_commands.specs.RepliesTold.{reply_bytes}
 use Rattle.chp_cli.specs.Handed.{given_of}
+use Rattle.simulation_commands.specs.Asked.{AsksOrder}
 use Rattle.command_answers.specs.Answers.{Given, given_by}
 use Rattle.grown_commands.specs.Growing.{Grows}
 use Rattle.command_steps.specs.Orders.{Played}
@@ -208,3 +211,14 @@ returns-in_ok-rounds-in-Run-clause-stay g c = all_stay _ _ _ _ _ _
 
 pub returns-in_err-rounds-in-Run-clause-stay : goal.returns-in_err-rounds-in-Run-clause-stay
 returns-in_err-rounds-in-Run-clause-stay g c = all_stay _ _ _ _ _ _
+
+asked_for : {P : Type 0} {known : P → PickerValue} {given : Given} {before after : List P} (r run : AskedRun) → r ≡ run
+    → AsksOrder known r given before after → AsksOrder known run given before after
+asked_for {known = known} {given = given} {before = before} {after = after} r run same asks =
+    subst (λ (x : AskedRun). AsksOrder known x given before after) same asks
+
+pub returns-in_ok-simulate-in-Simulate-clause-shown : goal.returns-in_ok-simulate-in-Simulate-clause-shown
+returns-in_ok-simulate-in-Simulate-clause-shown g c = λ run named.
+    let own : asked c.args.command.now ≡ simulates (run_asked c.in-Simulate.run') = rw c.in-Simulate.is refl in
+    let same : run_asked c.in-Simulate.run' ≡ run = cc (own, named) in
+    asked_for (run_asked c.in-Simulate.run') run same c.in_ok-simulate-in-Simulate.ensures.asked

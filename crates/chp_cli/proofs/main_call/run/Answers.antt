@@ -1,12 +1,15 @@
-use Rattle.std.proofs.Common.{◌≡◌, ◌≢◌, [], Some, None, rules, take, refl, sym, append-nil}
-use Rattle.command_words.specs.CommandWords.{asked, asked_by, compiles}
+use Rattle.std.proofs.Common.{◌≡◌, ◌≢◌, [], Some, None, true, rules, take, refl, sym, append-nil}
+use Rattle.command_words.specs.CommandWords.{asked, asked_by, compiles, simulates}
 use Rattle.command_answers.specs.declared.answer.Stop.{Stop}
 use Rattle.command_answers.specs.declared.answer.Stop.TheVariants as stopped
 use Rattle.command_answers.specs.declared.status.Status.TheVariants.{Done}
 use Rattle.command_answers.specs.Replies.{refusal_status, stop_status}
 use Rattle.chp_cli.specs.Ends.{formless, whole, cut_off, no_memory}
 use Rattle.program_commands.specs.RepliesTold.{reply_bytes, reply_end, told_reply}
-use Rattle.chp_cli.proofs.Ending.{answers_of, no_refusal, refusing_status, stopped_ends}
+use Rattle.command_answers.specs.Statuses.{is_whole}
+use Rattle.command_answers.proofs.StatusKinds.{no_refusal, refusing_status}
+use Rattle.chp_cli.proofs.Calm.{not_whole}
+use Rattle.chp_cli.proofs.Ending.{answers_of, stopped_ends}
 use Rattle.bench_commands.proofs.Staying.{all_stay}
 use Rattle.chp_cli.proofs.main_call.run.Goals as goal
 
@@ -60,6 +63,21 @@ returns-in-Ok-write-clause-carried g c = λ compilation named told done.
     let own : asked_by c.args.words.now ≡ Some (asked c.in-Ok-Some.command) = search rules in
     let same : asked c.in-Ok-Some.command ≡ compiles compilation = cc (own, named) in
     (reply_bytes c.in-Ok.reply, c.in-Ok-write.ensures.whole, c.in-Ok.ensures.carried compilation same told)
+
+-- nor is it all written where it stops
+stop_not_whole : (stop : Stop) → ¬ (is_whole (stop_status stop) ≡ true)
+stop_not_whole (stopped.Refused r) = not_whole (refusal_status r) (refusing_status r)
+stop_not_whole (stopped.Unread name) = λ w. cc
+stop_not_whole stopped.NoMemory = λ w. cc
+
+pub returns-in-Err-answer-clause-shown : goal.returns-in-Err-answer-clause-shown
+returns-in-Err-answer-clause-shown g c = λ run named whole. absurd (stop_not_whole c.in-Err-answer.stop whole)
+
+pub returns-in-Ok-write-clause-shown : goal.returns-in-Ok-write-clause-shown
+returns-in-Ok-write-clause-shown g c = λ run named whole.
+    let own : asked_by c.args.words.now ≡ Some (asked c.in-Ok-Some.command) = search rules in
+    let same : asked c.in-Ok-Some.command ≡ simulates run = cc (own, named) in
+    c.in-Ok.ensures.shown run same
 
 pub returns-in-Err-answer-clause-stay : goal.returns-in-Err-answer-clause-stay
 returns-in-Err-answer-clause-stay g c =

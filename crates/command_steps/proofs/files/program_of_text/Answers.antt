@@ -9,7 +9,9 @@ returns-in-Err-Refused-clause-stopped c =
     let never = rw c.in-Err-Refused.field-0-is at c.in-Err-Refused.ensures.refused in
     let cause = rw c.in-Err-Refused.field-0-is at c.in-Err-Refused.ensures.place in
     let other = rw c.in-Err-Refused.field-0-is at c.in-Err-Refused.ensures.other in
-    no_program (rw c.in-Err-Refused.fault-is (record { never = never; cause = cause; other = other }))
+    let law = c.one_fault.ensures in
+    no_program (rw c.in-Err-Refused.fault-is
+    (record { never = never; cause = cause; other = other; only = λ code at is. (law.cause _ code _ at _ is cause, law.place _ code _ at _ is cause) }))
 
 pub returns-in-Ok-clause-few : goal.returns-in-Ok-clause-few
 returns-in-Ok-clause-few c =

@@ -13,7 +13,7 @@ returns-in-Some-clause-stopped c =
     let net = c.args.net in
     let none : net.reset ≡ None = none_is net.reset (ap (λ o. is_some o) (sym c.reset.ensures.reset) ∙ sym c.is_some.ensures ∙ c.if-is_some.false) in
     let named : named_reset net.names ≡ Some c.in-Some.node = ap named_reset (sym c.names.ensures.names) ∙ sym c.reset_place.ensures ∙ c.in-Some.is in
-    taken none named
+    rw c.bad_net.ensures (taken none named)
 
 pub returns-in-Ok-clause-answered : goal.returns-in-Ok-clause-answered
 returns-in-Ok-clause-answered c =

@@ -1,4 +1,5 @@
 use Rattle.std.proofs.Common.{◌∙◌}
+use Rattle.simulation_commands.proofs.Asking.{asked_through}
 use Rattle.simulation_commands.proofs.Reporting.{run_led, run_played}
 use Rattle.simulation_commands.proofs.simulate.play.Goals as goal
 
@@ -11,3 +12,6 @@ pub returns-clause-led : goal.returns-clause-led
 returns-clause-led g c =
     let e = c.run.ensures in
     run_led c.args.sim _ _ _ c.run.result c.prepare.ensures.log e.net e.moves e.done e.passed
+
+pub returns-clause-asked : goal.returns-clause-asked
+returns-clause-asked g c = asked_through _ c.args.sim c.args.seed _ _ _ c.prepare.ensures.seeded c.prepare.ensures.log c.run.ensures.asked

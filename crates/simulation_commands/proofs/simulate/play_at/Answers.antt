@@ -1,5 +1,7 @@
+use Rattle.simulation_commands.proofs.Asking.{asked_at}
 use Rattle.simulation_commands.proofs.Keeping.{led_at, others_at, played_at}
 use Rattle.command_steps.proofs.Stopping.{ok_both}
+use Rattle.command_words.proofs.Results.{ok_in}
 use Rattle.simulation_commands.proofs.simulate.play_at.Goals as goal
 
 pub returns-clause-led : goal.returns-clause-led
@@ -12,3 +14,7 @@ returns-clause-played g c = played_at _ _ _ _ _ c.requires.place c.index_mut.ens
 
 pub returns-clause-others : goal.returns-clause-others
 returns-clause-others g c = others_at _ _ _
+
+pub returns-clause-asked : goal.returns-clause-asked
+returns-clause-asked g c =
+    ok_in c.play.result _ _ (λ ran through. asked_at _ c.args.sim c.args.seed _ _ _ _ c.requires.place c.index_mut.ensures.value through) c.play.ensures.asked

@@ -32,3 +32,7 @@ returns-clause-answered g c =
       run = rw (← c.in_ok-sim.ensures) c.in_ok-ran.ensures.led;
       written = subst (λ (script : List OfferValue). IsReported script None c.in_ok-ran.ran program (told_answer output)) c.in_ok-told.ensures is;
     }) c.reported.ensures
+
+pub returns-clause-asked : goal.returns-clause-asked
+returns-clause-asked g c =
+    ok_in c.reported.result _ _ (λ output is. rw (← c.in_ok-sim.ensures) c.in_ok-ran.ensures.asked) c.reported.ensures

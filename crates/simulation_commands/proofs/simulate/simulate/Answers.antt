@@ -26,3 +26,8 @@ returns-in-Some-clause-orders g c = only_named _ _ c.in-Some.place (sym c.place_
 
 pub returns-in-Some-clause-others : goal.returns-in-Some-clause-others
 returns-in-Some-clause-others g c = others_named _ _ _ c.in-Some.place (sym c.place_of.ensures.place ∙ c.in-Some.is) c.simulate_at.ensures.others
+
+pub returns-in-Some-clause-asked : goal.returns-in-Some-clause-asked
+returns-in-Some-clause-asked g c =
+    ok_in c.simulate_at.result _ _
+    (λ output asks. record { place = c.in-Some.place; named = sym c.place_of.ensures.place ∙ c.in-Some.is; asked = asks }) c.simulate_at.ensures.asked

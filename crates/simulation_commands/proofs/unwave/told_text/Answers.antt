@@ -12,5 +12,10 @@ returns-in-Ok-clause-answered c =
 pub returns-in-Err-Refused-clause-stopped : goal.returns-in-Err-Refused-clause-stopped
 returns-in-Err-Refused-clause-stopped c =
     let cause = rw c.in-Err-Refused.field-0-is at c.in-Err-Refused.ensures.refused in
-    no_wave (rw (c.in-Err-Refused.fault-is, c.in-Err-Refused.line-is)
-    (record { never = λ wave is. c.one_wave_refusal.ensures.never c.args.text.now wave _ _ is cause; cause = cause }))
+    let law = c.one_wave_refusal.ensures in
+    rw c.bad_wave.ensures (no_wave {fault = c.in-Err-Refused.fault} {line = c.in-Err-Refused.line}
+    (rw (c.in-Err-Refused.fault-is, c.in-Err-Refused.line-is) (record {
+      never = λ wave is. law.never c.args.text.now wave _ _ is cause;
+      cause = cause;
+      only = λ other at is. law.once c.args.text.now other _ at _ is cause;
+    })))

@@ -2,7 +2,6 @@
 --
 -- P: what is to hold of each answer; Next: with what the command goes on.
 use Rattle.std.proofs.Common.{◌≡◌, ℕ, ◌≤◌, true, false, Bool, List, Option, Some, None, sym, subst, arith}
-use Rattle.bench_commands.specs.Peers.{Peered, FromPeer, no_peer, a_peer, peer_named}
 use Rattle.chp_base.specs.declared.channel.Channel.{Channel}
 use Rattle.chp_base.specs.declared.fault.Fault.{Fault}
 use Rattle.chp_syntax.specs.Reading.{Reads}
@@ -23,7 +22,7 @@ use Rattle.command_steps.specs.Inlined.{Means}
 use Rattle.command_steps.specs.Orders.{Played, place_named}
 use Rattle.command_steps.specs.References.{FromReference, IsToReferTo}
 use Rattle.command_steps.specs.RunSteps.{FromOrder, FromPower, FromScript, no_order, an_order, no_reset, has_power, no_script, a_script, lacks_reset}
-use Rattle.chp_cli.specs.Serving.{HoldsText}
+use Rattle.command_steps.specs.FileContents.{HoldsText}
 use Rattle.command_steps.specs.Steps.{FromFile, FromProgram, FromChecks, FromNodes, FromNet, IsFaulty, no_file, long_file, a_file, no_program, a_program, bad_calls, too_many_forms, faulty, accepted, too_many, few_enough, no_net, a_net, most_of_nodes, most_of_text}
 use Rattle.command_steps.specs.DelaySteps.{FromDelays, delays_refused, delays_read}
 use Rattle.command_steps.proofs.OneAnswers.{same_text, too_long, not_there, needs_channel, one_buffered}
@@ -64,14 +63,6 @@ module _ (P : Answer → Type 0) where
   order_passed played name place named Next next a (an_order {place = k} is are) = next a (subst (λ j. Next j a) (same is) are)
     where
       same : place_named played.before name ≡ Some k → k ≡ place
-      same e = cc (e, named)
-
-  pub peer_passed : (peers : Peered) (name : List ℕ) (place : ℕ) → peer_named peers.before name ≡ Some place → (Next : ℕ → Answer → Type 0)
-      → ((a : Answer) → Next place a → P a) → (a : Answer) → FromPeer peers name Next a → P a
-  peer_passed peers name place named Next next a (no_peer none) = absurd (cc (none, named))
-  peer_passed peers name place named Next next a (a_peer {place = k} is are) = next a (subst (λ j. Next j a) (same is) are)
-    where
-      same : peer_named peers.before name ≡ Some k → k ≡ place
       same e = cc (e, named)
 
   pub power_passed : (net : NetValue) (power : Option Bool) → lacks_reset power net.reset ≡ false → (Next : Answer → Type 0) → ((a : Answer) → Next a → P a)
