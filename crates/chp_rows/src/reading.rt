@@ -57,11 +57,7 @@ fn put_tree(alloc: Global, page: &mut String, program: &Program) -> Result<Vec<u
 
 /// The program that the text is, printed with brackets round each group in a group; `None` where it is refused, and then
 /// the number of the cause and the place are put.
-fn put_text(
-    alloc: Global,
-    text: &[u8],
-    page: &mut String,
-) -> Result<Option<Vec<u8>>, AllocError> {
+fn put_text(alloc: Global, text: &[u8], page: &mut String) -> Result<Option<Vec<u8>>, AllocError> {
     if text.len() > MOST {
         page.push_str("too long\n")?;
         return Ok(None);

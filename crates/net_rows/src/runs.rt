@@ -120,12 +120,7 @@ fn put_history(page: &mut String, chan: u32, values: &[u64]) -> Result<(), Alloc
 }
 
 /// Makes so many moves at most, and tells which nodes moved, and the hazard at which the run ended, if it did.
-fn put_moves(
-    alloc: Global,
-    run: &mut Run,
-    most: u32,
-    page: &mut String,
-) -> Result<(), AllocError>
+fn put_moves(alloc: Global, run: &mut Run, most: u32, page: &mut String) -> Result<(), AllocError>
     ensures { OnOk result (run.new.net ≡ run.old.net) }
 {
     page.push_str("moved")?;
