@@ -55,8 +55,8 @@ fn put_tree(alloc: Global, page: &mut String, program: &Program) -> Result<Vec<u
     Ok(printed)
 }
 
-/// The program that the text is, printed with brackets round each group in a group; `None` where it is refused, and then
-/// the number of the cause and the place are put.
+/// The program that the text is, printed with brackets round each group in a group; `None` where it is refused, and
+/// then the number of the cause and the place are put.
 fn put_text(alloc: Global, text: &[u8], page: &mut String) -> Result<Option<Vec<u8>>, AllocError> {
     if text.len() > MOST {
         page.push_str("too long\n")?;
