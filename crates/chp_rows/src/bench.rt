@@ -62,12 +62,12 @@ impl Bench {
         }
     }
 
-    /// Adds a file of this name after the others, with the text that may follow the name.
-    pub fn begin_file(&mut self, alloc: Global, line: &str) -> Result<(), AllocError> {
+    /// Adds a file of this name after the others, with the text that may follow the name. True, as all lines begin one.
+    pub fn begin_file(&mut self, alloc: Global, line: &str) -> Result<bool, AllocError> {
         let (name, text) = line.split_once(' ').unwrap_or((line, ""));
-        self.files
-            .push((name.to_string(alloc)?, bytes_of(alloc, text)?))?;
-        Ok(())
+        let file = (name.to_string(alloc)?, bytes_of(alloc, text)?);
+        self.files.push(file)?;
+        Ok(true)
     }
 
     /// Appends to the last file.

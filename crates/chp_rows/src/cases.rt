@@ -1,6 +1,6 @@
 //! The lines of a case.
 
-use crate::bench::Bench;
+use crate::bench::{Bench, Plan};
 use crate::drops::count_drops;
 use crate::edge::{read, read_disk, read_surely, write, write_narrowly};
 use crate::reading::{show, show_tokens};
@@ -49,29 +49,34 @@ fn enumerate(alloc: Global, bench: &mut Bench, line: &str) -> Result<bool, Alloc
     Ok(true)
 }
 
+/// Appends the text, and what comes after it, to the last file.
+fn append(alloc: Global, bench: &mut Bench, text: &str, end: &[u8]) -> Result<bool, AllocError> {
+    bench.append(&bytes_of(alloc, text)?)?;
+    bench.append(end)?;
+    Ok(true)
+}
+
+/// Plans a sink by the numbers of the line, and says whether it is such a line.
+fn plan(alloc: Global, sink: &mut Plan, line: &str) -> Result<bool, AllocError> {
+    match numbers_of(alloc, line)? {
+        Some(numbers) => sink.set(alloc, &numbers),
+        None => Ok(false),
+    }
+}
+
 /// Does what a line sets out, and says whether it is such a line.
 fn set_out(alloc: Global, bench: &mut Bench, word: &str, rest: &str) -> Result<bool, AllocError> {
     match word {
-        "file" => bench.begin_file(alloc, rest)?,
-        "+" => bench.append(&bytes_of(alloc, rest)?)?,
-        "|" => {
-            bench.append(&bytes_of(alloc, rest)?)?;
-            bench.append(b"\n")?;
-        }
-        "repeat" => return repeat(alloc, bench, rest),
-        "enumerate" => return enumerate(alloc, bench, rest),
-        "shelf" => return bench.fail(alloc, rest),
-        "out" => match numbers_of(alloc, rest)? {
-            Some(numbers) => return bench.out.set(alloc, &numbers),
-            None => return Ok(false),
-        },
-        "say" => match numbers_of(alloc, rest)? {
-            Some(numbers) => return bench.say.set(alloc, &numbers),
-            None => return Ok(false),
-        },
-        _ => return Ok(false),
+        "file" => bench.begin_file(alloc, rest),
+        "+" => append(alloc, bench, rest, b""),
+        "|" => append(alloc, bench, rest, b"\n"),
+        "repeat" => repeat(alloc, bench, rest),
+        "enumerate" => enumerate(alloc, bench, rest),
+        "shelf" => bench.fail(alloc, rest),
+        "out" => plan(alloc, &mut bench.out, rest),
+        "say" => plan(alloc, &mut bench.say, rest),
+        _ => Ok(false),
     }
-    Ok(true)
 }
 
 /// Does what a line asks for, and says whether it is such a line.
@@ -86,27 +91,28 @@ fn act<R: Files + AllocGlobal>(
     let (first, more) = rest.split_once(' ').unwrap_or((rest, ""));
     let number = first.parse::<u64>().unwrap_or(0);
     let limit = usize::try_from(number).unwrap_or(0);
-    match word {
-        "run" => run(alloc, bench, rest, page)?,
-        "run-count" => run_count(alloc, bench, first, more, page)?,
-        "run-surely" => run_surely(alloc, bench, rest, page)?,
-        "run-cuts" => run_cuts(alloc, bench, rest, page)?,
-        "run-orders" => run_orders(alloc, bench, rest, page)?,
-        "run-shelf-faults" => run_shelf_faults(alloc, bench, rest, page)?,
-        "run-sink-faults" => run_sink_faults(alloc, bench, rest, page)?,
-        "drops" => count_drops(alloc, bench, rest, page)?,
-        "keep" => keep(alloc, bench, first, more, page)?,
-        "show" => show(alloc, bench.last(), page)?,
-        "tokens" => show_tokens(alloc, bench.last(), page)?,
-        "stream" => stream(alloc, bench.last(), page)?,
+    let told = match word {
+        "run" => run(alloc, bench, rest, page),
+        "run-count" => run_count(alloc, bench, first, more, page),
+        "run-surely" => run_surely(alloc, bench, rest, page),
+        "run-cuts" => run_cuts(alloc, bench, rest, page),
+        "run-orders" => run_orders(alloc, bench, rest, page),
+        "run-shelf-faults" => run_shelf_faults(alloc, bench, rest, page),
+        "run-sink-faults" => run_sink_faults(alloc, bench, rest, page),
+        "drops" => count_drops(alloc, bench, rest, page),
+        "keep" => keep(alloc, bench, first, more, page),
+        "show" => show(alloc, bench.last(), page),
+        "tokens" => show_tokens(alloc, bench.last(), page),
+        "stream" => stream(alloc, bench.last(), page),
         "rounds-within" => return rounds_within(alloc, bench.last(), rest, page),
-        "read" => read(alloc, bench, limit, more, page)?,
-        "read-surely" => read_surely(alloc, bench, limit, page)?,
-        "read-disk" => read_disk(rt, limit, more, page)?,
-        "write" => write(alloc, bench, rest, page)?,
-        "write-narrowly" => write_narrowly(alloc, number, more, page)?,
+        "read" => read(alloc, bench, limit, more, page),
+        "read-surely" => read_surely(alloc, bench, limit, page),
+        "read-disk" => read_disk(rt, limit, more, page),
+        "write" => write(alloc, bench, rest, page),
+        "write-narrowly" => write_narrowly(alloc, number, more, page),
         _ => return Ok(false),
-    }
+    };
+    told?;
     Ok(true)
 }
 

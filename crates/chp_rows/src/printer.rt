@@ -1,6 +1,6 @@
 //! A plain printer of programs, with brackets wherever a group is in a group.
 
-use chp_syntax::{DeclKind, Expr, Op, Program, Stmt};
+use chp_syntax::{Decl, DeclKind, Expr, Ident, Op, Program, Stmt};
 use itoa::Buffer;
 use std::alloc::AllocError;
 
@@ -29,30 +29,40 @@ fn sign(op: Op) -> &'static str {
     }
 }
 
+/// A name, and what comes after it.
+fn put_name(out: &mut Vec<u8>, name: &Ident, end: &str) -> Result<(), AllocError> {
+    out.extend_from_slice(name.name.bytes())?;
+    put(out, end)
+}
+
+/// Places of a name, in brackets.
+fn put_places(
+    out: &mut Vec<u8>,
+    name: &Ident,
+    first: u64,
+    last: Option<u64>,
+) -> Result<(), AllocError> {
+    put_name(out, name, "[")?;
+    put_number(out, first)?;
+    if let Some(last) = last {
+        put(out, ":")?;
+        put_number(out, last)?;
+    }
+    put(out, "]")
+}
+
 fn put_expr(out: &mut Vec<u8>, e: &Expr, nested: bool) -> Result<(), AllocError> {
     match e {
         Expr::Number { value, .. } => put_number(out, *value),
-        Expr::Whole { of } => out.extend_from_slice(of.name.bytes()),
-        Expr::Slice { of, high, low, .. } => {
-            out.extend_from_slice(of.name.bytes())?;
-            put(out, "[")?;
-            put_number(out, *high)?;
-            put(out, ":")?;
-            put_number(out, *low)?;
-            put(out, "]")
-        }
-        Expr::Bit { of, place, .. } => {
-            out.extend_from_slice(of.name.bytes())?;
-            put(out, "[")?;
-            put_number(out, *place)?;
-            put(out, "]")
-        }
+        Expr::Whole { of } => put_name(out, of, ""),
+        Expr::Slice { of, high, low, .. } => put_places(out, of, *high, Some(*low)),
+        Expr::Bit { of, place, .. } => put_places(out, of, *place, None),
         Expr::Join { parts, .. } => {
-            let mut before = b"{".as_slice();
+            let mut before = "{";
             for part in parts {
-                out.extend_from_slice(before)?;
+                put(out, before)?;
                 put_expr(out, part, false)?;
-                before = b", ".as_slice();
+                before = ", ";
             }
             put(out, "}")
         }
@@ -72,66 +82,47 @@ fn put_expr(out: &mut Vec<u8>, e: &Expr, nested: bool) -> Result<(), AllocError>
     }
 }
 
+fn put_arm(out: &mut Vec<u8>, before: &str, guard: &Expr) -> Result<(), AllocError> {
+    put(out, before)?;
+    put_expr(out, guard, false)?;
+    put(out, " -> ")
+}
+
 fn put_stmt(out: &mut Vec<u8>, s: &Stmt, nested: bool) -> Result<(), AllocError> {
     match s {
         Stmt::Skip { .. } => put(out, "skip"),
         Stmt::Assign { target, value } => {
-            out.extend_from_slice(target.name.bytes())?;
-            put(out, " := ")?;
+            put_name(out, target, " := ")?;
             put_expr(out, value, false)
         }
         Stmt::Send { chan, value } => {
-            out.extend_from_slice(chan.name.bytes())?;
-            put(out, "!")?;
+            put_name(out, chan, "!")?;
             put_expr(out, value, false)
         }
         Stmt::Receive { chan, target } => {
-            out.extend_from_slice(chan.name.bytes())?;
-            put(out, "?")?;
-            out.extend_from_slice(target.name.bytes())
+            put_name(out, chan, "?")?;
+            put_name(out, target, "")
         }
         Stmt::Call { of } => {
             put(out, "call ")?;
-            out.extend_from_slice(of.name.bytes())
+            put_name(out, of, "")
         }
-        Stmt::Then { parts } => {
-            let mut before = if nested {
-                b"(".as_slice()
-            } else {
-                b"".as_slice()
-            };
+        Stmt::Then { parts } | Stmt::Beside { parts } => {
+            let is_sequence = matches!(s, Stmt::Then { .. });
+            let mut before = if nested { "(" } else { "" };
             for part in parts {
-                out.extend_from_slice(before)?;
+                put(out, before)?;
                 put_stmt(out, part, true)?;
-                before = b"; ".as_slice();
-            }
-            put(out, if nested { ")" } else { "" })
-        }
-        Stmt::Beside { parts } => {
-            let mut before = if nested {
-                b"(".as_slice()
-            } else {
-                b"".as_slice()
-            };
-            for part in parts {
-                out.extend_from_slice(before)?;
-                put_stmt(out, part, true)?;
-                before = b" || ".as_slice();
+                before = if is_sequence { "; " } else { " || " };
             }
             put(out, if nested { ")" } else { "" })
         }
         Stmt::Select { again, arms } => {
-            let mut before = if *again {
-                b"*[".as_slice()
-            } else {
-                b"[".as_slice()
-            };
+            let mut before = if *again { "*[" } else { "[" };
             for arm in arms {
-                out.extend_from_slice(before)?;
-                put_expr(out, &arm.guard, false)?;
-                put(out, " -> ")?;
+                put_arm(out, before, &arm.guard)?;
                 put_stmt(out, &arm.body, false)?;
-                before = b" [] ".as_slice();
+                before = " [] ";
             }
             put(out, "]")
         }
@@ -143,31 +134,31 @@ fn put_stmt(out: &mut Vec<u8>, s: &Stmt, nested: bool) -> Result<(), AllocError>
     }
 }
 
+fn put_declaration(out: &mut Vec<u8>, decl: &Decl) -> Result<(), AllocError> {
+    let kind = match decl.kind {
+        DeclKind::In => "in ",
+        DeclKind::Out => "out ",
+        DeclKind::Chan => "chan ",
+        DeclKind::Var => "var ",
+    };
+    put(out, kind)?;
+    put_name(out, &decl.name, " : ")?;
+    put_number(out, decl.width)?;
+    if decl.first_at != decl.width_at {
+        put(out, " = ")?;
+        put_number(out, decl.first)?;
+    }
+    put(out, "; ")
+}
+
 /// Prints the program, with its procedures after its other declarations.
 pub fn put_program(out: &mut Vec<u8>, program: &Program) -> Result<(), AllocError> {
     for decl in &program.decls {
-        put(
-            out,
-            match decl.kind {
-                DeclKind::In => "in ",
-                DeclKind::Out => "out ",
-                DeclKind::Chan => "chan ",
-                DeclKind::Var => "var ",
-            },
-        )?;
-        out.extend_from_slice(decl.name.name.bytes())?;
-        put(out, " : ")?;
-        put_number(out, decl.width)?;
-        if decl.first_at != decl.width_at {
-            put(out, " = ")?;
-            put_number(out, decl.first)?;
-        }
-        put(out, "; ")?;
+        put_declaration(out, decl)?;
     }
     for procedure in &program.procs {
         put(out, "proc ")?;
-        out.extend_from_slice(procedure.name.name.bytes())?;
-        put(out, " = ")?;
+        put_name(out, &procedure.name, " = ")?;
         put_stmt(out, &procedure.body, true)?;
         put(out, "; ")?;
     }

@@ -44,18 +44,19 @@ fn picks_of(alloc: Global, orders: &[Box<dyn Picker>]) -> Result<Vec<usize>, All
     Ok(picks)
 }
 
-/// Runs the words with these orders and devices.
+/// Runs the words of the line with these orders and devices.
 fn play<S: Shelf>(
     alloc: Global,
     bench: &Bench,
-    words: &[String],
+    line: &str,
     shelf: &mut S,
     players: Players,
 ) -> Result<Ran, AllocError> {
     let mut players = players;
+    let words = words_of(alloc, line)?;
     let mut out = bench.out.sink(alloc)?;
     let mut say = bench.say.sink(alloc)?;
-    let status = chp_main(alloc, words, shelf, &mut out, &mut say, &mut players);
+    let status = chp_main(alloc, &words, shelf, &mut out, &mut say, &mut players);
     let picks = picks_of(alloc, &players.orders)?;
     Ok(Ran {
         status,
@@ -65,11 +66,11 @@ fn play<S: Shelf>(
     })
 }
 
-/// Runs the words with these orders, and the devices that a case may name.
+/// Runs the words of the line with these orders, and the devices that a case may name.
 fn play_with<S: Shelf>(
     alloc: Global,
     bench: &Bench,
-    words: &[String],
+    line: &str,
     shelf: &mut S,
     orders: Vec<Box<dyn Picker>>,
 ) -> Result<Ran, AllocError> {
@@ -79,7 +80,7 @@ fn play_with<S: Shelf>(
     for mood in [Mood::Mute, Mood::Deaf, Mood::Greedy, Mood::Fickle] {
         peers.push(Box::new(alloc, Moody::new(alloc, mood))?)?;
     }
-    play(alloc, bench, words, shelf, Players { orders, peers })
+    play(alloc, bench, line, shelf, Players { orders, peers })
 }
 
 /// Runs the words of the line, with the orders and devices that a case may name.
@@ -89,7 +90,6 @@ fn command<S: Shelf>(
     line: &str,
     shelf: &mut S,
 ) -> Result<Ran, AllocError> {
-    let words = words_of(alloc, line)?;
     let mut orders: Vec<Box<dyn Picker>> = Vec::new(alloc);
     orders.push(Box::new(alloc, Lowest::new(alloc))?)?;
     orders.push(Box::new(alloc, Oldest::new(alloc))?)?;
@@ -99,7 +99,7 @@ fn command<S: Shelf>(
         let text = text_to_go_by(alloc, bench)?;
         orders.push(Box::new(alloc, Adversary::new(alloc, way, text))?)?;
     }
-    play_with(alloc, bench, &words, shelf, orders)
+    play_with(alloc, bench, line, shelf, orders)
 }
 
 /// What the command leaves over the files of the case, the last one cut to at most so many bytes.
@@ -199,7 +199,7 @@ pub fn keep(
     if ran.status != Status::Done {
         put_all(page, line, &ran)?;
     }
-    bench.begin_file(alloc, name)?;
+    let _begun = bench.begin_file(alloc, name)?;
     bench.append(ran.out.written())
 }
 
