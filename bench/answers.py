@@ -4,9 +4,9 @@ An answer is judged by itself here: its status is one that the command has, what
 that lie within the text, and nothing is written beside a refusal.
 """
 import collections
+import os
 import re
-import resource
-import subprocess
+import signal
 from typing import NamedTuple
 
 # Besides 0; 2 and 3 come only where the words are changed, and 4 and 6 not at all.
@@ -49,8 +49,35 @@ class Report(NamedTuple):
     against: bytes = b""
 
 
+def contents(file):
+    """All that was written to a file that is open."""
+    return os.pread(file, os.fstat(file).st_size, 0)
+
+
+def cut_off(number, frame):
+    raise TimeoutError
+
+
+def ended(program, words, out, said, seconds):
+    """Runs the program with these files as its streams: its status, and the processor seconds that it took."""
+    streams = [(os.POSIX_SPAWN_OPEN, 0, os.devnull, os.O_RDONLY, 0), (os.POSIX_SPAWN_DUP2, out, 1), (os.POSIX_SPAWN_DUP2, said, 2)]
+    run = os.posix_spawn(program, [program, *words], os.environ, file_actions=streams,
+                         setsigdef=(signal.SIGINT, signal.SIGPIPE, signal.SIGXFSZ))
+    signal.signal(signal.SIGALRM, cut_off)
+    signal.setitimer(signal.ITIMER_REAL, seconds)
+    try:
+        _, status, used = os.wait4(run, 0)
+    except TimeoutError:
+        os.kill(run, signal.SIGKILL)
+        os.waitpid(run, 0)
+        raise
+    finally:
+        signal.setitimer(signal.ITIMER_REAL, 0)
+    return os.waitstatus_to_exitcode(status), used.ru_utime + used.ru_stime
+
+
 class Room:
-    """A folder for one input: its files, the calls that were made with them, how they ended, and what was found."""
+    """A folder for one input, the current one: its files, the calls that were made with them, how they ended, and what was found."""
 
     def __init__(self, program, folder):
         self.program, self.folder, self.last = program, folder, None
@@ -77,18 +104,20 @@ class Room:
         return answer
 
     def answered(self, words):
-        """Calls the program, for as long as its files allow."""
+        """Calls the program, for as long as its files allow. What it writes goes into memory, so nobody has to read beside it."""
         size = sum(len(text) for name, text in self.files.items() if name.encode("ascii") in words)
-        bound, before = 2 + 20 * size / 1e6, resource.getrusage(resource.RUSAGE_CHILDREN)
+        bound = 2 + 20 * size / 1e6
+        out, said = (os.memfd_create(name) for name in ("out", "said"))
         try:
-            run = subprocess.run([self.program, *words], cwd=self.folder, stdin=subprocess.DEVNULL, capture_output=True,
-                                 timeout=30 * bound)
-        except subprocess.TimeoutExpired:
+            status, took = ended(self.program, words, out, said, 30 * bound)
+            answer = Answer(status, contents(out), contents(said))
+        except TimeoutError:
             return Answer("none", b"", b"")
-        after = resource.getrusage(resource.RUSAGE_CHILDREN)
-        took = after.ru_utime - before.ru_utime + after.ru_stime - before.ru_stime
+        finally:
+            os.close(out)
+            os.close(said)
         self.holds(took <= bound, f"{took:.1f} processor seconds for {size} bytes")
-        return Answer(run.returncode, run.stdout, run.stderr)
+        return answer
 
     def judge(self, words, answer, is_changed):
         """Whether the status is one of the command's, and the line one of the status's."""

@@ -14,10 +14,13 @@ pub struct Literal {
     pub high: bool,
 }
 
-/// The literals of a term. One alone, as in each term of a merge, takes no memory of its own.
+/// The literals of a term. Up to three, as in each term of a merge or of a gate of two inputs, and where these wait for
+/// a reset, take no memory of their own.
 #[derive(Drop)]
 enum Literals {
     One(Literal),
+    Two([Literal; 2]),
+    Three([Literal; 3]),
     More(Vec<Literal>),
 }
 
@@ -48,6 +51,8 @@ impl Term {
         let literals = match &literals[..] {
             [] => return None,
             [one] => Literals::One(*one),
+            [one, other] => Literals::Two([*one, *other]),
+            [one, other, last] => Literals::Three([*one, *other, *last]),
             _ => Literals::More(literals),
         };
         Some(Term { literals })
@@ -60,6 +65,8 @@ impl Term {
     {
         match &self.literals {
             Literals::One(literal) => slice::from_ref(literal),
+            Literals::Two(both) => both,
+            Literals::Three(all) => all,
             Literals::More(literals) => literals,
         }
     }

@@ -5,6 +5,7 @@ ghost use Rattle.std.specs.Prelude.{◌≡◌, ◌<◌, ◌≤◌, [], length, r
 use crate::rule::Guard;
 use std::alloc::{AllocError, Global};
 use std::marker::Model;
+use std::mem;
 
 /// The guards of a net that isn't finished: for each node the one that raises it and the one that lowers it.
 #[derive(Drop)]
@@ -68,6 +69,26 @@ impl Rules {
         ensures { self.new ≡ record self.old { down = slice_set self.old.down node guard } }
     {
         self.down[node as usize] = guard;
+    }
+
+    /// Takes the node's up guard out, and leaves one with no terms.
+    pub fn take_up(&mut self, node: u32) -> Guard
+        requires { node < length self.old.up }
+        ensures guard { result ≡ slice_index_or self.old.up node [] }
+        ensures left { self.new ≡ record self.old { up = slice_set self.old.up node [] } }
+    {
+        let none = Guard::new(Vec::new(*self.up.allocator()));
+        mem::replace(&mut self.up[node as usize], none)
+    }
+
+    /// Takes the node's down guard out, and leaves one with no terms.
+    pub fn take_down(&mut self, node: u32) -> Guard
+        requires { node < length self.old.up }
+        ensures guard { result ≡ slice_index_or self.old.down node [] }
+        ensures left { self.new ≡ record self.old { down = slice_set self.old.down node [] } }
+    {
+        let none = Guard::new(Vec::new(*self.down.allocator()));
+        mem::replace(&mut self.down[node as usize], none)
     }
 
     /// The node's up guard.

@@ -1,3 +1,4 @@
 pub mod Guards
 mod Laid
+mod Taken
 pub mod Whole

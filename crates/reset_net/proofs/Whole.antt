@@ -15,20 +15,24 @@ use Rattle.prs_core.specs.Nets.{GuardValue, NetValue, RulesValue, IsNet, IsBelow
 use Rattle.reset_net.specs.Resets.{reset_guard, reset_up, reset_down, reset_of, has_rules}
 use Rattle.reset_net.proofs.Guards.{at_each, guard_below, guard_filled, both_literals, nothing_below}
 
+-- a net of these first values and rules, whose names and channels are left open
+abbrev pub bare : List Bool → RulesValue → NetValue
+bare first rules = net_of [] first rules [] None
+
 -- what each guard keeps, each guard of the net with a reset node keeps
 choice : (P : GuardValue → Type 0) (b : Bool) (g : GuardValue) → P [] → P g → P (cond b g [])
 choice P true g none some = some
 choice P false g none some = none
 
-pub up_below : (n : NetValue) → IsNet n → (node : ℕ) → IsBelow (length n.first + 1) (reset_up n node)
-up_below n is node =
+pub up_below : (n : NetValue) → All (IsBelow (length n.first)) n.up → (node : ℕ) → IsBelow (length n.first + 1) (reset_up n node)
+up_below n within node =
     choice (IsBelow (length n.first + 1)) (has_rules (up_of n node) (down_of n node)) _ (nothing_below _)
-    (guard_below (length n.first) (first_at n node) (up_of n node) (at_each (IsBelow (length n.first)) n.up (nothing_below _) is.up_within node))
+    (guard_below (length n.first) (first_at n node) (up_of n node) (at_each (IsBelow (length n.first)) n.up (nothing_below _) within node))
 
-pub down_below : (n : NetValue) → IsNet n → (node : ℕ) → IsBelow (length n.first + 1) (reset_down n node)
-down_below n is node =
+pub down_below : (n : NetValue) → All (IsBelow (length n.first)) n.down → (node : ℕ) → IsBelow (length n.first + 1) (reset_down n node)
+down_below n within node =
     choice (IsBelow (length n.first + 1)) (has_rules (up_of n node) (down_of n node)) _ (nothing_below _)
-    (guard_below (length n.first) (not (first_at n node)) (down_of n node) (at_each (IsBelow (length n.first)) n.down (nothing_below _) is.down_within node))
+    (guard_below (length n.first) (not (first_at n node)) (down_of n node) (at_each (IsBelow (length n.first)) n.down (nothing_below _) within node))
 
 nothing_filled : IsFilled []
 nothing_filled = All-nil (λ t. 0 < length t)
@@ -174,8 +178,8 @@ reset_is_net n is plain free =
       go_undriven = undriven_stays n 0 zero_within is.go_undriven;
       done = name_stays n 1 (omega (arith, is.named)) ∙ is.done;
       done_low = first_stays n 1 one_within ∙ is.done_low;
-      up_within = rw more (all_laid (IsBelow (count + 1)) (reset_up n) count (nothing_below _) (up_below n is));
-      down_within = rw more (all_laid (IsBelow (count + 1)) (reset_down n) count (nothing_below _) (down_below n is));
+      up_within = rw more (all_laid (IsBelow (count + 1)) (reset_up n) count (nothing_below _) (up_below n is.up_within));
+      down_within = rw more (all_laid (IsBelow (count + 1)) (reset_down n) count (nothing_below _) (down_below n is.down_within));
       up_filled = all_laid IsFilled (reset_up n) count nothing_filled (up_filled n is);
       down_filled = all_laid IsFilled (reset_down n) count nothing_filled (down_filled n is);
       literals = omega (arith, literals_within n is, most, literals);

@@ -1,8 +1,8 @@
 //! Nets with a reset node.
 #![tactic(auto)]
 
-ghost use Rattle.std.specs.Prelude.{◌≡◌, ◌≢◌, ◌<◌, ◌+◌, ◌++◌, ℕ, List, [], ◌∷◌, Bool, length, All, IfOk, None, codes};
-ghost use Rattle.prs_core.specs.Nets.{RulesValue, IsNet, IsBelow, net_rules};
+ghost use Rattle.std.specs.Prelude.{◌≡◌, ◌≢◌, ◌<◌, ◌+◌, ◌-◌, ◌^◌, ◌++◌, ℕ, List, [], ◌∷◌, Bool, not, length, slice_index_or, All, IfOk, None, codes, if◌then◌else◌};
+ghost use Rattle.prs_core.specs.Nets.{RulesValue, NodeRules, IsNet, IsBelow, net_of, net_rules, with_rules};
 ghost use Rattle.reset_net.specs.Resets.{held, forced, has_rules, reset_guard, reset_up, reset_down, reset_of};
 
 use chp_base::{Name, node_name_of};
@@ -77,46 +77,61 @@ fn is_driven(up: &Guard, down: &Guard) -> bool
     !up.terms().is_empty() || !down.terms().is_empty()
 }
 
-/// The node's up guard in the net with the reset node.
-fn up_guard(alloc: Global, net: &Net, node: u32) -> Result<Guard, AllocError>
-    requires plain { net.now.reset ≡ None }
-    requires node { node < length net.now.first }
-    ensures { IfOk result (λ g. g ≡ reset_up net.now node) }
+/// The guard that a rule of the node has in the net with the reset node.
+fn new_guard(
+    alloc: Global,
+    guard: &Guard,
+    is_driven: bool,
+    leads_back: bool,
+    reset: u32,
+) -> Result<Guard, AllocError>
+    ensures { IfOk result (λ g. g ≡ if is_driven then reset_guard reset leads_back guard.now else []) }
 {
-    let first = net.first();
-    let up = net.up(node);
-    if !is_driven(up, net.down(node)) {
-        return Ok(Guard::new(Vec::new(alloc)));
+    if is_driven {
+        guard_of(alloc, guard, leads_back, reset)
+    } else {
+        Ok(Guard::new(Vec::new(alloc)))
     }
-    guard_of(alloc, up, first[node as usize], first.len() as u32)
 }
 
-/// The node's down guard in the net with the reset node.
-fn down_guard(alloc: Global, net: &Net, node: u32) -> Result<Guard, AllocError>
-    requires plain { net.now.reset ≡ None }
-    requires node { node < length net.now.first }
-    ensures { IfOk result (λ g. g ≡ reset_down net.now node) }
+/// Takes the node's guards out of the rules, and makes those of the net with the reset node of them.
+fn new_guards(
+    alloc: Global,
+    rules: &mut Rules,
+    node: u32,
+    is_high: bool,
+    reset: u32,
+) -> Result<(Guard, Guard), AllocError>
+    requires { node < length rules.old.up }
+    ensures up { let up = slice_index_or rules.old.up node [] in let down = slice_index_or rules.old.down node [] in
+        IfOk result (λ new. new.0 ≡ if has_rules up down then reset_guard reset is_high up else []) }
+    ensures down { let up = slice_index_or rules.old.up node [] in let down = slice_index_or rules.old.down node [] in
+        IfOk result (λ new. new.1 ≡ if has_rules up down then reset_guard reset (not is_high) down else []) }
+    ensures left { rules.new ≡ with_rules node (record { up = []; down = [] }) rules.old }
 {
-    let first = net.first();
-    let down = net.down(node);
-    if !is_driven(net.up(node), down) {
-        return Ok(Guard::new(Vec::new(alloc)));
-    }
-    guard_of(alloc, down, !first[node as usize], first.len() as u32)
+    let (up, down) = (rules.take_up(node), rules.take_down(node));
+    let is_driven = is_driven(&up, &down);
+    Ok((
+        new_guard(alloc, &up, is_driven, is_high, reset)?,
+        new_guard(alloc, &down, is_driven, !is_high, reset)?,
+    ))
 }
 
-/// The rules of the net with the reset node.
-fn rules_with_reset(alloc: Global, net: &Net) -> Result<Rules, AllocError>
-    requires { net.now.reset ≡ None }
-    ensures { IfOk result (λ rules. rules ≡ net_rules (reset_of net.now)) }
+/// The rules of the net with the reset node, of those of the net, which are let go one after the other.
+fn rules_with_reset(alloc: Global, first: &[bool], rules: Rules) -> Result<Rules, AllocError>
+    requires nodes { length rules.up ≡ length first.now }
+    requires few { length first.now < 2 ^ 32 - 1 }
+    ensures { IfOk result (λ made. made ≡ net_rules (reset_of (net_of [] first.now rules [] None))) }
 {
-    let nodes = net.first().len() as u32;
-    let mut rules = Rules::new(alloc, nodes + 1)?;
+    let nodes = first.len() as u32;
+    let mut left = rules;
+    let mut made = Rules::new(alloc, nodes + 1)?;
     for node in 0..nodes {
-        rules.set_up(node, up_guard(alloc, net, node)?);
-        rules.set_down(node, down_guard(alloc, net, node)?);
+        let (up, down) = new_guards(alloc, &mut left, node, first[node as usize], nodes)?;
+        made.set_up(node, up);
+        made.set_down(node, down);
     }
-    Ok(rules)
+    Ok(made)
 }
 
 /// The name of the reset node.
@@ -135,8 +150,10 @@ pub fn with_reset(alloc: Global, net: Net) -> Result<Net, AllocError>
     requires free { All (λ name. name ≢ codes "reset") net.names }
     ensures { IfOk result (λ n. n ≡ reset_of net) }
 {
-    let rules = rules_with_reset(alloc, &net)?;
-    let (mut names, mut first, _, channels) = net.into_parts();
+    // brings the invariant of the net's type into scope
+    let _kept = net.first();
+    let (mut names, mut first, rules, channels) = net.into_parts();
+    let rules = rules_with_reset(alloc, &first, rules)?;
     names.push(reset_name(alloc)?)?;
     first.push(true)?;
     Ok(Net::new_reset(names, first, rules, channels))
