@@ -106,7 +106,10 @@ pub(crate) fn list_ready(
     requires moves { length moves.old ≡ length indexed.now.net.first }
     ensures { IsPassing (length indexed.now.net.first) (is_ready indexed.now done.now state.now) moves.new }
 {
-    for node in 0..indexed.net().first().len() as u32 {
+    let count = indexed.net().first().len() as u32;
+    for back in 0..count {
+        // from the last node on, since a set has room before its first one
+        let node = count - 1 - back;
         moves.set(node, indexed.is_ready(rows, done, state, node));
     }
 }
