@@ -62,7 +62,7 @@ def ended(program, words, out, said, seconds):
     """Runs the program with these files as its streams: its status, and the processor seconds that it took."""
     streams = [(os.POSIX_SPAWN_OPEN, 0, os.devnull, os.O_RDONLY, 0), (os.POSIX_SPAWN_DUP2, out, 1), (os.POSIX_SPAWN_DUP2, said, 2)]
     run = os.posix_spawn(program, [program, *words], os.environ, file_actions=streams,
-                         setsigdef=(signal.SIGINT, signal.SIGPIPE, signal.SIGXFSZ))
+                         setsigdef=(signal.SIGPIPE, signal.SIGXFSZ))
     signal.signal(signal.SIGALRM, cut_off)
     signal.setitimer(signal.ITIMER_REAL, seconds)
     try:
