@@ -4,6 +4,7 @@ An answer is judged by itself here: its status is one that the command has, what
 that lie within the text, and nothing is written beside a refusal.
 """
 import collections
+import contextlib
 import os
 import re
 import signal
@@ -58,7 +59,7 @@ def cut_off(number, frame):
     raise TimeoutError
 
 
-def ended(program, words, out, said, seconds):
+def run_to_end(program, words, out, said, seconds):
     """Runs the program with these files as its streams: its status, and the processor seconds that it took."""
     streams = [(os.POSIX_SPAWN_OPEN, 0, os.devnull, os.O_RDONLY, 0), (os.POSIX_SPAWN_DUP2, out, 1), (os.POSIX_SPAWN_DUP2, said, 2)]
     run = os.posix_spawn(program, [program, *words], os.environ, file_actions=streams,
@@ -68,8 +69,9 @@ def ended(program, words, out, said, seconds):
     try:
         _, status, used = os.wait4(run, 0)
     except TimeoutError:
-        os.kill(run, signal.SIGKILL)
-        os.waitpid(run, 0)
+        with contextlib.suppress(ProcessLookupError, ChildProcessError):  # where it ended at that very time
+            os.kill(run, signal.SIGKILL)
+            os.waitpid(run, 0)
         raise
     finally:
         signal.setitimer(signal.ITIMER_REAL, 0)
@@ -109,7 +111,7 @@ class Room:
         bound = 2 + 20 * size / 1e6
         out, said = (os.memfd_create(name) for name in ("out", "said"))
         try:
-            status, took = ended(self.program, words, out, said, 30 * bound)
+            status, took = run_to_end(self.program, words, out, said, 30 * bound)
             answer = Answer(status, contents(out), contents(said))
         except TimeoutError:
             return Answer("none", b"", b"")

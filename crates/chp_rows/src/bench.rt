@@ -62,7 +62,7 @@ impl Bench {
         }
     }
 
-    /// Adds a file of this name after the others, with the text that may follow the name. True, as all lines begin one.
+    /// Adds a file of this name after the others, with the text that may follow the name. True: any line can begin one.
     pub fn begin_file(&mut self, alloc: Global, line: &str) -> Result<bool, AllocError> {
         let (name, text) = line.split_once(' ').unwrap_or((line, ""));
         let file = (name.to_string(alloc)?, bytes_of(alloc, text)?);

@@ -17,6 +17,7 @@ const MOST_OF_NET: usize = 268_435_456;
 
 /// Drops a bench of these devices and the text's net without a run. Whether the text is a rule file.
 fn give_up(alloc: Global, text: &[u8], peers: Vec<Box<dyn Peer>>) -> Result<bool, AllocError> {
+    // a bench has a device at least
     if peers.is_empty() || text.len() > MOST_OF_NET {
         return Ok(false);
     }

@@ -199,7 +199,7 @@ pub fn keep(
     if ran.status != Status::Done {
         put_all(page, line, &ran)?;
     }
-    let _begun = bench.begin_file(alloc, name)?;
+    bench.begin_file(alloc, name)?;
     bench.append(ran.out.written())
 }
 

@@ -59,7 +59,7 @@ fn migrate_net<'a>(alloc: Global, text: Vec<u8>, net: Net) -> Result<Output, Sto
         let line = node as u32 + 2;
         return Err(Stop::Refused(bad_net(NetFault::DoubleName, line)));
     }
-    // the largest files leave little room for both
+    // the largest files leave little room for the text beside what is made of it
     drop(text);
     match reset_text(alloc, net) {
         Ok(text) => Ok(Output {
