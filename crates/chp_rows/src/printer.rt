@@ -58,11 +58,11 @@ fn put_expr(out: &mut Vec<u8>, e: &Expr, nested: bool) -> Result<(), AllocError>
         Expr::Slice { of, high, low, .. } => put_places(out, of, *high, Some(*low)),
         Expr::Bit { of, place, .. } => put_places(out, of, *place, None),
         Expr::Join { parts, .. } => {
-            let mut before = "{";
+            let mut before = b"{".as_slice();
             for part in parts {
-                put(out, before)?;
+                out.extend_from_slice(before)?;
                 put_expr(out, part, false)?;
-                before = ", ";
+                before = b", ".as_slice();
             }
             put(out, "}")
         }
@@ -82,8 +82,8 @@ fn put_expr(out: &mut Vec<u8>, e: &Expr, nested: bool) -> Result<(), AllocError>
     }
 }
 
-fn put_arm(out: &mut Vec<u8>, before: &str, guard: &Expr) -> Result<(), AllocError> {
-    put(out, before)?;
+fn put_arm(out: &mut Vec<u8>, before: &[u8], guard: &Expr) -> Result<(), AllocError> {
+    out.extend_from_slice(before)?;
     put_expr(out, guard, false)?;
     put(out, " -> ")
 }
@@ -109,20 +109,21 @@ fn put_stmt(out: &mut Vec<u8>, s: &Stmt, nested: bool) -> Result<(), AllocError>
         }
         Stmt::Then { parts } | Stmt::Beside { parts } => {
             let is_sequence = matches!(s, Stmt::Then { .. });
-            let mut before = if nested { "(" } else { "" };
+            let between = if is_sequence { "; " } else { " || " };
+            let mut before = if nested { "(" } else { "" }.as_bytes();
             for part in parts {
-                put(out, before)?;
+                out.extend_from_slice(before)?;
                 put_stmt(out, part, true)?;
-                before = if is_sequence { "; " } else { " || " };
+                before = between.as_bytes();
             }
             put(out, if nested { ")" } else { "" })
         }
         Stmt::Select { again, arms } => {
-            let mut before = if *again { "*[" } else { "[" };
+            let mut before = if *again { "*[" } else { "[" }.as_bytes();
             for arm in arms {
                 put_arm(out, before, &arm.guard)?;
                 put_stmt(out, &arm.body, false)?;
-                before = " [] ";
+                before = b" [] ".as_slice();
             }
             put(out, "]")
         }
