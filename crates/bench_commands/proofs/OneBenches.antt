@@ -13,7 +13,7 @@ use Rattle.command_steps.proofs.OneAnswers.{file_once, net_once}
 use Rattle.command_steps.proofs.OneRunSteps.{order_once}
 use Rattle.command_words.specs.BenchWords.{AskedBench}
 use Rattle.env_script.specs.Scripts.{OfferValue}
-use Rattle.simulation_commands.specs.RunReporting.{IsReported, alone}
+use Rattle.run_reports.specs.RunReporting.{IsReported, alone}
 use Rattle.bench_commands.specs.HandedIn.{HandedIn}
 use Rattle.bench_commands.specs.OnBench.{AgainstPeer, Benches, BenchesAt, BenchesBy, BenchesNet, notes_grown, setup_for}
 use Rattle.bench_commands.specs.Peers.{Peered, FromPeer, no_peer, a_peer}

@@ -11,7 +11,7 @@ use Rattle.peer_bench.specs.Benches.{SetupValue, IsBenchRun, noted_since}
 use Rattle.peer_bench.specs.Growing.{script_by}
 use Rattle.command_answers.specs.Answers.{Answer}
 use Rattle.command_steps.specs.Orders.{OrderState, order_state, played_by}
-use Rattle.simulation_commands.specs.RunReporting.{IsReported}
+use Rattle.run_reports.specs.RunReporting.{IsReported}
 use Rattle.simulation_commands.specs.Simulating.{OthersStay}
 use Rattle.simulation_commands.proofs.Keeping.{get_same, only_played, others_at, played_at}
 use Rattle.bench_commands.specs.HandedIn.{StayHandedIn, handed_over}

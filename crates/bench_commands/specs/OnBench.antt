@@ -11,7 +11,7 @@ use Rattle.command_words.specs.BenchWords.{AskedBench}
 use Rattle.command_steps.specs.Orders.{OrderState}
 use Rattle.command_steps.specs.RunSteps.{FromOrder}
 use Rattle.command_steps.specs.Steps.{FromFile, FromNet, most_of_net}
-use Rattle.simulation_commands.specs.RunReporting.{IsReported}
+use Rattle.run_reports.specs.RunReporting.{IsReported}
 use Rattle.bench_commands.specs.HandedIn.{HandedIn}
 use Rattle.bench_commands.specs.Peers.{FromPeer, Peered}
 

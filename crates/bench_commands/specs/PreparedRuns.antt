@@ -5,7 +5,7 @@ use Rattle.peer_bench.specs.Asking.{PeerValue}
 use Rattle.peer_bench.specs.Benches.{SetupValue, IsBenchRun}
 use Rattle.peer_bench.specs.Growing.{script_by}
 use Rattle.command_answers.specs.Answers.{Answer}
-use Rattle.simulation_commands.specs.RunReporting.{IsReported}
+use Rattle.run_reports.specs.RunReporting.{IsReported}
 use Rattle.bench_commands.specs.OnBench.{notes_grown}
 use Rattle.bench_commands.specs.Peers.{Peered}
 

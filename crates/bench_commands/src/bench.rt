@@ -22,8 +22,8 @@ use command_words::Benching;
 use event_sim::Picker;
 use peer_bench::{Bench, Peer};
 use prs_core::Net;
+use run_reports::uncompared;
 use simulation_commands::simulate::{Room, prepare};
-use simulation_commands::uncompared;
 use std::alloc::{AllocError, Global};
 use std::mem;
 

@@ -31,7 +31,7 @@ use Rattle.command_steps.specs.HeldPrograms.{HoldsProgram}
 use Rattle.command_steps.specs.Inlined.{Means}
 use Rattle.command_steps.specs.Orders.{Played}
 use Rattle.command_steps.specs.References.{HoldsReference, IsReferredTo}
-use Rattle.simulation_commands.specs.RunReporting.{IsReported, alone, hazardous, compared, ending_against, ending_for}
+use Rattle.run_reports.specs.RunReporting.{IsReported, alone, hazardous, compared, ending_against, ending_for}
 use Rattle.chp_cli.specs.Simulated.{HoldsCarrying, IsFileSimulated}
 use Rattle.command_words.specs.SimulateWords.{AskedRun}
 use Rattle.simulation_commands.specs.Simulating.{simulation_for}

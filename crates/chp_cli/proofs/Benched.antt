@@ -26,7 +26,7 @@ use Rattle.command_steps.specs.RunSteps.{an_order}
 use Rattle.command_steps.specs.Steps.{a_file, a_net}
 use Rattle.command_words.specs.BenchWords.{AskedBench}
 use Rattle.grown_commands.proofs.SafeRuns.{all_safe}
-use Rattle.simulation_commands.specs.RunReporting.{ending_for}
+use Rattle.run_reports.specs.RunReporting.{ending_for}
 use Rattle.chp_cli.specs.BenchedFiles.{BenchedFollows, IsFileBenched}
 use Rattle.chp_cli.specs.Simulated.{HoldsCarrying, HoldsCompiled}
 use Rattle.chp_cli.proofs.CalmRuns.{file_carries, reported_calm}

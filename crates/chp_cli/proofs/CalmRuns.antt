@@ -24,7 +24,7 @@ use Rattle.command_answers.specs.declared.answer.Ending.{Ending}
 use Rattle.command_answers.specs.declared.answer.Ending.TheVariants.{Done, Hazard as Hazardous}
 use Rattle.command_answers.specs.Answers.{Given, Answer, writes}
 use Rattle.command_steps.specs.Orders.{Played}
-use Rattle.simulation_commands.specs.RunReporting.{IsReported, alone, hazardous, compared, ending_against, ending_for}
+use Rattle.run_reports.specs.RunReporting.{IsReported, alone, hazardous, compared, ending_against, ending_for}
 use Rattle.command_steps.specs.RunSteps.{an_order, has_power, a_script}
 use Rattle.chp_cli.specs.Simulated.{IsFileSimulated, HoldsCarrying, EndsAllAtRest}
 use Rattle.command_words.specs.SimulateWords.{AskedRun}

@@ -13,7 +13,7 @@ use Rattle.width_check.specs.Accepted.{IsAccepted}
 use Rattle.width_check.specs.Processes.{TypedProgram}
 use Rattle.command_answers.specs.Answers.{Given, Answer, status_of, status_with}
 use Rattle.command_steps.specs.Orders.{Played}
-use Rattle.simulation_commands.specs.RunReporting.{IsReported, alone, hazardous, compared, ending_against, ending_for}
+use Rattle.run_reports.specs.RunReporting.{IsReported, alone, hazardous, compared, ending_against, ending_for}
 use Rattle.command_steps.specs.RunSteps.{most_of_script}
 use Rattle.chp_cli.specs.Serving.{IsToSimulate}
 use Rattle.command_words.specs.SimulateWords.{AskedRun}

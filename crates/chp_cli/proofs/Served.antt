@@ -33,7 +33,7 @@ use Rattle.command_steps.specs.RunSteps.{FromScript, most_of_script}
 use Rattle.event_sim.specs.declared.ran.End.{End}
 use Rattle.event_sim.specs.declared.ran.End.TheVariants.{AtRest, Spent, Unstable, BothWays, Protocol}
 use Rattle.event_sim.specs.Simulating.{RanValue}
-use Rattle.simulation_commands.specs.RunReporting.{IsReported, alone, ending_for}
+use Rattle.run_reports.specs.RunReporting.{IsReported, alone, ending_for}
 use Rattle.command_steps.specs.FileContents.{HasDelays}
 use Rattle.chp_cli.specs.Serving.{IsToBench, IsToCheck, IsToExpand, IsToGrow, IsToRun, IsToTime, IsToTrace, IsToUnwave}
 use Rattle.command_answers.specs.Statuses.{is_whole}

@@ -21,7 +21,7 @@ use Rattle.command_answers.specs.declared.answer.Ending.{Ending}
 use Rattle.command_answers.specs.declared.answer.Ending.TheVariants.{Done, Hazard}
 use Rattle.command_answers.specs.Answers.{Given, Answer, writes}
 use Rattle.command_steps.specs.References.{IsReferredTo}
-use Rattle.simulation_commands.specs.RunReporting.{ending_for}
+use Rattle.run_reports.specs.RunReporting.{ending_for}
 use Rattle.command_steps.specs.RunSteps.{has_power, a_script}
 use Rattle.chp_cli.specs.Simulated.{HoldsCarrying}
 use Rattle.simulation_commands.specs.Simulating.{power_or_low}

@@ -10,7 +10,7 @@ use Rattle.event_sim.specs.declared.ran.End.{End}
 use Rattle.event_sim.specs.declared.ran.End.TheVariants.{AtRest, Spent, Unstable, BothWays, Protocol}
 use Rattle.event_sim.specs.Simulating.{RanValue}
 use Rattle.bench_commands.specs.HandedIn.{HandedIn}
-use Rattle.simulation_commands.specs.RunReporting.{IsReported, alone, ending_for}
+use Rattle.run_reports.specs.RunReporting.{IsReported, alone, ending_for}
 use Rattle.chp_cli.specs.BenchedFiles.{IsFileBenched}
 use Rattle.chp_cli.specs.TracedFiles.{IsFileTraced}
 

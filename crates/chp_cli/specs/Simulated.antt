@@ -21,7 +21,7 @@ use Rattle.command_steps.specs.Orders.{Played, place_named}
 use Rattle.chp_cli.specs.Followed.{FollowsRounds}
 use Rattle.chp_cli.specs.Resting.{RestsInTime}
 use Rattle.command_steps.specs.References.{HoldsReference}
-use Rattle.simulation_commands.specs.RunReporting.{IsReported}
+use Rattle.run_reports.specs.RunReporting.{IsReported}
 use Rattle.command_steps.specs.RunSteps.{IsScriptOf, lacks_reset}
 use Rattle.command_words.specs.SimulateWords.{AskedRun}
 use Rattle.simulation_commands.specs.Simulating.{HasPlayed, simulation_for}

@@ -15,7 +15,7 @@ use Rattle.event_sim.specs.Following.{enabled_moves, power_of}
 use Rattle.net_compose.specs.Carries.{Carries, CarriesReset}
 use Rattle.width_check.specs.Processes.{TypedProgram}
 use Rattle.command_answers.specs.declared.answer.Ending.TheVariants.{Done}
-use Rattle.simulation_commands.specs.RunReporting.{ending_for}
+use Rattle.run_reports.specs.RunReporting.{ending_for}
 
 -- ---- a safe run has no hazard
 

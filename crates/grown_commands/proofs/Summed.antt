@@ -31,7 +31,7 @@ use Rattle.command_answers.specs.Answers.{Answer}
 use Rattle.command_steps.specs.HeldPrograms.{IsProgramOf}
 use Rattle.command_steps.specs.Orders.{Played}
 use Rattle.command_answers.specs.Replies.{Halts}
-use Rattle.simulation_commands.specs.RunReporting.{ending_for}
+use Rattle.run_reports.specs.RunReporting.{ending_for}
 use Rattle.simulation_commands.specs.Simulating.{HasPlayed, simulation_for}
 use Rattle.command_steps.specs.Steps.{FromChecks, bad_calls, too_many_forms, faulty, accepted, FromProgram, no_program, a_program, IsFaulty, Never}
 use Rattle.command_steps.proofs.OneMeaning.{means_itself}

@@ -16,7 +16,7 @@ use Rattle.command_words.specs.declared.grow_words.Growth.{Growth}
 use Rattle.command_answers.specs.Answers.{Answer, writes}
 use Rattle.command_steps.specs.HeldPrograms.{IsProgramOf}
 use Rattle.command_steps.specs.Orders.{Played}
-use Rattle.simulation_commands.specs.RunReporting.{ending_for}
+use Rattle.run_reports.specs.RunReporting.{ending_for}
 use Rattle.command_steps.specs.RunSteps.{FromOrder}
 use Rattle.simulation_commands.specs.Simulating.{HasPlayed, simulation_for}
 

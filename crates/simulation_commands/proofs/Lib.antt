@@ -6,6 +6,5 @@ pub mod Asking
 pub mod TimingStopping
 pub mod TraceStopping
 pub mod Reporting
-pub mod Reported
 pub mod WaveSteps
 pub mod SimulateStopping

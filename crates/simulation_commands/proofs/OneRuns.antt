@@ -13,7 +13,7 @@ use Rattle.history_report.specs.Reports.{report_of}
 use Rattle.width_check.specs.Processes.{TypedProgram}
 use Rattle.command_answers.specs.Answers.{Given, Answer, writes, OneAnswer}
 use Rattle.command_steps.specs.Orders.{OrderState, Played}
-use Rattle.simulation_commands.specs.RunReporting.{IsReported, alone, hazardous, compared, ending_against}
+use Rattle.run_reports.specs.RunReporting.{IsReported, alone, hazardous, compared, ending_against}
 use Rattle.command_words.specs.SimulateWords.{AskedRun}
 use Rattle.simulation_commands.specs.Simulating.{HasPlayed, IsPlayed, SimulatesNet, SimulatesFile, Simulates, ran_value, simulation_for}
 use Rattle.command_steps.specs.Steps.{FromChecks}

@@ -11,7 +11,7 @@ use Rattle.history_report.specs.Comparing.{IsAgainst}
 use Rattle.prs_core.specs.Nets.{NetValue}
 use Rattle.width_check.specs.Processes.{TypedProgram}
 use Rattle.command_answers.specs.Answers.{Given, Answer, OneAnswer}
-use Rattle.simulation_commands.specs.RunReporting.{IsReported}
+use Rattle.run_reports.specs.RunReporting.{IsReported}
 use Rattle.command_steps.specs.Steps.{FromChecks}
 use Rattle.command_words.specs.SimulateWords.{AskedTiming}
 use Rattle.simulation_commands.specs.Timing.{TimesNet, TimesFile, SimulatesTimed, timing_for}

@@ -8,7 +8,7 @@ use Rattle.event_sim.specs.Simulating.{RanValue}
 use Rattle.prs_core.specs.Nets.{NetValue}
 use Rattle.wave_file.specs.CauseChains.{TellsCauses}
 use Rattle.command_answers.specs.Answers.{Given, Answer, writes, OneAnswer}
-use Rattle.simulation_commands.specs.RunReporting.{ending_for}
+use Rattle.run_reports.specs.RunReporting.{ending_for}
 use Rattle.command_words.specs.WavesWords.{AskedWaves}
 use Rattle.command_steps.specs.DelaySteps.{FromDelayFile}
 use Rattle.simulation_commands.specs.Tracing.{IsTraceText, TracesNet, TracesFile, Traces, trace_for}

@@ -11,7 +11,7 @@ use Rattle.command_steps.specs.Held.{HoldsNet, HoldsScript}
 use Rattle.command_steps.specs.Orders.{Played, place_named}
 use Rattle.command_steps.specs.References.{FromReference, HoldsReference}
 use Rattle.command_answers.specs.Replies.{Stops}
-use Rattle.simulation_commands.specs.RunReporting.{IsReported}
+use Rattle.run_reports.specs.RunReporting.{IsReported}
 use Rattle.command_steps.specs.RunSteps.{has_power, a_script, lacks_reset, an_order, FromScript, most_of_script}
 use Rattle.command_words.specs.SimulateWords.{AskedRun}
 use Rattle.simulation_commands.specs.Simulating.{SimulatesAt, SimulatesNet, simulation_for, Simulates, SimulatesFile}

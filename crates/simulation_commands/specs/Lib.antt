@@ -1,4 +1,3 @@
-pub mod RunReporting
 pub mod Simulating
 pub mod Asked
 pub mod Timing

@@ -15,7 +15,7 @@ use Rattle.command_answers.specs.declared.status.Status.TheVariants.{Done, Hazar
 use Rattle.command_answers.specs.Answers.{Given, Answer}
 use Rattle.command_steps.specs.Orders.{OrderState, Played}
 use Rattle.command_steps.specs.References.{FromReference}
-use Rattle.simulation_commands.specs.RunReporting.{IsReported}
+use Rattle.run_reports.specs.RunReporting.{IsReported}
 use Rattle.command_steps.specs.RunSteps.{FromOrder, FromPower, FromScript, most_of_script}
 use Rattle.command_steps.specs.Steps.{FromFile, FromNet, most_of_net}
 use Rattle.command_words.specs.SimulateWords.{AskedRun}

@@ -10,7 +10,7 @@ use Rattle.prs_core.specs.Nets.{NetValue}
 use Rattle.width_check.specs.Processes.{TypedProgram}
 use Rattle.command_answers.specs.Answers.{Given, Answer}
 use Rattle.command_steps.specs.References.{FromReference}
-use Rattle.simulation_commands.specs.RunReporting.{IsReported}
+use Rattle.run_reports.specs.RunReporting.{IsReported}
 use Rattle.command_steps.specs.RunSteps.{FromPower, FromScript, most_of_script}
 use Rattle.simulation_commands.specs.Simulating.{power_or_low}
 use Rattle.command_steps.specs.Steps.{FromFile, FromNet, most_of_net}

@@ -12,7 +12,7 @@ use Rattle.wave_file.specs.CauseChains.{TellsCauses, values_given}
 use Rattle.wave_file.specs.RunWaves.{wave_of_run}
 use Rattle.wave_file.specs.WaveReading.{IsWaveText}
 use Rattle.command_answers.specs.Answers.{Given, Answer, writes}
-use Rattle.simulation_commands.specs.RunReporting.{ending_for}
+use Rattle.run_reports.specs.RunReporting.{ending_for}
 use Rattle.command_steps.specs.RunSteps.{FromScript, most_of_script}
 use Rattle.command_steps.specs.Steps.{FromFile, FromNet, most_of_net}
 use Rattle.command_words.specs.WavesWords.{AskedWaves}

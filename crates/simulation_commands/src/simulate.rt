@@ -9,13 +9,12 @@ ghost use Rattle.command_words.specs.CommandWords.{run_asked};
 ghost use Rattle.command_steps.specs.Orders.{IsPlayedAt, KeepsOrders, order_state, place_named, played_by};
 ghost use Rattle.command_answers.specs.Replies.{Stops, stop_status, told_answer};
 ghost use Rattle.simulation_commands.specs.Asked.{AsksAt, AsksOrder, IsAskedAt, IsAskedThrough};
-ghost use Rattle.simulation_commands.specs.RunReporting.{IsReported};
+ghost use Rattle.run_reports.specs.RunReporting.{IsReported};
 ghost use Rattle.command_steps.specs.RunSteps.{lacks_reset};
 ghost use Rattle.simulation_commands.specs.Simulating.{OthersStay, StaysUnasked, HasPlayed, IsPlayed, Simulates, SimulatesAt, SimulatesNet, ran_value, simulation_for};
 ghost use Rattle.command_words.specs.SimulateWords.{text_given};
 ghost use Rattle.width_check.specs.Typed.{program_of as typed_of};
 
-use crate::run_reports::{copied_script, reported};
 use chp_edge::Shelf;
 use command_answers::{Output, Refusal, Stop};
 use command_steps::{net_in, net_script_in, place_of, reference_in};
@@ -23,6 +22,7 @@ use command_words::Simulation;
 use env_script::Script;
 use event_sim::{Picker, Ran, Sim};
 use prs_core::Net;
+use run_reports::{copied_script, reported};
 use sharing_check::Disjoint;
 use std::alloc::{AllocError, Global};
 

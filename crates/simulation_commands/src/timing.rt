@@ -12,7 +12,6 @@ ghost use Rattle.command_steps.specs.RunSteps.{lacks_reset};
 ghost use Rattle.command_words.specs.SimulateWords.{text_given};
 ghost use Rattle.simulation_commands.specs.Timing.{SimulatesTimed, TimesNet, timing_for};
 
-use crate::run_reports::{copied_script, reported};
 use crate::simulate::is_powerless;
 use chp_edge::Shelf;
 use command_answers::{Output, Refusal, Stop};
@@ -21,6 +20,7 @@ use command_words::Timing;
 use delay_script::{Delays, Timed};
 use env_script::Script;
 use prs_core::Net;
+use run_reports::{copied_script, reported};
 use sharing_check::Disjoint;
 use std::alloc::{AllocError, Global};
 

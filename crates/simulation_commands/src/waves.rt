@@ -18,7 +18,6 @@ ghost use Rattle.command_answers.specs.Replies.{Stops, told_answer};
 ghost use Rattle.command_words.specs.SimulateWords.{text_given};
 ghost use Rattle.simulation_commands.specs.Tracing.{IsTraceText, Traces, TracesNet, trace_for};
 
-use crate::run_reports::ending_for;
 use chp_edge::Shelf;
 use command_answers::{Output, Stop};
 use command_steps::{delays_if, net_in, net_script_in};
@@ -26,6 +25,7 @@ use command_words::Waves;
 use delay_script::{Delays, Noted, NotedRan};
 use env_script::Script;
 use prs_core::Net;
+use run_reports::ending_for;
 use std::alloc::{AllocError, Global};
 use wave_file::laws::timed_runs_are_waves;
 use wave_file::{causes_text, run_wave, write_wave};

@@ -2,7 +2,7 @@ use Rattle.std.proofs.Common.{◌∙◌, ◌<◌, None, length, sym, ap, subst, 
 use Rattle.event_sim.specs.Simulating.{RanValue}
 use Rattle.command_answers.specs.Replies.{told_answer}
 use Rattle.command_words.proofs.Results.{ok_in}
-use Rattle.simulation_commands.specs.RunReporting.{IsReported}
+use Rattle.run_reports.specs.RunReporting.{IsReported}
 use Rattle.bench_commands.proofs.Running.{keeps_as, others_apart, reported_as, run_keeps, run_reported, stays_as}
 use Rattle.bench_commands.proofs.bench.report_on.Goals as goal
 

@@ -6,7 +6,7 @@ use Rattle.env_script.specs.Scripts.{IsScript, OfferValue}
 use Rattle.prs_core.specs.Nets.{NetValue}
 use Rattle.width_check.specs.Typed.{program_of as typed_of}
 use Rattle.command_answers.specs.Replies.{told_answer}
-use Rattle.simulation_commands.specs.RunReporting.{IsReported}
+use Rattle.run_reports.specs.RunReporting.{IsReported}
 use Rattle.command_words.proofs.Results.{ok_in}
 use Rattle.simulation_commands.proofs.timing.report_timed.Goals as goal
 

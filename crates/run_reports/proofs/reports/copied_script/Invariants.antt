@@ -1,6 +1,6 @@
 use Rattle.std.proofs.Common.{◌≡◌, map, take}
 use Rattle.env_script.specs.Offers.{offered}
-use Rattle.simulation_commands.proofs.run_reports.copied_script.Given as goal
+use Rattle.run_reports.proofs.reports.copied_script.Given as goal
 
 abbrev pub invariant-loop-offer : goal.invariant-loop-offer
 invariant-loop-offer l = map offered l.offers.items ≡ map offered (take l.offer-index l.offer-items)

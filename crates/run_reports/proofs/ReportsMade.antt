@@ -9,7 +9,7 @@ use Rattle.width_check.specs.Processes.{TypedProgram}
 use Rattle.command_answers.specs.declared.answer.Ending.{Ending}
 use Rattle.command_answers.specs.declared.answer.Ending.TheVariants.{Done, Hazard}
 use Rattle.command_answers.specs.Answers.{writes}
-use Rattle.simulation_commands.specs.RunReporting.{IsReported, alone, hazardous, compared, ending_against, ending_for}
+use Rattle.run_reports.specs.RunReporting.{IsReported, alone, hazardous, compared, ending_against, ending_for}
 
 module _ (script : List OfferValue) (time : Option ℕ) (r : RanValue) where
   pub reported_alone : (end : Ending) (text : List ℕ) → end ≡ ending_for r.end → text ≡ report_of r time → IsReported script time r None (writes end text)

@@ -6,7 +6,7 @@ ghost use Rattle.env_script.specs.Offers.{offered};
 ghost use Rattle.env_script.specs.Scripts.{IsScript, OfferValue};
 ghost use Rattle.width_check.specs.Typed.{program_of as typed_of};
 ghost use Rattle.command_answers.specs.Replies.{told_answer};
-ghost use Rattle.simulation_commands.specs.RunReporting.{IsReported, ending_against, ending_for};
+ghost use Rattle.run_reports.specs.RunReporting.{IsReported, ending_against, ending_for};
 
 use command_answers::{Ending, Output};
 use env_script::{Offer, Script};

@@ -1,8 +1,8 @@
 use Rattle.std.proofs.Common.{◌∙◌, ap, sym}
 use Rattle.width_check.specs.Typed.{program_of as typed_of}
-use Rattle.simulation_commands.specs.RunReporting.{ending_for}
-use Rattle.simulation_commands.proofs.Reported.{reported_against, reported_hazard}
-use Rattle.simulation_commands.proofs.run_reports.compared.Goals as goal
+use Rattle.run_reports.specs.RunReporting.{ending_for}
+use Rattle.run_reports.proofs.ReportsMade.{reported_against, reported_hazard}
+use Rattle.run_reports.proofs.reports.compared.Goals as goal
 
 pub returns-then-is_hazard : goal.returns-then-is_hazard
 returns-then-is_hazard c =
