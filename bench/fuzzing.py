@@ -303,14 +303,18 @@ def in_bytes(draw, text):
 
 
 def in_lines(draw, text):
-    """A text without a line, with one twice, or with two of them exchanged."""
+    """A text without a line, with one twice or 300 times, or with two of them exchanged."""
     lines = text.splitlines(keepends=True) or [b"\n"]
     first, second = draw.randrange(len(lines)), draw.randrange(len(lines))
     how = draw.randrange(3)
     if how == 0:
         lines[first], lines[second] = lines[second], lines[first]
+    elif how == 1:
+        del lines[first]
     else:
-        lines[first : first + 1] = [] if how == 1 else lines[first : first + 1] * draw.choice((2, 2, 2, 300))
+        # A line without an end stays one line, so it could come to gigabytes.
+        count = draw.choice((2, 2, 2, 300))
+        lines[first : first + 1] = [lines[first]] * (count if len(lines[first]) < 100_000 else 2)
     return b"".join(lines)
 
 
