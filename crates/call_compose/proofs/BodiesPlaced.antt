@@ -1,5 +1,5 @@
 -- The nodes of procedures, one procedure after another.
-use Rattle.std.proofs.Common.{◌≡◌, ◌∙◌, ℕ, zero, suc, ◌+◌, ◌-◌, ◌<◌, ◌≤◌, Bool, true, List, [], ◌∷◌, ◌++◌, length, get_or, drop, All, refl, sym, ap, arith, append_assoc, length-append}
+use Rattle.std.proofs.Common.{◌≡◌, ◌∙◌, ℕ, suc, ◌+◌, ◌-◌, ◌<◌, ◌≤◌, Bool, true, List, [], ◌∷◌, ◌++◌, length, get_or, drop, All, refl, sym, ap, arith, append_assoc, length-append}
 use Rattle.std.specs.Prelude.{slice_set}
 use Rattle.std.proofs.lemmas.List.{drop_more, drop_all}
 use Rattle.std.proofs.lemmas.List.Elements.{All-nil, All-cons, All-head, All-tail}
@@ -11,7 +11,7 @@ use Rattle.width_check.specs.Typing.{IsProcess}
 use Rattle.handshake_expand.specs.Layout.{size_of}
 use Rattle.handshake_expand.specs.Answers.{answer_of}
 use Rattle.handshake_expand.specs.Sites.{Sites, sites_in}
-use Rattle.handshake_expand.proofs.Branches.{sites_more, sites_done}
+use Rattle.handshake_expand.proofs.Branches.{sites_more}
 use Rattle.net_compose.specs.Translation.{rules_of, hidden_high}
 use Rattle.net_compose.proofs.BodyDriven.{two_on, set_on}
 use Rattle.net_compose.proofs.Raised.{with_raised}
@@ -81,25 +81,8 @@ counted_more old mid new own n m size first then before after long =
 
 -- after the last one
 module _ (p : TypedProgram) (bs : List Process) (i : ℕ) (over : length bs ≤ i) (next : ℕ) where
-  pub rules_done : (now all : List NodeRules) → now ++ unasked_rules p (drop i bs) next ≡ all → now ≡ all
-  rules_done now all so_far = sites_done now _ all (ap (λ qs. unasked_rules p qs next) (drop_all i bs over)) so_far
-
-  pub requests_done : (now all : List ℕ) → now ++ requests_from p (drop i bs) next ≡ all → now ≡ all
-  requests_done now all so_far = sites_done now _ all (ap (λ qs. requests_from p qs next) (drop_all i bs over)) so_far
-
-  pub answers_done : (now all : List ℕ) → now ++ answers_from p (drop i bs) next ≡ all → now ≡ all
-  answers_done now all so_far = sites_done now _ all (ap (λ qs. answers_from p qs next) (drop_all i bs over)) so_far
-
-  pub placed_done : {A : Type 0} (site : Sites A) (now all : List A) → now ++ body_sites p site (drop i bs) next ≡ all → now ≡ all
-  placed_done site now all so_far = sites_done now _ all (ap (λ qs. body_sites p site qs next) (drop_all i bs over)) so_far
-
   pub raised_done : (now all : List Bool) → with_raised now (body_sites p (hidden_high p) (drop i bs) next) ≡ all → now ≡ all
   raised_done now all so_far = ap (λ qs. with_raised now (body_sites p (hidden_high p) qs next)) (sym (drop_all i bs over)) ∙ so_far
-
-  pub size_done : (all : ℕ) → next + procs_size p (drop i bs) ≡ all → next ≡ all
-  size_done all so_far =
-      let none : procs_size p (drop i bs) ≡ 0 = ap (procs_size p) (drop_all i bs over) in
-      omega (arith, none, so_far)
 
 -- the requests are set
 

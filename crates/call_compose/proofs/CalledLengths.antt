@@ -1,17 +1,11 @@
 -- How many nodes a statement has: no more with one for each call than with copies of the bodies.
-use Rattle.std.proofs.Common.{ℕ, ◌+◌, ◌≤◌, Bool, true, false, List, [], ◌∷◌, length, arith}
+use Rattle.std.proofs.Common.{ℕ, ◌+◌, ◌≤◌, Bool, true, false, List, arith}
 use Rattle.std.specs.Prelude.{if◌then◌else◌, slice_index_or}
 use Rattle.width_check.specs.Processes.{Process, skipping, assigning, sending, receiving, in_turn, side_by_side, choosing, repeating, no_members, and_member, TypedProgram}
 use Rattle.width_check.specs.Reads.{reads}
 use Rattle.width_check.specs.Typing.{IsProcess, AreProcesses, AreChoices, var_width}
 use Rattle.handshake_expand.specs.Layout.{formula_size, through_size, size_of, turn_size, branches_size, bodies_size}
 use Rattle.call_map.specs.Calling.{Called, calling, atom, turned, abreast, chosen, looped, Calleds, no_calleds, and_called, CalledChoices, no_called, or_called, inlined, inlined_each, inlined_choices, called_size, called_turn_size, called_branches_size, called_bodies_size}
-use Rattle.call_map.specs.CallNet.{procs_size}
-
--- each procedure has a node
-pub procs_many : (p : TypedProgram) (bs : List Process) → length bs ≤ procs_size p bs
-procs_many p [] = omega arith
-procs_many p (b ∷ bs) = let rest = procs_many p bs in omega (arith, rest)
 
 some_of : (b : Bool) (m n : ℕ) → 1 ≤ m → 1 ≤ n → 1 ≤ (if b then m else n)
 some_of true m n h k = h

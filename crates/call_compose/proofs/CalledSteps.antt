@@ -1,28 +1,24 @@
 -- What the walk over a body with calls has made, and what is left, member by member.
 use Rattle.std.proofs.Common.{◌≡◌, ◌∙◌, ℕ, suc, ◌+◌, ◌<◌, Bool, true, false, List, [], ◌∷◌, ◌++◌, length, refl, sym, ap, subst, arith, append_assoc}
-use Rattle.std.specs.Prelude.{◌==◌, slice_set, if◌then◌else◌}
-use Rattle.std.proofs.lemmas.List.{append-nil, length-append, set-append_left, set-set}
-use Rattle.std.proofs.lemmas.Grind.{flat_map-append}
+use Rattle.std.specs.Prelude.{slice_set, if◌then◌else◌}
+use Rattle.std.proofs.lemmas.List.{length-append, set-append_left, set-set}
 use Rattle.prs_core.specs.Nets.{NodeRules}
 use Rattle.prs_core.specs.Pairs.{no_rules}
-use Rattle.prs_core.specs.Sites.{site_answer}
 use Rattle.cell_parallel.specs.Trees.{tree_rules}
 use Rattle.cell_select.specs.Selections.{joined_answer, select_rules, again_rules}
 use Rattle.cell_sequence.specs.Sequence.{q_child, q_latch, q_next, loop_request}
 use Rattle.width_check.specs.Processes.{Choices, choice_count, member_count, TypedProgram, Process, Formula}
 use Rattle.width_check.specs.Typing.{IsProcess}
-use Rattle.handshake_expand.specs.Sites.{sites_in}
-use Rattle.handshake_expand.specs.Answers.{answer_of, guards_from, bodies_from, select_own, again_own}
+use Rattle.handshake_expand.specs.Answers.{guards_from, bodies_from, select_own, again_own}
 use Rattle.handshake_expand.specs.PartTree.{own_before}
 use Rattle.handshake_expand.proofs.Branches.{sites_more, sites_done}
-use Rattle.net_compose.specs.Contacts.{ContactValue, every_contact}
-use Rattle.net_compose.specs.Translation.{branch_answers, guards_rules, choosing_at, repeating_at, q_rules, rules_of, hidden_high}
+use Rattle.net_compose.specs.Contacts.{every_contact}
+use Rattle.net_compose.specs.Translation.{branch_answers, guards_rules, choosing_at, repeating_at, q_rules, hidden_high}
 use Rattle.net_compose.proofs.BodyDriven.{two_on, set_on, element_answered, loop_answered, joined_within}
 use Rattle.net_compose.proofs.BodyWritten.{raised_more, raised_done}
 use Rattle.net_compose.proofs.Raised.{with_raised}
-use Rattle.call_map.specs.Calling.{Called, calling, atom, turned, abreast, chosen, looped, Calleds, no_calleds, and_called, CalledChoices, no_called, or_called, inlined, inlined_each, inlined_choices, called_size, called_turn_size, called_branches_size, called_bodies_size, called_answer, called_turn_answer, called_branch_answers, called_bodies_from, called_starts_from, called_ends, called_choosing, called_repeating, called_rules, called_turn_rules, called_branches_rules, called_bodies_rules, called_sites, called_turn_sites, called_branch_sites, called_body_sites, called_requests, called_turn_requests, called_branch_requests, called_body_requests}
+use Rattle.call_map.specs.Calling.{Called, turned, abreast, chosen, looped, Calleds, no_calleds, and_called, CalledChoices, no_called, or_called, inlined, inlined_each, inlined_choices, called_size, called_turn_size, called_branches_size, called_bodies_size, called_answer, called_turn_answer, called_branch_answers, called_bodies_from, called_starts_from, called_ends, called_choosing, called_repeating, called_rules, called_turn_rules, called_branches_rules, called_bodies_rules, called_sites, called_turn_sites, called_branch_sites, called_body_sites, called_requests, called_turn_requests, called_branch_requests, called_body_requests}
 use Rattle.call_map.proofs.CallNodes.{called_long}
-use Rattle.call_compose.specs.declared.walk.Call.{Call}
 use Rattle.call_compose.specs.Walking.{requests_of, Pieces, pieces, HasAdded}
 
 module _ (bs : List Process) (p : TypedProgram) (d : ℕ → ℕ) where
@@ -359,35 +355,4 @@ module _ (bs : List Process) (p : TypedProgram) (d : ℕ → ℕ) where
     contacts = added.contacts;
     first = added.first;
     calls = added.calls;
-  }
-
-  -- of a call
-  one_request : (proc : ℕ) (calls : List Call) (c : Call) → requests_of proc (calls ++ c ∷ [])
-      ≡ requests_of proc calls ++ (if c.proc == proc then c.request ∷ [] else [])
-  one_request proc calls c =
-      flat_map-append (λ (c : Call). if c.proc == proc then c.request ∷ [] else []) calls (c ∷ [])
-      ∙ ap (λ ns. requests_of proc calls ++ ns) (append-nil (if c.proc == proc then c.request ∷ [] else []))
-
-  pub call_done : (proc request from : ℕ) (old : Pieces) (drivers : List NodeRules) (calls : List Call)
-      → drivers ≡ old.drivers ++ site_answer request (d proc) ∷ [] → calls ≡ old.calls ++ record { proc = proc; request = request } ∷ []
-      → HasAdded bs p d (calling proc) request from from old (pieces drivers old.contacts old.first calls)
-  call_done proc request from old drivers calls made noted = record {
-    made = made;
-    answered = refl;
-    contacts = sym (append-nil old.contacts);
-    first = refl;
-    calls = λ q. ap (requests_of q) noted ∙ one_request q old.calls (record { proc = proc; request = request });
-  }
-
-  -- of a statement that contains no other
-  pub atom_done : (s : Process) (request from answer : ℕ) (old : Pieces) (drivers : List NodeRules) (contacts : List ContactValue) (first : List Bool)
-      → drivers ≡ old.drivers ++ rules_of p s request from → answer ≡ answer_of p s from → contacts ≡ old.contacts ++ sites_in p (every_contact p) s from
-      → first ≡ with_raised old.first (sites_in p (hidden_high p) s from)
-      → HasAdded bs p d (atom s) request from answer old (pieces drivers contacts first old.calls)
-  atom_done s request from answer old drivers contacts first made is sites high = record {
-    made = made;
-    answered = is;
-    contacts = sites;
-    first = high;
-    calls = λ proc. sym (append-nil (requests_of proc old.calls));
   }

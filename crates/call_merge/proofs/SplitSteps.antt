@@ -113,21 +113,6 @@ group_split ds ns s made v w ss i n m (inr is) items over so_far turns sides =
 
 -- arms
 
-pub arm_split : (ds : List Decl) (ns : List (List ℕ)) (xs : List Arm) (i : ℕ) (a r : Arm) (old new : List Arm) (n m : ℕ) (whole : Arms) →
-    i < length xs → a ≡ get_or xs i a → onto and_guarded (map guarded_of old) (split_arms ds ns n (arms_in (drop i xs))) ≡ whole
-    → expression_of r.guard ≡ expression_of a.guard → statement_of r.body ≡ split_statement ds ns n (statement_of a.body)
-    → m ≡ n + length (own_readers ds (statement_of a.body)) → new ≡ old ++ r ∷ []
-    → onto and_guarded (map guarded_of new) (split_arms ds ns m (arms_in (drop (i + 1) xs))) ≡ whole
-arm_split ds ns xs i a r old new n m whole within is so_far guard made place next =
-    let rest = arms_in (drop (i + 1) xs) in
-    ap (λ (ys : List Arm). onto and_guarded (map guarded_of ys) (split_arms ds ns m rest)) next
-    ∙ (onto_push and_guarded guarded_of old r (split_arms ds ns m rest)
-    ∙ (ap (λ g. onto and_guarded (map guarded_of old) (and_arm g (statement_of r.body) (split_arms ds ns m rest))) guard
-    ∙ (ap (λ z. onto and_guarded (map guarded_of old) (and_arm (expression_of a.guard) z (split_arms ds ns m rest))) made
-    ∙ (ap (λ k. onto and_guarded (map guarded_of old)
-    (and_arm (expression_of a.guard) (split_statement ds ns n (statement_of a.body)) (split_arms ds ns k rest))) place
-    ∙ (ap (λ us. onto and_guarded (map guarded_of old) (split_arms ds ns n us)) (sym (arms_more xs i a within is)) ∙ so_far)))))
-
 pub arm_placed : (ds : List Decl) (xs : List Arm) (i : ℕ) (a : Arm) (n m whole : ℕ) → i < length xs → a ≡ get_or xs i a
     → n + length (own_readers_arms ds (arms_in (drop i xs))) ≡ whole → m ≡ n + length (own_readers ds (statement_of a.body))
     → m + length (own_readers_arms ds (arms_in (drop (i + 1) xs))) ≡ whole

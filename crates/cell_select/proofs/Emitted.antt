@@ -3,7 +3,7 @@ use Rattle.std.proofs.Common.{◌≡◌, ◌≢◌, ℕ, suc, ◌<◌, ◌*◌, 
 use Rattle.std.proofs.lemmas.List.{take_more}
 use Rattle.std.proofs.Math.Seq.{drop-cons}
 use Rattle.prs_core.specs.declared.rule.Literal.{Literal}
-use Rattle.std.proofs.lemmas.List.Elements.{All-nil, All-cons, All-head, All-tail, Contains-append_left, Contains-append_right}
+use Rattle.std.proofs.lemmas.List.Elements.{Contains-append_left, Contains-append_right}
 use Rattle.prs_core.specs.Nets.{GuardValue, NodeRules, RulesValue, IsAlone, is_high, is_low, one_term, with_rules}
 use Rattle.prs_core.specs.Pairs.{Pair, rails_of, lows, or_of}
 use Rattle.prs_core.specs.Parts.{Owned, owned, owned_at, with_owned}
@@ -190,10 +190,6 @@ latches_length : (request : ℕ) (wanted : List (List Literal)) → length (map 
 latches_length request [] = refl
 latches_length request (w ∷ ws) = let rest = latches_length request ws in omega (arith, rest)
 
-starts_length : (ls : List ℕ) (hs : List Pair) → length (starts ls hs) ≡ length ls
-starts_length [] hs = refl
-starts_length (l ∷ ls) hs = let rest = starts_length ls hs in omega (arith, rest)
-
 -- the latches and the starts, one after the other
 pub branches_made : (request : ℕ) (ls ss : List ℕ) (hs : List Pair) (a b c : RulesValue) → length hs ≡ length ls →
     b ≡ with_owned (owned_at ls (latches request hs)) a → c ≡ with_owned (owned_at ss (starts ls hs)) b →
@@ -203,38 +199,9 @@ branches_made request ls ss hs a b c same first second =
     second ∙ ap (with_owned (owned_at ss (starts ls hs))) first ∙ sym (with_owned_append (owned_at ls (latches request hs)) (owned_at ss (starts ls hs)) a)
     ∙ ap (λ os. with_owned os a) (sym (owned_append ls ss (latches request hs) (starts ls hs) count))
 
--- which nodes are none of these
-pub nodes_apart : (node : ℕ) (ns : List ℕ) (rs : List NodeRules) → length ns ≡ length rs → All (λ (o : Owned). o.node ≢ node) (owned_at ns rs) →
-    All (λ n. n ≢ node) ns
-nodes_apart node [] rs e h = All-nil (λ n. n ≢ node)
-nodes_apart node (n ∷ ns) [] e h = absurd (omega (arith, e))
-nodes_apart node (n ∷ ns) (r ∷ rs) e h =
-    All-cons (λ n. n ≢ node) n ns (All-head (λ (o : Owned). o.node ≢ node) (owned n r) (owned_at ns rs) h)
-    (nodes_apart node ns rs (omega (arith, e)) (All-tail (λ (o : Owned). o.node ≢ node) (owned n r) (owned_at ns rs) h))
-
-all_left : {X : Type 0} (P : X → Type 0) (xs ys : List X) → All P (xs ++ ys) → All P xs
-all_left P [] ys h = All-nil P
-all_left P (x ∷ xs) ys h = All-cons P x xs (All-head P x (xs ++ ys) h) (all_left P xs ys (All-tail P x (xs ++ ys) h))
-
-all_right : {X : Type 0} (P : X → Type 0) (xs ys : List X) → All P (xs ++ ys) → All P ys
-all_right P [] ys h = h
-all_right P (x ∷ xs) ys h = all_right P xs ys (All-tail P x (xs ++ ys) h)
-
 pub record BranchesApart (node : ℕ) (ls ss : List ℕ) : Type 0 where
   pub latches : All (λ n. n ≢ node) ls
   pub started : All (λ n. n ≢ node) ss
-
-branches_apart : (node request : ℕ) (ls ss : List ℕ) (hs : List Pair) → length hs ≡ length ls → length ss ≡ length ls →
-    All (λ (o : Owned). o.node ≢ node) (owned_at (ls ++ ss) (latches request hs ++ starts ls hs)) → BranchesApart node ls ss
-branches_apart node request ls ss hs same started h =
-    let count : length ls ≡ length (latches request hs) = sym same ∙ sym (wanted_length [] hs) ∙ sym (latches_length request (only_one_true [] hs)) in
-    let both = subst (All (λ (o : Owned). o.node ≢ node)) (owned_append ls ss (latches request hs) (starts ls hs) count) h in
-    record {
-      latches = nodes_apart node ls (latches request hs) count
-          (all_left (λ (o : Owned). o.node ≢ node) (owned_at ls (latches request hs)) (owned_at ss (starts ls hs)) both);
-      started = nodes_apart node ss (starts ls hs) (started ∙ sym (starts_length ls hs))
-          (all_right (λ (o : Owned). o.node ≢ node) (owned_at ls (latches request hs)) (owned_at ss (starts ls hs)) both);
-    }
 
 abbrev select_first : (request answer eval any : ℕ) → (ls ans : List ℕ) → List Owned
 select_first request answer eval any ls ans =
@@ -268,21 +235,6 @@ pub record SelectApart (node : ℕ) (p : SelectPorts) : Type 0 where
   pub eval : node ≢ p.eval
   pub any : node ≢ p.any
   pub branches : BranchesApart node p.latches.items p.starts.items
-
-pub select_apart : (node : ℕ) (p : SelectPorts) → AreBranches p.latches.items p.starts.items p.answers.items p.guard_rails.items →
-    All (λ (o : Owned). o.node ≢ node) (select_owned (select_of p)) → SelectApart node p
-select_apart node p are h =
-    let hs = pairs_of p.guard_rails.items in
-    let same : length hs ≡ length p.latches.items = pairs_length (length p.latches.items) p.guard_rails.items are.railed in
-    let whole = subst (All (λ (o : Owned). o.node ≢ node)) (select_lists_are p are) h in
-    record {
-      answer = λ e. whole 0 (owned 0 (record { up = []; down = [] })) (omega arith) (sym e);
-      eval = λ e. whole 1 (owned 0 (record { up = []; down = [] })) (omega arith) (sym e);
-      any = λ e. whole 2 (owned 0 (record { up = []; down = [] })) (omega arith) (sym e);
-      branches = branches_apart node p.request p.latches.items p.starts.items hs same are.started
-          (all_right (λ (o : Owned). o.node ≢ node) (select_first p.request p.answer p.eval p.any p.latches.items p.answers.items)
-          (owned_at (p.latches.items ++ p.starts.items) (latches p.request hs ++ starts p.latches.items hs)) whole);
-    }
 
 abbrev again_six : AgainPorts → List Pair → List Owned
 again_six p hs =
@@ -329,25 +281,6 @@ pub record AgainApart (node : ℕ) (p : AgainPorts) : Type 0 where
   pub any : node ≢ p.any
   pub leave : node ≢ p.leave
   pub branches : BranchesApart node p.latches.items p.starts.items
-
-pub again_apart : (node : ℕ) (p : AgainPorts) → AreBranches p.latches.items p.starts.items p.answers.items p.guard_rails.items →
-    All (λ (o : Owned). o.node ≢ node) (again_owned (again_of p)) → AgainApart node p
-again_apart node p are h =
-    let hs = pairs_of p.guard_rails.items in
-    let same : length hs ≡ length p.latches.items = pairs_length (length p.latches.items) p.guard_rails.items are.railed in
-    let whole = subst (All (λ (o : Owned). o.node ≢ node)) (again_lists_are p are) h in
-    let none = owned 0 (record { up = []; down = [] }) in
-    let P : Owned → Type 0 = λ o. o.node ≢ node in
-    record {
-      answer = λ e. whole 0 none (omega arith) (sym e);
-      turn = λ e. whole 1 none (omega arith) (sym e);
-      joined = λ e. whole 2 none (omega arith) (sym e);
-      eval = λ e. whole 3 none (omega arith) (sym e);
-      any = λ e. whole 4 none (omega arith) (sym e);
-      leave = λ e. whole 5 none (omega arith) (sym e);
-      branches = branches_apart node p.loop_request p.latches.items p.starts.items hs same are.started
-          (all_right P (again_six p hs) (owned_at (p.latches.items ++ p.starts.items) (latches p.loop_request hs ++ starts p.latches.items hs)) whole);
-    }
 
 -- which nodes are own
 branches_among : (request : ℕ) (ls ss : List ℕ) (hs : List Pair) → length hs ≡ length ls →

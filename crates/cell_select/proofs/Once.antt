@@ -209,9 +209,6 @@ latch_no_start M frame bs eval y s is e =
     (last_there M frame bs eval y 0 s ∙ e ∙ sym (last_there M frame bs eval y 1 s)) in
     omega (arith, same)
 
-pub among_place : (bs : List Branch) (y : BranchPlace) → IsPlace bs y → Among y.this bs
-among_place bs y is = subst (Among y.this) (sym is) (among_middle y.this y.before y.behind)
-
 -- a branch whose latch is up, once the guards are let go: where its start has moved since, it is high
 abbrev pub start_ok : (e l s b : Bool) → Bool
 start_ok e l s b = implies (l && (not e && b)) s

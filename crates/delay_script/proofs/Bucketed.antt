@@ -1,20 +1,20 @@
 -- Buckets and the heap of a calendar: sums over their entries, and which entry is the first.
 use Rattle.std.proofs.Common.{◌≡◌, ℕ, zero, suc, ◌+◌, ◌-◌, ◌<◌, ◌≤◌, Bool, true, false, List, [], ◌∷◌, ◌++◌, length, get_or, set, map, refl, sym, ap, subst, ◌∙◌, inl, inr, arith}
-use Rattle.std.specs.Prelude.{◌⊎◌, ◌%◌, ◌==◌, ◌||◌, ◌&&◌, not, nat_lt, All, Option, Some, None, MatchOption, IfSome, option_to_list, Result, Ok, Err, OnOk}
+use Rattle.std.specs.Prelude.{◌==◌, ◌||◌, All, Option, Some, None, MatchOption, IfSome, option_to_list, Result, Ok, Err, OnOk}
 use Rattle.std.specs.Result.{is_ok}
 use Rattle.std.specs.BinaryHeap.{IsUpperBound}
 use Rattle.std.specs.List.{sum_by}
 use Rattle.std.specs.List.Sorted.{IsPermutation, IsSorted}
 use Rattle.std.specs.Ordering.{is_lt, nat_cmp}
 use Rattle.std.specs.declared.cmp.Reverse.{Reverse}
-use Rattle.std.proofs.lemmas.Bool.{cases_eq, eqb-true, eqb-false, ltb-true, ltb-false, and_parts}
-use Rattle.std.proofs.lemmas.List.{length-append, length-map, length-set, get_or-map, get_or-set_same, get_or-set_other, get_or_at, get_or_append_left, nil_from_length}
+use Rattle.std.proofs.lemmas.Bool.{eqb-true}
+use Rattle.std.proofs.lemmas.List.{length-append, length-map, get_or-map, get_or_at, get_or_append_left, nil_from_length}
 use Rattle.std.proofs.lemmas.List.Elements.{All-nil, All-append, All-map, All-from_get_or, All-from_recursion, All-weaker}
 use Rattle.std.proofs.lemmas.List.Sorted.{sum_by-IsPermutation, sum_by_pushed, sum_by_popped, IsPermutation-map}
 use Rattle.std.proofs.lemmas.Map.Keys.{ge_from_not_lt}
 use Rattle.std.proofs.lemmas.List.Sums.{sum_by-cons, sum_by-append}
 use Rattle.delay_script.specs.TimedRuns.{ComesNoLater}
-use Rattle.delay_script.specs.Calendars.{BucketValue, entries_of, entries_in, others_of, bucket_at, last_node, is_before, IsDescending, IsFirstBucket, AreEmpty, IsLater, AreBuckets, IsCalendar, sooner, LeadsAll, FollowsFirst, IsDueBefore, LeadsBuckets, TakesFirst}
+use Rattle.delay_script.specs.Calendars.{BucketValue, entries_of, entries_in, others_of, bucket_at, last_node, IsDescending, IsFirstBucket, AreEmpty, IsLater, AreBuckets, IsCalendar, sooner, LeadsAll, FollowsFirst, IsDueBefore, LeadsBuckets, TakesFirst}
 use Rattle.delay_script.proofs.Entries.{order_says, same_first, ones}
 
 -- sums
@@ -109,152 +109,10 @@ room_near reached later others slots room place is within fewer = omega (
   (is.buckets.each place within).room_is,
 )
 
-pub room_far : (reached : BucketValue) (later : List BucketValue) (others : List (Reverse (ℕ × ℕ))) (slots room : ℕ) →
-    IsCalendar reached later others slots room → length (entries_of reached ++ (entries_in later ++ others_of others)) < room → length others < slots
-room_far reached later others slots room is fewer =
-    let long : length (others_of others) ≡ length others = length-map others (λ (e : Reverse (ℕ × ℕ)). e.0) in
-    omega (
-      arith,
-      fewer,
-      long,
-      length-append (entries_of reached) (entries_in later ++ others_of others),
-      length-append (entries_in later) (others_of others),
-      is.slots_are,
-    )
-
--- a node more in a bucket
-pub put_near : (reached : BucketValue) (later : List BucketValue) (others : List (Reverse (ℕ × ℕ))) (slots room place : ℕ) (b : BucketValue) →
-    IsCalendar reached later others slots room → reached.time < b.time → place ≡ b.time % 16 → place < 16 → b.room ≡ (bucket_at later place).room →
-    IsCalendar reached (set later place b) others slots room
-put_near reached later others slots room place b is after home within same = record {
-  buckets = record {
-    descends = is.buckets.descends;
-    room_is = is.buckets.room_is;
-    count = length-set later place b ∙ is.buckets.count;
-    each = λ q less. by_place q less (cases_eq q place);
-  };
-  ordered = is.ordered;
-  slots_are = is.slots_are;
-}
-  where
-    by_place : (q : ℕ) → q < 16 → (q ≡ place) ⊎ (q ≡ place → ⊥) → IsLater reached.time q room (bucket_at (set later place b) q)
-    by_place q less (inl here) =
-        subst (λ (i : ℕ). IsLater reached.time i room (bucket_at (set later place b) i)) (sym here)
-        (subst (λ (c : BucketValue). IsLater reached.time place room c)
-        (sym (get_or-set_same later place b _ (omega (arith, is.buckets.count, within)))) (record {
-          room_is = omega (arith, (is.buckets.each place within).room_is, same);
-          after = λ some. after;
-          home = λ some. sym home;
-        }))
-    by_place q less (inr apart) =
-        subst (λ (c : BucketValue). IsLater reached.time q room c) (sym (get_or-set_other later place q b _ apart)) (is.buckets.each q less)
-
 -- the buckets are looked at one after the other
 
 abbrev pub IsFirstSoFar : List BucketValue → ℕ → Option ℕ → Type 0
 IsFirstSoFar bs count first = MatchOption first (AreEmpty bs count) (λ (p : ℕ). IsFirstBucket bs count p)
-
-has_some : (b : BucketValue) → not (length b.nodes == 0) ≡ true → 0 < length b.nodes
-has_some b some = by_length (length b.nodes == 0) refl some
-  where
-    by_length : (e : Bool) → (length b.nodes == 0) ≡ e → not e ≡ true → 0 < length b.nodes
-    by_length true same t = absurd (cc t)
-    by_length false same t = let apart = eqb-false (length b.nodes) 0 same in omega arith
-
-has_none : (b : BucketValue) → not (length b.nodes == 0) ≡ false → b.nodes ≡ []
-has_none b none = by_length (length b.nodes == 0) refl none
-  where
-    by_length : (e : Bool) → (length b.nodes == 0) ≡ e → not e ≡ false → b.nodes ≡ []
-    by_length true same t = nil_from_length b.nodes (eqb-true (length b.nodes) 0 same)
-    by_length false same t = absurd (cc t)
-
-pub first_stays : (bs : List BucketValue) (p : ℕ) (first : Option ℕ) → IsFirstSoFar bs p first → is_before bs p first ≡ false → IsFirstSoFar bs (p + 1) first
-first_stays bs p None none after = λ q less. by_place q less (cases_eq q p)
-  where
-    by_place : (q : ℕ) → q < p + 1 → (q ≡ p) ⊎ (q ≡ p → ⊥) → (bucket_at bs q).nodes ≡ []
-    by_place q less (inl here) = ap (λ (i : ℕ). (bucket_at bs i).nodes) here ∙ has_none (bucket_at bs p) after
-    by_place q less (inr apart) = none q (omega (arith, apart))
-first_stays bs p (Some o) is after = record {
-  within = omega (arith, is.within);
-  some = is.some;
-  first = λ q less some. by_place q less some (cases_eq q p);
-}
-  where
-    no_earlier : (a b : Bool) → not (length (bucket_at bs p).nodes == 0) ≡ a → nat_lt (bucket_at bs p).time (bucket_at bs o).time ≡ b → (a && b) ≡ false →
-        0 < length (bucket_at bs p).nodes → (bucket_at bs o).time ≤ (bucket_at bs p).time
-    no_earlier true true ea eb e some = absurd (cc e)
-    no_earlier true false ea eb e some = ltb-false (bucket_at bs p).time (bucket_at bs o).time eb
-    no_earlier false b ea eb e some = absurd (omega (arith, some, ap length (has_none (bucket_at bs p) ea)))
-
-    by_place : (q : ℕ) → q < p + 1 → 0 < length (bucket_at bs q).nodes → (q ≡ p) ⊎ (q ≡ p → ⊥) → (bucket_at bs o).time ≤ (bucket_at bs q).time
-    by_place q less some (inl here) =
-        subst (λ (i : ℕ). 0 < length (bucket_at bs i).nodes → (bucket_at bs o).time ≤ (bucket_at bs i).time) (sym here) (no_earlier _ _ refl refl after) some
-    by_place q less some (inr apart) = is.first q (omega (arith, apart)) some
-
-pub first_comes : (bs : List BucketValue) (p : ℕ) (first : Option ℕ) → IsFirstSoFar bs p first → is_before bs p first ≡ true → IsFirstSoFar bs (p + 1) (Some p)
-first_comes bs p None none before = record {
-  within = omega arith;
-  some = has_some (bucket_at bs p) before;
-  first = λ q less some. by_place q less some (cases_eq q p);
-}
-  where
-    by_place : (q : ℕ) → q < p + 1 → 0 < length (bucket_at bs q).nodes → (q ≡ p) ⊎ (q ≡ p → ⊥) → (bucket_at bs p).time ≤ (bucket_at bs q).time
-    by_place q less some (inl here) = omega (arith, ap (λ (i : ℕ). (bucket_at bs i).time) here)
-    by_place q less some (inr apart) = absurd (omega (arith, some, ap length (none q (omega (arith, apart)))))
-first_comes bs p (Some o) is before = record {
-  within = omega arith;
-  some = has_some (bucket_at bs p) both.0;
-  first = λ q less some. by_place q less some (cases_eq q p);
-}
-  where
-    both : (not (length (bucket_at bs p).nodes == 0) ≡ true) × (nat_lt (bucket_at bs p).time (bucket_at bs o).time ≡ true)
-    both = and_parts (not (length (bucket_at bs p).nodes == 0)) (nat_lt (bucket_at bs p).time (bucket_at bs o).time) before
-
-    by_place : (q : ℕ) → q < p + 1 → 0 < length (bucket_at bs q).nodes → (q ≡ p) ⊎ (q ≡ p → ⊥) → (bucket_at bs p).time ≤ (bucket_at bs q).time
-    by_place q less some (inl here) = omega (arith, ap (λ (i : ℕ). (bucket_at bs i).time) here)
-    by_place q less some (inr apart) =
-        let order = is.first q (omega (arith, apart)) some in
-        let sooner_is = ltb-true (bucket_at bs p).time (bucket_at bs o).time both.1 in
-        omega (arith, order, sooner_is)
-
--- the first of the later buckets in place of the one that is reached, which is empty
-pub turned : (reached next : BucketValue) (later : List BucketValue) (room place : ℕ) → AreBuckets reached later room → reached.nodes ≡ [] →
-    IsFirstBucket later (length later) place → IsPermutation (bucket_at later place).nodes next.nodes → IsDescending next.nodes →
-    next.time ≡ (bucket_at later place).time → next.room ≡ (bucket_at later place).room → AreBuckets next (set later place reached) room
-turned reached next later room place is none first same descends time room_same = record {
-  descends = descends;
-  room_is = omega (arith, (is.each place within).room_is, room_same);
-  count = length-set later place reached ∙ is.count;
-  each = λ q less. by_place q less (cases_eq q place);
-}
-  where
-    within : place < 16
-    within = omega (arith, first.within, is.count)
-
-    by_place : (q : ℕ) → q < 16 → (q ≡ place) ⊎ (q ≡ place → ⊥) → IsLater next.time q room (bucket_at (set later place reached) q)
-    by_place q less (inl here) =
-        subst (λ (i : ℕ). IsLater next.time i room (bucket_at (set later place reached) i)) (sym here)
-        (subst (λ (c : BucketValue). IsLater next.time place room c) (sym (get_or-set_same later place reached _ first.within)) (record {
-          room_is = is.room_is;
-          after = λ some. absurd (omega (arith, some, ap length none));
-          home = λ some. absurd (omega (arith, some, ap length none));
-        }))
-    by_place q less (inr apart) =
-        subst (λ (c : BucketValue). IsLater next.time q room c) (sym (get_or-set_other later place q reached _ apart)) (record {
-          room_is = (is.each q less).room_is;
-          after = λ some. later_than (first.first q (omega (arith, less, is.count)) some) (λ e. apart
-              (sym ((is.each q less).home some) ∙ ap (λ (t : ℕ). t % 16) (sym e) ∙ (is.each place within).home first.some));
-          home = (is.each q less).home;
-        })
-      where
-        later_than : (bucket_at later place).time ≤ (bucket_at later q).time →
-            ((bucket_at later place).time ≡ (bucket_at later q).time → ⊥) → next.time < (bucket_at later q).time
-        later_than order differ = by_order (cases_eq (bucket_at later place).time (bucket_at later q).time)
-          where
-            by_order : ((bucket_at later place).time ≡ (bucket_at later q).time) ⊎ ((bucket_at later place).time ≡ (bucket_at later q).time → ⊥) →
-                next.time < (bucket_at later q).time
-            by_order (inl e) = absurd (differ e)
-            by_order (inr e) = omega (arith, order, time, e)
 
 pub sum_sorted : (f : ℕ × ℕ → ℕ) (b next : BucketValue) → IsPermutation b.nodes next.nodes → next.time ≡ b.time →
     sum_by f (entries_of next) ≡ sum_by f (entries_of b)
@@ -499,10 +357,3 @@ none_left old reached later others alike follows none empty =
     no_nodes : (p : ℕ) → p < length later → (ns : List ℕ) → (bucket_at later p).nodes ≡ ns → (bucket_at later p).nodes ≡ []
     no_nodes p within [] e = e
     no_nodes p within (n ∷ ns) e = absurd (omega (arith, (none here p within (omega (arith, ap length e))).0, ap length empty))
-
--- where the heap's first is due before the first bucket it is before all
-pub leads_buckets : (others : List (Reverse (ℕ × ℕ))) (later : List BucketValue) (place : ℕ) → IsFirstBucket later (length later) place →
-    IsDueBefore others (bucket_at later place).time → LeadsBuckets others later
-leads_buckets others later place first due p within some =
-    let order = first.first p within some in
-    (due.0, λ none. omega (arith, order, due.1 none))

@@ -1,7 +1,7 @@
 -- A stage on which one more value is offered, or one more acceptance made.
 use Rattle.std.proofs.Common.{◌≡◌, ℕ, ◌<◌, ◌≤◌, Bool, true, false, cond, List, ◌∷◌, [], ◌++◌, length, get_or, map, refl, sym, ap, ◌∙◌, arith}
 use Rattle.std.specs.Prelude.{Option, Some, None, not, ◌&&◌, nat_le, slice_get, if◌then◌else◌}
-use Rattle.std.proofs.lemmas.Bool.{leb-true, and_parts, and_right}
+use Rattle.std.proofs.lemmas.Bool.{leb-true, and_parts}
 use Rattle.std.proofs.lemmas.List.{get_or_default}
 use Rattle.std.proofs.lemmas.Option.{slice_get_read}
 use Rattle.prs_core.specs.declared.wires.Wires.{Wires}
@@ -49,16 +49,6 @@ passing_added net script st done chan value old new counted off within was is =
 low_at : (net : NetValue) (v : ℕ → Bool) (chan : ℕ) (w : Wires) → chan < length net.channels → w ≡ get_or net.channels chan w →
     is_low_ack v (slice_get net.channels chan) ≡ not (v w.ack)
 low_at net v chan w within here = ap (is_low_ack v) (slice_get_read net.channels (length net.channels) chan w refl within here)
-
-pub idle_high : (net : NetValue) (script : List OfferValue) (st : RunState) (chan : ℕ) (w : Wires) → chan < length net.channels →
-    w ≡ get_or net.channels chan w → high st.values w.ack ≡ true → false ≡ is_idle net script st chan
-idle_high net script st chan w within here on =
-    sym (ap (λ (b : Bool). b && is_done (number_of (offer_at script chan)) (completed st.histories chan)) (low_at net (high st.values) chan w within here ∙ ap not on))
-
-pub idle_none : (net : NetValue) (script : List OfferValue) (st : RunState) (chan : ℕ) → None ≡ number_of (offer_at script chan) →
-    false ≡ is_idle net script st chan
-idle_none net script st chan none =
-    sym (and_right _ _ (ap (λ (o : Option ℕ). is_done o (completed st.histories chan)) (sym none)))
 
 pub idle_some : (net : NetValue) (script : List OfferValue) (st : RunState) (chan k done : ℕ) (w : Wires) → chan < length net.channels →
     w ≡ get_or net.channels chan w → high st.values w.ack ≡ false → Some k ≡ number_of (offer_at script chan) → done ≡ completed st.histories chan →

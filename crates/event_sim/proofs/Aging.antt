@@ -142,9 +142,6 @@ module _ (now : ℕ) (since list order : List ℕ) (kept : IsByAge now since lis
       length-map-list [] f = refl
       length-map-list (x ∷ xs) f = ap suc (length-map-list xs f)
 
-  rank_at : (p k : ℕ) → get_or order p 0 ≡ get_or list k 0 → age_rank since (get_or order p 0) ≡ age_rank since (get_or list k 0)
-  rank_at p k same = ap (age_rank since) same
-
   module _ (here : get_or list place 0 ≡ get_or order 0 0) where
     none_older : (k : ℕ) → k < length list → age_rank since (get_or list place 0) ≤ age_rank since (get_or list k 0)
     none_older k less = let at = kept.whole k less in by_place at.0 at.1 at.2 (cases_eq at.0 0)
@@ -249,18 +246,6 @@ first_within since order first last pick within some is_last is_pick older = by_
     by_place : (first < length order) ⊎ (length order ≤ first) → first < length order
     by_place (inl less) = less
     by_place (inr all) = absurd (omega (arith, older (length order - 1) (omega arith), pick_of))
-
-pub none_by_age : (now : ℕ) (since : List ℕ) → length since < 2 ^ 32 → IsByAge now since [] []
-none_by_age now since few = record {
-  few = few;
-  ascending = λ i j d less within. absurd (omega arith);
-  below = λ k d within. absurd (omega arith);
-  past = λ k d within. absurd (omega arith);
-  ranked = λ i j d less within. absurd (omega arith);
-  whole = λ k within. absurd (omega arith);
-  only = λ p within. absurd (omega arith);
-  count = refl;
-}
 
 pub ages_long : (now : ℕ) (since list : List ℕ) → length (ages_at now since list) ≡ length since
 ages_long now since list = length-map-range_with_len (age_at now since list) 0 (length since)

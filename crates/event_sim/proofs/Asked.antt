@@ -14,30 +14,12 @@ use Rattle.env_script.specs.declared.script.Offer.{Offer}
 use Rattle.env_script.specs.Scripts.{OfferValue, gives, takes, nothing, offer_at}
 use Rattle.env_script.specs.Offers.{offered}
 use Rattle.env_script.specs.Environment.{sender_moves, receiver_moves, offer_moves, channels_move, in_reset, raises_go}
-use Rattle.event_sim.specs.Locality.{is_wire, is_ready, is_among, has_no_part}
+use Rattle.event_sim.specs.Locality.{is_wire, is_ready, is_among}
 use Rattle.event_sim.specs.Standings.{StandingValue, standing_of, is_one, one_like, one_now, is_alike, times_over, stands, script_with, are_alike, number_of, one_more, script_and}
 use Rattle.event_sim.proofs.Near.{not_offered}
 use Rattle.event_sim.proofs.Behind.{turned}
 
 -- one value or one acceptance, so many times
-
-pub nothing_over : (k : ℕ) (one : OfferValue) → has_no_part one ≡ has_no_part (times_over k one)
-nothing_over k (gives []) = refl
-nothing_over k (gives (v ∷ vs)) = refl
-nothing_over k (takes count) = refl
-nothing_over k nothing = refl
-
-pub number_over : (k : ℕ) (one : OfferValue) → is_one one ≡ true → has_no_part one ≡ false → Some k ≡ number_of (times_over k one)
-number_over k (gives []) is part = absurd (cc is)
-number_over k (gives (v ∷ vs)) is part = ap Some (sym (length-replicate k v))
-number_over k (takes count) is part = refl
-number_over k nothing is part = absurd (cc part)
-
-pub number_none : (k : ℕ) (one : OfferValue) → has_no_part one ≡ true → None ≡ number_of (times_over k one)
-number_none k (gives []) part = absurd (cc part)
-number_none k (gives (v ∷ vs)) part = absurd (cc part)
-number_none k (takes count) part = absurd (cc part)
-number_none k nothing part = refl
 
 next_over : (v done k : ℕ) → slice_get (v ∷ []) (if nat_lt done k then 0 else 1) ≡ slice_get (replicate k v) done
 next_over v done k = by_order (cases_lt done k)
@@ -68,23 +50,6 @@ moves_over v w (takes (Times j)) k done n is =
 moves_over v w nothing k done n is = refl
 
 -- with another value
-
-one_value : (value : ℕ) (xs : List ℕ) → is_one (gives xs) ≡ true → set xs 0 value ≡ value ∷ []
-one_value value [] is = absurd (cc is)
-one_value value (x ∷ []) is = refl
-one_value value (x ∷ y ∷ xs) is = absurd (cc is)
-
-pub one_within : (xs : List ℕ) → is_one (gives xs) ≡ true → 0 < length xs
-one_within [] is = absurd (cc is)
-one_within (x ∷ xs) is = omega arith
-
-pub one_set : (value : ℕ) (one : OfferValue) (xs : List ℕ) → is_one one ≡ true → one ≡ gives xs → gives (set xs 0 value) ≡ one_now value one
-one_set value one xs is same = ap gives (one_value value xs (ap is_one (sym same) ∙ is)) ∙ ap (one_now value) (sym same)
-
-pub one_kept : (value : ℕ) (one : OfferValue) → is_one one ≡ true → is_one (one_now value one) ≡ true
-one_kept value (gives xs) is = refl
-one_kept value (takes count) is = is
-one_kept value nothing is = is
 
 alike_now : (value : ℕ) (one listed : OfferValue) → is_alike (one_now value one) listed ≡ is_alike one listed
 alike_now value (gives xs) (gives ys) = refl

@@ -71,17 +71,6 @@ least_with count n f within = by_first (least_below count f) refl
 
 -- nodes that are tested again, one after the other
 
-pub retested_none : (passes : ℕ → Bool) (old : List Bool) (before : Option ℕ) → IsRetested passes [] old old before before
-retested_none passes old before = record {
-  count_is = refl;
-  each = λ n within. refl;
-  least = λ f e. e ∙ least_agrees (length old) f (λ n. f n || false) (λ k within. or_nothing (f k));
-}
-  where
-    or_nothing : (b : Bool) → b ≡ (b || false)
-    or_nothing true = refl
-    or_nothing false = refl
-
 pub retested_more : (passes : ℕ → Bool) (xs ys : List ℕ) (old mid new : List Bool) (before between now : Option ℕ) →
     IsRetested passes xs old mid before between → IsRetested passes ys mid new between now → IsRetested passes (xs ++ ys) old new before now
 retested_more passes xs ys old mid new before between now one two = record {

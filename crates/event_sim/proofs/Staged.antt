@@ -10,7 +10,7 @@ use Rattle.env_script.specs.Scripts.{OfferValue, offer_at}
 use Rattle.env_script.specs.Environment.{channels_move, env_enabled, in_reset, is_reset, rules_rest, raises_go}
 use Rattle.env_script.specs.Phases.{phase_fault}
 use Rattle.env_script.specs.Runs.{RunState, moved, move_enabled, completed, histories_after}
-use Rattle.env_script.specs.Hazards.{least_below, or_else, takes_away, first_hazard, hazard_of}
+use Rattle.env_script.specs.Hazards.{least_below, or_else, takes_away, hazard_of}
 use Rattle.env_script.specs.declared.hazard.Hazard.TheVariants.{BothWays, Unstable, Protocol}
 use Rattle.event_sim.specs.Following.{enabled_moves}
 use Rattle.event_sim.specs.Locality.{IndexedValue, has_move, is_member, members, IsPassing, IsCountedMove, lost_by}
@@ -110,11 +110,6 @@ pub hazard_is : (net : NetValue) (script : List OfferValue) (st : RunState) (n :
     lost ≡ least_below (length net.first) (takes_away net script st n) →
     broken ≡ phase_fault net (high st.values) n → worst_cause pulled lost broken ≡ hazard_of net script st n
 hazard_is net script st n pulled lost broken torn taken keeps = rw (torn, taken, keeps) (worst_is _ _ _)
-
-pub first_is : (net : NetValue) (st : RunState) (pulled : Option ℕ) → pulled ≡ least_below (length net.first) (both_ways net (high st.values)) →
-    worst_cause pulled None None ≡ first_hazard net st
-first_is net st None torn = ap (option_map BothWays) torn
-first_is net st (Some k) torn = ap (option_map BothWays) torn
 
 -- only readers of the node can come to be pulled both ways
 pub pulled_is : (net : NetValue) (before : List Bool) (n : ℕ) → None ≡ least_below (length net.first) (both_ways net (high before)) →

@@ -1,20 +1,18 @@
 -- The sites of a program: their channels and variables are declared, and their rails and nodes are among the body's.
-use Rattle.std.proofs.Common.{◌≡◌, ℕ, ◌+◌, ◌*◌, ◌<◌, ◌≤◌, ◌==◌, Bool, true, false, List, [], ◌∷◌, ◌++◌, length, get_or, All, refl, sym, ap, subst, ◌∙◌, arith}
+use Rattle.std.proofs.Common.{◌≡◌, ℕ, ◌+◌, ◌*◌, ◌<◌, ◌≤◌, Bool, true, false, List, [], ◌∷◌, ◌++◌, length, get_or, All, refl, sym, ap, subst, ◌∙◌, arith}
 use Rattle.std.specs.Prelude.{if◌then◌else◌}
-use Rattle.std.specs.List.{flat_map}
-use Rattle.std.proofs.lemmas.Bool.{eqb-true}
-use Rattle.std.proofs.lemmas.List.Elements.{All-nil, All-cons, All-head, All-tail, All-append}
+use Rattle.std.proofs.lemmas.List.Elements.{All-nil, All-cons, All-append}
 use Rattle.prs_core.specs.Pairs.{Pair, pairs_from, rails_of}
 use Rattle.width_check.specs.Processes.{Formula, Process, skipping, assigning, sending, receiving, in_turn, side_by_side, choosing, repeating, Processes, no_members, and_member, Choices, no_choices, and_choice, TypedProgram}
 use Rattle.width_check.specs.Reads.{reads}
 use Rattle.width_check.specs.Typing.{channel_width, var_width, IsOfWidth, IsProcess, AreProcesses, AreChoices}
-use Rattle.handshake_expand.specs.Layout.{formula_size, block_size, through_size, size_of, turn_size, branches_size, bodies_size, body_from, nodes_of}
+use Rattle.handshake_expand.specs.Layout.{formula_size, block_size, through_size, size_of, turn_size, branches_size, bodies_size}
 use Rattle.handshake_expand.specs.Answers.{bodies_from, select_own, again_own}
 use Rattle.function_blocks.specs.Expressions.{formula_result}
 use Rattle.function_blocks.proofs.Sizes.{result_length}
-use Rattle.net_compose.specs.Contacts.{ContactValue, sends, takes, writes, every_contact, sent_by, taken_by, written_by}
+use Rattle.net_compose.specs.Contacts.{ContactValue, sends, takes, writes, every_contact}
 use Rattle.net_compose.specs.SortedContacts.{IsDeclaredContact}
-use Rattle.handshake_expand.specs.Sites.{sites_in, sites_in_turn, sites_in_branches, sites_in_bodies, in_body}
+use Rattle.handshake_expand.specs.Sites.{sites_in, sites_in_turn, sites_in_branches, sites_in_bodies}
 use Rattle.net_compose.specs.Translation.{read_back, through_at, assigned_rails}
 use Rattle.net_compose.proofs.ResultsOwn.{LieIn, lie_from, result_own, rails_lie}
 use Rattle.net_compose.proofs.Sizes.{pairs_length}
@@ -159,69 +157,7 @@ module _ (p : TypedProgram) where
         (sites_wider to (to + bodies_size p more) from end (sites_in_bodies p (every_contact p) more to) (omega arith) (omega arith) (bodies_own more
         (from + size_of p s) h.2))
 
-  pub all_own : IsProcess p.channels p.vars p.body → All (IsSite (body_from p) (nodes_of p)) (in_body p (every_contact p))
-  all_own h = sites_own p.body (body_from p) h
-
   pub site_of : (low high : ℕ) (v : ContactValue) → IsSite low high v → IsDeclaredContact (length p.channels) (length p.vars) v
   site_of low high (sends k bits) h = h.0
   site_of low high (takes k node) h = h.0
   site_of low high (writes x bits) h = h.0
-
-  -- those of one channel and of one variable
-
-  module _ (low high k : ℕ) where
-    abbrev RailsOf : ℕ → List Pair → Type 0
-    RailsOf width bits = AreRails width low high (rails_of bits)
-
-    sent_if : (chan : ℕ) (bits : List Pair) (b : Bool) → (chan == k) ≡ b → RailsOf (channel_width p.channels chan) bits → All (RailsOf
-        (channel_width p.channels k)) (if b then bits ∷ [] else [])
-    sent_if chan bits true is h =
-        All-cons (RailsOf (channel_width p.channels k)) bits [] (subst (λ c. RailsOf (channel_width p.channels c) bits) (eqb-true chan k is) h) (All-nil
-        (RailsOf (channel_width p.channels k)))
-    sent_if chan bits false is h = All-nil (RailsOf (channel_width p.channels k))
-
-    sent_bye : (v : ContactValue) → IsSite low high v → All (RailsOf (channel_width p.channels k)) (sent_by k v)
-    sent_bye (sends chan bits) h = sent_if chan bits (chan == k) refl h.1
-    sent_bye (takes chan node) h = All-nil (RailsOf (channel_width p.channels k))
-    sent_bye (writes x bits) h = All-nil (RailsOf (channel_width p.channels k))
-
-    pub sent_own : (vs : List ContactValue) → AreSites low high vs → All (RailsOf (channel_width p.channels k)) (flat_map (sent_by k) vs)
-    sent_own [] h = All-nil (RailsOf (channel_width p.channels k))
-    sent_own (v ∷ vs) h =
-        All-append (RailsOf (channel_width p.channels k)) (sent_by k v) (flat_map (sent_by k) vs) (sent_bye v (All-head (IsSite low high) v vs h))
-        (sent_own vs (All-tail (IsSite low high) v vs h))
-
-    written_if : (x : ℕ) (bits : List Pair) (b : Bool) → (x == k) ≡ b → RailsOf (var_width p.vars x) bits → All (RailsOf (var_width p.vars k))
-        (if b then bits ∷ [] else [])
-    written_if x bits true is h =
-        All-cons (RailsOf (var_width p.vars k)) bits [] (subst (λ c. RailsOf (var_width p.vars c) bits) (eqb-true x k is) h) (All-nil (RailsOf
-        (var_width p.vars k)))
-    written_if x bits false is h = All-nil (RailsOf (var_width p.vars k))
-
-    written_one : (v : ContactValue) → IsSite low high v → All (RailsOf (var_width p.vars k)) (written_by k v)
-    written_one (sends chan bits) h = All-nil (RailsOf (var_width p.vars k))
-    written_one (takes chan node) h = All-nil (RailsOf (var_width p.vars k))
-    written_one (writes x bits) h = written_if x bits (x == k) refl h.1
-
-    pub written_own : (vs : List ContactValue) → AreSites low high vs → All (RailsOf (var_width p.vars k)) (flat_map (written_by k) vs)
-    written_own [] h = All-nil (RailsOf (var_width p.vars k))
-    written_own (v ∷ vs) h =
-        All-append (RailsOf (var_width p.vars k)) (written_by k v) (flat_map (written_by k) vs) (written_one v (All-head (IsSite low high) v vs h))
-        (written_own vs (All-tail (IsSite low high) v vs h))
-
-    abbrev LiesHere : ℕ → Type 0
-    LiesHere node = (low ≤ node) × (node < high)
-
-    taken_if : (node : ℕ) (b : Bool) → LiesHere node → All LiesHere (if b then node ∷ [] else [])
-    taken_if node true h = All-cons LiesHere node [] h (All-nil LiesHere)
-    taken_if node false h = All-nil LiesHere
-
-    taken_one : (v : ContactValue) → IsSite low high v → All LiesHere (taken_by k v)
-    taken_one (sends chan bits) h = All-nil LiesHere
-    taken_one (takes chan node) h = taken_if node (chan == k) (h.1, h.2)
-    taken_one (writes x bits) h = All-nil LiesHere
-
-    pub taken_own : (vs : List ContactValue) → AreSites low high vs → All (λ node. (low ≤ node) × (node < high)) (flat_map (taken_by k) vs)
-    taken_own [] h = All-nil LiesHere
-    taken_own (v ∷ vs) h = All-append LiesHere (taken_by k v) (flat_map (taken_by k) vs) (taken_one v (All-head (IsSite low high) v vs h)) (taken_own vs
-        (All-tail (IsSite low high) v vs h))

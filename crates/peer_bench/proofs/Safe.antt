@@ -40,10 +40,6 @@ last_of net script st (m ∷ ns) n safe = last_of net script (moved net st m) ns
 apart_calm : (net : NetValue) (st : RunState) → IsApart net st → first_hazard net st ≡ None
 apart_calm net st apart = ap (option_map BothWays) (least_none (length net.first) (both_ways net (high st.values)) (λ k less. apart k))
 
-first_apart : (net : NetValue) (script : List OfferValue) (st : RunState) (ns : List ℕ) → IsSafeRun net script st ns → IsApart net st
-first_apart net script st [] safe = safe
-first_apart net script st (n ∷ ns) safe = safe.0
-
 asked_if_at : {P : Type 0} (known : P → PeerValue) (b : Bool) (net : NetValue) (st : RunState) (at : ℕ) (notes more : List Note) (was is : P) →
     IsAskedIf b known net st at notes more was is → AreAt at more
 asked_if_at known true net st at notes more was is asked = (asked_of known net st at notes more was is asked).when

@@ -52,10 +52,6 @@ read_at ws all k d same within = ap (λ (xs : List Wires). get_or xs k d) same �
 
 -- what comes of asking on a channel
 
-pub asked_not : (net : NetValue) (script : List OfferValue) (st : RunState) (p : PeerValue) (at chan : ℕ) → is_idle net script st chan ≡ false →
-    asked_under net script st p at chan ≡ []
-asked_not net script st p at chan busy = ap (λ (b : Bool). if b then answer_on p (slice_get net.channels chan) at chan else []) busy
-
 pub asked_is : (net : NetValue) (script : List OfferValue) (st : RunState) (p : PeerValue) (at chan : ℕ) (w : Wires) (kind : Kind) →
     is_idle net script st chan ≡ true → chan < length net.channels → w ≡ get_or net.channels chan w → w.channel.kind ≡ kind →
     asked_under net script st p at chan ≡ answer p kind w.channel.width at chan

@@ -1,6 +1,6 @@
 -- What the net of a program that is compiled is, and that its text is written.
-use Rattle.std.proofs.Common.{◌≡◌, ◌≤◌, ℕ, Bool, true, false, List, length, Option, Some, None, Bor, refl, sym, subst}
-use Rattle.std.specs.Prelude.{Result, Ok, Err, IfOk, IfErr, OnOk, IsOk, is_some, option_map}
+use Rattle.std.proofs.Common.{◌≡◌, ◌≤◌, ℕ, true, List, length, Option, Some, None, refl, sym, subst}
+use Rattle.std.specs.Prelude.{Result, Ok, Err, IfOk, IfErr, OnOk, IsOk}
 use Rattle.net_compose.specs.declared.net.NetError.{NetError}
 use Rattle.net_compose.specs.declared.net.NetError.TheVariants.{NoMemory, TooManyNodes}
 use Rattle.net_compose.specs.Errors.{IfTooMany}
@@ -115,19 +115,6 @@ module _ (program : ProgramTree) (buffer : Option (List ℕ)) (not : ¬ IsCopied
       as_it_is : (o : Option (List ℕ)) → ¬ IsCopied program o → IsBuffered f.plain o f.plain
       as_it_is None apart = refl
       as_it_is (Some chan) apart = absurd (apart tt)
-
--- of a buffer that a function is asked for
-abbrev name_of : Option (Bor (List ℕ)) → Option (List ℕ)
-name_of buffer = option_map (λ (t : Bor (List ℕ)). t.now) buffer
-
-pub buffer_copied : (program : ProgramTree) (buffer : Option (Bor (List ℕ))) → is_some buffer ≡ true → IsCopied program (name_of buffer)
-buffer_copied program None some = absurd (cc some)
-buffer_copied program (Some t) some = tt
-
-pub calls_shared : (program : ProgramTree) (buffer : Option (Bor (List ℕ))) → is_some buffer ≡ false → ¬ IsCallFree program →
-    ¬ IsCopied program (name_of buffer)
-calls_shared program None none calls free = calls free
-calls_shared program (Some t) none calls free = absurd (cc none)
 
 -- ---- of the file
 

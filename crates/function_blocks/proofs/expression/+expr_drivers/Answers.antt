@@ -49,21 +49,19 @@ overflow_add-node-in-loop-link t c =
     c.link-item.result.op _ _ _ _ _ here c.in_ok-right-in-Chain.ensures.made c.in_ok-right-in-Chain.ensures.bits in
     omega (arith, fits.room, c.len-in-loop-link.ensures, c.expr_drivers-in-loop-link.new.drivers.ok)
 
-pub operator-requires-clause-agree : goal.operator-requires-clause-agree
-operator-requires-clause-agree t c =
+pub operator-requires : goal.operator-requires
+operator-requires t c =
     let here = link_left c.args.vars.now c.args.request c.args.from c.args.drivers.now.items (formula_of c.args.e.now) c.deref-link-items.result.now
     c.loop-link.link-index c.link-item.result _ _ c.loop-link.invariant c.loop-link-test.true c.link-item.is in
     let fits = chain_fits c.args.vars.now c.args.request c.args.from c.args.drivers.now.items (formula_of c.args.e.now) (formula_of c.link-item.result.right)
     c.link-item.result.op _ _ _ _ _ here c.in_ok-right-in-Chain.ensures.made c.in_ok-right-in-Chain.ensures.bits in
-    rw (c.deref-in-loop-link-2.ensures.value, c.deref-in-loop-link.ensures.value) fits.agree
-
-pub operator-requires-clause-room : goal.operator-requires-clause-room
-operator-requires-clause-room t c =
-    let here = link_left c.args.vars.now c.args.request c.args.from c.args.drivers.now.items (formula_of c.args.e.now) c.deref-link-items.result.now
-    c.loop-link.link-index c.link-item.result _ _ c.loop-link.invariant c.loop-link-test.true c.link-item.is in
-    let fits = chain_fits c.args.vars.now c.args.request c.args.from c.args.drivers.now.items (formula_of c.args.e.now) (formula_of c.link-item.result.right)
-    c.link-item.result.op _ _ _ _ _ here c.in_ok-right-in-Chain.ensures.made c.in_ok-right-in-Chain.ensures.bits in
-    rw c.deref-in-loop-link.ensures.value (omega (arith, fits.room, c.len-in-loop-link.ensures, c.expr_drivers-in-loop-link.new.drivers.ok))
+    let lent = c.deref-in-loop-link.ensures.value in
+    record {
+      some = rw lent fits.some;
+      most = rw lent fits.most;
+      agree = rw (c.deref-in-loop-link-2.ensures.value, lent) fits.agree;
+      room = rw lent (omega (arith, fits.room, c.len-in-loop-link.ensures, c.expr_drivers-in-loop-link.new.drivers.ok));
+    }
 
 pub loop-link-preserved : goal.loop-link-preserved
 loop-link-preserved t c =
@@ -103,41 +101,20 @@ overflow_add-node-in-Compare t c =
     c.requires.formed c.requires.read c.requires.room left right in
     omega (arith, fits.room, c.len-in-Compare.ensures, c.expr_drivers-in-Compare-2.new.drivers.ok)
 
-pub operator-requires-in-Compare-clause-some : goal.operator-requires-in-Compare-clause-some
-operator-requires-in-Compare-clause-some t c =
+pub operator-requires-in-Compare : goal.operator-requires-in-Compare
+operator-requires-in-Compare t c =
     let is = compare_is _ _ _ _ _ _ c.in-Compare.is c.deref-in-Compare.ensures c.deref-in-Compare-2.ensures in
     let left = done c.args.vars.now c.args.request c.args.from _ _ _ _ c.in_ok-left-in-Compare.ensures.made c.in_ok-left-in-Compare.ensures.bits in
     let right = done c.args.vars.now c.args.request c.args.from _ _ _ _ c.in_ok-right-in-Compare.ensures.made c.in_ok-right-in-Compare.ensures.bits in
     let fits = compare_fits c.args.vars.now c.args.request c.args.from c.args.drivers.now.items (formula_of c.args.e.now) _ _ c.in-Compare.op _ _ _ _ is
     c.requires.formed c.requires.read c.requires.room left right in
-    rw c.deref-in-Compare-3.ensures.value fits.some
-
-pub operator-requires-in-Compare-clause-most : goal.operator-requires-in-Compare-clause-most
-operator-requires-in-Compare-clause-most t c =
-    let is = compare_is _ _ _ _ _ _ c.in-Compare.is c.deref-in-Compare.ensures c.deref-in-Compare-2.ensures in
-    let left = done c.args.vars.now c.args.request c.args.from _ _ _ _ c.in_ok-left-in-Compare.ensures.made c.in_ok-left-in-Compare.ensures.bits in
-    let right = done c.args.vars.now c.args.request c.args.from _ _ _ _ c.in_ok-right-in-Compare.ensures.made c.in_ok-right-in-Compare.ensures.bits in
-    let fits = compare_fits c.args.vars.now c.args.request c.args.from c.args.drivers.now.items (formula_of c.args.e.now) _ _ c.in-Compare.op _ _ _ _ is
-    c.requires.formed c.requires.read c.requires.room left right in
-    rw c.deref-in-Compare-3.ensures.value fits.most
-
-pub operator-requires-in-Compare-clause-agree : goal.operator-requires-in-Compare-clause-agree
-operator-requires-in-Compare-clause-agree t c =
-    let is = compare_is _ _ _ _ _ _ c.in-Compare.is c.deref-in-Compare.ensures c.deref-in-Compare-2.ensures in
-    let left = done c.args.vars.now c.args.request c.args.from _ _ _ _ c.in_ok-left-in-Compare.ensures.made c.in_ok-left-in-Compare.ensures.bits in
-    let right = done c.args.vars.now c.args.request c.args.from _ _ _ _ c.in_ok-right-in-Compare.ensures.made c.in_ok-right-in-Compare.ensures.bits in
-    let fits = compare_fits c.args.vars.now c.args.request c.args.from c.args.drivers.now.items (formula_of c.args.e.now) _ _ c.in-Compare.op _ _ _ _ is
-    c.requires.formed c.requires.read c.requires.room left right in
-    rw (c.deref-in-Compare-4.ensures.value, c.deref-in-Compare-3.ensures.value) fits.agree
-
-pub operator-requires-in-Compare-clause-room : goal.operator-requires-in-Compare-clause-room
-operator-requires-in-Compare-clause-room t c =
-    let is = compare_is _ _ _ _ _ _ c.in-Compare.is c.deref-in-Compare.ensures c.deref-in-Compare-2.ensures in
-    let left = done c.args.vars.now c.args.request c.args.from _ _ _ _ c.in_ok-left-in-Compare.ensures.made c.in_ok-left-in-Compare.ensures.bits in
-    let right = done c.args.vars.now c.args.request c.args.from _ _ _ _ c.in_ok-right-in-Compare.ensures.made c.in_ok-right-in-Compare.ensures.bits in
-    let fits = compare_fits c.args.vars.now c.args.request c.args.from c.args.drivers.now.items (formula_of c.args.e.now) _ _ c.in-Compare.op _ _ _ _ is
-    c.requires.formed c.requires.read c.requires.room left right in
-    rw c.deref-in-Compare-3.ensures.value (omega (arith, fits.room, c.len-in-Compare.ensures, c.expr_drivers-in-Compare-2.new.drivers.ok))
+    let lent = c.deref-in-Compare-3.ensures.value in
+    record {
+      some = rw lent fits.some;
+      most = rw lent fits.most;
+      agree = rw (c.deref-in-Compare-4.ensures.value, lent) fits.agree;
+      room = rw lent (omega (arith, fits.room, c.len-in-Compare.ensures, c.expr_drivers-in-Compare-2.new.drivers.ok));
+    }
 
 pub returns-in_ok-constant-in-Number-clause-bits : goal.returns-in_ok-constant-in-Number-clause-bits
 returns-in_ok-constant-in-Number-clause-bits t c =
@@ -153,26 +130,20 @@ returns-in_ok-read_drivers-in-Read-clause-bits t c =
     ∙ (pairs_apart _ _ ∙ ap (λ x. formula_result (formula_of x) (c.args.from + length c.args.drivers.now.items)) (sym c.in-Read.is))))
     c.bits_apart-in-Read.ensures
 
-pub returns-in_ok-right-in-Compare-clause-made : goal.returns-in_ok-right-in-Compare-clause-made
-returns-in_ok-right-in-Compare-clause-made t c =
+pub returns-in_ok-right-in-Compare : goal.returns-in_ok-right-in-Compare
+returns-in_ok-right-in-Compare t c =
     let is = compare_is _ _ _ _ _ _ c.in-Compare.is c.deref-in-Compare.ensures c.deref-in-Compare-2.ensures in
     let left = done c.args.vars.now c.args.request c.args.from _ _ _ _ c.in_ok-left-in-Compare.ensures.made c.in_ok-left-in-Compare.ensures.bits in
     let right = done c.args.vars.now c.args.request c.args.from _ _ _ _ c.in_ok-right-in-Compare.ensures.made c.in_ok-right-in-Compare.ensures.bits in
     let place : c.args.from + c.len-in-Compare.result ≡ c.args.from + length c.expr_drivers-in-Compare-2.new.drivers.items =
     omega (arith, c.len-in-Compare.ensures, c.expr_drivers-in-Compare-2.new.drivers.ok) in
-    on_ok_weaker c.operator-in-Compare.result
-    (λ h. (compare_end c.args.vars.now c.args.request c.args.from c.args.drivers.now.items (formula_of c.args.e.now) _ _ c.in-Compare.op _ _ _ _ _ _ is
-    c.requires.formed c.requires.read left right
-    (rw (c.deref-in-Compare-3.ensures.value, c.deref-in-Compare-4.ensures.value, place) at h) refl).made_is) c.operator-in-Compare.ensures.made
-
-pub returns-in_ok-right-in-Compare-clause-bits : goal.returns-in_ok-right-in-Compare-clause-bits
-returns-in_ok-right-in-Compare-clause-bits t c =
-    let is = compare_is _ _ _ _ _ _ c.in-Compare.is c.deref-in-Compare.ensures c.deref-in-Compare-2.ensures in
-    let left = done c.args.vars.now c.args.request c.args.from _ _ _ _ c.in_ok-left-in-Compare.ensures.made c.in_ok-left-in-Compare.ensures.bits in
-    let right = done c.args.vars.now c.args.request c.args.from _ _ _ _ c.in_ok-right-in-Compare.ensures.made c.in_ok-right-in-Compare.ensures.bits in
-    let place : c.args.from + c.len-in-Compare.result ≡ c.args.from + length c.expr_drivers-in-Compare-2.new.drivers.items =
-    omega (arith, c.len-in-Compare.ensures, c.expr_drivers-in-Compare-2.new.drivers.ok) in
-    IfOk-weaker c.operator-in-Compare.result _ _
-    (λ bits h. (compare_end c.args.vars.now c.args.request c.args.from c.args.drivers.now.items (formula_of c.args.e.now) _ _ c.in-Compare.op _ _ _ _ _ _ is
-    c.requires.formed c.requires.read left right refl
-    (rw (c.deref-in-Compare-3.ensures.value, place) at h)).bits_are) c.operator-in-Compare.ensures.bits
+    record {
+      made = on_ok_weaker c.operator-in-Compare.result
+          (λ h. (compare_end c.args.vars.now c.args.request c.args.from c.args.drivers.now.items (formula_of c.args.e.now) _ _ c.in-Compare.op _ _ _ _ _ _ is
+          c.requires.formed c.requires.read left right
+          (rw (c.deref-in-Compare-3.ensures.value, c.deref-in-Compare-4.ensures.value, place) at h) refl).made_is) c.operator-in-Compare.ensures.made;
+      bits = IfOk-weaker c.operator-in-Compare.result _ _
+          (λ bits h. (compare_end c.args.vars.now c.args.request c.args.from c.args.drivers.now.items (formula_of c.args.e.now) _ _ c.in-Compare.op _ _ _ _
+          _ _ is c.requires.formed c.requires.read left right refl
+          (rw (c.deref-in-Compare-3.ensures.value, place) at h)).bits_are) c.operator-in-Compare.ensures.bits;
+    }

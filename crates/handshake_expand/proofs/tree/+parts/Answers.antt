@@ -1,16 +1,16 @@
 use Rattle.std.proofs.Common.{◌≡◌, ◌+◌, ◌-◌, ◌<◌, Bool, [], ◌++◌, length, get_or, drop, refl, sym, ap, ◌∙◌, subst, rules, arith}
-use Rattle.std.specs.Prelude.{if◌then◌else◌, IfOk, OnOk}
+use Rattle.std.specs.Prelude.{if◌then◌else◌}
 use Rattle.std.proofs.lemmas.List.{get_or_read}
 use Rattle.width_check.specs.declared.typed.TStmt.{the_lemmas}
-use Rattle.width_check.specs.Processes.{Process, in_turn, side_by_side, choosing, repeating, choice_count}
+use Rattle.width_check.specs.Processes.{in_turn, side_by_side, choosing, repeating, choice_count}
 use Rattle.width_check.specs.Typed.{program_of}
 use Rattle.width_check.specs.Typing.{IsProcess}
 use Rattle.width_check.specs.View.{process_of, members_in, choices_in}
-use Rattle.handshake_expand.specs.declared.parts.Part.{Part, out-Part}
+use Rattle.handshake_expand.specs.declared.parts.Part.{out-Part}
 use Rattle.handshake_expand.specs.declared.parts.PartKind.TheVariants.{Loop, Sequence, Parallel, Select, Again}
 use Rattle.handshake_expand.specs.Layout.{size_of, turn_size}
 use Rattle.handshake_expand.specs.Answers.{turn_answer, bodies_from}
-use Rattle.handshake_expand.specs.PartTree.{no_children, and_child, tree_of, expanded, expanded_in_turn, expanded_branches, expanded_bodies, own_before}
+use Rattle.handshake_expand.specs.PartTree.{no_children, and_child, expanded, expanded_in_turn, expanded_branches, expanded_bodies, own_before}
 use Rattle.handshake_expand.specs.Sites.{own_sites, sites_in, sites_in_turn, sites_in_branches, sites_in_bodies}
 use Rattle.handshake_expand.proofs.Branches.{branch_size_here, branch_expanded_here, branch_sites_here, branch_size_end, branch_expanded_end, body_size_here, body_expanded_here, body_sites_here, arm_typed, body_size_end, body_expanded_end, body_sites_end, choosing_sites, choosing_size, guards_formed, three_each, sites_more, sites_done}
 use Rattle.handshake_expand.proofs.Rows.{then_is, beside_is, select_is, members_counted, arms_counted}
@@ -97,8 +97,8 @@ sequence-overflow_add-count t c =
     let count = child_count c.in_ok-child-2.child p _ _ _ c.in_ok-child-2.ensures.part in
     omega (arith, size_last p members i s at whole, count, c.loop-place.invariant.size, c.loop-place.invariant.low, c.requires.room)
 
-pub sequence-returns-clause-part : goal.sequence-returns-clause-part
-sequence-returns-clause-part t c =
+pub sequence-returns : goal.sequence-returns
+sequence-returns t c =
     let p = program_of c.args.program.now in
     let members = c.args.members.now in
     let i = c.loop-place.place in
@@ -108,29 +108,22 @@ sequence-returns-clause-part t c =
     let whole : i + 1 ≡ length members = omega (arith, end, c.requires.process.0, members_counted members) in
     let at : s ≡ get_or members i s = c.index-members-last.is ∙ ap (λ n. get_or members n s) end in
     let child = c.in_ok-child-2.child in
-    let count = child_count child p (process_of s) c.loop-place.asked next c.in_ok-child-2.ensures.part in
+    let last = c.in_ok-child-2.ensures in
+    let count = child_count child p (process_of s) c.loop-place.asked next last.part in
     let counts : next - c.args.from + (out-Part child).count ≡ turn_size p (members_in members) =
     omega (arith, size_last p members i s at whole, count, c.loop-place.invariant.size, c.loop-place.invariant.low) in
-    made_part Sequence Sequence c.args.request _ _ c.args.from _ _ c.push-2.new.self _ refl
-    (child_answer child p (process_of s) c.loop-place.asked next c.in_ok-child-2.ensures.part
-    ∙ (sym (answer_last p members i s at next whole) ∙ c.loop-place.invariant.answer))
-    counts
-    (front_done c.push-2.new.self.items no_children _ refl
-    (front_more c.loop-place.children.items c.push-2.new.self.items child (expanded p (process_of s) c.loop-place.asked next) _ no_children _
-    c.in_ok-push-2.ensures.items c.in_ok-child-2.ensures.part (expanded_last p members i s at c.loop-place.asked next whole)
-    c.loop-place.invariant.children))
-
-pub sequence-returns-clause-sites : goal.sequence-returns-clause-sites
-sequence-returns-clause-sites t c =
-    let p = program_of c.args.program.now in
-    let members = c.args.members.now in
-    let i = c.loop-place.place in
-    let s = c.index-members-last.result in
-    let end : length members - 1 ≡ i = omega arith in
-    let whole : i + 1 ≡ length members = omega (arith, end, c.requires.process.0, members_counted members) in
-    let at : s ≡ get_or members i s = c.index-members-last.is ∙ ap (λ n. get_or members n s) end in
-    c.in_ok-child-2.ensures.sites ∙ (ap (λ xs. c.loop-place.sites.items ++ xs) (sym (sites_last p members i s at (own_sites p) c.loop-place.next whole))
-    ∙ c.loop-place.invariant.sites)
+    record {
+      part = made_part Sequence Sequence c.args.request _ _ c.args.from _ _ c.push-2.new.self _ refl
+          (child_answer child p (process_of s) c.loop-place.asked next last.part
+          ∙ (sym (answer_last p members i s at next whole) ∙ c.loop-place.invariant.answer))
+          counts
+          (front_done c.push-2.new.self.items no_children _ refl
+          (front_more c.loop-place.children.items c.push-2.new.self.items child (expanded p (process_of s) c.loop-place.asked next) _ no_children _
+          c.in_ok-push-2.ensures.items last.part (expanded_last p members i s at c.loop-place.asked next whole)
+          c.loop-place.invariant.children));
+      sites = last.sites ∙ (ap (λ xs. c.loop-place.sites.items ++ xs) (sym (sites_last p members i s at (own_sites p) next whole))
+          ∙ c.loop-place.invariant.sites);
+    }
 
 -- parallel compositions
 
@@ -372,52 +365,24 @@ part-overflow_add-result t c =
     let count = child_count c.in_ok-child-in-Repeat.child p _ _ _ c.in_ok-child-in-Repeat.ensures.part in
     omega (arith, ap (size_of p) is, count, c.requires.room)
 
-pub part-returns-in-Then-clause-part : goal.part-returns-in-Then-clause-part
-part-returns-in-Then-clause-part t c =
-    let p = program_of c.args.program.now in
+pub part-returns-in-Then : goal.part-returns-in-Then
+part-returns-in-Then t c =
     let is : process_of c.args.s.now ≡ in_turn (members_in c.deref.result.now) =
     then_is _ c.in-Then.parts c.in-Then.is ∙ ap (λ xs. in_turn (members_in xs)) (sym c.deref.ensures.value) in
-    subst (λ (q : Process). IfOk c.sequence.result (λ (x : Part). tree_of x ≡ expanded p q c.args.request c.args.from)) (sym is) c.sequence.ensures.part
+    record { part = rw is c.sequence.ensures.part; sites = rw is c.sequence.ensures.sites }
 
-pub part-returns-in-Then-clause-sites : goal.part-returns-in-Then-clause-sites
-part-returns-in-Then-clause-sites t c =
-    let p = program_of c.args.program.now in
-    let is : process_of c.args.s.now ≡ in_turn (members_in c.deref.result.now) =
-    then_is _ c.in-Then.parts c.in-Then.is ∙ ap (λ xs. in_turn (members_in xs)) (sym c.deref.ensures.value) in
-    subst (λ (q : Process). OnOk c.sequence.result (c.sequence.new.sites.items ≡ c.args.sites.now.items ++ sites_in p (own_sites p) q c.args.from)) (sym is)
-    c.sequence.ensures.sites
+pub part-returns-in-Beside : goal.part-returns-in-Beside
+part-returns-in-Beside t c =
+    let is : process_of c.args.s.now ≡ side_by_side (members_in c.deref-in-Beside.result.now) =
+    beside_is _ c.in-Beside.parts c.in-Beside.is ∙ ap (λ xs. side_by_side (members_in xs)) (sym c.deref-in-Beside.ensures.value) in
+    record { part = rw is c.parallel.ensures.part; sites = rw is c.parallel.ensures.sites }
 
-pub part-returns-in-Beside-clause-part : goal.part-returns-in-Beside-clause-part
-part-returns-in-Beside-clause-part t c =
-    let p = program_of c.args.program.now in
-    let is : process_of c.args.s.now ≡ side_by_side (members_in c.deref-in-Beside.result.now) = beside_is _ c.in-Beside.parts c.in-Beside.is
-    ∙ ap (λ xs. side_by_side (members_in xs)) (sym c.deref-in-Beside.ensures.value) in
-    subst (λ (q : Process). IfOk c.parallel.result (λ (x : Part). tree_of x ≡ expanded p q c.args.request c.args.from)) (sym is) c.parallel.ensures.part
-
-pub part-returns-in-Beside-clause-sites : goal.part-returns-in-Beside-clause-sites
-part-returns-in-Beside-clause-sites t c =
-    let p = program_of c.args.program.now in
-    let is : process_of c.args.s.now ≡ side_by_side (members_in c.deref-in-Beside.result.now) = beside_is _ c.in-Beside.parts c.in-Beside.is
-    ∙ ap (λ xs. side_by_side (members_in xs)) (sym c.deref-in-Beside.ensures.value) in
-    subst (λ (q : Process). OnOk c.parallel.result (c.parallel.new.sites.items ≡ c.args.sites.now.items ++ sites_in p (own_sites p) q c.args.from)) (sym is)
-    c.parallel.ensures.sites
-
-pub part-returns-in-Select-clause-part : goal.part-returns-in-Select-clause-part
-part-returns-in-Select-clause-part t c =
-    let p = program_of c.args.program.now in
-    let is : process_of c.args.s.now ≡ choosing c.in-Select.again (choices_in c.deref-in-Select.result.now) =
-    select_is _ c.in-Select.again c.in-Select.arms c.in-Select.is ∙ ap (λ xs. choosing c.in-Select.again (choices_in xs)) (sym c.deref-in-Select.ensures.value)
-    in
-    subst (λ (q : Process). IfOk c.selection.result (λ (x : Part). tree_of x ≡ expanded p q c.args.request c.args.from)) (sym is) c.selection.ensures.part
-
-pub part-returns-in-Select-clause-sites : goal.part-returns-in-Select-clause-sites
-part-returns-in-Select-clause-sites t c =
-    let p = program_of c.args.program.now in
-    let is : process_of c.args.s.now ≡ choosing c.in-Select.again (choices_in c.deref-in-Select.result.now) =
-    select_is _ c.in-Select.again c.in-Select.arms c.in-Select.is ∙ ap (λ xs. choosing c.in-Select.again (choices_in xs)) (sym c.deref-in-Select.ensures.value)
-    in
-    subst (λ (q : Process). OnOk c.selection.result (c.selection.new.sites.items ≡ c.args.sites.now.items ++ sites_in p (own_sites p) q c.args.from)) (sym is)
-    c.selection.ensures.sites
+pub part-returns-in-Select : goal.part-returns-in-Select
+part-returns-in-Select t c =
+    let again = c.in-Select.again in
+    let is : process_of c.args.s.now ≡ choosing again (choices_in c.deref-in-Select.result.now) =
+    select_is _ again c.in-Select.arms c.in-Select.is ∙ ap (λ xs. choosing again (choices_in xs)) (sym c.deref-in-Select.ensures.value) in
+    record { part = rw is c.selection.ensures.part; sites = rw is c.selection.ensures.sites }
 
 pub part-returns-in_ok-vec-in-Repeat-clause-part : goal.part-returns-in_ok-vec-in-Repeat-clause-part
 part-returns-in_ok-vec-in-Repeat-clause-part t c =

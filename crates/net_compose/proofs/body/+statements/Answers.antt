@@ -1,10 +1,13 @@
 use Rattle.std.proofs.Common.{◌≡◌, ◌+◌, ◌-◌, ◌<◌, ◌≤◌, List, ℕ, [], ◌∷◌, ◌++◌, length, get_or, drop, refl, sym, ap, ◌∙◌, subst, rules, arith}
-use Rattle.std.specs.Prelude.{slice_set, if◌then◌else◌}
+use Rattle.std.specs.Prelude.{Bool, slice_set, if◌then◌else◌}
 use Rattle.std.proofs.lemmas.List.{get_or_read, append-nil, length-append}
 use Rattle.prs_core.specs.Nets.{NodeRules}
 use Rattle.prs_core.specs.Pairs.{no_rules}
-use Rattle.width_check.specs.declared.typed.TStmt.{TStmt, the_lemmas}
-use Rattle.width_check.specs.Processes.{Process, skipping, assigning, sending, receiving, in_turn, side_by_side, Processes, choosing, repeating, choice_count, TypedProgram}
+use Rattle.std.specs.declared.alloc.Global.{Global}
+use Rattle.std.specs.declared.vec.Vec.{Vec}
+use Rattle.width_check.specs.declared.typed.TArm.{TArm}
+use Rattle.width_check.specs.declared.typed.TStmt.{TStmt, Then, Beside, Select, the_lemmas}
+use Rattle.width_check.specs.Processes.{Process, assigning, sending, receiving, in_turn, side_by_side, Processes, choosing, repeating, choice_count, TypedProgram}
 use Rattle.width_check.specs.Typed.{program_of}
 use Rattle.width_check.specs.Typing.{IsProcess}
 use Rattle.width_check.specs.View.{formula_of, process_of, members_in, choices_in}
@@ -107,59 +110,27 @@ sequence-statement-requires-2 t c =
     let few : length c.loop-place.first ≤ 65536 = omega (arith, c.loop-place.invariant.values, c.requires.few) in
     (search (rules, the_lemmas, get_or_read), (c.requires.channels, (c.requires.vars, (typed, (root, (room, few))))))
 
-pub sequence-returns-clause-made : goal.sequence-returns-clause-made
-sequence-returns-clause-made t c =
+pub sequence-returns : goal.sequence-returns
+sequence-returns t c =
     let p = program_of c.args.program.now in
     let members = c.args.members.now in
     let i = c.loop-place.place in
     let m = c.index-members-last.result in
+    let next = c.loop-place.next in
     let end : length members - 1 ≡ i = omega arith in
     let whole : i + 1 ≡ length members = omega (arith, end, c.requires.process.0, members_counted members) in
     let at : m ≡ get_or members i m = c.index-members-last.is ∙ ap (λ n. get_or members n m) end in
-    on_ok c.statement-2.result
-    (λ f. f ∙ (ap (λ rs. c.loop-place.drivers.items ++ rs)
-    (sym (turn_rules_last p members i m at c.loop-place.asked c.loop-place.next whole)) ∙ c.loop-place.invariant.made))
-    c.statement-2.ensures.made
-
-pub sequence-returns-clause-answer : goal.sequence-returns-clause-answer
-sequence-returns-clause-answer t c =
-    let p = program_of c.args.program.now in
-    let members = c.args.members.now in
-    let i = c.loop-place.place in
-    let m = c.index-members-last.result in
-    let end : length members - 1 ≡ i = omega arith in
-    let whole : i + 1 ≡ length members = omega (arith, end, c.requires.process.0, members_counted members) in
-    let at : m ≡ get_or members i m = c.index-members-last.is ∙ ap (λ n. get_or members n m) end in
-    if_ok c.statement-2.result _ _ (λ v f. f ∙ (sym (answer_last p members i m at c.loop-place.next whole) ∙ c.loop-place.invariant.answer))
-    c.statement-2.ensures.answer
-
-pub sequence-returns-clause-contacts : goal.sequence-returns-clause-contacts
-sequence-returns-clause-contacts t c =
-    let p = program_of c.args.program.now in
-    let members = c.args.members.now in
-    let i = c.loop-place.place in
-    let m = c.index-members-last.result in
-    let end : length members - 1 ≡ i = omega arith in
-    let whole : i + 1 ≡ length members = omega (arith, end, c.requires.process.0, members_counted members) in
-    let at : m ≡ get_or members i m = c.index-members-last.is ∙ ap (λ n. get_or members n m) end in
-    on_ok c.statement-2.result
-    (λ f. f ∙ (ap (λ xs. c.loop-place.contacts.items ++ xs)
-    (sym (turn_sites_last p members i m at (every_contact p) c.loop-place.next whole)) ∙ c.loop-place.invariant.contacts))
-    c.statement-2.ensures.contacts
-
-pub sequence-returns-clause-first : goal.sequence-returns-clause-first
-sequence-returns-clause-first t c =
-    let p = program_of c.args.program.now in
-    let members = c.args.members.now in
-    let i = c.loop-place.place in
-    let m = c.index-members-last.result in
-    let end : length members - 1 ≡ i = omega arith in
-    let whole : i + 1 ≡ length members = omega (arith, end, c.requires.process.0, members_counted members) in
-    let at : m ≡ get_or members i m = c.index-members-last.is ∙ ap (λ n. get_or members n m) end in
-    on_ok c.statement-2.result
-    (λ f. f ∙ (ap (with_raised c.loop-place.first) (sym (turn_sites_last p members i m at (hidden_high p) c.loop-place.next whole))
-    ∙ c.loop-place.invariant.first))
-    c.statement-2.ensures.first
+    let before = c.loop-place.invariant in
+    record {
+      made = on_ok c.statement-2.result (λ f. f ∙ (ap (λ rs. c.loop-place.drivers.items ++ rs)
+          (sym (turn_rules_last p members i m at c.loop-place.asked next whole)) ∙ before.made)) c.statement-2.ensures.made;
+      answer = if_ok c.statement-2.result _ _ (λ v f. f ∙ (sym (answer_last p members i m at next whole) ∙ before.answer)) c.statement-2.ensures.answer;
+      contacts = on_ok c.statement-2.result (λ f. f ∙ (ap (λ xs. c.loop-place.contacts.items ++ xs)
+          (sym (turn_sites_last p members i m at (every_contact p) next whole)) ∙ before.contacts)) c.statement-2.ensures.contacts;
+      first = on_ok c.statement-2.result (λ f. f ∙ (ap (with_raised c.loop-place.first) (sym (turn_sites_last p members i m at (hidden_high p) next whole))
+          ∙ before.first)) c.statement-2.ensures.first;
+      count = c.statement-2.ensures.count ∙ before.values;
+    }
 
 -- parallel compositions
 
@@ -306,35 +277,25 @@ parallel-overflow_add-result t c =
     (c.statements_counted.ensures.statements p (side_by_side ms) c.args.request c.args.from c.requires.process) made in
     omega (arith, all, c.len-whole.ensures, c.len-2.ensures, c.requires.own, c.requires.few)
 
-pub parallel-returns-clause-made : goal.parallel-returns-clause-made
-parallel-returns-clause-made t c = parallel_made (program_of c.args.program.now) c.args.branches.now c.loop-branch.branch-index c.args.request c.args.from
-    c.loop-branch.next c.args.drivers.now.items c.loop-branch.drivers.items c.tree.new.drivers.items c.loop-branch.ends.items c.deref.result.now
-    c.loop-branch-test.false c.loop-branch.invariant.ends c.deref.ensures.value c.loop-branch.invariant.size c.loop-branch.invariant.made
-    c.in_ok-tree.ensures
-
-pub parallel-returns-clause-answer : goal.parallel-returns-clause-answer
-parallel-returns-clause-answer t c =
+pub parallel-returns : goal.parallel-returns
+parallel-returns t c =
     let p = program_of c.args.program.now in
-    let ms = members_in c.args.branches.now in
-    let made = parallel_made p c.args.branches.now c.loop-branch.branch-index c.args.request c.args.from
-    c.loop-branch.next c.args.drivers.now.items c.loop-branch.drivers.items c.tree.new.drivers.items c.loop-branch.ends.items c.deref.result.now
-    c.loop-branch-test.false c.loop-branch.invariant.ends c.deref.ensures.value c.loop-branch.invariant.size c.loop-branch.invariant.made
-    c.in_ok-tree.ensures in
-    let all = parallel_counted p ms c.args.request c.args.from c.args.drivers.now.items c.tree.new.drivers.items
-    (c.statements_counted.ensures.statements p (side_by_side ms) c.args.request c.args.from c.requires.process) made in
-    omega (arith, all, c.len-whole.ensures, c.len-2.ensures)
-
-pub parallel-returns-clause-contacts : goal.parallel-returns-clause-contacts
-parallel-returns-clause-contacts t c =
-    let p = program_of c.args.program.now in
-    sites_done c.loop-branch.contacts.items _ _ (branch_sites_end p c.args.branches.now c.loop-branch.branch-index c.loop-branch-test.false
-    (every_contact p) c.loop-branch.next) c.loop-branch.invariant.contacts
-
-pub parallel-returns-clause-first : goal.parallel-returns-clause-first
-parallel-returns-clause-first t c =
-    let p = program_of c.args.program.now in
-    raised_done c.loop-branch.first _ _ (branch_sites_end p c.args.branches.now c.loop-branch.branch-index c.loop-branch-test.false (hidden_high p)
-    c.loop-branch.next) c.loop-branch.invariant.first
+    let branches = c.args.branches.now in
+    let i = c.loop-branch.branch-index in
+    let next = c.loop-branch.next in
+    let over = c.loop-branch-test.false in
+    let before = c.loop-branch.invariant in
+    let made = parallel_made p branches i c.args.request c.args.from next c.args.drivers.now.items c.loop-branch.drivers.items c.tree.new.drivers.items
+    c.loop-branch.ends.items c.deref.result.now over before.ends c.deref.ensures.value before.size before.made c.in_ok-tree.ensures in
+    let all = parallel_counted p (members_in branches) c.args.request c.args.from c.args.drivers.now.items c.tree.new.drivers.items
+    (c.statements_counted.ensures.statements p (side_by_side (members_in branches)) c.args.request c.args.from c.requires.process) made in
+    record {
+      made = made;
+      answer = omega (arith, all, c.len-whole.ensures, c.len-2.ensures);
+      contacts = sites_done c.loop-branch.contacts.items _ _ (branch_sites_end p branches i over (every_contact p) next) before.contacts;
+      first = raised_done c.loop-branch.first _ _ (branch_sites_end p branches i over (hidden_high p) next) before.first;
+      count = before.values;
+    }
 
 -- selections
 
@@ -529,7 +490,17 @@ selection-returns-clause-first t c =
     c.loop-arm.invariant.first
     ∙ ap (with_raised c.args.first.now) (sym (choosing_sites p (hidden_high p) c.args.again c.args.arms.now c.args.from))
 
--- all statements
+-- all statements: what one of several parts is, where its parts are lent
+
+then_at : (s : TStmt) (v : Vec TStmt Global) (ms : List TStmt) → s ≡ Then v → ms ≡ v.items → process_of s ≡ in_turn (members_in ms)
+then_at s v ms is lent = then_is s v is ∙ ap (λ xs. in_turn (members_in xs)) (sym lent)
+
+beside_at : (s : TStmt) (v : Vec TStmt Global) (ms : List TStmt) → s ≡ Beside v → ms ≡ v.items → process_of s ≡ side_by_side (members_in ms)
+beside_at s v ms is lent = beside_is s v is ∙ ap (λ xs. side_by_side (members_in xs)) (sym lent)
+
+select_at : (s : TStmt) (again : Bool) (v : Vec TArm Global) (arms : List TArm) → s ≡ Select again v → arms ≡ v.items
+    → process_of s ≡ choosing again (choices_in arms)
+select_at s again v arms is lent = select_is s again v is ∙ ap (λ xs. choosing again (choices_in xs)) (sym lent)
 
 pub statement-assign-requires-clause-within : goal.statement-assign-requires-clause-within
 statement-assign-requires-clause-within t c =
@@ -549,31 +520,17 @@ statement-assign-requires-clause-own t c =
     let is : process_of c.args.s.now ≡ assigning c.in-Assign.var c.in-Assign.at (formula_of c.in-Assign.value) = ap process_of c.in-Assign.is in
     omega (arith, ap (size_of p) is, c.requires.own, c.requires.few)
 
-pub statement-returns-in-Assign-clause-made : goal.statement-returns-in-Assign-clause-made
-statement-returns-in-Assign-clause-made t c =
-    let p = program_of c.args.program.now in
-    let is : process_of c.args.s.now ≡ assigning c.in-Assign.var c.in-Assign.at (formula_of c.in-Assign.value) = ap process_of c.in-Assign.is in
-    on_ok c.assign.result (λ f. f c.in-Assign.at ∙ ap (λ q. c.args.drivers.now.items ++ rules_of p q c.args.request c.args.from) (sym is))
-    c.assign.ensures.made
-
-pub statement-returns-in-Assign-clause-answer : goal.statement-returns-in-Assign-clause-answer
-statement-returns-in-Assign-clause-answer t c =
-    let p = program_of c.args.program.now in
-    let is : process_of c.args.s.now ≡ assigning c.in-Assign.var c.in-Assign.at (formula_of c.in-Assign.value) = ap process_of c.in-Assign.is in
-    if_ok c.assign.result _ _ (λ v f. f c.in-Assign.at ∙ ap (λ q. answer_of p q c.args.from) (sym is)) c.assign.ensures.answer
-
-pub statement-returns-in-Assign-clause-contacts : goal.statement-returns-in-Assign-clause-contacts
-statement-returns-in-Assign-clause-contacts t c =
-    let p = program_of c.args.program.now in
-    let is : process_of c.args.s.now ≡ assigning c.in-Assign.var c.in-Assign.at (formula_of c.in-Assign.value) = ap process_of c.in-Assign.is in
-    on_ok c.assign.result (λ f. f ∙ ap (λ q. c.args.contacts.now.items ++ sites_in p (every_contact p) q c.args.from) (sym is)) c.assign.ensures.contacts
-
-pub statement-returns-in-Assign-clause-first : goal.statement-returns-in-Assign-clause-first
-statement-returns-in-Assign-clause-first t c =
-    let p = program_of c.args.program.now in
-    let is : process_of c.args.s.now ≡ assigning c.in-Assign.var c.in-Assign.at (formula_of c.in-Assign.value) = ap process_of c.in-Assign.is in
-    on_ok c.assign.result (λ f. f c.in-Assign.at ∙ ap (λ q. with_raised c.args.first.now (sites_in p (hidden_high p) q c.args.from))
-    (sym is)) c.assign.ensures.first
+pub statement-returns-in-Assign : goal.statement-returns-in-Assign
+statement-returns-in-Assign t c =
+    let is = ap process_of c.in-Assign.is in
+    let s = c.assign.ensures in
+    record {
+      made = rw is (on_ok c.assign.result (λ f. f c.in-Assign.at) s.made);
+      answer = rw is (if_ok c.assign.result _ _ (λ v f. f c.in-Assign.at) s.answer);
+      contacts = rw is s.contacts;
+      first = rw is (on_ok c.assign.result (λ f. f c.in-Assign.at) s.first);
+      count = s.count;
+    }
 
 pub statement-send-requires-clause-process : goal.statement-send-requires-clause-process
 statement-send-requires-clause-process t c =
@@ -587,31 +544,11 @@ statement-send-requires-clause-room t c =
     let is : process_of c.args.s.now ≡ sending c.in-Send.chan c.in-Send.at (formula_of c.in-Send.value) = ap process_of c.in-Send.is in
     omega (arith, ap (size_of p) is, c.requires.own, c.requires.few)
 
-pub statement-returns-in-Send-clause-made : goal.statement-returns-in-Send-clause-made
-statement-returns-in-Send-clause-made t c =
-    let p = program_of c.args.program.now in
-    let is : process_of c.args.s.now ≡ sending c.in-Send.chan c.in-Send.at (formula_of c.in-Send.value) = ap process_of c.in-Send.is in
-    on_ok c.send.result (λ f. f ∙ ap (λ q. c.args.drivers.now.items ++ rules_of p q c.args.request c.args.from)
-    (sym is)) c.send.ensures.made
-
-pub statement-returns-in-Send-clause-answer : goal.statement-returns-in-Send-clause-answer
-statement-returns-in-Send-clause-answer t c =
-    let p = program_of c.args.program.now in
-    let is : process_of c.args.s.now ≡ sending c.in-Send.chan c.in-Send.at (formula_of c.in-Send.value) = ap process_of c.in-Send.is in
-    if_ok c.send.result _ _ (λ v f. f ∙ ap (λ q. answer_of p q c.args.from) (sym is)) c.send.ensures.answer
-
-pub statement-returns-in-Send-clause-contacts : goal.statement-returns-in-Send-clause-contacts
-statement-returns-in-Send-clause-contacts t c =
-    let p = program_of c.args.program.now in
-    let is : process_of c.args.s.now ≡ sending c.in-Send.chan c.in-Send.at (formula_of c.in-Send.value) = ap process_of c.in-Send.is in
-    on_ok c.send.result (λ f. f ∙ ap (λ q. c.args.contacts.now.items ++ sites_in p (every_contact p) q c.args.from) (sym is))
-    c.send.ensures.contacts
-
-pub statement-returns-in-Send-clause-first : goal.statement-returns-in-Send-clause-first
-statement-returns-in-Send-clause-first t c =
-    let p = program_of c.args.program.now in
-    let is : process_of c.args.s.now ≡ sending c.in-Send.chan c.in-Send.at (formula_of c.in-Send.value) = ap process_of c.in-Send.is in
-    given c.send.result (ap (λ q. with_raised c.args.first.now (sites_in p (hidden_high p) q c.args.from)) (sym is))
+pub statement-returns-in-Send : goal.statement-returns-in-Send
+statement-returns-in-Send t c =
+    let is = ap process_of c.in-Send.is in
+    let s = c.send.ensures in
+    record { made = rw is s.made; answer = rw is s.answer; contacts = rw is s.contacts; first = rw is (given c.send.result refl); count = refl }
 
 pub statement-receive-requires-clause-process : goal.statement-receive-requires-clause-process
 statement-receive-requires-clause-process t c =
@@ -627,186 +564,68 @@ statement-receive-requires-clause-room t c =
     c.in-Receive.is in
     omega (arith, ap (size_of p) is, c.requires.own, c.requires.few)
 
-pub statement-returns-in-Receive-clause-made : goal.statement-returns-in-Receive-clause-made
-statement-returns-in-Receive-clause-made t c =
-    let p = program_of c.args.program.now in
-    let is : process_of c.args.s.now ≡ receiving c.in-Receive.chan c.in-Receive.chan_at c.in-Receive.var c.in-Receive.var_at = ap process_of
-    c.in-Receive.is in
-    on_ok c.receive.result (λ f. f ∙ ap (λ q. c.args.drivers.now.items ++ rules_of p q c.args.request c.args.from) (sym is)) c.receive.ensures.made
+pub statement-returns-in-Receive : goal.statement-returns-in-Receive
+statement-returns-in-Receive t c =
+    let is = ap process_of c.in-Receive.is in
+    let s = c.receive.ensures in
+    record { made = rw is s.made; answer = rw is s.answer; contacts = rw is s.contacts; first = rw is (given c.receive.result refl); count = refl }
 
-pub statement-returns-in-Receive-clause-answer : goal.statement-returns-in-Receive-clause-answer
-statement-returns-in-Receive-clause-answer t c =
-    let p = program_of c.args.program.now in
-    let is : process_of c.args.s.now ≡ receiving c.in-Receive.chan c.in-Receive.chan_at c.in-Receive.var c.in-Receive.var_at = ap process_of
-    c.in-Receive.is in
-    if_ok c.receive.result _ _ (λ v f. f ∙ ap (λ q. answer_of p q c.args.from) (sym is)) c.receive.ensures.answer
-
-pub statement-returns-in-Receive-clause-contacts : goal.statement-returns-in-Receive-clause-contacts
-statement-returns-in-Receive-clause-contacts t c =
-    let p = program_of c.args.program.now in
-    let is : process_of c.args.s.now ≡ receiving c.in-Receive.chan c.in-Receive.chan_at c.in-Receive.var c.in-Receive.var_at = ap process_of
-    c.in-Receive.is in
-    on_ok c.receive.result (λ f. f ∙ ap (λ q. c.args.contacts.now.items ++ sites_in p (every_contact p) q c.args.from) (sym is)) c.receive.ensures.contacts
-
-pub statement-returns-in-Receive-clause-first : goal.statement-returns-in-Receive-clause-first
-statement-returns-in-Receive-clause-first t c =
-    let p = program_of c.args.program.now in
-    let is : process_of c.args.s.now ≡ receiving c.in-Receive.chan c.in-Receive.chan_at c.in-Receive.var c.in-Receive.var_at = ap process_of
-    c.in-Receive.is in
-    given c.receive.result (ap (λ q. with_raised c.args.first.now (sites_in p (hidden_high p) q c.args.from)) (sym is))
-
-pub statement-returns-in-Skip-clause-made : goal.statement-returns-in-Skip-clause-made
-statement-returns-in-Skip-clause-made t c =
-    let p = program_of c.args.program.now in
-    let is : process_of c.args.s.now ≡ skipping = ap process_of c.in-Skip.is in
-    on_ok c.skip.result (λ f. f ∙ ap (λ q. c.args.drivers.now.items ++ rules_of p q c.args.request c.args.from) (sym is))
-    c.skip.ensures.made
-
-pub statement-returns-in-Skip-clause-answer : goal.statement-returns-in-Skip-clause-answer
-statement-returns-in-Skip-clause-answer t c =
-    let p = program_of c.args.program.now in
-    let is : process_of c.args.s.now ≡ skipping = ap process_of c.in-Skip.is in
-    if_ok c.skip.result _ _ (λ v f. f ∙ ap (λ q. answer_of p q c.args.from) (sym is)) c.skip.ensures.answer
-
-pub statement-returns-in-Skip-clause-contacts : goal.statement-returns-in-Skip-clause-contacts
-statement-returns-in-Skip-clause-contacts t c =
-    let p = program_of c.args.program.now in
-    let is : process_of c.args.s.now ≡ skipping = ap process_of c.in-Skip.is in
-    given c.skip.result (sym (append-nil (c.args.contacts.now.items))
-    ∙ ap (λ q. c.args.contacts.now.items ++ sites_in p (every_contact p) q c.args.from) (sym is))
-
-pub statement-returns-in-Skip-clause-first : goal.statement-returns-in-Skip-clause-first
-statement-returns-in-Skip-clause-first t c =
-    let p = program_of c.args.program.now in
-    let is : process_of c.args.s.now ≡ skipping = ap process_of c.in-Skip.is in
-    given c.skip.result (ap (λ q. with_raised c.args.first.now (sites_in p (hidden_high p) q c.args.from)) (sym is))
+pub statement-returns-in-Skip : goal.statement-returns-in-Skip
+statement-returns-in-Skip t c =
+    let is = ap process_of c.in-Skip.is in
+    let s = c.skip.ensures in
+    record {
+      made = rw is s.made;
+      answer = rw is s.answer;
+      contacts = rw is (given c.skip.result (sym (append-nil c.args.contacts.now.items)));
+      first = rw is (given c.skip.result refl);
+      count = refl;
+    }
 
 pub statement-sequence-requires : goal.statement-sequence-requires
 statement-sequence-requires t c =
     let p = program_of c.args.program.now in
-    let is : process_of c.args.s.now ≡ in_turn (members_in c.deref-in-Then.result.now) =
-    then_is _ c.in-Then.parts c.in-Then.is ∙ ap (λ xs. in_turn (members_in xs)) (sym c.deref-in-Then.ensures.value) in
+    let is = then_at _ _ _ c.in-Then.is c.deref-in-Then.ensures.value in
     let typed = subst (IsProcess p.channels p.vars) is c.requires.process in
     let room : c.args.from + size_of p (in_turn (members_in c.deref-in-Then.result.now)) ≤ length c.args.first.now = omega
-    (arith, ap (size_of p) is, c.requires.own) in (
-      search (rules, the_lemmas, get_or_read),
-      (c.requires.channels, (c.requires.vars, (typed, (c.requires.root, (room, c.requires.few))))),
-    )
+    (arith, ap (size_of p) is, c.requires.own) in
+    (search (rules, the_lemmas, get_or_read), (c.requires.channels, (c.requires.vars, (typed, (c.requires.root, (room, c.requires.few))))))
 
-pub statement-returns-in-Then-clause-made : goal.statement-returns-in-Then-clause-made
-statement-returns-in-Then-clause-made t c =
-    let p = program_of c.args.program.now in
-    let is : process_of c.args.s.now ≡ in_turn (members_in c.deref-in-Then.result.now) = then_is _ c.in-Then.parts c.in-Then.is
-    ∙ ap (λ xs. in_turn (members_in xs)) (sym c.deref-in-Then.ensures.value) in
-    on_ok c.sequence.result (λ f. f ∙ ap (λ q. c.args.drivers.now.items ++ rules_of p q c.args.request c.args.from) (sym is))
-    c.sequence.ensures.made
-
-pub statement-returns-in-Then-clause-answer : goal.statement-returns-in-Then-clause-answer
-statement-returns-in-Then-clause-answer t c =
-    let p = program_of c.args.program.now in
-    let is : process_of c.args.s.now ≡ in_turn (members_in c.deref-in-Then.result.now) = then_is _ c.in-Then.parts c.in-Then.is
-    ∙ ap (λ xs. in_turn (members_in xs)) (sym c.deref-in-Then.ensures.value) in
-    if_ok c.sequence.result _ _ (λ v f. f ∙ ap (λ q. answer_of p q c.args.from) (sym is)) c.sequence.ensures.answer
-
-pub statement-returns-in-Then-clause-contacts : goal.statement-returns-in-Then-clause-contacts
-statement-returns-in-Then-clause-contacts t c =
-    let p = program_of c.args.program.now in
-    let is : process_of c.args.s.now ≡ in_turn (members_in c.deref-in-Then.result.now) = then_is _ c.in-Then.parts c.in-Then.is
-    ∙ ap (λ xs. in_turn (members_in xs)) (sym c.deref-in-Then.ensures.value) in
-    on_ok c.sequence.result (λ f. f ∙ ap (λ q. c.args.contacts.now.items ++ sites_in p (every_contact p) q c.args.from) (sym is))
-    c.sequence.ensures.contacts
-
-pub statement-returns-in-Then-clause-first : goal.statement-returns-in-Then-clause-first
-statement-returns-in-Then-clause-first t c =
-    let p = program_of c.args.program.now in
-    let is : process_of c.args.s.now ≡ in_turn (members_in c.deref-in-Then.result.now) = then_is _ c.in-Then.parts c.in-Then.is
-    ∙ ap (λ xs. in_turn (members_in xs)) (sym c.deref-in-Then.ensures.value) in
-    on_ok c.sequence.result (λ f. f ∙ ap (λ q. with_raised c.args.first.now (sites_in p (hidden_high p) q c.args.from)) (sym is)) c.sequence.ensures.first
+pub statement-returns-in-Then : goal.statement-returns-in-Then
+statement-returns-in-Then t c =
+    let is = then_at _ _ _ c.in-Then.is c.deref-in-Then.ensures.value in
+    let s = c.sequence.ensures in
+    record { made = rw is s.made; answer = rw is s.answer; contacts = rw is s.contacts; first = rw is s.first; count = s.count }
 
 pub statement-parallel-requires : goal.statement-parallel-requires
 statement-parallel-requires t c =
     let p = program_of c.args.program.now in
-    let is : process_of c.args.s.now ≡ side_by_side (members_in c.deref-in-Beside.result.now) =
-    beside_is _ c.in-Beside.parts c.in-Beside.is ∙ ap (λ xs. side_by_side (members_in xs)) (sym c.deref-in-Beside.ensures.value) in
+    let is = beside_at _ _ _ c.in-Beside.is c.deref-in-Beside.ensures.value in
     let typed = subst (IsProcess p.channels p.vars) is c.requires.process in
     let room : c.args.from + size_of p (side_by_side (members_in c.deref-in-Beside.result.now)) ≤ length c.args.first.now = omega
-    (arith, ap (size_of p) is, c.requires.own) in (
-      search (rules, the_lemmas, get_or_read),
-      (c.requires.channels, (c.requires.vars, (typed, (c.requires.root, (room, c.requires.few))))),
-    )
+    (arith, ap (size_of p) is, c.requires.own) in
+    (search (rules, the_lemmas, get_or_read), (c.requires.channels, (c.requires.vars, (typed, (c.requires.root, (room, c.requires.few))))))
 
-pub statement-returns-in-Beside-clause-made : goal.statement-returns-in-Beside-clause-made
-statement-returns-in-Beside-clause-made t c =
-    let p = program_of c.args.program.now in
-    let is : process_of c.args.s.now ≡ side_by_side (members_in c.deref-in-Beside.result.now) = beside_is _ c.in-Beside.parts c.in-Beside.is
-    ∙ ap (λ xs. side_by_side (members_in xs)) (sym c.deref-in-Beside.ensures.value) in
-    on_ok c.parallel.result (λ f. f ∙ ap (λ q. c.args.drivers.now.items ++ rules_of p q c.args.request c.args.from) (sym is))
-    c.parallel.ensures.made
-
-pub statement-returns-in-Beside-clause-answer : goal.statement-returns-in-Beside-clause-answer
-statement-returns-in-Beside-clause-answer t c =
-    let p = program_of c.args.program.now in
-    let is : process_of c.args.s.now ≡ side_by_side (members_in c.deref-in-Beside.result.now) = beside_is _ c.in-Beside.parts c.in-Beside.is
-    ∙ ap (λ xs. side_by_side (members_in xs)) (sym c.deref-in-Beside.ensures.value) in
-    if_ok c.parallel.result _ _ (λ v f. f ∙ ap (λ q. answer_of p q c.args.from) (sym is)) c.parallel.ensures.answer
-
-pub statement-returns-in-Beside-clause-contacts : goal.statement-returns-in-Beside-clause-contacts
-statement-returns-in-Beside-clause-contacts t c =
-    let p = program_of c.args.program.now in
-    let is : process_of c.args.s.now ≡ side_by_side (members_in c.deref-in-Beside.result.now) = beside_is _ c.in-Beside.parts c.in-Beside.is
-    ∙ ap (λ xs. side_by_side (members_in xs)) (sym c.deref-in-Beside.ensures.value) in
-    on_ok c.parallel.result (λ f. f ∙ ap (λ q. c.args.contacts.now.items ++ sites_in p (every_contact p) q c.args.from) (sym is))
-    c.parallel.ensures.contacts
-
-pub statement-returns-in-Beside-clause-first : goal.statement-returns-in-Beside-clause-first
-statement-returns-in-Beside-clause-first t c =
-    let p = program_of c.args.program.now in
-    let is : process_of c.args.s.now ≡ side_by_side (members_in c.deref-in-Beside.result.now) = beside_is _ c.in-Beside.parts c.in-Beside.is
-    ∙ ap (λ xs. side_by_side (members_in xs)) (sym c.deref-in-Beside.ensures.value) in
-    on_ok c.parallel.result (λ f. f ∙ ap (λ q. with_raised c.args.first.now (sites_in p (hidden_high p) q c.args.from)) (sym is)) c.parallel.ensures.first
+pub statement-returns-in-Beside : goal.statement-returns-in-Beside
+statement-returns-in-Beside t c =
+    let is = beside_at _ _ _ c.in-Beside.is c.deref-in-Beside.ensures.value in
+    let s = c.parallel.ensures in
+    record { made = rw is s.made; answer = rw is s.answer; contacts = rw is s.contacts; first = rw is s.first; count = s.count }
 
 pub statement-selection-requires : goal.statement-selection-requires
 statement-selection-requires t c =
     let p = program_of c.args.program.now in
-    let is : process_of c.args.s.now ≡ choosing c.in-Select.again (choices_in c.deref-in-Select.result.now) =
-    select_is _ c.in-Select.again c.in-Select.arms c.in-Select.is ∙ ap (λ xs. choosing c.in-Select.again (choices_in xs))
-    (sym c.deref-in-Select.ensures.value) in
+    let is = select_at _ _ _ _ c.in-Select.is c.deref-in-Select.ensures.value in
     let typed = subst (IsProcess p.channels p.vars) is c.requires.process in
     let room : c.args.from + size_of p (choosing c.in-Select.again (choices_in c.deref-in-Select.result.now)) ≤ length c.args.first.now = omega
-    (arith, ap (size_of p) is, c.requires.own) in (
-      search (rules, the_lemmas, get_or_read),
-      (c.requires.channels, (c.requires.vars, (typed, (c.requires.root, (room, c.requires.few))))),
-    )
+    (arith, ap (size_of p) is, c.requires.own) in
+    (search (rules, the_lemmas, get_or_read), (c.requires.channels, (c.requires.vars, (typed, (c.requires.root, (room, c.requires.few))))))
 
-pub statement-returns-in-Select-clause-made : goal.statement-returns-in-Select-clause-made
-statement-returns-in-Select-clause-made t c =
-    let p = program_of c.args.program.now in
-    let is : process_of c.args.s.now ≡ choosing c.in-Select.again (choices_in c.deref-in-Select.result.now) = select_is _ c.in-Select.again c.in-Select.arms
-    c.in-Select.is ∙ ap (λ xs. choosing c.in-Select.again (choices_in xs)) (sym c.deref-in-Select.ensures.value) in
-    on_ok c.selection.result (λ f. f ∙ ap (λ q. c.args.drivers.now.items ++ rules_of p q c.args.request c.args.from) (sym is))
-    c.selection.ensures.made
-
-pub statement-returns-in-Select-clause-answer : goal.statement-returns-in-Select-clause-answer
-statement-returns-in-Select-clause-answer t c =
-    let p = program_of c.args.program.now in
-    let is : process_of c.args.s.now ≡ choosing c.in-Select.again (choices_in c.deref-in-Select.result.now) = select_is _ c.in-Select.again c.in-Select.arms
-    c.in-Select.is ∙ ap (λ xs. choosing c.in-Select.again (choices_in xs)) (sym c.deref-in-Select.ensures.value) in
-    if_ok c.selection.result _ _ (λ v f. f ∙ ap (λ q. answer_of p q c.args.from) (sym is)) c.selection.ensures.answer
-
-pub statement-returns-in-Select-clause-contacts : goal.statement-returns-in-Select-clause-contacts
-statement-returns-in-Select-clause-contacts t c =
-    let p = program_of c.args.program.now in
-    let is : process_of c.args.s.now ≡ choosing c.in-Select.again (choices_in c.deref-in-Select.result.now) = select_is _ c.in-Select.again c.in-Select.arms
-    c.in-Select.is ∙ ap (λ xs. choosing c.in-Select.again (choices_in xs)) (sym c.deref-in-Select.ensures.value) in
-    on_ok c.selection.result (λ f. f ∙ ap (λ q. c.args.contacts.now.items ++ sites_in p (every_contact p) q c.args.from) (sym is))
-    c.selection.ensures.contacts
-
-pub statement-returns-in-Select-clause-first : goal.statement-returns-in-Select-clause-first
-statement-returns-in-Select-clause-first t c =
-    let p = program_of c.args.program.now in
-    let is : process_of c.args.s.now ≡ choosing c.in-Select.again (choices_in c.deref-in-Select.result.now) = select_is _ c.in-Select.again c.in-Select.arms
-    c.in-Select.is ∙ ap (λ xs. choosing c.in-Select.again (choices_in xs)) (sym c.deref-in-Select.ensures.value) in
-    on_ok c.selection.result (λ f. f ∙ ap (λ q. with_raised c.args.first.now (sites_in p (hidden_high p) q c.args.from)) (sym is)) c.selection.ensures.first
+pub statement-returns-in-Select : goal.statement-returns-in-Select
+statement-returns-in-Select t c =
+    let is = select_at _ _ _ _ c.in-Select.is c.deref-in-Select.ensures.value in
+    let s = c.selection.ensures in
+    record { made = rw is s.made; answer = rw is s.answer; contacts = rw is s.contacts; first = rw is s.first; count = s.count }
 
 pub statement-statement-requires : goal.statement-statement-requires
 statement-statement-requires t c =
@@ -830,39 +649,20 @@ statement-close_loop-requires t c = omega (
       (c.args.from + 2)),
 )
 
-pub statement-returns-in_ok-answer-in-Repeat-clause-made : goal.statement-returns-in_ok-answer-in-Repeat-clause-made
-statement-returns-in_ok-answer-in-Repeat-clause-made t c =
+pub statement-returns-in_ok-answer-in-Repeat : goal.statement-returns-in_ok-answer-in-Repeat
+statement-returns-in_ok-answer-in-Repeat t c =
     let p = program_of c.args.program.now in
-    let s = process_of c.deref-in-Repeat.result.now in
     let from = c.args.from in
-    let is : process_of c.args.s.now ≡ repeating s = ap process_of c.in-Repeat.is ∙ ap (λ b. repeating (process_of b)) (sym c.deref-in-Repeat.ensures) in
-    loop_answered c.args.drivers.now.items c.begin_loop.new.drivers.items c.statement.new.drivers.items c.close_loop.new.drivers.items
-    (rules_of p s (from + 1) (from + 2)) c.len-place.result c.args.request c.in_ok-answer-in-Repeat.answer (c.len-place.ensures ∙ c.args.drivers.now.ok.0)
-    c.in_ok-begin_loop-in-Repeat.ensures c.in_ok-answer-in-Repeat.ensures.made c.close_loop.ensures
-    ∙ (ap (λ a. c.args.drivers.now.items ++ no_rules ∷ loop_request c.args.request a ∷ rules_of p s (from + 1) (from + 2))
-    c.in_ok-answer-in-Repeat.ensures.answer
-    ∙ ap (λ q. c.args.drivers.now.items ++ rules_of p q c.args.request from) (sym is))
-
-pub statement-returns-in_ok-answer-in-Repeat-clause-answer : goal.statement-returns-in_ok-answer-in-Repeat-clause-answer
-statement-returns-in_ok-answer-in-Repeat-clause-answer t c =
-    let p = program_of c.args.program.now in
     let s = process_of c.deref-in-Repeat.result.now in
-    let from = c.args.from in
     let is : process_of c.args.s.now ≡ repeating s = ap process_of c.in-Repeat.is ∙ ap (λ b. repeating (process_of b)) (sym c.deref-in-Repeat.ensures) in
-    ap (λ q. answer_of p q from) (sym is)
-
-pub statement-returns-in_ok-answer-in-Repeat-clause-contacts : goal.statement-returns-in_ok-answer-in-Repeat-clause-contacts
-statement-returns-in_ok-answer-in-Repeat-clause-contacts t c =
-    let p = program_of c.args.program.now in
-    let s = process_of c.deref-in-Repeat.result.now in
-    let from = c.args.from in
-    let is : process_of c.args.s.now ≡ repeating s = ap process_of c.in-Repeat.is ∙ ap (λ b. repeating (process_of b)) (sym c.deref-in-Repeat.ensures) in
-    c.in_ok-answer-in-Repeat.ensures.contacts ∙ ap (λ q. c.args.contacts.now.items ++ sites_in p (every_contact p) q from) (sym is)
-
-pub statement-returns-in_ok-answer-in-Repeat-clause-first : goal.statement-returns-in_ok-answer-in-Repeat-clause-first
-statement-returns-in_ok-answer-in-Repeat-clause-first t c =
-    let p = program_of c.args.program.now in
-    let s = process_of c.deref-in-Repeat.result.now in
-    let from = c.args.from in
-    let is : process_of c.args.s.now ≡ repeating s = ap process_of c.in-Repeat.is ∙ ap (λ b. repeating (process_of b)) (sym c.deref-in-Repeat.ensures) in
-    c.in_ok-answer-in-Repeat.ensures.first ∙ ap (λ q. with_raised c.args.first.now (sites_in p (hidden_high p) q from)) (sym is)
+    let body = c.in_ok-answer-in-Repeat.ensures in
+    record {
+      made = rw is (loop_answered c.args.drivers.now.items c.begin_loop.new.drivers.items c.statement.new.drivers.items c.close_loop.new.drivers.items
+          (rules_of p s (from + 1) (from + 2)) c.len-place.result c.args.request c.in_ok-answer-in-Repeat.answer
+          (c.len-place.ensures ∙ c.args.drivers.now.ok.0) c.in_ok-begin_loop-in-Repeat.ensures body.made c.close_loop.ensures
+          ∙ ap (λ a. c.args.drivers.now.items ++ no_rules ∷ loop_request c.args.request a ∷ rules_of p s (from + 1) (from + 2)) body.answer);
+      answer = rw is refl;
+      contacts = rw is body.contacts;
+      first = rw is body.first;
+      count = c.statement.ensures.count;
+    }

@@ -28,25 +28,8 @@ ask_ready-requires-clause-script g c =
     script_adds net.channels c.args.stage.now.script k 0 w c.requires.chan (read_at net.channels c.channels.result.now k c.index-channels-chan.result all
     c.requires.chan) (λ kind. absurd (cc (kind, c.in-Out.is))) c.net.ensures.script
 
-pub returns-in-In-clause-stage : goal.returns-in-In-clause-stage
-returns-in-In-clause-stage g c =
-    let stage = c.args.stage.now in
-    let net = stage.net in
-    let st = now_of stage in
-    let k = c.args.chan in
-    let at = c.args.at in
-    let q = goal.Peer-dyn g (c.args.peer.now.vtable, c.args.peer.now.value) in
-    let v = c.args.peer.now.value in
-    let p : PeerValue = peer_value (q.name v) (q.log v) (q.spare v) (q.due v) (q.willing v) in
-    let w = get_or c.channels.result.now k c.index-channels-chan.result in
-    let all : c.channels.result.now ≡ net.channels = c.channels.ensures.channels ∙ ap (λ (x : NetValue). x.channels) c.net.ensures.net in
-    let same : asked_under net stage.script st p at k ≡ answer p In w.channel.width at k =
-    asked_is net stage.script st p at k w In (sym c.if-not-is_idle.ensures) c.requires.chan
-    (read_at net.channels c.channels.result.now k c.index-channels-chan.result all c.requires.chan) c.in-In.is in
-    c.ask_value.ensures.stage ∙ ap (λ (xs : List Note). record stage { script = script_noting xs stage.script }) (sym same)
-
-pub returns-in-In-clause-noted : goal.returns-in-In-clause-noted
-returns-in-In-clause-noted g c =
+pub returns-in-In : goal.returns-in-In
+returns-in-In g c =
     let stage = c.args.stage.now in
     let net = stage.net in
     let st = now_of stage in
@@ -63,44 +46,14 @@ returns-in-In-clause-noted g c =
     let r = goal.Peer-dyn g (c.ask_value.new.peer.vtable, c.ask_value.new.peer.value) in
     let u = c.ask_value.new.peer.value in
     let now : PeerValue = peer_value (r.name u) (r.log u) (r.spare u) (r.due u) (r.willing u) in
-    subst (λ (xs : List Note). HasNoted xs p now) (sym same) c.ask_value.ensures.noted
+    record {
+      stage = c.ask_value.ensures.stage ∙ ap (λ (xs : List Note). record stage { script = script_noting xs stage.script }) (sym same);
+      noted = subst (λ (xs : List Note). HasNoted xs p now) (sym same) c.ask_value.ensures.noted;
+      came = c.ask_value.ensures.came ∙ came_offer at k (q.due v k w.channel.width) ∙ ap (λ (xs : List Note). nat_lt 0 (length xs)) (sym same);
+    }
 
-pub returns-in-In-clause-came : goal.returns-in-In-clause-came
-returns-in-In-clause-came g c =
-    let stage = c.args.stage.now in
-    let net = stage.net in
-    let st = now_of stage in
-    let k = c.args.chan in
-    let at = c.args.at in
-    let q = goal.Peer-dyn g (c.args.peer.now.vtable, c.args.peer.now.value) in
-    let v = c.args.peer.now.value in
-    let p : PeerValue = peer_value (q.name v) (q.log v) (q.spare v) (q.due v) (q.willing v) in
-    let w = get_or c.channels.result.now k c.index-channels-chan.result in
-    let all : c.channels.result.now ≡ net.channels = c.channels.ensures.channels ∙ ap (λ (x : NetValue). x.channels) c.net.ensures.net in
-    let same : asked_under net stage.script st p at k ≡ answer p In w.channel.width at k =
-    asked_is net stage.script st p at k w In (sym c.if-not-is_idle.ensures) c.requires.chan
-    (read_at net.channels c.channels.result.now k c.index-channels-chan.result all c.requires.chan) c.in-In.is in
-    c.ask_value.ensures.came ∙ came_offer at k (q.due v k w.channel.width) ∙ ap (λ (xs : List Note). nat_lt 0 (length xs)) (sym same)
-
-pub returns-in-Out-clause-stage : goal.returns-in-Out-clause-stage
-returns-in-Out-clause-stage g c =
-    let stage = c.args.stage.now in
-    let net = stage.net in
-    let st = now_of stage in
-    let k = c.args.chan in
-    let at = c.args.at in
-    let q = goal.Peer-dyn g (c.args.peer.now.vtable, c.args.peer.now.value) in
-    let v = c.args.peer.now.value in
-    let p : PeerValue = peer_value (q.name v) (q.log v) (q.spare v) (q.due v) (q.willing v) in
-    let w = get_or c.channels.result.now k c.index-channels-chan.result in
-    let all : c.channels.result.now ≡ net.channels = c.channels.ensures.channels ∙ ap (λ (x : NetValue). x.channels) c.net.ensures.net in
-    let same : asked_under net stage.script st p at k ≡ answer p Out w.channel.width at k =
-    asked_is net stage.script st p at k w Out (sym c.if-not-is_idle.ensures) c.requires.chan
-    (read_at net.channels c.channels.result.now k c.index-channels-chan.result all c.requires.chan) c.in-Out.is in
-    c.ask_ready.ensures.stage ∙ ap (λ (xs : List Note). record stage { script = script_noting xs stage.script }) (sym same)
-
-pub returns-in-Out-clause-noted : goal.returns-in-Out-clause-noted
-returns-in-Out-clause-noted g c =
+pub returns-in-Out : goal.returns-in-Out
+returns-in-Out g c =
     let stage = c.args.stage.now in
     let net = stage.net in
     let st = now_of stage in
@@ -117,27 +70,14 @@ returns-in-Out-clause-noted g c =
     let r = goal.Peer-dyn g (c.ask_ready.new.peer.vtable, c.ask_ready.new.peer.value) in
     let u = c.ask_ready.new.peer.value in
     let now : PeerValue = peer_value (r.name u) (r.log u) (r.spare u) (r.due u) (r.willing u) in
-    subst (λ (xs : List Note). HasNoted xs p now) (sym same) c.ask_ready.ensures.noted
+    record {
+      stage = c.ask_ready.ensures.stage ∙ ap (λ (xs : List Note). record stage { script = script_noting xs stage.script }) (sym same);
+      noted = subst (λ (xs : List Note). HasNoted xs p now) (sym same) c.ask_ready.ensures.noted;
+      came = c.ask_ready.ensures.came ∙ came_ready at k (q.willing v k) ∙ ap (λ (xs : List Note). nat_lt 0 (length xs)) (sym same);
+    }
 
-pub returns-in-Out-clause-came : goal.returns-in-Out-clause-came
-returns-in-Out-clause-came g c =
-    let stage = c.args.stage.now in
-    let net = stage.net in
-    let st = now_of stage in
-    let k = c.args.chan in
-    let at = c.args.at in
-    let q = goal.Peer-dyn g (c.args.peer.now.vtable, c.args.peer.now.value) in
-    let v = c.args.peer.now.value in
-    let p : PeerValue = peer_value (q.name v) (q.log v) (q.spare v) (q.due v) (q.willing v) in
-    let w = get_or c.channels.result.now k c.index-channels-chan.result in
-    let all : c.channels.result.now ≡ net.channels = c.channels.ensures.channels ∙ ap (λ (x : NetValue). x.channels) c.net.ensures.net in
-    let same : asked_under net stage.script st p at k ≡ answer p Out w.channel.width at k =
-    asked_is net stage.script st p at k w Out (sym c.if-not-is_idle.ensures) c.requires.chan
-    (read_at net.channels c.channels.result.now k c.index-channels-chan.result all c.requires.chan) c.in-Out.is in
-    c.ask_ready.ensures.came ∙ came_ready at k (q.willing v k) ∙ ap (λ (xs : List Note). nat_lt 0 (length xs)) (sym same)
-
-pub returns-in-Chan-clause-stage : goal.returns-in-Chan-clause-stage
-returns-in-Chan-clause-stage g c =
+pub returns-in-Chan : goal.returns-in-Chan
+returns-in-Chan g c =
     let stage = c.args.stage.now in
     let net = stage.net in
     let st = now_of stage in
@@ -151,38 +91,8 @@ returns-in-Chan-clause-stage g c =
     let same : asked_under net stage.script st p at k ≡ answer p Chan w.channel.width at k =
     asked_is net stage.script st p at k w Chan (sym c.if-not-is_idle.ensures) c.requires.chan
     (read_at net.channels c.channels.result.now k c.index-channels-chan.result all c.requires.chan) c.in-Chan.is in
-    ap (λ (xs : List Note). record stage { script = script_noting xs stage.script }) (sym same)
-
-pub returns-in-Chan-clause-noted : goal.returns-in-Chan-clause-noted
-returns-in-Chan-clause-noted g c =
-    let stage = c.args.stage.now in
-    let net = stage.net in
-    let st = now_of stage in
-    let k = c.args.chan in
-    let at = c.args.at in
-    let q = goal.Peer-dyn g (c.args.peer.now.vtable, c.args.peer.now.value) in
-    let v = c.args.peer.now.value in
-    let p : PeerValue = peer_value (q.name v) (q.log v) (q.spare v) (q.due v) (q.willing v) in
-    let w = get_or c.channels.result.now k c.index-channels-chan.result in
-    let all : c.channels.result.now ≡ net.channels = c.channels.ensures.channels ∙ ap (λ (x : NetValue). x.channels) c.net.ensures.net in
-    let same : asked_under net stage.script st p at k ≡ answer p Chan w.channel.width at k =
-    asked_is net stage.script st p at k w Chan (sym c.if-not-is_idle.ensures) c.requires.chan
-    (read_at net.channels c.channels.result.now k c.index-channels-chan.result all c.requires.chan) c.in-Chan.is in
-    subst (λ (xs : List Note). HasNoted xs p p) (sym same) (noted_none p p refl)
-
-pub returns-in-Chan-clause-came : goal.returns-in-Chan-clause-came
-returns-in-Chan-clause-came g c =
-    let stage = c.args.stage.now in
-    let net = stage.net in
-    let st = now_of stage in
-    let k = c.args.chan in
-    let at = c.args.at in
-    let q = goal.Peer-dyn g (c.args.peer.now.vtable, c.args.peer.now.value) in
-    let v = c.args.peer.now.value in
-    let p : PeerValue = peer_value (q.name v) (q.log v) (q.spare v) (q.due v) (q.willing v) in
-    let w = get_or c.channels.result.now k c.index-channels-chan.result in
-    let all : c.channels.result.now ≡ net.channels = c.channels.ensures.channels ∙ ap (λ (x : NetValue). x.channels) c.net.ensures.net in
-    let same : asked_under net stage.script st p at k ≡ answer p Chan w.channel.width at k =
-    asked_is net stage.script st p at k w Chan (sym c.if-not-is_idle.ensures) c.requires.chan
-    (read_at net.channels c.channels.result.now k c.index-channels-chan.result all c.requires.chan) c.in-Chan.is in
-    ap (λ (xs : List Note). nat_lt 0 (length xs)) (sym same)
+    record {
+      stage = ap (λ (xs : List Note). record stage { script = script_noting xs stage.script }) (sym same);
+      noted = subst (λ (xs : List Note). HasNoted xs p p) (sym same) (noted_none p p refl);
+      came = ap (λ (xs : List Note). nat_lt 0 (length xs)) (sym same);
+    }
