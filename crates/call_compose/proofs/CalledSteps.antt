@@ -302,7 +302,8 @@ module _ (bs : List Process) (p : TypedProgram) (d : ℕ → ℕ) where
 
   pub choice_more : (again : Bool) (all : CalledChoices) (g : Formula) (x : Called) (more : CalledChoices) (request from start next after answer : ℕ)
       (old now new : Pieces) (ends longer : List ℕ) → length old.drivers + 2 < length now.drivers → after ≡ next + called_size bs p x
-      → longer ≡ ends ++ answer ∷ [] → ChoicesLeft again all (or_called g x more) request from start next old now ends → HasAdded bs p d x start next answer now new
+      → longer ≡ ends ++ answer ∷ [] → ChoicesLeft again all (or_called g x more) request from start next old now ends
+      → HasAdded bs p d x start next answer now new
       → ChoicesLeft again all more request from (start + 1) after old new longer
   choice_more again all g x more request from start next after answer old now new ends longer within at pushed left h =
       let place = length old.drivers in

@@ -242,10 +242,10 @@ fn make(
     })
 }
 
-/// The circuit of a program with procedures, in which all calls of a procedure share one body, with a reset node where
-/// one is asked for. `inlined` is the checked program in which each call is its procedure's body. Where the circuit, the
-/// reset node left out of the count, or that of the inlined program would have more than 65,536 nodes, it is refused
-/// with the greater one of their numbers.
+/// The circuit of a program with procedures, in which all calls of a procedure share one body, with a reset node
+/// where one is asked for. `inlined` is the checked program in which each call is its procedure's body. Where the
+/// circuit, the reset node left out of the count, or that of the inlined program would have more than 65,536 nodes, it
+/// is refused with the greater one of their numbers.
 pub fn call_circuit_of(
     alloc: Global,
     program: &Program,

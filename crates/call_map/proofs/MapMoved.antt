@@ -191,5 +191,6 @@ module _ (M : Mapping) where
   pub data Went (cur : ℕ → ℕ) (st far : RunState) (s : Here) : Type 0 where
     goes : (to : There) → IsThere S to → Current S cur to → back S to ≡ s → may_there M far to ≡ true
         → Tells M cur (moved A st (S.here s)) (moved B far (S.there to)) → Went cur st far s
-    stays : (more : ℕ → ℕ) → Drops S s → OwesOne M cur more st s → (to : There) → IsThere S to → IsFar S to → IsOwn S s → may_there M far to ≡ true → v S st s ≡ u S far to
+    stays : (more : ℕ → ℕ) → Drops S s → OwesOne M cur more st s → (to : There) → IsThere S to → IsFar S to → IsOwn S s → may_there M far to ≡ true
+        → v S st s ≡ u S far to
         → Tells M more (moved A st (S.here s)) far → Went cur st far s

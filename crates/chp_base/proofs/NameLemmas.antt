@@ -1,8 +1,8 @@
 -- A name in a program is a node's name too.
-use Rattle.std.proofs.Common.{◌≡◌, ℕ, ◌≤◌, length, Bool, true, false, List, [], ◌∷◌, refl, arith}
+use Rattle.std.proofs.Common.{◌≡◌, ℕ, Bool, true, false, List, [], ◌∷◌, refl}
 use Rattle.std.specs.Prelude.{◌&&◌, ◌||◌, ◌==◌}
 use Rattle.std.specs.List.{list_all}
-use Rattle.chp_base.specs.Names.{IsName, IsNodeName, word_part, node_part, begins_with_letter}
+use Rattle.chp_base.specs.Names.{word_part, node_part}
 
 left_true : (a b : Bool) → (a && b) ≡ true → a ≡ true
 left_true true b h = refl
@@ -25,6 +25,3 @@ pub node_parts : (bs : List ℕ) → list_all word_part bs ≡ true → list_all
 node_parts [] h = refl
 node_parts (b ∷ bs) h =
     both_true (node_part b) _ (either_true (word_part b) (b == 46) (left_true (word_part b) _ h)) (node_parts bs (right_true (word_part b) _ h))
-
-pub node_name : (bs : List ℕ) → IsName bs → IsNodeName bs
-node_name bs is = record { short = omega (arith, is.short); first = is.first; parts = node_parts bs is.parts }

@@ -7,7 +7,7 @@ use Rattle.std.proofs.lemmas.List.{drop_more, drop_all}
 use Rattle.std.specs.declared.alloc.Global.{Global}
 use Rattle.std.specs.declared.boxed.Box.{Box}
 use Rattle.std.specs.declared.vec.Vec.{Vec}
-use Rattle.width_check.specs.declared.typed.TStmt.{TStmt, Then, Beside, Select, Repeat, Row_of-TStmt, end_of-TStmt, more_of-TStmt, Row_of-TArm, end_of-TArm, more_of-TArm, items-the_row-TStmt, items-the_row-TArm, items_hidden-the_row-TStmt-0, items_hidden-the_row-TArm-1}
+use Rattle.width_check.specs.declared.typed.TStmt.{TStmt, Then, Beside, Select, Row_of-TStmt, end_of-TStmt, more_of-TStmt, Row_of-TArm, end_of-TArm, more_of-TArm, items-the_row-TStmt, items-the_row-TArm, items_hidden-the_row-TStmt-0, items_hidden-the_row-TArm-1}
 use Rattle.width_check.specs.declared.typed.TStmt.TheBlock.{hidden-the_row-TStmt-0, hidden-the_row-TArm-1}
 use Rattle.width_check.specs.declared.typed.TArm.{TArm}
 use Rattle.width_check.specs.Processes.{Process, skipping, assigning, sending, receiving, in_turn, side_by_side, choosing, repeating, Processes, no_members, and_member, Choices, no_choices, and_choice, member_count, choice_count}
@@ -49,9 +49,6 @@ beside_said s v is = ap process_of is ∙ beside_is v
 
 pub select_said : (s : TStmt) (again : Bool) (v : Vec TArm Global) → s ≡ Select again v → process_of s ≡ choosing again (choices_in v.items)
 select_said s again v is = ap process_of is ∙ select_is again v
-
-pub repeat_said : (s : TStmt) (b : Box TStmt Global) → s ≡ Repeat b → process_of s ≡ repeating (process_of b.value)
-repeat_said s b is = ap process_of is
 
 pub branches_said : (l : Left) (v : Vec Left Global) → l ≡ Branches v → remains_of l ≡ alongside (several_of v.items)
 branches_said l v is = ap remains_of is ∙ branches_is v

@@ -251,7 +251,8 @@ module _ (P : TypedProgram) (script : List OfferValue) {from : Configuration} {m
   apart (joint_node v k) = joint_apart (var_width P.vars v) (x.wires.wrote v) (x.wires.joint v) k
 
 -- what isn't a node of the circuit doesn't move
-module _ (P : TypedProgram) (script : List OfferValue) (fitted : Fitted P script) {from : Configuration} {moves : ℕ} {x : Whole P.body} (r : Reached P script from moves x) where
+module _ (P : TypedProgram) (script : List OfferValue) (fitted : Fitted P script) {from : Configuration} {moves : ℕ} {x : Whole P.body}
+    (r : Reached P script from moves x) where
   not_there : (i n : ℕ) → nat_lt i n ≡ false → i < n → ⊥
   not_there i n h below = let g : nat_lt i n ≡ true = grind (arith, nat_tests) in cc (g, h)
 
@@ -341,7 +342,8 @@ module _ (P : TypedProgram) (script : List OfferValue) (fitted : Fitted P script
   all_rest none n = sym (enabled_is P script r n) ∙ cases (is_node P n) (λ (h : is_node P n ≡ true). none n h) (λ (h : is_node P n ≡ false). absent n h)
 
 -- a state after one more move
-module _ (P : TypedProgram) (script : List OfferValue) (fitted : Fitted P script) {from : Configuration} {moves : ℕ} {x : Whole P.body} (r : Reached P script from moves x) where
+module _ (P : TypedProgram) (script : List OfferValue) (fitted : Fitted P script) {from : Configuration} {moves : ℕ} {x : Whole P.body}
+    (r : Reached P script from moves x) where
   pub present : (n : Node P.body) → enabled P script x n ≡ true → is_node P n ≡ true
   present n e = cases (is_node P n) (λ (h : is_node P n ≡ true). h) (λ (h : is_node P n ≡ false). absurd (not_both (absent P script fitted r n h) e))
 
@@ -362,13 +364,15 @@ module _ (P : TypedProgram) (script : List OfferValue) (fitted : Fitted P script
             (λ stays. circuit_falls P script r.place x.wires x.histories r.good n r.root (present n e) (may P script r n e) y stays) (y.term r.root);
       }
 
-pub stable : (P : TypedProgram) (script : List OfferValue) → Fitted P script → {from : Configuration} {moves : ℕ} (x : Whole P.body) → Reached P script from moves x → (n m : Node P.body)
+pub stable : (P : TypedProgram) (script : List OfferValue) → Fitted P script → {from : Configuration} {moves : ℕ} (x : Whole P.body)
+    → Reached P script from moves x → (n m : Node P.body)
     → n ≢ m → enabled P script x n ≡ true → enabled P script x m ≡ true → enabled P script (cells_moved P x m) n ≡ true
 stable P script fitted x r n m ne hn hm =
     let y = next_of P script fitted x.histories r.good m (may P script r m hm) in
     enabled_is P script (next_reached P script fitted r m hm) n ∙ y.keeps n ne (may P script r n hn)
 
-pub safe : (P : TypedProgram) (script : List OfferValue) → Fitted P script → {from : Configuration} {moves : ℕ} (x : Whole P.body) → Reached P script from moves x → IsSafe P script x
+pub safe : (P : TypedProgram) (script : List OfferValue) → Fitted P script → {from : Configuration} {moves : ℕ} (x : Whole P.body)
+    → Reached P script from moves x → IsSafe P script x
 safe P script fitted x r = record {
   stable = stable P script fitted x r;
   apart = apart P script r;
@@ -437,7 +441,8 @@ first_block law P x some =
       tree = settling_low n (tree_over n law some) (λ i. false) (λ k. false) (λ i. refl) (λ k. refl);
     }
 
-pub first_reached : TreesSettle → (P : TypedProgram) (script : List OfferValue) → Fitted P script → Meets P P.body → Reached P script (start_of P script) 0 (first_cells P)
+pub first_reached : TreesSettle → (P : TypedProgram) (script : List OfferValue) → Fitted P script → Meets P P.body
+    → Reached P script (start_of P script) 0 (first_cells P)
 first_reached law P script fitted meets = record {
   mode = idle;
   place = g_rests;

@@ -359,7 +359,8 @@ waits P fitted w hs g low good none r x = record {
 
 pub at_end : (P : TypedProgram) {script : List OfferValue} (fitted : Fitted P script) (w : Wires) (hs : List (List ℕ)) {m : Mode} (g : GuardedAt P.body m)
     → m ≢ returning → Good P m g w → ((n : Node P.body) → can P script g w hs n ≡ false)
-    → {from : Configuration} {most due : ℕ} (r : Followed P script from most hs (root_left (line_ack P w) g) w.bit (guarded_writing (line_ack P w) g) due) → AtEnd g r.to
+    → {from : Configuration} {most due : ℕ} (r : Followed P script from most hs (root_left (line_ack P w) g) w.bit (guarded_writing (line_ack P w) g) due)
+    → AtEnd g r.to
 at_end P fitted w hs g_rests ne good none r = absurd (cc (none go_node))
 at_end P {script = script} fitted w hs (g_in u a h) ne good none r = here
     (guarded_rest P (wires_seen P w) (clean_of good) (valid P fitted w hs (g_in u a h) good none) (g_in u a h) good.meets good.fits (λ s. none (own_node s)))

@@ -57,7 +57,8 @@ behind_none [] (suc n) e = refl
 behind_none (x ∷ xs) zero e = absurd (cc e)
 behind_none (x ∷ xs) (suc n) e = behind_none xs n e
 
-pub record Followed (P : TypedProgram) (script : List OfferValue) (from : Configuration) (most : ℕ) (hs : List (List ℕ)) (t : Term) (bits : ℕ → Rails) (busy : ℕ → Bool)
+pub record Followed (P : TypedProgram) (script : List OfferValue) (from : Configuration) (most : ℕ) (hs : List (List ℕ)) (t : Term) (bits : ℕ → Rails)
+    (busy : ℕ → Bool)
     (due : ℕ) : Type 0 where
   pub to : Configuration
   pub steps : ℕ
@@ -118,7 +119,8 @@ pub open_is : (c : Configuration) (choices : Choices) → open_branches c choice
 open_is c no_choices = refl
 open_is c (and_choice g p more) = ap (λ (ps : List Process). if value (slice_index c.store) g == 1 then p ∷ ps else ps) (open_is c more)
 
-module _ {P : TypedProgram} {script : List OfferValue} {from : Configuration} {most : ℕ} {hs : List (List ℕ)} {t : Term} {bits : ℕ → Rails} {busy : ℕ → Bool} {due : ℕ}
+module _ {P : TypedProgram} {script : List OfferValue} {from : Configuration} {most : ℕ} {hs : List (List ℕ)} {t : Term} {bits : ℕ → Rails} {busy : ℕ → Bool}
+    {due : ℕ}
     (r : Followed P script from most hs t bits busy due) (left_due : ℕ) (now : ℕ → Rails) (after : ℕ → Bool)
     (free : (x : ℕ) → after x ≡ false → (now x ≡ bits x) × (busy x ≡ false)) where
   pub kept_so : (x : ℕ) → x < length P.vars → after x ≡ false → number_on (var_width P.vars x) (now x) ≡ slice_index r.to.store x
@@ -389,7 +391,8 @@ calm {P = P} w now before after same frees x e = ((frees x e).0, here (frees x e
     here (inr (inr z)) = absurd z
 
 -- a variable's acknowledge turns over, or it stays: where it rises the value is stored
-module _ {P : TypedProgram} {script : List OfferValue} {from : Configuration} {most : ℕ} {hs : List (List ℕ)} {t : Term} (x : ℕ) (w now : Wires) (busy after : ℕ → Bool)
+module _ {P : TypedProgram} {script : List OfferValue} {from : Configuration} {most : ℕ} {hs : List (List ℕ)} {t : Term} (x : ℕ) (w now : Wires)
+    (busy after : ℕ → Bool)
     {due : ℕ} (r : Followed P script from most hs t w.bit busy due) (left_due : ℕ) (few : suc left_due ≤ circuit_most P)
     (less : Unrisen P x w now after → suc left_due ≤ due) (others : Others P x w now) (frees : (y : ℕ) → Freed P w now (busy y) (after y) y ⊥) where
   all_same : line_ack P now (of_var x) ≡ line_ack P w (of_var x) → (y : ℕ) → line_ack P now (of_var y) ≡ line_ack P w (of_var y)
@@ -459,12 +462,14 @@ module _ {P : TypedProgram} {script : List OfferValue} {from : Configuration} {m
           still h (inr (inr q)) = absurd q
 
 -- an acknowledge moves
-acks : {P : TypedProgram} {script : List OfferValue} {from : Configuration} {most : ℕ} {hs : List (List ℕ)} {t : Term} (w : Wires) (busy after : ℕ → Bool) (fitted : Fitted P script)
+acks : {P : TypedProgram} {script : List OfferValue} {from : Configuration} {most : ℕ} {hs : List (List ℕ)} {t : Term} (w : Wires) (busy after : ℕ → Bool)
+    (fitted : Fitted P script)
     {due : ℕ} (r : Followed P script from most hs t w.bit busy due) (left_due : ℕ) → suc left_due ≤ circuit_most P → (y : Term) (k : ℕ)
     → (w.ack k ≡ true → suc left_due ≤ due)
     → (is_heard (kind_at P.channels k) ≡ false → answers (channel_width P.channels k) w k (completed hs k) (offer_at script k) ≡ true) → Arriving P script hs w
     → Acks P busy after k w t y
-    → Followed P script from (suc most) (if w.ack k then hs else cells_passed hs k (value_on (channel_width P.channels k) (w.rail (of_channel k)))) y w.bit after
+    → Followed P script from (suc most) (if w.ack k then hs else cells_passed hs k (value_on (channel_width P.channels k) (w.rail (of_channel k)))) y w.bit
+    after
     left_due
 acks w busy after fitted r left_due few y k less e brought (taken_out out move free) =
     acknowledged w fitted r left_due few w.bit after (λ x f. (refl, free x f)) k less y (e out)
@@ -486,7 +491,8 @@ acks {P = P} {script = script} {from = from} {most = most} {hs = hs} w busy afte
     (exchanges_on w fitted r left_due few w.bit after k y (fitted.inside k a.lands.within merged heard) a (λ x f. refl))
 
 -- each move of the circuit is a step of the program or none
-pub follows : {P : TypedProgram} {script : List OfferValue} {from : Configuration} {most : ℕ} {hs : List (List ℕ)} {t : Term} (w : Wires) (busy after : ℕ → Bool) → Fitted P script
+pub follows : {P : TypedProgram} {script : List OfferValue} {from : Configuration} {most : ℕ} {hs : List (List ℕ)} {t : Term} (w : Wires)
+    (busy after : ℕ → Bool) → Fitted P script
     → {due : ℕ} → Followed P script from most hs t w.bit busy due → Arriving P script hs w → (y : Term) (n : Node P.body)
     → ((k : ℕ) → n ≡ ack_node k → is_heard (kind_at P.channels k) ≡ false
     → answers (channel_width P.channels k) w k (completed hs k) (offer_at script k) ≡ true)

@@ -67,7 +67,8 @@ module _ (P : TypedProgram) (env : Seen) (c : ℕ) (high : env.ack (of_channel c
       by returning h n ne a = (x, port_holds P env d x l q meets n)
 
   -- a branch that has answered goes on
-  pub over : {m k : Mode} {n : ℕ} (w : Way m k) (i : Index n) → ((s : OwnSpot n) → way_moves w i s ≡ false) → (m ≡ answered → k ≡ answered → ⊥) → k ≡ answered → ⊥
+  pub over : {m k : Mode} {n : ℕ} (w : Way m k) (i : Index n) → ((s : OwnSpot n) → way_moves w i s ≡ false) → (m ≡ answered → k ≡ answered → ⊥) → k ≡ answered
+      → ⊥
   over works i n ne e = cc e
   over worked i n ne e = cc (n of_joined)
   over reported i n ne e = ne refl refl

@@ -327,7 +327,8 @@ module _ (P : TypedProgram) (env : Seen) (clean : Clean P env) where
     step (at_turning (control_at uncalled)) meets f back (of_core s) e z = absurd (never_true z)
     step (at_turning (control_at called)) meets f back (of_core s) e z = absurd (never_true z)
     step (at_turning {choices = choices} (control_at (evaluating g))) meets f back (of_core (of_latch j)) e z =
-        same_step (ToldBy env (guards_shown true choices).read) (active (choosing true choices)) _ (branch_term true choices (opened (body_at choices j))) _ here
+        same_step (ToldBy env (guards_shown true choices).read) (active (choosing true choices)) _
+        (branch_term true choices (opened (body_at choices j))) _ here
         (choice_none choices env.ack _ (active (choosing true choices)) (branch_term true choices))
         (latch_up choices j _ (active (choosing true choices)) (branch_term true choices))
         (latch_step true choices meets.1 g f j e)

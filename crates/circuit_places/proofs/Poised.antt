@@ -431,7 +431,8 @@ control_poise P env clean valid again choices some laws (evaluating g) f s q t R
     by_end none true y true e = goes (of_end y e refl)
     by_end none true y false e = quiet none (λ z. e)
 
-    by_latch : ((j : Index (choice_count choices)) × (alone j (heads choices g) ≡ true)) ⊎ ((j : Index (choice_count choices)) → alone j (heads choices g) ≡ false)
+    by_latch : ((j : Index (choice_count choices)) × (alone j (heads choices g) ≡ true)) ⊎
+        ((j : Index (choice_count choices)) → alone j (heads choices g) ≡ false)
         → Poise P running (control_left again choices (evaluating g)) env (guards_shown true choices) R
     by_latch (inl r) = goes (of_one r.0 r.1 refl)
     by_latch (inr none) = by_end none again refl (over (choice_count choices) (heads choices g)) refl
@@ -541,7 +542,13 @@ mutual
           → Poise P running (together (branches_left env.ack b)) env (branches_shown b) (Ready env (at_side running t b h))
       sides (all_ended e g) = absurd (no_end _ t running h (λ k. off _ (n (joint k))) true (ends_high b e) refl)
       sides (some_poised w) = poised refl (poised_inside P (branches_left env.ack b) env (branches_shown b) (BranchReady env b)
-          (Ready env (at_side running t b h)) (λ k at r. (of_branch r.0, r.1, r.2, ap (λ z. in_branch z (branch_place r.0)) r.3 ∙ ap (λ z. in_branch k z) r.4)) w)
+          (Ready env (at_side running t b h)) (λ k at r. (
+            of_branch r.0,
+            r.1,
+            r.2,
+            ap (λ z. in_branch z (branch_place r.0)) r.3
+                ∙ ap (λ z. in_branch k z) r.4,
+          )) w)
       sides (one_lags l) = lagging l
   poise P env clean valid (at_body {m = idle} a) meets f n =
       loop_poised P _ (left env.ack a) env (shown a) (Ready env (at_body a)) (left_done env.ack a (λ e. cc e)) (ask, refl, refl, refl)
@@ -594,7 +601,8 @@ mutual
   branches_poise P env clean valid no_more meets f h n = all_ended refl refl
   branches_poise P env clean valid (and_at {k = k} {ks = ks} g b) meets f h n =
       let a : asks k ≡ true = same_value (asks k) true (fst_true (same_bit (asks k) true) (all_ask true ks) h) in
-      both_poise P env (guarded_shown g) (branches_shown b) (beside meets.1 g b) (guarded_says_talks g) (branches_say_talk b) (GuardedReady env g) (BranchReady env b) (BranchReady env (and_at g b))
+      both_poise P env (guarded_shown g) (branches_shown b) (beside meets.1 g b) (guarded_says_talks g) (branches_say_talk b) (GuardedReady env g)
+      (BranchReady env b) (BranchReady env (and_at g b))
       (λ at r. (in_this r.0, r.1, r.2, refl, r.3)) (λ j at r. (in_others r.0, r.1, r.2, ap (λ z. suc z) r.3, r.4))
       k ks (guarded_left env.ack g) (branches_left env.ack b) a (guarded_over env.ack g a)
       (guarded_poise P env clean valid g meets.0 f.0 (λ s. n (in_this s)))

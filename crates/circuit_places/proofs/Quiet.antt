@@ -398,7 +398,8 @@ module _ (P : TypedProgram) {script : List OfferValue} (fitted : Fitted P script
       by_wrote (inl r) = (wrote_node v r.0, r.1, by_bit v s e r.0 stands)
       by_wrote (inr a) = by_joints a (search (joint_count (var_width P.vars v)) (λ k. can P script g w hs (joint_node v k)))
 
-  module _ (ne : m ≢ returning) {from : Configuration} {most due : ℕ} (r : Followed P script from most hs (root_left (line_ack P w) g) w.bit (guarded_writing (line_ack P w) g) due) where
+  module _ (ne : m ≢ returning) {from : Configuration} {most due : ℕ}
+      (r : Followed P script from most hs (root_left (line_ack P w) g) w.bit (guarded_writing (line_ack P w) g) due) where
     there : (at : Place) (s : Process) → statement_at r.to.term at ≡ Some s
         → Stands P s (wires_seen P w) (guarded_shown g) (GuardedReady (wires_seen P w) g at)
     there at s e = all_poised P fitted w hs g good quiet ne at s (sym (ap (λ t. statement_at t at) r.term) ∙ e)

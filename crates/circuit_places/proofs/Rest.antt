@@ -446,7 +446,8 @@ still_choice P env again choices x b = record { going = λ e. cc e; blocked = bl
     blocked (in_first place) s e = absurd (cc e)
     blocked (in_branch k place) s e = absurd (cc e)
 
-pub control_rest : (P : TypedProgram) {m : Mode} (env : Seen) (clean : Clean P env) → Valid P env → (again : Bool) (choices : Choices) → 1 ≤ choice_count choices
+pub control_rest : (P : TypedProgram) {m : Mode} (env : Seen) (clean : Clean P env) → Valid P env → (again : Bool) (choices : Choices)
+    → 1 ≤ choice_count choices
     → GuardsMeet P choices → (c : Control again (choice_count choices) (GuardCells choices) (heads choices) m)
     → guards_good choices env.bit (control_ask c) (control_guards (low_guards choices) c) ≡ true
     → ((s : OwnSpot (choice_count choices)) → control_moves c s ≡ false)

@@ -54,7 +54,8 @@ silent_by true s b low high e = absurd (cc low)
 silent_by false s false low high e = absurd (cc high)
 
 -- No assignment makes its step where none says that it is under way.
-module _ (P : TypedProgram) (script : List OfferValue) {from : Configuration} {moves : ℕ} {hs : List (List ℕ)} (w : Wires) (v : ℕ) (some : 1 ≤ var_width P.vars v)
+module _ (P : TypedProgram) (script : List OfferValue) {from : Configuration} {moves : ℕ} {hs : List (List ℕ)} (w : Wires) (v : ℕ)
+    (some : 1 ≤ var_width P.vars v)
     (low : line_ack P w (of_var v) ≡ false) where
   unsaid : {m : Mode} (g : GuardedAt P.body m) → Good P m g w → {due : ℕ}
       (f : Followed P script from moves hs (root_left (line_ack P w) g) w.bit (guarded_writing (line_ack P w) g) due)
@@ -140,7 +141,8 @@ abbrev pub cells_behind : (P : TypedProgram) → Whole P.body → List (List (No
 cells_behind P x [] = x
 cells_behind P x (l ∷ ls) = cells_behind P (cells_after P x l) ls
 
-behind_append : (P : TypedProgram) (x : Whole P.body) (ls ms : List (List (Node P.body))) → cells_behind P x (ls ++ ms) ≡ cells_behind P (cells_behind P x ls) ms
+behind_append : (P : TypedProgram) (x : Whole P.body) (ls ms : List (List (Node P.body)))
+    → cells_behind P x (ls ++ ms) ≡ cells_behind P (cells_behind P x ls) ms
 behind_append P x [] ms = refl
 behind_append P x (l ∷ ls) ms = behind_append P (cells_after P x l) ls ms
 

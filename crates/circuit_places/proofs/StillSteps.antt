@@ -319,7 +319,8 @@ mutual
   keeps_value (repeating p) x (in_body s) ask ne k = refl
   keeps_value (repeating p) x (in_body s) of_loop ne k = refl
   keeps_value (repeating p) x of_loop q ne k = falls k
-  keeps_value (choosing false choices) x (of_core (of_latch i)) (of_core (of_latch j)) ne k = other_bit i j x.latched (λ e. ne (ap (λ z. of_core (of_latch z)) e))
+  keeps_value (choosing false choices) x (of_core (of_latch i)) (of_core (of_latch j)) ne k = other_bit i j x.latched
+      (λ e. ne (ap (λ z. of_core (of_latch z)) e))
   keeps_value (choosing false choices) x (of_core (of_latch i)) (of_core of_joined) ne k = refl
   keeps_value (choosing false choices) x (of_core (of_latch i)) (of_core of_ask) ne k = refl
   keeps_value (choosing false choices) x (of_core (of_latch i)) (of_core of_any) ne k = refl

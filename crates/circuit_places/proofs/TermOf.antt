@@ -32,7 +32,8 @@ abbrev mutual
       → (Term → Term) → Term
   choice_still no_choices ack l s x none wrap = none
   choice_still (and_choice g p more) ack l s x none wrap =
-      if s.0 then wrap (if answer p x.0 then finished else still_left p ack x.0) else (if l.0 then wrap (opened p) else choice_still more ack l.1 s.1 x.1 none wrap)
+      if s.0 then wrap (if answer p x.0 then finished else still_left p ack x.0) else
+      (if l.0 then wrap (opened p) else choice_still more ack l.1 s.1 x.1 none wrap)
 
   pub branches_still : (members : Processes) → (Line → Bool) → BranchCells members → Terms
   branches_still no_members ack x = no_branches

@@ -51,7 +51,8 @@ pub table_more : (names : List (List ℕ)) (k : ℕ) (n called : List ℕ) (old 
     IsNameTable (take (k + 1) names) new
 table_more names k n called old new within is same so_far added name =
     subst (λ (xs : List (List ℕ)). IsFound xs name (place_in_table new name)) (sym front)
-    (subst (IsFound (take k names ++ n ∷ []) name) (sym found) (found_more (take k names) n name (place_in_table old name) (bytes_eq n name) refl (so_far name)))
+    (subst (IsFound (take k names ++ n ∷ []) name) (sym found)
+    (found_more (take k names) n name (place_in_table old name) (bytes_eq n name) refl (so_far name)))
   where
     front : take (k + 1) names ≡ take k names ++ n ∷ []
     front = take_more names k n within ∙ ap (λ (x : List ℕ). take k names ++ x ∷ []) (sym is)

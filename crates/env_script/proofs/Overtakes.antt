@@ -210,7 +210,8 @@ module _ (net : NetValue) (script : List OfferValue) where
         rest = r.rest;
         run = subst (IsRun net script st) (sym whole) (run_on st layer (more ++ r.rest) p.0 r.run);
         state = ap (after net st) whole ∙ (after_on st layer (more ++ r.rest) ∙ (r.state ∙ last));
-        each = λ node. counts _ _ _ _ _ _ _ _ _ _ _ _ _ (times_on node (layer ++ more) r.rest) (times_on node layer more) (times_on node more r.rest) (r.each node)
+        each = λ node. counts _ _ _ _ _ _ _ _ _ _ _ _ _ (times_on node (layer ++ more) r.rest) (times_on node layer more) (times_on node more r.rest)
+            (r.each node)
             (times_on node o.rest later) (times_on node layer o.rest) (o.each node) (times_on node sweep later)
             (ap (times_moved node) is_all);
       })

@@ -23,9 +23,6 @@ position_cases p x xs false is = rw is (by_order (cases_lt (position_or_len p xs
         (ap Some (omega arith))
     by_order (inr past) = rw (le-ltb (1 + position_or_len p xs) (suc (length xs)) (omega arith), le-ltb (position_or_len p xs) (length xs) past) refl
 
-named_as : List ℕ → Channel → Bool
-named_as name c = bytes_eq c.name name
-
 -- the first channel of the name is at the first place where it stands
 abbrev at_place : List Channel → Option ℕ → Option Channel
 at_place channels None = None

@@ -11,7 +11,7 @@ use Rattle.env_script.specs.Scripts.{OfferValue, offer_at}
 use Rattle.env_script.specs.Environment.{in_reset}
 use Rattle.env_script.specs.Runs.{RunState, completed, move_enabled}
 use Rattle.event_sim.specs.Locality.{IndexedValue, has_move, is_ready, is_among, is_member, IsPassing}
-use Rattle.event_sim.specs.Standings.{number_of, is_done, is_low_ack, is_idle, script_and, IsRetestedOn}
+use Rattle.event_sim.specs.Standings.{offered_count, is_done, is_low_ack, is_idle, script_and, IsRetestedOn}
 use Rattle.event_sim.proofs.Behind.{ready_off, reset_low}
 use Rattle.event_sim.proofs.Staged.{passing_same, passing_back}
 use Rattle.event_sim.proofs.Asked.{ready_apart}
@@ -51,17 +51,19 @@ low_at : (net : NetValue) (v : ℕ → Bool) (chan : ℕ) (w : Wires) → chan <
 low_at net v chan w within here = ap (is_low_ack v) (slice_get_read net.channels (length net.channels) chan w refl within here)
 
 pub idle_some : (net : NetValue) (script : List OfferValue) (st : RunState) (chan k done : ℕ) (w : Wires) → chan < length net.channels →
-    w ≡ get_or net.channels chan w → high st.values w.ack ≡ false → Some k ≡ number_of (offer_at script chan) → done ≡ completed st.histories chan →
+    w ≡ get_or net.channels chan w → high st.values w.ack ≡ false → Some k ≡ offered_count (offer_at script chan) → done ≡ completed st.histories chan →
     nat_le k done ≡ is_idle net script st chan
 idle_some net script st chan k done w within here off some counted =
     ap (nat_le k) counted ∙ ap (λ (o : Option ℕ). is_done o (completed st.histories chan)) some
-    ∙ sym (ap (λ (b : Bool). b && is_done (number_of (offer_at script chan)) (completed st.histories chan)) (low_at net (high st.values) chan w within here ∙ ap not off))
+    ∙ sym (ap (λ (b : Bool). b && is_done (offered_count (offer_at script chan)) (completed st.histories chan))
+    (low_at net (high st.values) chan w within here ∙ ap not off))
 
 pub idle_number : (net : NetValue) (script : List OfferValue) (st : RunState) (chan : ℕ) → is_idle net script st chan ≡ true →
-    (k : ℕ) × (number_of (offer_at script chan) ≡ Some k) × (k ≤ completed st.histories chan)
-idle_number net script st chan idle = by_number (number_of (offer_at script chan)) refl (and_parts _ _ idle).1
+    (k : ℕ) × (offered_count (offer_at script chan) ≡ Some k) × (k ≤ completed st.histories chan)
+idle_number net script st chan idle = by_number (offered_count (offer_at script chan)) refl (and_parts _ _ idle).1
   where
-    by_number : (o : Option ℕ) → number_of (offer_at script chan) ≡ o → is_done (number_of (offer_at script chan)) (completed st.histories chan) ≡ true →
-        (k : ℕ) × (number_of (offer_at script chan) ≡ Some k) × (k ≤ completed st.histories chan)
+    by_number : (o : Option ℕ) → offered_count (offer_at script chan) ≡ o
+        → is_done (offered_count (offer_at script chan)) (completed st.histories chan) ≡ true →
+        (k : ℕ) × (offered_count (offer_at script chan) ≡ Some k) × (k ≤ completed st.histories chan)
     by_number None e d = absurd (cc (ap (λ (o : Option ℕ). is_done o (completed st.histories chan)) (sym e) ∙ d))
     by_number (Some k) e d = (k, e, leb-true k (completed st.histories chan) (ap (λ (o : Option ℕ). is_done o (completed st.histories chan)) (sym e) ∙ d))

@@ -15,7 +15,7 @@ use Rattle.env_script.specs.Scripts.{OfferValue, gives, takes, nothing, offer_at
 use Rattle.env_script.specs.Offers.{offered}
 use Rattle.env_script.specs.Environment.{sender_moves, receiver_moves, offer_moves, channels_move, in_reset, raises_go}
 use Rattle.event_sim.specs.Locality.{is_wire, is_ready, is_among}
-use Rattle.event_sim.specs.Standings.{StandingValue, standing_of, is_one, one_like, one_now, is_alike, times_over, stands, script_with, are_alike, number_of, one_more, script_and}
+use Rattle.event_sim.specs.Standings.{StandingValue, standing_of, is_one, one_like, one_now, is_alike, times_over, stands, script_with, are_alike, offered_count, one_more, script_and}
 use Rattle.event_sim.proofs.Near.{not_offered}
 use Rattle.event_sim.proofs.Behind.{turned}
 
@@ -69,7 +69,7 @@ alike_stands None one listed like = like
 alike_stands (Some k) one listed like = alike_over k one
 
 -- one more time
-more_stands : (one offer : OfferValue) (k value : ℕ) → is_alike one offer ≡ true → number_of offer ≡ Some k →
+more_stands : (one offer : OfferValue) (k value : ℕ) → is_alike one offer ≡ true → offered_count offer ≡ Some k →
     times_over (k + 1) (one_now value one) ≡ one_more value offer
 more_stands (gives xs) (gives ys) k value like counted = ap (λ (n : ℕ). gives (replicate (n + 1) value)) (sym (same_some _ _ counted))
   where
@@ -165,13 +165,13 @@ add_alike ss os k value n d like within =
     (alike_now value (get_or ss k d).one (offer_at os k) ∙ alike_at ss os k d like within)
 
 pub add_is : (ss : List StandingValue) (os : List OfferValue) (k value n : ℕ) (d : StandingValue) → are_alike ss os ≡ true → k < length ss →
-    number_of (offer_at (script_with ss os) k) ≡ Some n →
+    offered_count (offer_at (script_with ss os) k) ≡ Some n →
     script_with (set ss k (standing_of (one_now value (get_or ss k d).one) (Some (n + 1)))) os ≡ script_and k value (script_with ss os)
 add_is ss os k value n d like within counted =
     with_set ss os k (standing_of (one_now value (get_or ss k d).one) (Some (n + 1))) like within
     ∙ ap (set (script_with ss os) k) (more_stands (get_or ss k d).one (stands (get_or ss k d).times (get_or ss k d).one (offer_at os k)) n value
     (alike_stands (get_or ss k d).times (get_or ss k d).one (offer_at os k) (alike_at ss os k d like within))
-    (ap number_of (sym (with_at ss os k d like within)) ∙ counted) ∙ ap (one_more value) (sym (with_at ss os k d like within)))
+    (ap offered_count (sym (with_at ss os k d like within)) ∙ counted) ∙ ap (one_more value) (sym (with_at ss os k d like within)))
 
 -- what one more on a channel enables: at most its own wires
 

@@ -10,7 +10,7 @@ use Rattle.std.proofs.lemmas.List.{get_or-set_same, get_or-set_other, get_or_app
 use Rattle.std.proofs.Math.Seq.{take-append_seam}
 use Rattle.std.proofs.lemmas.List.Edits.{length-remove, get_or-remove_below, get_or-remove_above}
 use Rattle.std.proofs.lemmas.List.Folds.{list_any_at}
-use Rattle.event_sim.specs.Ages.{age_rank, IsByAge, IsRun}
+use Rattle.event_sim.specs.Ages.{age_rank, IsByAge, AreEqualFrom}
 
 -- ascending numbers below n are at most n
 climbs : (xs : List ℕ) (k : ℕ) → AllPairs (λ (a b : ℕ). a < b) xs → k < length xs → k ≤ get_or xs k 0
@@ -97,7 +97,7 @@ started now was list before order kept = record {
 -- a run of nodes stays
 module _ (now left done run : ℕ) (was list before since order : List ℕ) (was_up : AllPairs (λ (a b : ℕ). a < b) was)
     (list_up : AllPairs (λ (a b : ℕ). a < b) list) (way : IsOnTheWay now left done was list before since order)
-    (same : IsRun was left list done run) where
+    (same : AreEqualFrom was left list done run) where
   stays_list : (k : ℕ) → k < done + run → IsAt order (get_or list k 0)
   stays_list k less = by_place (cases_lt k done)
     where
@@ -527,8 +527,8 @@ not_missing list node place up at told = by_place (cases_lt at.0 place)
     by_place (inr past) = omega (arith, at.2, missed.2 at.0 past at.1)
 
 -- one more group of equal nodes
-pub group_same : (was list : List ℕ) (left done run n : ℕ) → IsRun was left list done run → left + run + n ≤ length was → done + run + n ≤ length list →
-    slice_range was (left + run) (left + run + n) ≡ slice_range list (done + run) (done + run + n) → IsRun was left list done (run + n)
+pub group_same : (was list : List ℕ) (left done run n : ℕ) → AreEqualFrom was left list done run → left + run + n ≤ length was → done + run + n ≤ length list →
+    slice_range was (left + run) (left + run + n) ≡ slice_range list (done + run) (done + run + n) → AreEqualFrom was left list done (run + n)
 group_same was list left done run n so_far was_in list_in equal = record {
   left_in = omega (arith, was_in);
   done_in = omega (arith, list_in);

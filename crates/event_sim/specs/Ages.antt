@@ -50,13 +50,13 @@ pub record IsPresence (now : ℕ) (p : Presence) : Type 0 where
   pub order_room : 2 * length p.since.items ≤ vec_capacity p.order
 
 -- room for lists of so many nodes
-pub record HasRoom (count : ℕ) (p : Presence) : Type 0 where
+pub record HasRoomForAges (count : ℕ) (p : Presence) : Type 0 where
   pub since : count ≤ vec_capacity p.since
   pub list : count ≤ vec_capacity p.list
   pub order : 2 * count ≤ vec_capacity p.order
 
 -- so many nodes from these places on are equal in two lists
-pub record IsRun (was : List ℕ) (left : ℕ) (list : List ℕ) (done : ℕ) (run : ℕ) : Type 0 where
+pub record AreEqualFrom (was : List ℕ) (left : ℕ) (list : List ℕ) (done : ℕ) (run : ℕ) : Type 0 where
   pub left_in : left + run ≤ length was
   pub done_in : done + run ≤ length list
   pub same : (a b : ℕ) → left ≤ a → a < left + run → a + done ≡ b + left → slice_index was a ≡ slice_index list b

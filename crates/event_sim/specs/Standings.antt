@@ -66,11 +66,11 @@ are_alike (s ∷ ss) (o ∷ os) = is_alike s.one o && are_alike ss os
 are_alike _ _ = false
 
 -- how many values or acceptances are offered, where that is a number
-abbrev pub number_of : OfferValue → Option ℕ
-number_of (gives values) = Some (length values)
-number_of (takes Count.All) = None
-number_of (takes (Times k)) = Some k
-number_of nothing = None
+abbrev pub offered_count : OfferValue → Option ℕ
+offered_count (gives values) = Some (length values)
+offered_count (takes Count.All) = None
+offered_count (takes (Times k)) = Some k
+offered_count nothing = None
 
 -- with one more value, in place of all before it too, or with one more acceptance
 abbrev pub one_more : ℕ → OfferValue → OfferValue
@@ -94,7 +94,7 @@ is_low_ack v (Some w) = not (v w.ack)
 -- a channel is idle where its acknowledge is low and all that is offered on it has completed
 abbrev pub is_idle : NetValue → List OfferValue → RunState → ℕ → Bool
 is_idle net script st chan = is_low_ack (high st.values) (slice_get net.channels chan)
-    && is_done (number_of (offer_at script chan)) (completed st.histories chan)
+    && is_done (offered_count (offer_at script chan)) (completed st.histories chan)
 
 -- the wires of a channel were tested again
 pub record IsRetestedOn (x : IndexedValue) (done : List ℕ) (values : List Bool) (chan : ℕ) (old new : List Bool) :

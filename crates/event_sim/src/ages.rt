@@ -2,7 +2,7 @@
 
 ghost use Rattle.std.specs.Prelude.{◌≡◌, ◌≢◌, ◌↔◌, ◌⊎◌, ◌+◌, ◌*◌, ◌^◌, ◌<◌, ◌≤◌, ◌∷◌, ◌++◌, ℕ, [], IsTrue, OnOk, All, AllPairs, length, replicate, slice_index, slice_set, map, vec_len, vec_capacity};
 ghost use Rattle.std.specs.List.{remove};
-ghost use Rattle.event_sim.specs.Ages.{ages_at, aged, age_rank, IsByAge, HasRoom, IsPresence, IsRun, first_greatest, first_least};
+ghost use Rattle.event_sim.specs.Ages.{ages_at, aged, age_rank, IsByAge, HasRoomForAges, IsPresence, AreEqualFrom, first_greatest, first_least};
 ghost use Rattle.event_sim.specs.Picking.{IsChoiceList};
 
 use std::alloc::{AllocError, Global};
@@ -79,7 +79,7 @@ fn arrive(since: &mut [u64], order: &mut Vec<u32>, node: u32, now: u64)
 fn group_run(was: &[u32], left: usize, list: &[u32], done: usize) -> usize
     requires left { left ≤ length was.now }
     requires done { done ≤ length list.now }
-    ensures { IsRun was.now left list.now done result }
+    ensures { AreEqualFrom was.now left list.now done result }
 {
     let mut run = 0;
     while was.len() - left - run >= GROUP
@@ -95,7 +95,7 @@ fn group_run(was: &[u32], left: usize, list: &[u32], done: usize) -> usize
 fn equal_run(was: &[u32], left: usize, list: &[u32], done: usize) -> usize
     requires left { left ≤ length was.now }
     requires done { done ≤ length list.now }
-    ensures run { IsRun was.now left list.now done result }
+    ensures run { AreEqualFrom was.now left list.now done result }
     ensures apart { left + result < length was.now → done + result < length list.now
         → slice_index was.now (left + result) ≢ slice_index list.now (done + result) }
 {
@@ -184,7 +184,7 @@ impl Presence {
         ensures since { self.new.since.items ≡ self.old.since.items }
         ensures list { self.new.list.items ≡ self.old.list.items }
         ensures presence { (now : ℕ) → IsPresence now self.old → IsPresence now self.new }
-        ensures room { OnOk result (HasRoom count self.new) }
+        ensures room { OnOk result (HasRoomForAges count self.new) }
     {
         self.since.reserve_exact(count as usize)?;
         self.list.reserve_exact(count as usize)?;
@@ -193,7 +193,7 @@ impl Presence {
 
     /// Begins again for lists of so many nodes, of which none is present.
     pub(crate) fn reset(&mut self, count: u32)
-        requires room { HasRoom count self.old }
+        requires room { HasRoomForAges count self.old }
         ensures presence { (now : ℕ) → IsPresence now self.new }
         ensures ages { (now : ℕ) → ages_at now self.new.since.items self.new.list.items ≡ replicate count 0 }
     {

@@ -10,7 +10,7 @@ ghost use Rattle.env_script.specs.Phases.{phase_fault};
 ghost use Rattle.guard_rows.specs.Places.{AreRows};
 ghost use Rattle.event_sim.specs.Passing.{channel_acknowledged, completion};
 ghost use Rattle.event_sim.specs.Locality.{is_ready, IsHome, IsShared};
-ghost use Rattle.event_sim.specs.Standings.{number_of, is_done, script_and};
+ghost use Rattle.event_sim.specs.Standings.{offered_count, is_done, script_and};
 
 use crate::homes::homes_of;
 use crate::moves::{completes, in_reset};
@@ -175,7 +175,7 @@ impl IndexedNet {
     /// How many values or acceptances are offered on the channel, where that is a number.
     pub(crate) fn number(&self, chan: u32) -> Option<u64>
         requires { chan < length self.now.net.channels }
-        ensures { result ≡ number_of (offer_at self.now.script chan) }
+        ensures { result ≡ offered_count (offer_at self.now.script chan) }
     {
         let _homes = self.homes.len();
         self.offers.number(chan)
@@ -184,8 +184,8 @@ impl IndexedNet {
     /// Offers one more value on the channel, in place of all values before it too, or makes one more acceptance.
     pub(crate) fn add(&mut self, chan: u32, value: u64)
         requires chan { chan < length self.old.net.channels }
-        requires number { IsSome (number_of (offer_at self.old.script chan)) }
-        requires few { IfSome (number_of (offer_at self.old.script chan)) (λ n. n < 2 ^ 63) }
+        requires number { IsSome (offered_count (offer_at self.old.script chan)) }
+        requires few { IfSome (offered_count (offer_at self.old.script chan)) (λ n. n < 2 ^ 63) }
         requires script { IsScript (net_channels self.old.net) (script_and chan value self.old.script) }
         ensures { self.new ≡ record self.old { script = script_and chan value self.old.script } }
     {

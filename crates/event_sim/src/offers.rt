@@ -7,7 +7,7 @@ ghost use Rattle.env_script.specs.Offers.{offered};
 ghost use Rattle.env_script.specs.Environment.{offer_moves};
 ghost use Rattle.env_script.specs.Wired.{IsWired};
 ghost use Rattle.event_sim.specs.Locality.{has_no_part};
-ghost use Rattle.event_sim.specs.Standings.{standing_of, one_like, number_of, is_done, script_and};
+ghost use Rattle.event_sim.specs.Standings.{standing_of, one_like, offered_count, is_done, script_and};
 
 use crate::standing::Standing;
 use env_script::{Offer, Script};
@@ -81,7 +81,7 @@ impl Offers {
     /// How many values or acceptances are offered on the channel, where that is a number.
     pub(crate) fn number(&self, chan: u32) -> Option<u64>
         requires { chan < length self.now }
-        ensures { result ≡ number_of (offer_at self.now chan) }
+        ensures { result ≡ offered_count (offer_at self.now chan) }
     {
         self.standing[chan as usize].number(self.script.offer(chan))
     }
@@ -89,8 +89,8 @@ impl Offers {
     /// Offers one more value on the channel, in place of all values before it too, or makes one more acceptance.
     pub(crate) fn add(&mut self, chan: u32, value: u64)
         requires chan { chan < length self.old }
-        requires number { IsSome (number_of (offer_at self.old chan)) }
-        requires few { IfSome (number_of (offer_at self.old chan)) (λ n. n < 2 ^ 63) }
+        requires number { IsSome (offered_count (offer_at self.old chan)) }
+        requires few { IfSome (offered_count (offer_at self.old chan)) (λ n. n < 2 ^ 63) }
         ensures { self.new ≡ script_and chan value self.old }
     {
         let number = self.number(chan).unwrap();

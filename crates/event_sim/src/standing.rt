@@ -6,7 +6,7 @@ ghost use Rattle.env_script.specs.Offers.{offered};
 ghost use Rattle.env_script.specs.Environment.{offer_moves};
 ghost use Rattle.env_script.specs.Wired.{IsWired};
 ghost use Rattle.event_sim.specs.Locality.{has_no_part};
-ghost use Rattle.event_sim.specs.Standings.{one_like, number_of};
+ghost use Rattle.event_sim.specs.Standings.{one_like, offered_count};
 
 use env_script::{Count, Offer, offer_moves};
 use prs_core::{State, Wires};
@@ -48,7 +48,7 @@ fn one_like(alloc: Global, listed: &Offer) -> Result<Offer, AllocError>
 
 /// How many values or acceptances a script lists, where that is a number.
 fn number_listed(listed: &Offer) -> Option<u64>
-    ensures { result ≡ number_of (offered listed.now) }
+    ensures { result ≡ offered_count (offered listed.now) }
 {
     match listed {
         Offer::Values(values) => Some(values.len() as u64),
@@ -113,7 +113,7 @@ impl Standing {
 
     /// How many values or acceptances are offered, where that is a number.
     pub(crate) fn number(&self, listed: &Offer) -> Option<u64>
-        ensures { result ≡ number_of (stands self.now.times self.now.one (offered listed.now)) }
+        ensures { result ≡ offered_count (stands self.now.times self.now.one (offered listed.now)) }
     {
         match self.times {
             None => number_listed(listed),

@@ -52,8 +52,8 @@ fn give(guards: Vec<NodeGuards>, from: u32, rules: &mut Rules)
 /// rails rise to the value, and when it falls they fall. `vars` has for each variable the first node of its block,
 /// which begins with five nodes for each bit, the first two of them the bit's rails. The request and the rails that are
 /// read are none of the own nodes, and the request is none of the rails. Where memory runs out, nothing is written.
-/// Where no two of the bits that are read share a node, the circuit keeps the contract of an expression alone: a rail of
-/// the result that rises is that of the value's bit. Once the whole result is valid under the request, so is every
+/// Where no two of the bits that are read share a node, the circuit keeps the contract of an expression alone: a rail
+/// of the result that rises is that of the value's bit. Once the whole result is valid under the request, so is every
 /// gate's, and once it is neutral without the request, so is every gate's; at rest the circuit waits for its request or
 /// for a bit that is read.
 pub fn emit_expr(

@@ -4,7 +4,7 @@ use Rattle.std.specs.Prelude.{◌==◌}
 use Rattle.std.specs.Int.{bit_at}
 use Rattle.std.proofs.Math.Nat.{pow-succ'}
 use Rattle.std.proofs.lemmas.Bool.{eqb-true, eqb-false}
-use Rattle.std.proofs.lemmas.List.{get_or-set_same, get_or-set_other, drop_more, drop_all, length-drop}
+use Rattle.std.proofs.lemmas.List.{get_or-set_same, get_or-set_other, drop_more, length-drop}
 use mir.Val.{bool_byte}
 use Rattle.std.proofs.lemmas.Nat.Bits.{bit_at_lowest, bit_at-suc}
 use Rattle.prs_core.specs.Moves.{high, fired}
@@ -78,9 +78,6 @@ index_lowered values m (n ∷ ns) within up = omega (arith, bit_lowered values m
 pub index_more : (v : ℕ → Bool) (ns : List ℕ) (p : ℕ) → p < length ns →
     index_of v (drop p ns) ≡ as_bit (v (get_or ns p 0)) + 2 * index_of v (drop (p + 1) ns)
 index_more v ns p within = ap (index_of v) (drop_more ns p 0 within)
-
-pub index_none : (v : ℕ → Bool) (ns : List ℕ) (p : ℕ) → length ns ≤ p → index_of v (drop p ns) ≡ 0
-index_none v ns p past = ap (index_of v) (drop_all p ns past)
 
 pub byte_of : (b : Bool) → bool_byte b ≡ as_bit b
 byte_of true = refl

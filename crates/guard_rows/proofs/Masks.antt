@@ -6,7 +6,7 @@ use lib.Bits.{bit_and}
 use Rattle.std.specs.Int.RustNames.{bit_or}
 use Rattle.std.proofs.lemmas.Bool.{eqb-true, eqb-false}
 use Rattle.std.proofs.lemmas.List.Folds.{list_any_more, list_all_more}
-use Rattle.std.proofs.lemmas.Nat.Bits.{bit_at_and, bit_at_or, bit_at_not, bit_at_ones, bit_at-zero}
+use Rattle.std.proofs.lemmas.Nat.Bits.{bit_at_and, bit_at_or, bit_at_not, bit_at_ones}
 use Rattle.prs_core.specs.declared.rule.Literal.{Literal}
 use Rattle.prs_core.specs.Nets.{GuardValue}
 use Rattle.prs_core.specs.Moves.{literal_holds, term_holds, guard_holds}
@@ -69,9 +69,6 @@ low_literal v ns p l few within at low =
 
 pub all_ones : (v : ℕ → Bool) (ns : List ℕ) → length ns ≤ 6 → bit_at 18446744073709551615 (index_of v ns) ≡ 1
 all_ones v ns few = bit_at_ones 64 (index_of v ns) (index_small v ns few)
-
-pub no_ones : (v : ℕ → Bool) (ns : List ℕ) → bit_at 0 (index_of v ns) ≡ 0
-no_ones v ns = bit_at-zero (index_of v ns)
 
 pub both_bits : (a b : Bool) → min (as_bit a) (as_bit b) ≡ as_bit (a && b)
 both_bits true true = refl

@@ -1,5 +1,5 @@
--- What the two guards of a node say for each choice of the values that they read, or for how many of these are high, and
--- where the values stand now.
+-- What the two guards of a node say for each choice of the values that they read, or for how many of these are high,
+-- and where the values stand now.
 use Rattle.std.specs.Prelude.{◌≡◌, ℕ, ◌+◌, ◌-◌, ◌*◌, ◌^◌, ◌<◌, ◌≤◌, Bool, true, false, not, ◌&&◌, ◌||◌, ◌==◌, nat_lt, nat_le, if◌then◌else◌, List, [], ◌∷◌, length, slice_index, slice_index_or, All, Option, Some, None}
 use Rattle.std.specs.Int.{bit_at}
 use Rattle.prs_core.specs.Nets.{GuardValue, NetValue, up_of, down_of}

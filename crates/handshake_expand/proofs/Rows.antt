@@ -165,16 +165,8 @@ pub blocks_are : (vs : List Var) → blocks_before vs (length vs) ≡ all_blocks
 blocks_are [] = refl
 blocks_are (v ∷ vs) = ap (λ n. block_size v.width + n) (blocks_are vs)
 
-pub wires_at : (cs : List Channel) (i : ℕ) (c : Channel) → i < length cs → c ≡ get_or cs i c →
-    all_wires (drop i cs) ≡ wires_size c.width + all_wires (drop (i + 1) cs)
-wires_at cs i c within is = ap all_wires (drop_more cs i c within) ∙ ap (λ (x : Channel). wires_size x.width + all_wires (drop (i + 1) cs)) (sym is)
-
 pub no_more_wires : (cs : List Channel) (i : ℕ) → length cs ≤ i → all_wires (drop i cs) ≡ 0
 no_more_wires cs i all = ap all_wires (drop_all i cs all)
-
-pub blocks_at : (vs : List Var) (i : ℕ) (v : Var) → i < length vs → v ≡ get_or vs i v →
-    all_blocks (drop i vs) ≡ block_size v.width + all_blocks (drop (i + 1) vs)
-blocks_at vs i v within is = ap all_blocks (drop_more vs i v within) ∙ ap (λ (x : Var). block_size x.width + all_blocks (drop (i + 1) vs)) (sym is)
 
 pub no_more_blocks : (vs : List Var) (i : ℕ) → length vs ≤ i → all_blocks (drop i vs) ≡ 0
 no_more_blocks vs i all = ap all_blocks (drop_all i vs all)

@@ -19,7 +19,7 @@ use Rattle.net_compose.specs.declared.driver.Pattern.{Pattern}
 use Rattle.net_compose.specs.declared.driver.Pattern.TheVariants.{Rail, Until, Latch, Behind, Site, Both, Kept, Written, Any, Joined, Wanted, Started, Turn}
 use Rattle.net_compose.specs.Circuits.{reset_rules, each_reset, circuit_rules, circuit_net, side}
 use Rattle.net_compose.specs.Drivers.{driven}
-use Rattle.net_stream.specs.Rooms.{IsFew, IsRoomFor, HasRoom}
+use Rattle.net_stream.specs.Rooms.{IsFew, IsRoomFor, HasRoomForLines}
 use Rattle.net_compose.specs.Shapes.{listed}
 use Rattle.net_stream.proofs.Puts.{one_count}
 
@@ -216,7 +216,7 @@ module _ (most capacity : ℕ) (room : 128 * (most + 1) ≤ capacity) where
   all_room (Some reset) first rs h = each_room reset first rs h
 
   pub has_room : (names : List (List ℕ)) (first : List Bool) (rs : List NodeRules) (channels : List Wires) (reset : Option ℕ) → All (IsFew most) rs
-      → HasRoom (circuit_net names first rs channels reset) capacity
+      → HasRoomForLines (circuit_net names first rs channels reset) capacity
   has_room names first rs channels reset h =
       let all = all_room reset first rs h in
       record {

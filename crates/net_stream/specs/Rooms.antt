@@ -13,7 +13,7 @@ pub record IsFew (most : ℕ) (r : NodeRules) : Type 0 where
 abbrev pub IsRoomFor : ℕ → GuardValue → Type 0
 IsRoomFor capacity g = 64 * (guard_literals g + 1) ≤ capacity
 
-pub record HasRoom (n : NetValue) (capacity : ℕ) : Type 0 where
+pub record HasRoomForLines (n : NetValue) (capacity : ℕ) : Type 0 where
   pub lines : 64 ≤ capacity
   pub up : All (IsRoomFor capacity) n.up
   pub down : All (IsRoomFor capacity) n.down

@@ -1,7 +1,7 @@
 //! The buffer for one line.
 
 ghost use Rattle.std.specs.Prelude.{◌≡◌, ◌+◌, ◌*◌, ◌≤◌, [], All, IfOk, IfSome, vec_len, vec_capacity};
-ghost use Rattle.net_stream.specs.Rooms.{HasRoom, IsFew};
+ghost use Rattle.net_stream.specs.Rooms.{HasRoomForLines, IsFew};
 
 use net_compose::{Circuit, Driver};
 use std::alloc::{AllocError, Global};
@@ -48,7 +48,7 @@ fn bytes_for(most: usize) -> Option<usize>
 
 /// An empty buffer with room for each line of the circuit's file.
 pub(crate) fn line_buffer(alloc: Global, net: &Circuit) -> Result<Vec<u8>, AllocError>
-    ensures room { IfOk result (λ line. HasRoom net.now (vec_capacity line)) }
+    ensures room { IfOk result (λ line. HasRoomForLines net.now (vec_capacity line)) }
     ensures empty { IfOk result (λ line. line.items ≡ []) }
     ensures none { IfOk result (λ line. vec_len line ≡ 0) }
 {

@@ -4,7 +4,7 @@ ghost use Rattle.std.specs.Prelude.{◌≡◌, ◌+◌, ◌*◌, ◌<◌, ◌≤
 ghost use Rattle.prs_core.specs.Nets.{up_of, down_of, guard_literals};
 ghost use Rattle.prs_file.specs.Spelling.{version_of};
 ghost use Rattle.net_stream.specs.Places.{IsMadeAt, IsPlaceOf, places_left};
-ghost use Rattle.net_stream.specs.Rooms.{HasRoom};
+ghost use Rattle.net_stream.specs.Rooms.{HasRoomForLines};
 ghost use Rattle.net_stream.specs.declared.place.Place.TheVariants.{Head, Node, Channel, Up, Down};
 
 use crate::guard::rule_line;
@@ -97,7 +97,7 @@ fn line_at(net: &Circuit, place: Place, to: &mut Vec<u8>) -> Result<Place, Alloc
     requires goes_on { 0 < places_left net.now place }
     requires empty { vec_len to.old ≡ 0 }
     ensures made { IfOk result (λ next. IsMadeAt net.now place next to.old.items to.new.items) }
-    ensures room { OnErr result (¬ HasRoom net.now (vec_capacity to.old)) }
+    ensures room { OnErr result (¬ HasRoomForLines net.now (vec_capacity to.old)) }
     ensures capacity { vec_capacity to.old ≤ vec_capacity to.new }
 {
     let _net = net.first();
@@ -116,7 +116,7 @@ pub(crate) fn make_line(net: &Circuit, place: Place, to: &mut Vec<u8>) -> Place
     requires place { IsPlaceOf net.now place }
     requires goes_on { 0 < places_left net.now place }
     requires empty { vec_len to.old ≡ 0 }
-    requires room { HasRoom net.now (vec_capacity to.old) }
+    requires room { HasRoomForLines net.now (vec_capacity to.old) }
     ensures made { IsMadeAt net.now place result to.old.items to.new.items }
     ensures capacity { vec_capacity to.old ≤ vec_capacity to.new }
 {

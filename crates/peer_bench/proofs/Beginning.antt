@@ -18,7 +18,7 @@ use Rattle.env_script.specs.Hazards.{first_hazard}
 use Rattle.event_sim.specs.Following.{power_value, power_of}
 use Rattle.event_sim.specs.Passing.{channel_histories}
 use Rattle.event_sim.specs.Stages.{StageValue, now_of}
-use Rattle.event_sim.specs.Standings.{number_of, is_done}
+use Rattle.event_sim.specs.Standings.{offered_count, is_done}
 use Rattle.event_sim.proofs.Histories.{histories_none}
 use Rattle.peer_bench.specs.declared.note.Note.{Note}
 use Rattle.peer_bench.specs.Growing.{offer_by, offer_on, script_by}
@@ -56,7 +56,7 @@ offered_first s steps is =
 
 -- each external channel waits for a first offer
 
-one_first : (kind : Kind) (c done : ℕ) → weight (is_done (number_of (offer_by kind c [])) done) ≡ weight (is_external kind)
+one_first : (kind : Kind) (c done : ℕ) → weight (is_done (offered_count (offer_by kind c [])) done) ≡ weight (is_external kind)
 one_first In c done = ap weight (le-leb 0 done (omega arith))
 one_first Out c done = ap weight (le-leb 0 done (omega arith))
 one_first Chan c done = refl
@@ -68,7 +68,7 @@ free_first net done c (w ∷ ws) here =
     let start : c + 0 ≡ c = omega arith in
     let first : slice_get net.channels c ≡ Some w = ap (slice_get net.channels) (sym start) ∙ here 0 in
     let offer : offer_at (script_by net []) c ≡ offer_by w.channel.kind c [] = script_at net [] c ∙ ap (λ (o : Option Wires). offer_on o c []) first in
-    ap (λ (o : OfferValue). weight (is_done (number_of o) (done c)) + free_from (offer_at (script_by net [])) done (c + 1) ws) offer
+    ap (λ (o : OfferValue). weight (is_done (offered_count o) (done c)) + free_from (offer_at (script_by net [])) done (c + 1) ws) offer
     ∙ ap (λ (k : ℕ). k + free_from (offer_at (script_by net [])) done (c + 1) ws) (one_first w.channel.kind c (done c))
     ∙ ap (λ (k : ℕ). weight (is_external w.channel.kind) + k)
     (free_first net done (c + 1) ws (λ i. let same : c + 1 + i ≡ c + suc i = omega arith in ap (slice_get net.channels) same ∙ here (suc i)))

@@ -12,7 +12,7 @@ use Rattle.prs_core.specs.Nets.{NetValue}
 use Rattle.env_script.specs.Environment.{net_channels}
 use Rattle.env_script.specs.Runs.{RunState, completed}
 use Rattle.env_script.specs.Scripts.{OfferValue, gives, takes, nothing, offer_at, Suits, IsScript}
-use Rattle.event_sim.specs.Standings.{number_of}
+use Rattle.event_sim.specs.Standings.{offered_count}
 use Rattle.peer_bench.specs.declared.note.Note.{Note}
 use Rattle.peer_bench.specs.Growing.{offer_by, offer_on, script_by}
 use Rattle.peer_bench.specs.Notes.{offered_on}
@@ -74,7 +74,7 @@ fits_given k width old new nothing few fit like suits = absurd like
 -- more notes, behind as many values on each channel as have completed
 pub more_fit : (net : NetValue) (st : RunState) (notes extra : List Note) (script : List OfferValue) → IsScript (net_channels net) (script_by net notes) →
     IsScript (net_channels net) script → StandsFor net st (notes ++ extra) script →
-    ((c n : ℕ) → number_of (offer_at (script_by net notes) c) ≡ Some n → completed st.histories c ≤ n) →
+    ((c n : ℕ) → offered_count (offer_at (script_by net notes) c) ≡ Some n → completed st.histories c ≤ n) →
     IsScript (net_channels net) (script_by net (notes ++ extra))
 more_fit net st notes extra script fit suits stands offered = made_by_notes net (notes ++ extra) each
   where
@@ -89,7 +89,7 @@ more_fit net st notes extra script fit suits stands offered = made_by_notes net 
         let old : offer_at (script_by net notes) c ≡ gives (offered_on c notes) = offer_here c w notes here ∙ ap (λ (k : Kind). offer_by k c notes) is in
         let all : offer_at (script_by net (notes ++ extra)) c ≡ gives (offered_on c notes ++ offered_on c extra) =
         offer_here c w (notes ++ extra) here ∙ ap (λ (k : Kind). offer_by k c (notes ++ extra)) is ∙ ap gives (offered_more c notes extra) in
-        let few = offered c (length (offered_on c notes)) (ap number_of old) in
+        let few = offered c (length (offered_on c notes)) (ap offered_count old) in
         let was : Suits In w.channel.width (gives (offered_on c notes)) =
         subst (λ (o : OfferValue). Suits In w.channel.width o) old
         (subst (λ (k : Kind). Suits k w.channel.width (offer_at (script_by net notes) c)) is (suits_at net.channels (script_by net notes) c w fit here)) in

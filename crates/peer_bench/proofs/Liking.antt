@@ -12,7 +12,7 @@ use Rattle.env_script.specs.declared.script.Count.{Count}
 use Rattle.env_script.specs.Scripts.{OfferValue, gives, takes, nothing, offer_at, is_over}
 use Rattle.env_script.specs.Environment.{sender_moves, receiver_moves, offer_moves, channels_move, in_reset, is_reset, rules_rest, raises_go}
 use Rattle.env_script.specs.Runs.{RunState, completed, move_enabled}
-use Rattle.event_sim.specs.Standings.{number_of, is_low_ack, is_done, is_idle}
+use Rattle.event_sim.specs.Standings.{offered_count, is_low_ack, is_done, is_idle}
 use Rattle.peer_bench.specs.declared.note.Note.{Note}
 use Rattle.peer_bench.specs.Growing.{offer_on, script_by}
 
@@ -54,12 +54,12 @@ like_moves v w nothing (gives ys) k n is = absurd is
 like_moves v w nothing (takes b) k n is = absurd is
 like_moves v w nothing nothing k n is = refl
 
-pub like_number : (o p : OfferValue) (k : ℕ) → IsLike k o p → number_of p ≡ number_of o
+pub like_number : (o p : OfferValue) (k : ℕ) → IsLike k o p → offered_count p ≡ offered_count o
 like_number (gives xs) (gives ys) k is = ap Some is.count
 like_number (gives xs) (takes b) k is = absurd is
 like_number (gives xs) nothing k is = absurd is
 like_number (takes a) (gives ys) k is = absurd is
-like_number (takes a) (takes b) k is = ap (λ (count : Count). number_of (takes count)) is
+like_number (takes a) (takes b) k is = ap (λ (count : Count). offered_count (takes count)) is
 like_number (takes a) nothing k is = absurd is
 like_number nothing (gives ys) k is = absurd is
 like_number nothing (takes b) k is = absurd is

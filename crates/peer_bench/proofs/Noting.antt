@@ -14,7 +14,7 @@ use Rattle.env_script.specs.declared.script.Count.{Count}
 use Rattle.env_script.specs.declared.script.Count.TheVariants.{Times}
 use Rattle.env_script.specs.Scripts.{OfferValue, gives, takes, nothing, offer_at}
 use Rattle.env_script.specs.Runs.{RunState, completed}
-use Rattle.event_sim.specs.Standings.{number_of, one_more, script_and, is_done, is_low_ack, is_idle}
+use Rattle.event_sim.specs.Standings.{offered_count, one_more, script_and, is_done, is_low_ack, is_idle}
 use Rattle.peer_bench.specs.declared.note.Note.{Note}
 use Rattle.peer_bench.specs.declared.note.Note.TheVariants.{Offered, Ready, Took}
 use Rattle.peer_bench.specs.Notes.{is_offer_on, is_ready_on, value_of, offered_on, times_ready}
@@ -101,7 +101,7 @@ like_one_taken k value n nothing is = absurd is
 -- one more value
 
 pub offered_stands : (net : NetValue) (st : RunState) (notes : List Note) (script : List OfferValue) (at c value : ℕ) (w : Wires) →
-    slice_get net.channels c ≡ Some w → w.channel.kind ≡ In → is_done (number_of (offer_at (script_by net notes) c)) (completed st.histories c) ≡ true →
+    slice_get net.channels c ≡ Some w → w.channel.kind ≡ In → is_done (offered_count (offer_at (script_by net notes) c)) (completed st.histories c) ≡ true →
     StandsFor net st notes script → StandsFor net st (notes ++ Offered at c value ∷ []) (script_and c value script)
 offered_stands net st notes script at c value w here kind done stands = record {
   count = length-set script c (one_more value (offer_at script c)) ∙ stands.count;
@@ -118,7 +118,7 @@ offered_stands net st notes script at c value w here kind done stands = record {
     is_given more = script_at net more c ∙ ap (λ (o : Option Wires). offer_on o c more) here ∙ offer_in w c more kind
 
     few : length (offered_on c notes) ≤ completed st.histories c
-    few = leb-true _ _ (ap (λ (o : OfferValue). is_done (number_of o) (completed st.histories c)) (sym (is_given notes)) ∙ done)
+    few = leb-true _ _ (ap (λ (o : OfferValue). is_done (offered_count o) (completed st.histories c)) (sym (is_given notes)) ∙ done)
 
     by_place : (d : ℕ) → (c ≡ d) ⊎ (c ≡ d → ⊥) →
         IsLike (completed st.histories d) (offer_at (script_by net (notes ++ more)) d) (offer_at (script_and c value script) d)
@@ -206,9 +206,9 @@ answer_stands net st notes script p at c stands = by_idle (is_idle net script st
     by_idle true e =
         subst (λ (b : Bool). StandsFor net st (notes ++ asked b) (script_noting (asked b) script)) (sym e) (by_channel (slice_get net.channels c) refl)
       where
-        done : is_done (number_of (offer_at (script_by net notes) c)) (completed st.histories c) ≡ true
+        done : is_done (offered_count (offer_at (script_by net notes) c)) (completed st.histories c) ≡ true
         done = (and_parts (is_low_ack (high st.values) (slice_get net.channels c))
-            (is_done (number_of (offer_at (script_by net notes) c)) (completed st.histories c)) (sym (idle_like net st notes script c stands) ∙ e)).1
+            (is_done (offered_count (offer_at (script_by net notes) c)) (completed st.histories c)) (sym (idle_like net st notes script c stands) ∙ e)).1
 
         by_channel : (o : Option Wires) → slice_get net.channels c ≡ o →
             StandsFor net st (notes ++ answer_on p (slice_get net.channels c) at c) (script_noting (answer_on p (slice_get net.channels c) at c) script)

@@ -23,7 +23,7 @@ use Rattle.event_sim.specs.Following.{power_value, power_of}
 use Rattle.event_sim.specs.Locality.{is_wire}
 use Rattle.event_sim.specs.Passing.{channel_acknowledged, completed_on, completion}
 use Rattle.event_sim.specs.Stages.{StageValue, now_of}
-use Rattle.event_sim.specs.Standings.{number_of}
+use Rattle.event_sim.specs.Standings.{offered_count}
 use Rattle.event_sim.proofs.HomeLemmas.{breaks_there}
 use Rattle.event_sim.proofs.Near.{fired_agree}
 use Rattle.peer_bench.specs.Steps.{AreOffered, AreRailsHeld}
@@ -82,7 +82,7 @@ same_number : (a b : ℕ) → Some a ≡ Some b → a ≡ b
 same_number a b e = cc
 
 rises_for : (v : ℕ → Bool) (w : Wires) (o : OfferValue) (done n m : ℕ) → v w.ack ≡ false → (n ≡ w.ack → ⊥) → offer_moves v w o done n ≡ true →
-    number_of o ≡ Some m → done < m
+    offered_count o ≡ Some m → done < m
 rises_for v w (gives xs) done n m low apart moves number =
     let less = next_value v xs done n w.rails (sym (when_low (v w.ack) (lowers v w.rails n) (raises_next v (slice_get xs done) w.rails n) low) ∙ moves) in
     let same = same_number (length xs) m number in
@@ -223,7 +223,7 @@ rails_moved s n script net whole enabled calm held = record {
     low_behind on c r w here kind found (inr apart) true was = fired_agree s.values n r apart ∙ held.low was c r w here kind found
 
     by_reset : (c m r : ℕ) (w : Wires) → slice_get s.net.channels c ≡ Some w → w.channel.kind ≡ In → u w.ack ≡ false →
-        list_any (λ rail. r == rail) w.rails ≡ true → u r ≡ true → number_of (offer_at script c) ≡ Some m → (b : Bool) → in_reset s.net.reset v ≡ b →
+        list_any (λ rail. r == rail) w.rails ≡ true → u r ≡ true → offered_count (offer_at script c) ≡ Some m → (b : Bool) → in_reset s.net.reset v ≡ b →
         completed (moved s.net (now_of s) n).histories c < m
     by_reset c m r w here kind low found up number true on = by_place (cases_eq r n)
       where
@@ -286,13 +286,13 @@ suits_at (x ∷ ws) (o ∷ os) zero w is here = subst (λ (y : Wires). Suits y.c
     same_wires a b e = cc
 suits_at (x ∷ ws) (o ∷ os) (suc c) w is here = suits_at ws os c w is.1 here
 
-no_number : (o : OfferValue) (width m : ℕ) → Suits Chan width o → number_of o ≡ Some m → ⊥
+no_number : (o : OfferValue) (width m : ℕ) → Suits Chan width o → offered_count o ≡ Some m → ⊥
 no_number (gives xs) width m suits number = suits
 no_number (takes count) width m suits number = suits
 no_number nothing width m suits number = cc number
 
 receives_for : (v : ℕ → Bool) (w : Wires) (o : OfferValue) (done n m : ℕ) → v w.ack ≡ false → offer_moves v w o done n ≡ true →
-    number_of o ≡ Some m → done < m
+    offered_count o ≡ Some m → done < m
 receives_for v w (gives xs) done n m low moves number =
     let less = next_value v xs done n w.rails (sym (when_low (v w.ack) (lowers v w.rails n) (raises_next v (slice_get xs done) w.rails n) low) ∙ moves) in
     let same = same_number (length xs) m number in
@@ -308,7 +308,7 @@ receives_for v w nothing done n m low moves number = absurd (cc number)
 
 completes_next : (s : StageValue) (n m : ℕ) (script : List OfferValue) (p : ℕ × ℕ) → IsNet s.net → IsScript (net_channels s.net) script →
     move_enabled s.net script (now_of s) n ≡ true → AreRailsHeld s.net script (now_of s) → CompletesOn s.net (high s.values) n p →
-    number_of (offer_at script p.0) ≡ Some m → completed (now_of s).histories p.0 < m
+    offered_count (offer_at script p.0) ≡ Some m → completed (now_of s).histories p.0 < m
 completes_next s n m script p net suits enabled held on number = by_kind w.channel.kind refl
   where
     w : Wires
@@ -337,11 +337,11 @@ pub offered_moved : (s : StageValue) (n : ℕ) (script : List OfferValue) → Is
     AreOffered script (moved s.net (now_of s) n)
 offered_moved s n script net suits enabled held offered = λ c m number. by_completion c m number (completion s.net (high s.values) n) refl
   where
-    by_place : (c m : ℕ) (p : ℕ × ℕ) → number_of (offer_at script c) ≡ Some m → completion s.net (high s.values) n ≡ Some p → (p.0 ≡ c) ⊎ (p.0 ≡ c → ⊥) →
+    by_place : (c m : ℕ) (p : ℕ × ℕ) → offered_count (offer_at script c) ≡ Some m → completion s.net (high s.values) n ≡ Some p → (p.0 ≡ c) ⊎ (p.0 ≡ c → ⊥) →
         completed (moved s.net (now_of s) n).histories c ≤ m
     by_place c m p number some (inl same) =
         let next = completes_next s n m script p net suits enabled held (completes_on s.net (high s.values) n p some)
-        (ap (λ k. number_of (offer_at script k)) same ∙ number) in
+        (ap (λ k. offered_count (offer_at script k)) same ∙ number) in
         let one = counts_here s n p net some in
         let behind : completed (moved s.net (now_of s) n).histories p.0 ≡ completed (moved s.net (now_of s) n).histories c =
         ap (completed (moved s.net (now_of s) n).histories) same in
@@ -351,7 +351,7 @@ offered_moved s n script net suits enabled held offered = λ c m number. by_comp
         let same = counts_elsewhere s n p net some c apart in
         omega arith
 
-    by_completion : (c m : ℕ) → number_of (offer_at script c) ≡ Some m → (o : Option (ℕ × ℕ)) → completion s.net (high s.values) n ≡ o →
+    by_completion : (c m : ℕ) → offered_count (offer_at script c) ≡ Some m → (o : Option (ℕ × ℕ)) → completion s.net (high s.values) n ≡ o →
         completed (moved s.net (now_of s) n).histories c ≤ m
     by_completion c m number None none =
         let few = offered c m number in
@@ -392,7 +392,7 @@ rails_first net script st is begun = record {
 
 -- a script of which the numbers are at least as large
 pub rails_grow : (net : NetValue) (script later : List OfferValue) (st : RunState) →
-    ((c n : ℕ) → number_of (offer_at later c) ≡ Some n → (k : ℕ) × (number_of (offer_at script c) ≡ Some k) × (k ≤ n)) → AreRailsHeld net script st →
+    ((c n : ℕ) → offered_count (offer_at later c) ≡ Some n → (k : ℕ) × (offered_count (offer_at script c) ≡ Some k) × (k ≤ n)) → AreRailsHeld net script st →
     AreRailsHeld net later st
 rails_grow net script later st grows held = record {
   low = held.low;

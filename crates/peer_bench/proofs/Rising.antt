@@ -13,7 +13,7 @@ use Rattle.env_script.specs.declared.script.Count.TheVariants.{Times}
 use Rattle.env_script.specs.Scripts.{OfferValue, gives, takes, nothing, offer_at, is_over}
 use Rattle.env_script.specs.Environment.{in_reset, is_reset, rules_rest, raises_go, raises_next, lowers, valid, offer_moves, channels_move}
 use Rattle.env_script.specs.Runs.{RunState, IsRun, after, moved, completed, move_enabled}
-use Rattle.event_sim.specs.Standings.{number_of}
+use Rattle.event_sim.specs.Standings.{offered_count}
 use Rattle.peer_bench.specs.declared.note.Note.{Note}
 use Rattle.peer_bench.specs.Notes.{offered_on}
 use Rattle.peer_bench.specs.Growing.{offer_by, offer_on, script_by}
@@ -145,7 +145,7 @@ run_more net script st (m ∷ ns) n run enabled = (run.0, run_more net script (m
 
 -- and no fewer are offered
 
-numbers_of : (o p : OfferValue) (n : ℕ) → Grows o p → number_of p ≡ Some n → (k : ℕ) × (number_of o ≡ Some k) × (k ≤ n)
+numbers_of : (o p : OfferValue) (n : ℕ) → Grows o p → offered_count p ≡ Some n → (k : ℕ) × (offered_count o ≡ Some k) × (k ≤ n)
 numbers_of (gives xs) (gives ys) n grows number =
     let all : length ys ≡ n = same_number (length ys) n number in
     let sum : length ys ≡ length xs + length grows.0 = ap (λ (zs : List ℕ). length zs) grows.1 ∙ length-append xs grows.0 in
@@ -158,7 +158,7 @@ numbers_of (gives xs) nothing n grows number = absurd grows
 numbers_of (takes a) (gives ys) n grows number = absurd grows
 numbers_of (takes Count.All) (takes b) n grows number = by_count b grows number
   where
-    by_count : (b : Count) → CountGrows Count.All b → number_of (takes b) ≡ Some n → (k : ℕ) × (number_of (takes Count.All) ≡ Some k) × (k ≤ n)
+    by_count : (b : Count) → CountGrows Count.All b → offered_count (takes b) ≡ Some n → (k : ℕ) × (offered_count (takes Count.All) ≡ Some k) × (k ≤ n)
     by_count Count.All grows number = absurd (cc number)
     by_count (Times m) grows number = absurd grows
 numbers_of (takes (Times k)) (takes b) n grows number = by_count b grows number
@@ -166,7 +166,7 @@ numbers_of (takes (Times k)) (takes b) n grows number = by_count b grows number
     same_number : (a b : ℕ) → Some a ≡ Some b → a ≡ b
     same_number a b e = cc
 
-    by_count : (b : Count) → CountGrows (Times k) b → number_of (takes b) ≡ Some n → (j : ℕ) × (number_of (takes (Times k)) ≡ Some j) × (j ≤ n)
+    by_count : (b : Count) → CountGrows (Times k) b → offered_count (takes b) ≡ Some n → (j : ℕ) × (offered_count (takes (Times k)) ≡ Some j) × (j ≤ n)
     by_count Count.All grows number = absurd grows
     by_count (Times m) grows number = let all : m ≡ n = same_number m n number in (k, refl, omega arith)
 numbers_of (takes a) nothing n grows number = absurd grows
@@ -174,7 +174,7 @@ numbers_of nothing (gives ys) n grows number = absurd grows
 numbers_of nothing (takes b) n grows number = absurd grows
 numbers_of nothing nothing n grows number = absurd (cc number)
 
-pub numbers_grow : (net : NetValue) (notes more : List Note) (c n : ℕ) → number_of (offer_at (script_by net (notes ++ more)) c) ≡ Some n →
-    (k : ℕ) × (number_of (offer_at (script_by net notes) c) ≡ Some k) × (k ≤ n)
+pub numbers_grow : (net : NetValue) (notes more : List Note) (c n : ℕ) → offered_count (offer_at (script_by net (notes ++ more)) c) ≡ Some n →
+    (k : ℕ) × (offered_count (offer_at (script_by net notes) c) ≡ Some k) × (k ≤ n)
 numbers_grow net notes more c n number =
     numbers_of (offer_at (script_by net notes) c) (offer_at (script_by net (notes ++ more)) c) n (script_grows net notes more c) number

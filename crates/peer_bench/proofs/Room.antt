@@ -12,7 +12,7 @@ use Rattle.env_script.specs.Scripts.{OfferValue, gives, takes, nothing, offer_at
 use Rattle.env_script.specs.Runs.{RunState, completed, moved}
 use Rattle.event_sim.specs.Passing.{completion}
 use Rattle.event_sim.specs.Stages.{StageValue, now_of}
-use Rattle.event_sim.specs.Standings.{number_of, is_done, one_more, script_and, is_idle}
+use Rattle.event_sim.specs.Standings.{offered_count, is_done, one_more, script_and, is_idle}
 use Rattle.event_sim.proofs.Added.{idle_number}
 use Rattle.chp_base.specs.declared.channel.Kind.{Kind}
 use Rattle.chp_base.specs.declared.channel.Kind.TheVariants.{In, Out, Chan}
@@ -24,7 +24,7 @@ use Rattle.peer_bench.specs.Steps.{script_noting, asked_under, AreOffered, free_
 use Rattle.peer_bench.proofs.Counting.{counts_none, counts_elsewhere, channel_of}
 
 abbrev pub bit_at : (ℕ → OfferValue) → (ℕ → ℕ) → ℕ → Bool
-bit_at script done c = is_done (number_of (script c)) (done c)
+bit_at script done c = is_done (offered_count (script c)) (done c)
 
 abbrev pub weight : Bool → ℕ
 weight b = if b then 1 else 0
@@ -61,7 +61,7 @@ free_swap script behind done later k c (w ∷ ws) from within same =
 
 -- one more on an idle channel
 
-number_more : (value n : ℕ) (o : OfferValue) → number_of o ≡ Some n → number_of (one_more value o) ≡ Some (n + 1)
+number_more : (value n : ℕ) (o : OfferValue) → offered_count o ≡ Some n → offered_count (one_more value o) ≡ Some (n + 1)
 number_more value n (gives xs) e = ap Some (length-replicate (length xs + 1) value) ∙ ap (λ (k : ℕ). Some (k + 1)) (same_some (length xs) n e)
   where
     same_some : (a b : ℕ) → Some a ≡ Some b → a ≡ b
@@ -73,12 +73,12 @@ number_more value n (takes (Times k)) e = ap (λ (j : ℕ). Some (j + 1)) (same_
     same_some a b e = cc
 number_more value n nothing e = absurd (cc e)
 
-within_script : (script : List OfferValue) (chan n : ℕ) → number_of (offer_at script chan) ≡ Some n → chan < length script
+within_script : (script : List OfferValue) (chan n : ℕ) → offered_count (offer_at script chan) ≡ Some n → chan < length script
 within_script script chan n e = by_place (cases_lt chan (length script))
   where
     by_place : (chan < length script) ⊎ (length script ≤ chan) → chan < length script
     by_place (inl less) = less
-    by_place (inr past) = absurd (cc (ap number_of (sym (get_or_past script chan nothing past)) ∙ e))
+    by_place (inr past) = absurd (cc (ap offered_count (sym (get_or_past script chan nothing past)) ∙ e))
 
 pub record HasRoom (net : NetValue) (st : RunState) (script behind : List OfferValue) (more : List Note) : Type 0 where
   pub free : free_on net behind st + length more ≡ free_on net script st
@@ -95,7 +95,7 @@ add_room net st script chan value note idle within offered = record {
   offered = λ c n e. by_place c n e (cases_eq c chan);
 }
   where
-    counted : (n : ℕ) × (number_of (offer_at script chan) ≡ Some n) × (n ≤ completed st.histories chan)
+    counted : (n : ℕ) × (offered_count (offer_at script chan) ≡ Some n) × (n ≤ completed st.histories chan)
     counted = idle_number net script st chan idle
 
     most : completed st.histories chan ≤ counted.0
@@ -109,10 +109,10 @@ add_room net st script chan value note idle within offered = record {
 
     others : (i : ℕ) → (i ≡ chan → ⊥) → bit_at (offer_at (script_and chan value script)) (completed st.histories) i ≡
         bit_at (offer_at script) (completed st.histories) i
-    others i apart = ap (λ (o : OfferValue). is_done (number_of o) (completed st.histories i)) (there i apart)
+    others i apart = ap (λ (o : OfferValue). is_done (offered_count o) (completed st.histories i)) (there i apart)
 
-    number_now : number_of (offer_at (script_and chan value script) chan) ≡ Some (counted.0 + 1)
-    number_now = ap number_of here ∙ number_more value counted.0 (offer_at script chan) counted.1
+    number_now : offered_count (offer_at (script_and chan value script) chan) ≡ Some (counted.0 + 1)
+    number_now = ap offered_count here ∙ number_more value counted.0 (offer_at script chan) counted.1
 
     was_done : bit_at (offer_at script) (completed st.histories) chan ≡ true
     was_done = ap (λ (o : Option ℕ). is_done o (completed st.histories chan)) counted.1 ∙ le-leb counted.0 (completed st.histories chan) counted.2
@@ -124,14 +124,14 @@ add_room net st script chan value note idle within offered = record {
     same_some : (a b : ℕ) → Some a ≡ Some b → a ≡ b
     same_some a b e = cc
 
-    by_place : (c n : ℕ) → number_of (offer_at (script_and chan value script) c) ≡ Some n → (c ≡ chan) ⊎ (c ≡ chan → ⊥) → completed st.histories c ≤ n
+    by_place : (c n : ℕ) → offered_count (offer_at (script_and chan value script) c) ≡ Some n → (c ≡ chan) ⊎ (c ≡ chan → ⊥) → completed st.histories c ≤ n
     by_place c n e (inl same) =
         let now : n ≡ counted.0 + 1 = same_some n (counted.0 + 1)
-        (sym e ∙ ap (λ (d : ℕ). number_of (offer_at (script_and chan value script) d)) same ∙ number_now) in
+        (sym e ∙ ap (λ (d : ℕ). offered_count (offer_at (script_and chan value script) d)) same ∙ number_now) in
         let few = most in
         let moved : completed st.histories c ≡ completed st.histories chan = ap (completed st.histories) same in
         omega arith
-    by_place c n e (inr apart) = offered c n (ap number_of (sym (there c apart)) ∙ e)
+    by_place c n e (inr apart) = offered c n (ap offered_count (sym (there c apart)) ∙ e)
 
 -- an answer
 
@@ -185,7 +185,7 @@ free_moved s n script net = by_completion (completion s.net (high s.values) n) r
     later = completed (moved s.net (now_of s) n).histories
 
     bit_same : (c : ℕ) → later c ≡ done c → bit_at (offer_at script) later c ≡ bit_at (offer_at script) done c
-    bit_same c same = ap (is_done (number_of (offer_at script c))) same
+    bit_same c same = ap (is_done (offered_count (offer_at script c))) same
 
     by_completion : (o : Option (ℕ × ℕ)) → completion s.net (high s.values) n ≡ o →
         free_on s.net script (moved s.net (now_of s) n) ≤ free_on s.net script (now_of s) + 1

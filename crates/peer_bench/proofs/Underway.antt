@@ -18,7 +18,7 @@ use Rattle.event_sim.specs.Following.{enabled_moves, move_at}
 use Rattle.event_sim.specs.Passing.{channel_acknowledged, completion, passed_in}
 use Rattle.event_sim.specs.Ends.{end_with}
 use Rattle.event_sim.specs.Stages.{StageValue, now_of, moves_now}
-use Rattle.event_sim.specs.Standings.{number_of, is_low_ack, is_done, is_idle}
+use Rattle.event_sim.specs.Standings.{offered_count, is_low_ack, is_done, is_idle}
 use Rattle.event_sim.proofs.Following.{after_more, passed_more, enabled_at}
 use Rattle.event_sim.proofs.HomeLemmas.{found_there, no_ack}
 use Rattle.event_sim.proofs.Near.{fired_agree}
@@ -207,8 +207,8 @@ unasked s n notes p net off quiet = λ c w here idle. by_kind c w here idle w.ch
         let low : is_low_ack (high s.values) (slice_get s.net.channels c) ≡ is_low_ack (high (fired s.values n)) (slice_get s.net.channels c) =
         ap (is_low_ack (high s.values)) here ∙ ap not (sym (fired_agree s.values n w.ack (λ e. other (sym e))))
         ∙ sym (ap (is_low_ack (high (fired s.values n))) here) in
-        ap (λ (b : Bool). b && is_done (number_of (offer_at (script_by s.net notes) c)) (completed (now_of s).histories c)) low
-        ∙ ap (λ (k : ℕ). is_low_ack (high (fired s.values n)) (slice_get s.net.channels c) && is_done (number_of (offer_at (script_by s.net notes) c)) k)
+        ap (λ (b : Bool). b && is_done (offered_count (offer_at (script_by s.net notes) c)) (completed (now_of s).histories c)) low
+        ∙ ap (λ (k : ℕ). is_low_ack (high (fired s.values n)) (slice_get s.net.channels c) && is_done (offered_count (offer_at (script_by s.net notes) c)) k)
         (sym (count_stays s n c w net here other)) ∙ idle
 
     by_kind : (c : ℕ) (w : Wires) → slice_get s.net.channels c ≡ Some w →
@@ -265,7 +265,7 @@ rails_next s later n notes extra brought net whole enabled held brings stands st
     st : RunState
     st = moved s.net (now_of s) n
 
-    grows : (c k : ℕ) → number_of (offer_at later.script c) ≡ Some k → (j : ℕ) × (number_of (offer_at s.script c) ≡ Some j) × (j ≤ k)
+    grows : (c k : ℕ) → offered_count (offer_at later.script c) ≡ Some k → (j : ℕ) × (offered_count (offer_at s.script c) ≡ Some j) × (j ≤ k)
     grows c k number =
         let was = numbers_grow s.net notes extra c k
         (sym (like_number (offer_at (script_by s.net (notes ++ extra)) c) (offer_at later.script c) (completed st.histories c) (standing.each c)) ∙ number) in (

@@ -9,7 +9,7 @@ use Rattle.env_script.specs.Scripts.{OfferValue, offer_at}
 use Rattle.env_script.specs.Environment.{in_reset}
 use Rattle.env_script.specs.Runs.{RunState, completed}
 use Rattle.event_sim.specs.Passing.{completion}
-use Rattle.event_sim.specs.Standings.{number_of, is_done, script_and, is_idle}
+use Rattle.event_sim.specs.Standings.{offered_count, is_done, script_and, is_idle}
 use Rattle.peer_bench.specs.declared.note.Note.{Note}
 use Rattle.peer_bench.specs.declared.note.Note.TheVariants.{Offered, Ready, Took}
 use Rattle.peer_bench.specs.Asking.{PeerValue, HasNoted, answer_on}
@@ -71,14 +71,14 @@ pub record IsMoveNoted {P : Type 0} (known : P → PeerValue) (net : NetValue) (
 abbrev pub free_from : (ℕ → OfferValue) → (done : ℕ → ℕ) → (c : ℕ) → List Wires → ℕ
 free_from script done c [] = 0
 free_from script done c (w ∷ ws) =
-    (if is_done (number_of (script c)) (done c) then 1 else 0) + free_from script done (c + 1) ws
+    (if is_done (offered_count (script c)) (done c) then 1 else 0) + free_from script done (c + 1) ws
 
 abbrev pub free_on : NetValue → List OfferValue → RunState → ℕ
 free_on net script st = free_from (offer_at script) (completed st.histories) 0 net.channels
 
 -- no more has completed on a channel than was offered
 abbrev pub AreOffered : List OfferValue → RunState → Type 0
-AreOffered script st = (c n : ℕ) → number_of (offer_at script c) ≡ Some n → completed st.histories c ≤ n
+AreOffered script st = (c n : ℕ) → offered_count (offer_at script c) ≡ Some n → completed st.histories c ≤ n
 
 -- A high rail of an `in` channel whose acknowledge is low brings a value that was offered and hasn't completed. While
 -- a reset node is high these rails are low.
@@ -87,4 +87,4 @@ pub record AreRailsHeld (net : NetValue) (script : List OfferValue) (st : RunSta
       w.channel.kind ≡ In → list_any (λ rail. r == rail) w.rails ≡ true → high st.values r ≡ false
   pub brings : (c n r : ℕ) (w : Wires) → slice_get net.channels c ≡ Some w → w.channel.kind ≡ In →
       high st.values w.ack ≡ false → list_any (λ rail. r == rail) w.rails ≡ true → high st.values r ≡ true →
-      number_of (offer_at script c) ≡ Some n → completed st.histories c < n
+      offered_count (offer_at script c) ≡ Some n → completed st.histories c < n

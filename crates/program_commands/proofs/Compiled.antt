@@ -123,7 +123,8 @@ pub checks_stop : (c : AskedCompilation) (program : ProgramTree) (a : Answer) �
     FromChecks program (λ plain. FromBuffer plain c.buffer Never) a → CompilesProgram c program a
 checks_stop c program a is = checks_as (λ plain also. buffer_goes also) is
 
-pub faithful_file : (c : AskedCompilation) (given : Given) (text : List ℕ) (program : ProgramTree) → Gives given c.file text → length text ≤ most_of_text → IsTextOf text program →
+pub faithful_file : (c : AskedCompilation) (given : Given) (text : List ℕ) (program : ProgramTree) → Gives given c.file text → length text ≤ most_of_text
+    → IsTextOf text program →
     (written : List ℕ) → IsFaithfulTo c program written → given.tells ≡ true → IsFaithfulFile c given written
 faithful_file c given text program gives short read written is told =
     by is.typed is.from.is.form is.bodies is.has is.few is.spells is.faithful

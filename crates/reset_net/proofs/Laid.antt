@@ -1,5 +1,5 @@
 -- A list of guards that is laid out from its front.
-use Rattle.std.proofs.Common.{◌≡◌, ℕ, suc, ◌+◌, ◌-◌, ◌<◌, ◌≤◌, List, [], ◌∷◌, ◌++◌, length, set, map, replicate, refl, ap, sym, ◌∙◌, arith, length-append}
+use Rattle.std.proofs.Common.{◌≡◌, ℕ, suc, ◌+◌, ◌-◌, ◌<◌, ◌≤◌, List, [], ◌∷◌, ◌++◌, length, set, map, replicate, ap, sym, ◌∙◌, arith, length-append}
 use Rattle.std.specs.List.{range_with_len}
 use Rattle.std.proofs.lemmas.List.{append_assoc, set_at, length-replicate}
 use Rattle.std.proofs.lemmas.List.FromFn.{map-range_with_len_more, length-map-range_with_len}
@@ -8,9 +8,6 @@ use Rattle.prs_core.specs.Nets.{GuardValue}
 -- the guards of the nodes below n, and none for the others
 abbrev pub laid : (ℕ → GuardValue) → ℕ → ℕ → List GuardValue
 laid f n total = map f (range_with_len 0 n) ++ replicate (total - n) []
-
-pub laid_none : (f : ℕ → GuardValue) (total : ℕ) → replicate total [] ≡ laid f 0 total
-laid_none f total = ap (λ k. replicate k []) (omega arith)
 
 pub laid_count : (f : ℕ → GuardValue) (n total : ℕ) → n ≤ total → length (laid f n total) ≡ total
 laid_count f n total within = omega (
@@ -29,11 +26,6 @@ laid_more f n total within =
     ∙ set_at (map f (range_with_len 0 n)) [] (replicate (total - (n + 1)) []) (f n) n (length-map-range_with_len f 0 n)
     ∙ sym (append_assoc (map f (range_with_len 0 n)) (f n ∷ []) (replicate (total - (n + 1)) []))
     ∙ ap (λ xs. xs ++ replicate (total - (n + 1)) []) (sym (map-range_with_len_more f 0 n n (omega arith)))
-
-pub laid_all : (f : ℕ → GuardValue) (n : ℕ) → laid f n (n + 1) ≡ map f (range_with_len 0 n) ++ [] ∷ []
-laid_all f n =
-    let one : (n + 1) - n ≡ 1 = omega arith in
-    rw one refl
 
 pub laid_step : (f : ℕ → GuardValue) (n total : ℕ) (xs ys : List GuardValue) (g : GuardValue) → n < total → xs ≡ laid f n total → g ≡ f n → ys ≡ set xs n g →
     ys ≡ laid f (n + 1) total

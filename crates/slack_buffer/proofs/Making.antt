@@ -54,7 +54,8 @@ pub are_parts : (p : ProgramTree) (chan : List ℕ) (k : ℕ) (ds : List Decl) (
 are_parts p chan k ds copy slot v ec es decls items = record {
   decls = decls
       ∙ (ap (λ n. p.decls ++ made_decl declares.Chan n (declared_width p.decls chan) ∷ made_decl declares.Var slot (declared_width p.decls chan) ∷ []) ec
-      ∙ ap (λ n. p.decls ++ made_decl declares.Chan (copy_name k) (declared_width p.decls chan) ∷ made_decl declares.Var n (declared_width p.decls chan) ∷ []) es);
+      ∙ ap (λ n. p.decls ++ made_decl declares.Chan (copy_name k) (declared_width p.decls chan) ∷ made_decl declares.Var n (declared_width p.decls chan) ∷ [])
+      es);
   members = beside_tree v ∙ (ap (λ xs. besides (onto and_member xs no_members)) items
       ∙ (ap (λ n. besides (and_member (rerouted_statement chan n p.body) (and_member (buffer_statement chan n slot) no_members))) ec
       ∙ ap (λ n. besides (and_member (rerouted_statement chan (copy_name k) p.body) (and_member (buffer_statement chan (copy_name k) n) no_members))) es));

@@ -5,7 +5,8 @@ use Rattle.net_pace.proofs.ResetKept.{keeps_time_reset}
 use Rattle.net_pace.proofs.keeps_time_reset.Goals as goal
 
 pub returns-clause-every : goal.returns-clause-every
-returns-clause-every c = λ p is small. keeps_time_reset c.reset_runs.ensures (translation p) p (2 * sweeps_for_round p) (c.whole_nets.ensures p is.typed small) refl
+returns-clause-every c = λ p is small. keeps_time_reset c.reset_runs.ensures (translation p) p (2 * sweeps_for_round p)
+    (c.whole_nets.ensures p is.typed small) refl
     (c.carries.ensures p is) (c.keeps_time.ensures p is small)
 
 pub returns-clause-plain : goal.returns-clause-plain

@@ -8,4 +8,5 @@ pub returns-in-Some-arbiter-clause-some : goal.returns-in-Some-arbiter-clause-so
 returns-in-Some-arbiter-clause-some c end = an_arbiter c.in_default.ensures.none c.in-Some-arbiter.ensures.some
 
 pub returns-in-Some-too_deep-clause-some : goal.returns-in-Some-too_deep-clause-some
-returns-in-Some-too_deep-clause-some c end = too_deep (record { probes = c.in_default.ensures.none; arbiters = c.in_default-arbiter.ensures.none }) c.in-Some-too_deep.ensures.some
+returns-in-Some-too_deep-clause-some c end = too_deep (record { probes = c.in_default.ensures.none; arbiters = c.in_default-arbiter.ensures.none })
+    c.in-Some-too_deep.ensures.some

@@ -1,6 +1,6 @@
 use Rattle.std.proofs.Common.{◌≡◌, vec_capacity}
 use Rattle.net_stream.specs.Places.{IsPlaceOf, places_left}
-use Rattle.net_stream.specs.Rooms.{HasRoom}
+use Rattle.net_stream.specs.Rooms.{HasRoomForLines}
 use Rattle.net_stream.specs.Cursors.{text_left}
 use Rattle.net_stream.proofs.cursor.refresh.Given as goal
 
@@ -9,7 +9,7 @@ invariant-loop-cursor l = record {
   left : text_left l.net l.cursor ≡ text_left l.net l.fn.cursor;
   start : l.cursor.given ≡ 0;
   place : IsPlaceOf l.net l.cursor.place;
-  room : HasRoom l.net (vec_capacity l.cursor.line);
+  room : HasRoomForLines l.net (vec_capacity l.cursor.line);
 }
 
 abbrev pub decreases-loop-cursor : goal.decreases-loop-cursor

@@ -30,7 +30,8 @@ loop-made-init g c =
       net = subst (λ (v : SetupValue). IsNet v.net) c.setup.view_is here;
       driven = begins _ c.args.setup stage c.ask_if.new.stage c.setup.inside.steps c.in_reset-is_in_reset.result c.ask_if.ensures.asked.0 c.args.peer.now
           c.ask_if.new.peer c.first_hazard-hazard.result _ here c.setup.view_is c.setup.invariant c.in_reset-is_in_reset.ensures c.ask_if.ensures.stage
-          c.ask_if.ensures.asked.1 c.ask_if.ensures.offered c.ask_if.ensures.room c.requires.room c.first_hazard-hazard.ensures.hazard c.net-kept.ensures.script;
+          c.ask_if.ensures.asked.1 c.ask_if.ensures.offered c.ask_if.ensures.room c.requires.room c.first_hazard-hazard.ensures.hazard
+          c.net-kept.ensures.script;
       spare = omega arith;
       name = refl;
       nodes = refl;

@@ -12,7 +12,8 @@ invariant-loop-rest l =
       few : length l.told.names.items ≤ 65537;
       count : length l.told.values.items ≡ length l.told.names.items;
       kept : IsSoFar l.told w;
-      told : ComesOn (2 * length t.names.items + 5) (at_changes (wave_of t.names.items t.values.items []) t.time) l.text l.lines (at_changes w l.told.time) l.rest;
+      told : ComesOn (2 * length t.names.items + 5) (at_changes (wave_of t.names.items t.values.items []) t.time) l.text l.lines
+          (at_changes w l.told.time) l.rest;
       short : l.lines + length l.rest ≤ 268566535;
     }
 

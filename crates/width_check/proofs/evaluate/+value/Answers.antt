@@ -93,7 +93,8 @@ returns-in-Not t c = inverted_value (slice_index c.args.store.now) _ _ _ _ _ _ _
 
 pub returns-in-Compare : goal.returns-in-Compare
 returns-in-Compare t c = c.operated.ensures ∙ (compared_value (slice_index c.args.store.now) _ _ _ _ _ _ _ _ _ _ c.in-Compare.is
-    c.deref-in-Compare.ensures c.deref-in-Compare-2.ensures c.deref-in-Compare-3.ensures c.width_of-in-Compare.ensures c.value-in-Compare.ensures c.value-in-Compare-2.ensures c.requires).whole
+    c.deref-in-Compare.ensures c.deref-in-Compare-2.ensures c.deref-in-Compare-3.ensures c.width_of-in-Compare.ensures c.value-in-Compare.ensures
+    c.value-in-Compare-2.ensures c.requires).whole
 
 pub returns-after-loop-link : goal.returns-after-loop-link
 returns-after-loop-link t c = ap (chained_value (slice_index c.args.store.now) c.width_of-width.result c.loop-link.number)
@@ -107,19 +108,23 @@ overflow_sub-high t c = omega (arith, (read_formed _ _ _ _ _ c.in-Read.is c.requ
 
 pub operated-requires-clause-some : goal.operated-requires-clause-some
 operated-requires-clause-some t c = (compared_value (slice_index c.args.store.now) _ _ _ _ _ _ _ _ _ _ c.in-Compare.is
-    c.deref-in-Compare.ensures c.deref-in-Compare-2.ensures c.deref-in-Compare-3.ensures c.width_of-in-Compare.ensures c.value-in-Compare.ensures c.value-in-Compare-2.ensures c.requires).some
+    c.deref-in-Compare.ensures c.deref-in-Compare-2.ensures c.deref-in-Compare-3.ensures c.width_of-in-Compare.ensures c.value-in-Compare.ensures
+    c.value-in-Compare-2.ensures c.requires).some
 
 pub operated-requires-clause-most : goal.operated-requires-clause-most
 operated-requires-clause-most t c = (compared_value (slice_index c.args.store.now) _ _ _ _ _ _ _ _ _ _ c.in-Compare.is
-    c.deref-in-Compare.ensures c.deref-in-Compare-2.ensures c.deref-in-Compare-3.ensures c.width_of-in-Compare.ensures c.value-in-Compare.ensures c.value-in-Compare-2.ensures c.requires).most
+    c.deref-in-Compare.ensures c.deref-in-Compare-2.ensures c.deref-in-Compare-3.ensures c.width_of-in-Compare.ensures c.value-in-Compare.ensures
+    c.value-in-Compare-2.ensures c.requires).most
 
 pub operated-requires-clause-left : goal.operated-requires-clause-left
 operated-requires-clause-left t c = (compared_value (slice_index c.args.store.now) _ _ _ _ _ _ _ _ _ _ c.in-Compare.is
-    c.deref-in-Compare.ensures c.deref-in-Compare-2.ensures c.deref-in-Compare-3.ensures c.width_of-in-Compare.ensures c.value-in-Compare.ensures c.value-in-Compare-2.ensures c.requires).left
+    c.deref-in-Compare.ensures c.deref-in-Compare-2.ensures c.deref-in-Compare-3.ensures c.width_of-in-Compare.ensures c.value-in-Compare.ensures
+    c.value-in-Compare-2.ensures c.requires).left
 
 pub operated-requires-clause-right : goal.operated-requires-clause-right
 operated-requires-clause-right t c = (compared_value (slice_index c.args.store.now) _ _ _ _ _ _ _ _ _ _ c.in-Compare.is
-    c.deref-in-Compare.ensures c.deref-in-Compare-2.ensures c.deref-in-Compare-3.ensures c.width_of-in-Compare.ensures c.value-in-Compare.ensures c.value-in-Compare-2.ensures c.requires).right
+    c.deref-in-Compare.ensures c.deref-in-Compare-2.ensures c.deref-in-Compare-3.ensures c.width_of-in-Compare.ensures c.value-in-Compare.ensures
+    c.value-in-Compare-2.ensures c.requires).right
 
 pub operated-number-requires-clause-some : goal.operated-number-requires-clause-some
 operated-number-requires-clause-some t c = c.loop-link.invariant.some

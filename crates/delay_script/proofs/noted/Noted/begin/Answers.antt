@@ -11,7 +11,8 @@ invariant_of-result c =
     let made = c.in_ok-course.course in
     let slots = vec_capacity made.moves in
     let begun = ready c.in_ok-stage.stage c.args.net c.args.script (power_of c.args.net c.args.high) c.args.delays c.args.high
-    (replicate (length c.first-nodes.result.now) None) made.queue made.moves.items slots c.args.steps (length c.first-nodes.result.now) c.in_ok-stage.ensures refl
+    (replicate (length c.first-nodes.result.now) None) made.queue made.moves.items slots c.args.steps
+    (length c.first-nodes.result.now) c.in_ok-stage.ensures refl
     c.requires.delays (ap length c.first-nodes.ensures.first) refl c.in_ok-course.ensures.queue c.in_ok-course.ensures.moves c.in_ok-course.ensures.slots
     c.requires.steps in
     subst (λ (s : StageValue). IsTimedReady s made.delays made.queue made.moves.items slots c.args.steps c.args.high) (sym c.in_ok-course.ensures.stage)

@@ -16,7 +16,8 @@ invariant_of-result c =
     let x = c.args.indexed in
     let done = c.in_ok-done.done.items in
     let counted : done ≡ map (λ (h : List ℕ). length h) (channel_histories (length x.net.channels) []) =
-    no_counts_are (length x.net.channels) done (c.in_ok-done.ensures.done ∙ ap (λ (ws : List Wires). replicate (length ws) 0) (c.channels-channels.ensures.channels ∙ ap (λ (n : NetValue). n.channels) c.net-2.ensures.net)) in
+    no_counts_are (length x.net.channels) done (c.in_ok-done.ensures.done
+    ∙ ap (λ (ws : List Wires). replicate (length ws) 0) (c.channels-channels.ensures.channels ∙ ap (λ (n : NetValue). n.channels) c.net-2.ensures.net)) in
     let st : RunState = record { values = c.args.state; histories = channel_histories (length x.net.channels) [] } in
     let passing = passing_same x.net x.script st c.deref.result.now c.add_reset.new.moves (c.deref.ensures.value ∙ counted)
     (c.add_reset.ensures c.deref.result.now c.list_ready.ensures) in

@@ -10,5 +10,6 @@ invariant_of-self-2 c =
     c.in_ok-push.ensures.items ∙ ap (λ xs. xs ++ c.args.name ∷ []) c.in_ok-reserve.ensures.items in
     let count : c.len-number.result ≡ length names = c.len-number.ensures ∙ c.self.inside.names.ok.0 in
     let fresh : place_in names c.args.name ≡ None = subst (λ (ns : List (List ℕ)). place_in ns c.args.name ≡ None) (sym c.self.view_is) c.requires.fresh in
-    rw items (one_more_name names c.self.inside.numbers c.insert.new.self c.in_ok-key.key c.args.name c.self.invariant (c.in_ok-key.ensures.items ∙ c.bytes.ensures.bytes)
+    rw items (one_more_name names c.self.inside.numbers c.insert.new.self c.in_ok-key.key c.args.name c.self.invariant
+    (c.in_ok-key.ensures.items ∙ c.bytes.ensures.bytes)
     fresh (rw count at c.in_ok-insert.ensures.updates))
