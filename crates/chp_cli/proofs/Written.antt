@@ -44,7 +44,7 @@ module _ (c : AskedCompilation) (no_fault : (program : ProgramTree) (f : Fault) 
       (buffer_passed IsDone t.plain t.made c.buffer t.buffered (CompilesForm c t.program) (form_written t.program t.bodies t.has t.few))
 
 -- what is written is the text of the program's net
-module _ (c : AskedCompilation) (given : Given) (told : given.tells ≡ true) where
+module _ (c : AskedCompilation) (given : Given) where
   pub written_right : (end : Ending) (text : List ℕ) → Compiles c given (writes end text) → IsFileCompiled c given text
   written_right end text (a_file {text = x} gives short (a_program {program = p} is (accepted {plain = r} means are (has_channel q buffered form)))) =
       let spelled = net_spelled c.reset form.bodies end text form.net in record {
@@ -52,7 +52,7 @@ module _ (c : AskedCompilation) (given : Given) (told : given.tells ≡ true) wh
         program = p;
         plain = r;
         made = q;
-        held = gives told;
+        gives = gives;
         short = short;
         reads = is;
         means = means;

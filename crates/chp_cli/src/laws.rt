@@ -60,7 +60,7 @@ pub fn one_answer()
 /// passes is the law `meant_buffers_are_right`, and that the net carries the program a clause of the call that
 /// compiles.)
 pub fn compiled_right()
-    ensures { (c : AskedCompilation) (given : Given) → given.tells ≡ true → (end : Ending) (text : List ℕ) →
+    ensures { (c : AskedCompilation) (given : Given) (end : Ending) (text : List ℕ) →
         Compiles c given (writes end text) → IsFileCompiled c given text }
 {}
 

@@ -67,7 +67,7 @@ fn answer<'a, S: Shelf>(
     ensures answered { IfOk result (λ reply. IsAnswer (asked command.now) (given_of S.Shelf shelf.old)
         (handed_of Picker-box Peer-box players.old players.new) (told_reply reply)) }
     ensures carried { IfOk result (λ reply. (c : AskedCompilation) → asked command.now ≡ compiles c →
-        S.tells shelf.old ≡ true → IsFaithfulFile c (given_of S.Shelf shelf.old) (reply_bytes reply)) }
+        IsFaithfulFile c (given_of S.Shelf shelf.old) (reply_bytes reply)) }
     ensures shown { IfOk result (λ reply. (run : AskedRun) → asked command.now ≡ simulates run → AsksOrder
         (picker_seen Picker-box) run (given_of S.Shelf shelf.old) players.old.orders.items players.new.orders.items) }
     ensures stopped { IfErr result (Stops (IsAnswer (asked command.now) (given_of S.Shelf shelf.old)
@@ -115,7 +115,7 @@ fn run<'a, S: Shelf, K: Sink>(
         (handed_of Picker-box Peer-box players.old players.new) (S.faults shelf.old) (S.faults shelf.new)
         (K.faults out.old) (K.faults out.new) (end_status result) appended (end_line result)
         × IsAppended K.Sink out.old out.new appended }
-    ensures carried { (c : AskedCompilation) → asked_by words.now ≡ Some (compiles c) → S.tells shelf.old ≡ true →
+    ensures carried { (c : AskedCompilation) → asked_by words.now ≡ Some (compiles c) →
         end_status result ≡ Status.Done → (file : List ℕ) × IsAppended K.Sink out.old out.new file
         × IsFaithfulFile c (given_of S.Shelf shelf.old) file }
     ensures shown { (run : AskedRun) → asked_by words.now ≡ Some (simulates run) → is_whole (end_status result) ≡ true →
@@ -153,9 +153,9 @@ fn run<'a, S: Shelf, K: Sink>(
 /// served with, and the order and the device that it asks for are there, the answer is to write. All that is said of
 /// files here and below is so where the shelf is observable.
 ///
-/// The rule file that `compile` writes is the one text of a net that carries the file's program, with `--buffer` the
-/// program with the buffer, and keeps pace with it. This is said where the shelf is observable and the status is 0; and
-/// that it is this file which was written, where the output is observable.
+/// The rule file that `compile` writes, with status 0, is the one text of a net that carries the program of the text
+/// that it read, with `--buffer` the program with the buffer, and keeps pace with it. That this is the text of the file
+/// is said where the shelf is observable; and that it is this rule file which was written, where the output is.
 ///
 /// A run of a rule file that `compile` wrote, by an order, by delays or written as a wave, finds no hazard under any
 /// script, and compared with its own program it agrees. Compared with that or with none it ends well, but for a fault
@@ -211,8 +211,8 @@ pub fn chp_main<S: Shelf, K: Sink, W: Sink>(
     ensures unasked { StaysUnasked result players.old players.new }
     ensures shown { (run : AskedRun) → asked_by words.now ≡ Some (simulates run) → is_whole result ≡ true → AsksOrder
         (picker_seen Picker-box) run (given_of S.Shelf shelf.old) players.old.orders.items players.new.orders.items }
-    ensures carried { (c : AskedCompilation) → asked_by words.now ≡ Some (compiles c) → S.tells shelf.old ≡ true →
-        result ≡ Status.Done → (file : List ℕ) × IsAppended K.Sink out.old out.new file
+    ensures carried { (c : AskedCompilation) → asked_by words.now ≡ Some (compiles c) → result ≡ Status.Done →
+        (file : List ℕ) × IsAppended K.Sink out.old out.new file
         × IsFaithfulFile c (given_of S.Shelf shelf.old) file }
     ensures calm { (p : TypedProgram) → S.tells shelf.old ≡ true →
         RunsCompiled (asked_by words.now) (given_of S.Shelf shelf.old) p → result ≢ Status.Hazard }

@@ -1,5 +1,5 @@
 -- What the net of a program that is compiled is, and that its text is written.
-use Rattle.std.proofs.Common.{◌≡◌, ◌≤◌, ℕ, true, List, length, Option, Some, None, refl, sym, subst}
+use Rattle.std.proofs.Common.{◌≡◌, ◌≤◌, ℕ, List, length, Option, Some, None, refl, sym, subst}
 use Rattle.std.specs.Prelude.{Result, Ok, Err, IfOk, IfErr, OnOk, IsOk}
 use Rattle.net_compose.specs.declared.net.NetError.{NetError}
 use Rattle.net_compose.specs.declared.net.NetError.TheVariants.{NoMemory, TooManyNodes}
@@ -125,8 +125,8 @@ checks_stop c program a is = checks_as (λ plain also. buffer_goes also) is
 
 pub faithful_file : (c : AskedCompilation) (given : Given) (text : List ℕ) (program : ProgramTree) → Gives given c.file text → length text ≤ most_of_text
     → IsTextOf text program →
-    (written : List ℕ) → IsFaithfulTo c program written → given.tells ≡ true → IsFaithfulFile c given written
-faithful_file c given text program gives short read written is told =
+    (written : List ℕ) → IsFaithfulTo c program written → IsFaithfulFile c given written
+faithful_file c given text program gives short read written is =
     by is.typed is.from.is.form is.bodies is.has is.few is.spells is.faithful
   where
     by : (p : TypedProgram) → p ≡ typed_form is.from.is.made → (bodies : Bodies p) → HasBodies program c.buffer bodies
@@ -141,7 +141,7 @@ faithful_file c given text program gives short read written is told =
             plain = is.from.plain;
             made = is.from.is.made;
             bodies = bodies;
-            held = gives told;
+            gives = gives;
             short = short;
             reads = read;
             means = is.from.means;

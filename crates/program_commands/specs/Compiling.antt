@@ -9,7 +9,7 @@ use Rattle.width_check.specs.Form.{typed_form}
 use Rattle.width_check.specs.Processes.{TypedProgram}
 use Rattle.command_answers.specs.declared.answer.Ending.TheVariants.{Done}
 use Rattle.command_answers.specs.declared.status.Status.TheVariants.{TooLarge}
-use Rattle.command_answers.specs.Answers.{Given, Answer, writes, refuses}
+use Rattle.command_answers.specs.Answers.{Given, Gives, Answer, writes, refuses}
 use Rattle.command_answers.specs.Lines.{nodes_line}
 use Rattle.command_steps.specs.BufferSteps.{FromBuffer, IsBuffered}
 use Rattle.command_steps.specs.HeldBuffered.{IsBufferedFrom}
@@ -41,16 +41,16 @@ Compiles c given = FromFile given c.file most_of_text (λ text. FromProgram text
 
 -- ---- what follows from that
 
--- The file holds a text within the limit that reads as a program, and as no other one; the program that it means is
--- accepted; and what is written is the one text of its net, or of that of this program with a buffer on the channel
--- that is named.
+-- The file's text, which is what the shelf holds where that can be seen, is within the limit and reads as a program,
+-- and as no other one; the program that it means is accepted; and what is written is the one text of its net, or of
+-- that of this program with a buffer on the channel that is named.
 pub record IsFileCompiled (c : AskedCompilation) (given : Given) (written : List ℕ) : Type 0 where
   pub text : List ℕ
   pub program : ProgramTree
   pub plain : ProgramTree
   pub made : ProgramTree
   pub bodies : Bodies (typed_form made)
-  pub held : given.files c.file ≡ Some text
+  pub gives : Gives given c.file text
   pub short : length text ≤ most_of_text
   pub reads : IsTextOf text program
   pub means : Means program plain

@@ -146,7 +146,7 @@ pub fn compile<'a, S: Shelf>(
 ) -> Result<Reply, Stop<'a>>
     ensures answered { IfOk result (λ reply. Compiles (compilation_asked asked.now)
         (given_by (S.tells shelf.old) (S.holds shelf.old)) (told_reply reply)) }
-    ensures carried { IfOk result (λ reply. S.tells shelf.old ≡ true → IsFaithfulFile (compilation_asked asked.now)
+    ensures carried { IfOk result (λ reply. IsFaithfulFile (compilation_asked asked.now)
         (given_by (S.tells shelf.old) (S.holds shelf.old)) (reply_bytes reply)) }
     ensures stopped { IfErr result (Stops (Compiles (compilation_asked asked.now)
         (given_by (S.tells shelf.old) (S.holds shelf.old))) (asked.now.file.now ∷ [])

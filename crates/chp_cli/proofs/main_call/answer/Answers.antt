@@ -31,9 +31,9 @@ returns-in-Compile-clause-carried g c =
     let given = given_of g.S.Shelf c.args.shelf.now in
     let own : asked c.args.command.now ≡ compiles (compilation_asked c.in-Compile.asked) = rw c.in-Compile.is refl in
     ok_in c.compile.result _ _
-    (λ reply is compilation named told.
+    (λ reply is compilation named.
     let same : compilation_asked c.in-Compile.asked ≡ compilation = cc (own, named) in
-    subst (λ (x : AskedCompilation). IsFaithfulFile x given (reply_bytes reply)) same (is told))
+    subst (λ (x : AskedCompilation). IsFaithfulFile x given (reply_bytes reply)) same is)
     c.compile.ensures.carried
 
 pub returns-in-Compile-clause-stopped : goal.returns-in-Compile-clause-stopped

@@ -40,7 +40,7 @@ returns-clause-silent g c = λ not cut told.
     e.2 told ∙ ap (λ xs. g.K.Sink.written c.args.out.now ++ xs) none
 
 pub returns-clause-carried : goal.returns-clause-carried
-returns-clause-carried g c = λ compilation named told done. c.run-end.ensures.carried compilation named told (sym c.status.ensures ∙ done)
+returns-clause-carried g c = λ compilation named done. c.run-end.ensures.carried compilation named (sym c.status.ensures ∙ done)
 
 pub returns-clause-calm : goal.returns-clause-calm
 returns-clause-calm g c = λ p told runs is.

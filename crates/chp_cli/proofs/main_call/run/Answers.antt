@@ -56,13 +56,13 @@ stop_not_done (stopped.Unread name) = λ e. cc
 stop_not_done stopped.NoMemory = λ e. cc
 
 pub returns-in-Err-answer-clause-carried : goal.returns-in-Err-answer-clause-carried
-returns-in-Err-answer-clause-carried g c = λ compilation named told done. absurd (stop_not_done c.in-Err-answer.stop done)
+returns-in-Err-answer-clause-carried g c = λ compilation named done. absurd (stop_not_done c.in-Err-answer.stop done)
 
 pub returns-in-Ok-write-clause-carried : goal.returns-in-Ok-write-clause-carried
-returns-in-Ok-write-clause-carried g c = λ compilation named told done.
+returns-in-Ok-write-clause-carried g c = λ compilation named done.
     let own : asked_by c.args.words.now ≡ Some (asked c.in-Ok-Some.command) = search rules in
     let same : asked c.in-Ok-Some.command ≡ compiles compilation = cc (own, named) in
-    (reply_bytes c.in-Ok.reply, c.in-Ok-write.ensures.whole, c.in-Ok.ensures.carried compilation same told)
+    (reply_bytes c.in-Ok.reply, c.in-Ok-write.ensures.whole, c.in-Ok.ensures.carried compilation same)
 
 -- nor is it all written where it stops
 stop_not_whole : (stop : Stop) → ¬ (is_whole (stop_status stop) ≡ true)
