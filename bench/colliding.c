@@ -4,7 +4,8 @@
      colliding string|bytes LENGTH COUNT     prints so many names of so many characters (5 to 32), a line each
 
    `string` goes by what a String feeds the hasher (its bytes at once, then a byte 255), `bytes` by what a slice of bytes feeds it (its
-   length, then byte by byte). The hasher is FoldHasher of Rattle's std, whose first state is fixed. bench/hostile builds and calls this. */
+   length, then byte by byte). The hasher is FoldHasher of Rattle's std, whose first state is fixed. Words are read in the machine's
+   order of bytes, which has to be that of the hasher, the lowest first. bench/hostile builds and calls this. */
 #include <stdint.h>
 #include <stdio.h>
 #include <stdlib.h>
@@ -43,7 +44,7 @@ static uint64_t written(uint64_t state, const unsigned char *bytes, size_t n) {
     state += n;
     for (size_t block = 0; block < (n - 1) / 16; block++)
         state = fold(word(bytes + 16 * block) ^ state, word(bytes + 16 * block + 8) ^ OTHER);
-    return fold(word(bytes + n - 16) ^ state, word(bytes + n - 8) ^ OTHER);
+    return fold(word(bytes + (n > 16 ? n - 16 : 0)) ^ state, word(bytes + n - 8) ^ OTHER);
 }
 
 static uint64_t hash(int of_string, const unsigned char *name, size_t n) {
@@ -60,7 +61,7 @@ static uint64_t hash(int of_string, const unsigned char *name, size_t n) {
 }
 
 int main(int argc, char **argv) {
-    if (argc != 4)
+    if (argc != 4 || (strcmp(argv[1], "string") != 0 && strcmp(argv[1], "bytes") != 0))
         return 2;
     int of_string = strcmp(argv[1], "string") == 0;
     size_t n = strtoul(argv[2], 0, 10);

@@ -1,4 +1,4 @@
--- One result after another: what is so where both are well.
+-- Two items that are pushed onto an empty list.
 use Rattle.std.proofs.Common.{◌≡◌, List, [], ◌∷◌, ◌++◌, ap, ◌∙◌}
 
 pub two_pushed : {X : Type 0} (start one two : List X) (a b : X) → start ≡ [] → one ≡ start ++ a ∷ [] → two ≡ one ++ b ∷ [] → two ≡ a ∷ b ∷ []

@@ -199,10 +199,6 @@ branches_made request ls ss hs a b c same first second =
     second ∙ ap (with_owned (owned_at ss (starts ls hs))) first ∙ sym (with_owned_append (owned_at ls (latches request hs)) (owned_at ss (starts ls hs)) a)
     ∙ ap (λ os. with_owned os a) (sym (owned_append ls ss (latches request hs) (starts ls hs) count))
 
-pub record BranchesApart (node : ℕ) (ls ss : List ℕ) : Type 0 where
-  pub latches : All (λ n. n ≢ node) ls
-  pub started : All (λ n. n ≢ node) ss
-
 abbrev select_first : (request answer eval any : ℕ) → (ls ans : List ℕ) → List Owned
 select_first request answer eval any ls ans =
     owned answer (joined_answer any ans) ∷ owned eval (evaluation request any) ∷ owned any (or_of ls) ∷ []
@@ -229,12 +225,6 @@ select_made p a b c d e f are first second third fourth fifth =
     ∙ ap (with_owned (owned_at (p.latches.items ++ p.starts.items) (latches p.request hs ++ starts p.latches.items hs))) (third
     ∙ ap (with_rules p.any (or_of p.latches.items)) (second ∙ ap (with_rules p.eval (evaluation p.request p.any)) first))
     ∙ ap (λ os. with_owned os a) (sym (select_lists_are p are))
-
-pub record SelectApart (node : ℕ) (p : SelectPorts) : Type 0 where
-  pub answer : node ≢ p.answer
-  pub eval : node ≢ p.eval
-  pub any : node ≢ p.any
-  pub branches : BranchesApart node p.latches.items p.starts.items
 
 abbrev again_six : AgainPorts → List Pair → List Owned
 again_six p hs =
@@ -272,15 +262,6 @@ again_made p a g h i are first second third =
     branches_made p.loop_request p.latches.items p.starts.items hs g h i same second third
     ∙ ap (with_owned (owned_at (p.latches.items ++ p.starts.items) (latches p.loop_request hs ++ starts p.latches.items hs))) first
     ∙ ap (λ os. with_owned os a) (sym (again_lists_are p are))
-
-pub record AgainApart (node : ℕ) (p : AgainPorts) : Type 0 where
-  pub answer : node ≢ p.answer
-  pub turn : node ≢ p.loop_request
-  pub joined : node ≢ p.joined
-  pub eval : node ≢ p.eval
-  pub any : node ≢ p.any
-  pub leave : node ≢ p.leave
-  pub branches : BranchesApart node p.latches.items p.starts.items
 
 -- which nodes are own
 branches_among : (request : ℕ) (ls ss : List ℕ) (hs : List Pair) → length hs ≡ length ls →

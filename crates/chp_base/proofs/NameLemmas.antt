@@ -1,4 +1,4 @@
--- A name in a program is a node's name too.
+-- The parts of words are parts of nodes' names too.
 use Rattle.std.proofs.Common.{◌≡◌, ℕ, Bool, true, false, List, [], ◌∷◌, refl}
 use Rattle.std.specs.Prelude.{◌&&◌, ◌||◌, ◌==◌}
 use Rattle.std.specs.List.{list_all}
@@ -20,7 +20,6 @@ either_true : (a b : Bool) → a ≡ true → (a || b) ≡ true
 either_true true b x = refl
 either_true false b x = absurd (cc x)
 
--- the parts of words are parts of nodes' names
 pub node_parts : (bs : List ℕ) → list_all word_part bs ≡ true → list_all node_part bs ≡ true
 node_parts [] h = refl
 node_parts (b ∷ bs) h =

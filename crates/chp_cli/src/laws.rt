@@ -53,12 +53,12 @@ pub fn one_answer()
     wave_file::laws::one_causes_text();
 }
 
-/// Law: what `compile` writes for a file is the one text of the net of what the one program means that its text reads
-/// as: of this program itself, where it has neither procedures nor calls. What it means is accepted. Of a text with
-/// procedures it is the net in which all calls of a procedure share one body. Where a buffer is asked for, it is that
-/// of what the program means with the buffer, in which each call has a copy of its own. (That the buffer keeps what
-/// passes is the law `meant_buffers_are_right`, and that the net carries the program a clause of the call that
-/// compiles.)
+/// Law: what `compile` writes is the one text of the net of what the one program means that a text reads as, which is
+/// the file's where the shelf is observable: of this program itself, where it has neither procedures nor calls. What it
+/// means is accepted. Of a text with procedures it is the net in which all calls of a procedure share one body. Where a
+/// buffer is asked for, it is that of what the program means with the buffer, in which each call has a copy of its own.
+/// (That the buffer keeps what passes is the law `meant_buffers_are_right`, and that the net carries the program a
+/// clause of the call that compiles.)
 pub fn compiled_right()
     ensures { (c : AskedCompilation) (given : Given) (end : Ending) (text : List ℕ) →
         Compiles c given (writes end text) → IsFileCompiled c given text }

@@ -151,11 +151,11 @@ fn run<'a, S: Shelf, K: Sink>(
 /// fails at a file of the command (`Read`), the output fails before its end (`Write`), or it is out of memory
 /// (`NoMemory`), which may come at any point and has a status of its own. Where the files hold what the command is
 /// served with, and the order and the device that it asks for are there, the answer is to write. All that is said of
-/// files here and below is so where the shelf is observable.
+/// files here and below is so where the shelf is observable, but for what comes next.
 ///
-/// The rule file that `compile` writes, with status 0, is the one text of a net that carries the program of the text
-/// that it read, with `--buffer` the program with the buffer, and keeps pace with it. That this is the text of the file
-/// is said where the shelf is observable; and that it is this rule file which was written, where the output is.
+/// The rule file that `compile` writes, with status 0, is the one text of a net that carries the program of a text
+/// within the limit, with `--buffer` the program with the buffer, and keeps pace with it. This text is the file's where
+/// the shelf is observable; and that it is this rule file which was written is said where the output is.
 ///
 /// A run of a rule file that `compile` wrote, by an order, by delays or written as a wave, finds no hazard under any
 /// script, and compared with its own program it agrees. Compared with that or with none it ends well, but for a fault

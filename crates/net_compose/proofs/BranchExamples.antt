@@ -1,5 +1,5 @@
 -- Nets whose branches are of many nodes, written out from the tables of own nodes and of each construct's rules; the
--- definition gives the same.
+-- definition gives the same. The rows that a selection and a repetition have in common are written once, with where they stand.
 use Rattle.std.proofs.Common.{◌≡◌, ℕ, ◌+◌, true, false, List, [], ◌∷◌, ◌++◌, refl}
 use Rattle.chp_base.specs.declared.channel.Kind.TheVariants.{In, Out}
 use Rattle.chp_syntax.specs.declared.tree.Op.TheVariants as op

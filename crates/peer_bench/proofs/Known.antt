@@ -13,10 +13,6 @@ noted_none was is e = record {
   same = λ none. e;
 }
 
--- of an offer
-
--- and of a readiness
-
 -- of what it took
 
 pub took_noted : (was is : PeerValue) (at chan value : ℕ) (b : Bool) → b ≡ true → HasNoted (Took at chan value ∷ []) was is →

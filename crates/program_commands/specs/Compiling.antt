@@ -41,8 +41,8 @@ Compiles c given = FromFile given c.file most_of_text (λ text. FromProgram text
 
 -- ---- what follows from that
 
--- The file's text, which is what the shelf holds where that can be seen, is within the limit and reads as a program,
--- and as no other one; the program that it means is accepted; and what is written is the one text of its net, or of
+-- A text, which is the file's where the shelf is observable, is within the limit and reads as a program, and as no
+-- other one; the program that it means is accepted; and what is written is the one text of its net, or of
 -- that of this program with a buffer on the channel that is named.
 pub record IsFileCompiled (c : AskedCompilation) (given : Given) (written : List ℕ) : Type 0 where
   pub text : List ℕ
@@ -71,8 +71,8 @@ pub record IsFaithfulTo (c : AskedCompilation) (program : ProgramTree) (written 
   pub spells : NetText written (net_for c.reset bodies)
   pub faithful : IsFaithful c.reset bodies
 
--- what is written is the one text of the net of the file's program, or of that with the buffer, which has the shape of
--- the grammar; and this net carries that program, and keeps pace with it
+-- what is written is the one text of the net of such a text's program, or of that with the buffer, which has the shape
+-- of the grammar; and this net carries that program, and keeps pace with it
 pub record IsFaithfulFile (c : AskedCompilation) (given : Given) (written : List ℕ) : Type 0 where
   pub file : IsFileCompiled c given written
   pub shaped : IsShaped file.made
