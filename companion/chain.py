@@ -46,7 +46,7 @@ class Cycles:
 @dataclass
 class Profile:
     """Where the time of a run goes: the whole chain of causes, as the numbers of its moves from 0, and the part of it
-    between two times; its time by owner and by the turns of each loop; how much later each statement could answer; the
+    between two times; its time by owner and by the turns of each loop; of each owner the least slack of its moves; the
     channels."""
 
     begin: int
@@ -55,7 +55,7 @@ class Profile:
     chain: list[int]
     owners: dict[Owner, Share] = field(default_factory=dict)
     turns: dict[Part, dict[int, Share]] = field(default_factory=dict)
-    slack: dict[Part, float] = field(default_factory=dict)
+    slack: dict[Owner, float] = field(default_factory=dict)
     channels: dict[str, Cycles] = field(default_factory=dict)
 
     def time(self) -> int:
@@ -72,9 +72,11 @@ def profile_of(net: Net, tree: Tree, wave: Wave, end: int, start: int | None) ->
     whole = chain_to(replay, end)
     chain = [move for move in whole if start is None or move > start]
     made = Profile(begin, wave.changes[end].time, whole, chain)
-    on_chain, turns = set(made.chain), Turns(net, tree)
+    on_chain, turns, late = set(made.chain), Turns(net, tree), latest(replay, wave, end)
     for move, change in enumerate(wave.changes):
         turns.note(change.node, change.value)
+        if start is None or move > start:
+            made.slack[owners[move]] = min(made.slack.get(owners[move], UNBOUNDED), late[move] - change.time)
         if move not in on_chain:
             continue
         cause = replay.cause[move]
@@ -82,22 +84,8 @@ def profile_of(net: Net, tree: Tree, wave: Wave, end: int, start: int | None) ->
         made.owners.setdefault(owners[move], Share()).add(since, change.time)
         for loop, turn in turns.loops(owners[move]):
             made.turns.setdefault(loop, {}).setdefault(turn, Share()).add(since, change.time)
-    late = latest(replay, wave, end)
-    note_slack(made, tree, wave, late, start)
     for channel in net.channels:
         moves = [number - 1 for number in passes(wave, channel.name)]
         times = [wave.changes[move].time for move in moves]
         made.channels[channel.name] = Cycles(times, [late[move] - wave.changes[move].time for move in moves])
     return made
-
-
-def note_slack(made: Profile, tree: Tree, wave: Wave, late: list[float], start: int | None) -> None:
-    """Notes for each statement the least slack of the rises of its answer since the move `start`."""
-    answers: dict[str, list[Part]] = {}
-    for part in tree.walk():
-        answers.setdefault(part.answer, []).append(part)
-    for move, change in enumerate(wave.changes):
-        if change.value != "1" or start is not None and move <= start:
-            continue
-        for part in answers.get(change.node, []):
-            made.slack[part] = min(made.slack.get(part, UNBOUNDED), late[move] - change.time)

@@ -69,7 +69,8 @@ def table(found: list[Event], in_hex: bool, with_ends: bool) -> list[str]:
     lines = aligned(rows, 0)
     if not with_ends:
         return lines
-    return [f"{line}  {told}".rstrip() for line, told in zip(lines, ["statement", *(" and ".join(it.ends) for it in found)])]
+    ends = ["statement", *(" and ".join(it.ends) for it in found)]
+    return [f"{line}  {told}".rstrip() for line, told in zip(lines, ends)]
 
 
 def parser() -> Parser:

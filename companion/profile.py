@@ -5,12 +5,11 @@ from __future__ import annotations
 import sys
 from collections.abc import Sequence
 
-from companion.chain import UNBOUNDED, Cycles, Profile, profile_of
+from companion.chain import UNBOUNDED, Cycles, Profile, Share, profile_of
 from companion.compiled import compiled
-from companion.machine import write_json
+from companion.machine import Value, write_json
 from companion.options import Parser, natural
 from companion.owners import Owner
-from companion.parts import Part
 from companion.program import Refusal
 from companion.scene import Scene
 from companion.stat import aligned, joined
@@ -21,9 +20,9 @@ from companion.waves import Wave, causes_of, wave_of
 ABOUT = """\
 Where the time of a timed run goes: the chain of causes of its last move (or of a value, or a node's
 move), each move the cause of the next, folded by statement and by turn of a loop, the longest first.
-Beside it stands the slack: how much later the statement's answer could rise at its tightest, with the
-end no later. Then the channels: the least, the mean and the greatest time from one value to the
-next, and the slack of their values. PRS is what `chpc compile F` writes."""
+Of what is off the chain it tells the slack, which is how much later its moves could come with the end
+no later; and of the channels the least, the mean and the greatest time from one value to the next,
+and the slack of their values. PRS is what `chpc compile F` writes."""
 TURNS = 3  # turns that are told of each loop
 
 
@@ -57,7 +56,7 @@ def spread(cycles: Cycles, begin: int) -> list[str]:
 
 
 def shown(slack: float) -> str:
-    """A slack as a cell: a dash where the end doesn't wait for it."""
+    """A slack as a cell: a dash where it has no bound, since the end doesn't wait for it."""
     return "-" if slack == UNBOUNDED else str(int(slack))
 
 
@@ -70,18 +69,26 @@ def range_of(cycles: Cycles, begin: int) -> str:
     return shown(min(known)) if min(known) == max(found) else f"{shown(min(known))}..{shown(max(known))}"
 
 
+def percent(share: Share, it: Profile) -> str:
+    """A share of the whole time."""
+    return f"{100 * share.time / max(1, it.time()):.0f}%"
+
+
+def cut(rows: list[list[str]], most: int) -> list[str]:
+    """Rows as lines, below the first one at most so many; and how many more there are."""
+    return joined(rows[: most + 1]) + [f".. and {len(rows) - 1 - most} more"] * (len(rows) - 1 > most)
+
+
 def statements(scene: Scene, it: Profile, most: int) -> list[str]:
-    """The lines of statements: those on the chain, then the others by their slack."""
+    """The lines of statements: those on the chain by their time, and the others by their slack."""
     on = sorted(it.owners.items(), key=lambda each: -each[1].time)
-    off = sorted(((part, slack) for part, slack in it.slack.items() if part not in it.owners), key=lambda each: each[1])
-    rows = []
-    for owner, share in on:
-        slack = shown(it.slack[owner]) if isinstance(owner, Part) and owner in it.slack else ""
-        percent = f"{100 * share.time / max(1, it.time()):.0f}%"
-        rows.append([str(share.time), percent, str(share.moves), slack, named(scene, owner)])
-    rows += [["0", "0%", "0", shown(slack), named(scene, part)] for part, slack in off]
-    lines = joined([["time", "share", "moves", "slack", "statement"], *rows[:most]])
-    return lines + [f".. and {len(rows) - most} more"] * (len(rows) > most)
+    rows = [[str(share.time), percent(share, it), str(share.moves), named(scene, owner)] for owner, share in on]
+    lines = cut([["time", "share", "moves", "statement on the chain"], *rows], most)
+    off = sorted((each for each in it.slack.items() if each[0] not in it.owners), key=lambda each: each[1])
+    if off:
+        rows = [[shown(slack), named(scene, owner)] for owner, slack in off]
+        lines += ["", *cut([["slack", "statement off the chain"], *rows], most)]
+    return lines
 
 
 def turns(scene: Scene, it: Profile, paint: Paint) -> list[str]:
@@ -93,8 +100,7 @@ def turns(scene: Scene, it: Profile, paint: Paint) -> list[str]:
         count = f"{len(times)} turn{'' if len(times) == 1 else 's'}"
         lines.append(f"{count}, {min(times)}..{max(times)}, mean {sum(times) / len(times):.1f}: {named(scene, loop)}")
         for turn, share in sorted(shares.items(), key=lambda each: -each[1].time)[:TURNS]:
-            percent = 100 * share.time / max(1, it.time())
-            lines.append(f"  turn {turn}: {share.time}, {percent:.0f}%, from {share.begin} to {share.end}")
+            lines.append(f"  turn {turn}: {share.time}, {percent(share, it)}, from {share.begin} to {share.end}")
     return [paint.bold("turns of loops on the chain")] * bool(lines) + lines
 
 
@@ -106,29 +112,27 @@ def channels(it: Profile) -> list[str]:
     return aligned(rows, len(rows[0]))
 
 
-def as_json(scene: Scene, it: Profile) -> dict[str, object]:
+def as_json(scene: Scene, it: Profile) -> dict[str, Value]:
     """The whole profile for other programs; a slack that is null has no bound."""
 
     def bounded(slack: float) -> int | None:
         return None if slack == UNBOUNDED else int(slack)
 
-    owners: dict[Owner, object] = {**it.owners, **{part: None for part in it.slack if part not in it.owners}}
-    found = []
-    for owner in owners:
-        share = it.owners.get(owner)
-        told = {"statement": named(scene, owner), "time": share.time if share else 0}
-        told["moves"] = share.moves if share else 0
-        found.append(told | ({"slack": bounded(it.slack[owner])} if owner in it.slack else {}))
-    loops = [
+    found: list[Value] = []
+    for owner in sorted(it.slack, key=lambda each: -it.owners.get(each, Share()).time):
+        share = it.owners.get(owner, Share())
+        told = {"statement": named(scene, owner), "time": share.time, "moves": share.moves}
+        found.append(told | {"slack": bounded(it.slack[owner])})
+    loops: list[Value] = [
         {"loop": named(scene, loop), "turns": [{"turn": turn, **vars(share)} for turn, share in shares.items()]}
         for loop, shares in it.turns.items()
     ]
-    passed = {
+    passed: Value = {
         name: {"times": cycles.times, "slack": [bounded(slack) for slack in cycles.slack]}
         for name, cycles in it.channels.items()
     }
-    return {"begin": it.begin, "end": it.end, "moves": len(it.chain), "statements": found, "loops": loops,
-            "channels": passed}
+    made: dict[str, Value] = {"begin": it.begin, "end": it.end, "moves": len(it.chain), "statements": found}
+    return made | {"loops": loops, "channels": passed}
 
 
 def checked(chain: list[int], wave: Wave, told: list[str]) -> None:

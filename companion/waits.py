@@ -53,6 +53,9 @@ def wait_on_channel(scene: Scene, wait: Wait) -> None:
     count = f"{passed} value{' has' if passed == 1 else 's have'} passed"
     if is_send:
         wait.lines.append(f"it offers {scene.value(name, channel.width)} on {name}")
+    if scene.values[f"{name}.a"] == "1" and not scene.is_still():
+        wait.lines.append(f"the value has passed on {name}, and its handshake isn't over: {count}")
+        return
     if channel.kind != "chan":
         wait.outside = True
         does = "takes no more" if is_send else "sends no more"
