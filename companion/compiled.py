@@ -38,9 +38,9 @@ def compiled(rules: str, source: str, buffer: str | None) -> Compiled:
     if made != data:
         if list(read_net(made.decode("latin-1"), source).first) != list(net.first):
             raise Refusal(f"{rules} isn't the rule file of {source}{with_what(net, buffer)}: its nodes are others")
-        notes.append(
-            f"note: {rules} has the nodes of {source}, but isn't what `compile` writes: its rules were changed"
-        )
+        other = ", or the buffer is on another channel" if buffer is not None else ""
+        written = "isn't what `compile` writes: its rules were changed"
+        notes.append(f"note: {rules} has the nodes of {source}, but {written}{other}")
     tree = tree_for(source, net, buffer)
     fit = fitted(options.read(source), source, tree, net, buffer)
     return Compiled(net, tree, fit, notes + ([f"note: {fit.why}"] if fit.why else []))

@@ -54,7 +54,7 @@ class Events(Case):
     def test_wrong_until(self) -> None:
         for asked, said in (
             ("R:4", "3 values passed on R in this run of 1022 moves, so there is no value 4"),
-            ("R:0", "so there is no value 0"),
+            ("R:0", "--until wants a channel and a number, as R:3"),
             ("R", "--until wants a channel and a number, as R:3"),
             ("Q:1", "there is no channel Q; the channels are L, M, R"),
         ):
@@ -114,7 +114,7 @@ class Cover(Case):
         self.has(out, [
             "f.chp:12:8: this guard was never true, so its arm was never taken: o = 1\n",
             "   12 |     [] o = 1 -> R!a - b]]\n      |        ^^^^^\n",
-            "statements begun: 7 of 8\narms taken: 1 of 2\nguards true: 1 of 2\nchannels used: 4 of 4\n",
+            "statements begun: 8 of 9\narms taken: 1 of 2\nguards true: 1 of 2\nchannels used: 4 of 4\n",
         ])
         self.assertNotIn("never begun", out)
         self.assertEqual(self.cover(ALU, "O: 0 0\nA: 3 7\nB: 4 2\n", ALU_SCRIPT, "O: 1\nA: 1\nB: 1\n")[0], 0)
