@@ -136,9 +136,9 @@ def statuses() -> dict[int, tuple[str, str]]:
 
 @functools.cache
 def wrote() -> dict[str, Wrote]:
-    """The rows of "you wrote, write instead", by their first cells."""
+    """The rows of "you wrote, write instead" and of the same for procedures, by their first cells."""
     found = {}
     for table in tables(LANGUAGE):
-        for row in table.rows if table.columns[0] == "You wrote" else []:
+        for row in table.rows if table.columns[0] in ("You wrote", "A procedure written otherwise") else []:
             found[row[0]] = Wrote(row[0], table.get(row, "Write instead"))
     return found

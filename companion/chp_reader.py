@@ -13,7 +13,7 @@ class Statements(Reader):
         """Several members as one statement; one member alone is that member."""
         if len(members) == 1:
             return members[0]
-        return Stmt(kind, members[0].start, members[-1].end, children=members)
+        return Stmt(kind, members[0].opened, members[-1].closed, children=members)
 
     def parallel(self) -> Stmt:
         """Branches between `||`."""
@@ -46,7 +46,7 @@ class Statements(Reader):
             return Stmt("call", start, name.end, name=name.text)
         if self.has("("):
             inner = self.parallel()
-            self.take(")")
+            inner.brackets = (start, self.take(")").end)
             return inner
         if self.has("*"):
             self.take("[")
@@ -57,7 +57,9 @@ class Statements(Reader):
         sign = self.take(":=", "!", "?").kind
         if sign == "?":
             target = self.take("name")
-            return Stmt("receive", start, target.end, name=name.text, target=target.text)
+            return Stmt(
+                "receive", start, target.end, name=name.text, target=target.text, target_at=(target.start, target.end)
+            )
         value = self.expr()
         if sign == "!":
             return Stmt("send", start, value.end, name=name.text, value=value)
@@ -96,7 +98,11 @@ class Statements(Reader):
 
 def read_program(data: bytes) -> Program:
     """Reads a program; raises Unread where this reading can't follow it."""
-    reader = Statements(tokens_of(data))
+    return program_of(Statements(tokens_of(data)))
+
+
+def program_of(reader: Statements) -> Program:
+    """The program that the reader's tokens are."""
     decls, procs = [], {}
     while not reader.has("begin"):
         kind = reader.take("in", "out", "chan", "var", "proc").kind

@@ -5,35 +5,27 @@ from __future__ import annotations
 from collections.abc import Iterator
 from dataclasses import dataclass, field
 
-from companion.chp_tokens import Token, Unread, number_of
+from companion.chp_expr import Node, Use, expression
+from companion.chp_tokens import Token, Unread
 
 OPENING, CLOSING = ("(", "[", "{"), (")", "]", "}")
-EXPRESSION_ENDS = ("->", ";", ",", "||", "[]", "end", "eof", *CLOSING)
-
-
-@dataclass(frozen=True)
-class Use:
-    """Bits of a variable that an expression reads: from `low` up to `high`; -1 stands for the whole variable."""
-
-    name: str
-    high: int = -1
-    low: int = -1
 
 
 @dataclass(frozen=True)
 class Expr:
-    """An expression: the bytes from..to of its own tokens, and what it reads."""
+    """An expression: the bytes from..to of its own tokens, what it reads, and its tree."""
 
     start: int
     end: int
     uses: tuple[Use, ...]
+    tree: Node
 
 
 @dataclass
 class Stmt:
     """A statement. `kind` is that of its part (`skip`, `assign`, `through`, `send`, `receive`, `sequence`, `parallel`,
     `select`, `again`, `loop`) or `call`. `name` is the channel, the variable that is assigned, or the procedure;
-    `target` the variable of a receive; `value` the expression; `guards` those of the arms, whose statements are the
+    `target` the variable of a receive, and `target_at` its place; `value` the expression; `guards` those of the arms, whose statements are the
     children."""
 
     kind: str
@@ -41,9 +33,21 @@ class Stmt:
     end: int
     name: str = ""
     target: str = ""
+    target_at: tuple[int, int] | None = None
     value: Expr | None = None
     guards: list[Expr] = field(default_factory=list)
     children: list[Stmt] = field(default_factory=list)
+    brackets: tuple[int, int] | None = None  # the bytes from..to with the `( )` round it, if there are any
+
+    @property
+    def opened(self) -> int:
+        """Where it begins, with its `(`."""
+        return self.brackets[0] if self.brackets else self.start
+
+    @property
+    def closed(self) -> int:
+        """Where it ends, with its `)`."""
+        return self.brackets[1] if self.brackets else self.end
 
     def walk(self) -> Iterator[Stmt]:
         """The statement and all in it, in order of the text."""
@@ -82,55 +86,44 @@ class Program:
 
 
 class Reader:
-    """Reads tokens one behind the other."""
+    """Reads tokens one behind the other. `far` is the furthest token that it has come to, and `asked` the kinds of
+    tokens that it would have gone on with there."""
 
     def __init__(self, tokens: list[Token]) -> None:
         self.tokens = tokens
-        self.at = 0
+        self.at = self.far = 0
+        self.asked: set[str] = set()
 
     @property
     def now(self) -> Token:
         """The token that comes next."""
         return self.tokens[self.at]
 
+    def sees(self, *kinds: str) -> bool:
+        """Whether a token of one of these kinds comes next."""
+        if self.at > self.far:
+            self.far, self.asked = self.at, set()
+        if self.at == self.far:
+            self.asked.update(kinds)
+        return self.now.kind in kinds
+
     def take(self, *kinds: str) -> Token:
         """Goes over a token of one of these kinds."""
         token = self.now
-        if token.kind not in kinds:
+        if not self.sees(*kinds):
             raise Unread(f"{' or '.join(kinds)} was expected", token.start)
         self.at += 1
         return token
 
     def has(self, kind: str) -> bool:
         """Whether a token of this kind comes next; if so it is taken."""
-        if self.now.kind != kind:
-            return False
-        self.at += 1
-        return True
+        found = self.sees(kind)
+        self.at += found
+        return found
 
     def expr(self) -> Expr:
-        """An expression: all up to what can't belong to it."""
-        first, depth = self.at, 0
-        uses: list[Use] = []
-        while depth or self.now.kind not in EXPRESSION_ENDS:
-            token = self.now
-            if token.kind == "eof":
-                break
-            depth += (token.kind in OPENING) - (token.kind in CLOSING)
-            if token.kind == "name":
-                uses.append(self.use(token))
-            self.at += 1
-        if self.at == first:
-            raise Unread("an expression was expected", self.now.start)
-        return Expr(self.tokens[first].start, self.tokens[self.at - 1].end, tuple(uses))
-
-    def use(self, name: Token) -> Use:
-        """What is read where a name stands, with the bits behind it."""
-        behind = self.tokens[self.at + 1 : self.at + 6]
-        kinds = [token.kind for token in behind]
-        if kinds[:3] == ["[", "number", "]"]:
-            bit = number_of(behind[1].text) or 0
-            return Use(name.text, bit, bit)
-        if kinds == ["[", "number", ":", "number", "]"]:
-            return Use(name.text, number_of(behind[1].text) or 0, number_of(behind[3].text) or 0)
-        return Use(name.text)
+        """An expression."""
+        first = self.at
+        tree = expression(self)
+        uses = tuple(node.use for node in tree.walk() if node.use)
+        return Expr(self.tokens[first].start, self.tokens[self.at - 1].end, uses, tree)

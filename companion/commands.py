@@ -142,6 +142,9 @@ def take(words: Sequence[str]) -> Taken:
             name for name in seen if any(name not in form.options for form in known if "--delays" in form.options)
         )
         taken.faults.append((seen[clash], f"{clash} and --delays don't stand together: with delays no order is asked"))
+    if all(form.needed - set(seen) for form in known):
+        lacking = min(known[0].needed - set(seen))
+        taken.faults.append((len(words), f"{lacking} {known[0].options[lacking]} is missing"))
     taken.faults.sort()
     return taken
 

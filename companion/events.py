@@ -5,8 +5,8 @@ from __future__ import annotations
 from collections.abc import Iterator, Sequence
 from dataclasses import dataclass, field
 
+from companion.as_json import put
 from companion.compiled import Compiled, compiled
-from companion.machine import write_json
 from companion.options import Parser
 from companion.parts import Part
 from companion.program import Refusal
@@ -81,7 +81,7 @@ def parser() -> Parser:
     add_until(made)
     made.add_argument("--channel", metavar="X", action="append", help="only this channel; may come several times")
     made.add_argument("--hex", action="store_true", help="values in hexadecimal")
-    made.add_argument("--json", action="store_true", help="as JSON")
+    made.add_argument("--json", action="store_true", help="the same as one JSON object")
     return made
 
 
@@ -104,7 +104,7 @@ def main(words: Sequence[str]) -> int:
             {"move": it.move, "time": it.time, "channel": it.channel, "value": it.number(), "statements": it.ends}
             for it in found
         ]
-        write_json({"notes": notes, "events": events, "moves": len(wave.changes), "hazard": wave.status == 5})
+        put({"notes": notes, "events": events, "moves": len(wave.changes), "hazard": wave.status == 5})
         return wave.status
     print("\n".join([*notes, *table(found, given.hex, circuit is not None)]))
     if wave.status == 5:

@@ -6,7 +6,7 @@ import re
 import shlex
 from collections.abc import Sequence
 
-from companion import causes, hints, linefaults
+from companion import causes, expected, filekinds, hints, linefaults, textfaults
 from companion.commands import DELAYS, PROGRAM, RULES, SCRIPT, WAVE, forms_of, take
 from companion.labels import STANDARD_INPUT, called
 from companion.places import Text
@@ -43,14 +43,16 @@ class Explainer:
                 continue
         return None
 
-    def cause(self, number: int, hint: str = "") -> None:
-        """What to do about a cause of refusal: the hint, or else what the page says."""
+    def cause(self, number: int, hint: str = "", has_more: bool = False) -> None:
+        """What to do about a cause of refusal: the hint, or else what the page says, where nothing more was said."""
         cause = causes.causes().get(number)
         if cause is None:
+            if not causes.causes():
+                self.say("(more is told where the folder docs lies beside companion, which it doesn't here)")
             return
         if hint:
             self.say(f"write instead: {hint}")
-        elif cause.instead:
+        elif cause.instead and not has_more:
             self.say("a way out: " + "; or ".join(cause.instead))
         self.say(self.paint.dim(f"(more on {number} {cause.name}: {cause.page})"))
 
@@ -66,21 +68,44 @@ class Explainer:
         spans = [(int(told[3]), int(told[4]))] + ([(int(told[5]), int(told[6]))] if told[5] else [])
         if text is None:
             self.say(f"{name}: {self.when(number, name)}")
-        for at, (start, end) in enumerate(spans if text else []):
-            assert text is not None
-            what = "and here" if at else f"{self.paint.red(name)}: {self.when(number, name)}"
+            self.cause(number)
+            return
+        if self.taken_for(text, PROGRAM):
+            return
+        found = textfaults.of(text.data, number, *spans[0])
+        for at, (start, end) in enumerate(spans):
+            what = "and here" if at else f"{self.paint.red(name)}: {found.what or self.when(number, name)}"
             self.say(f"{self.paint.bold(text.told(start))}: {what}")
             self.lines += text.shown(start, end, self.paint)
-        self.cause(number, hints.hint(text.data, number, *spans[0]) if text else "")
+        if found.wanted:
+            self.say(f"expected here: {expected.joined(found.wanted)}")
+        for start, end in found.opened:
+            self.say(f"{self.paint.bold(text.told(start))}: this bracket is still open there")
+            self.lines += text.shown(start, end, self.paint)
+        self.cause(number, hints.hint(text.data, number, *spans[0]) or found.instead, has_more=bool(found.wanted))
+
+    def taken_for(self, text: Text, role: str) -> bool:
+        """Whether a file looks like another kind of file than the one that is wanted; if so that is said."""
+        other = filekinds.other_than(text.data, role)
+        if other:
+            self.say(f"{self.paint.bold(text.name)}: this looks like a {other}, and a {role} is wanted here")
+            ways = filekinds.WAYS.get((other, role))
+            if ways:
+                self.say(f"what to do: {ways}")
+        return bool(other)
 
     def refused_line(self, told: re.Match[str]) -> None:
         """A line of another file is refused."""
         number, name, line = int(told[1]), told[2], int(told[3])
         role = ROLES_OF_TENS.get(number // 10, RULES)
         text = self.text_of(role)
+        hint = ""
         if text is None:
             self.say(f"{role}, line {line}: {name}: {self.when(number, name)}")
+        elif self.taken_for(text, role):
+            return
         else:
+            hint = linefaults.hint(text.line(line), number, self.text_of(RULES))
             data = text.line(line)
             start, end = linefaults.stretch(data, number, self.text_of(RULES))
             column = len(data[:start].decode("utf-8", "replace")) + 1
@@ -91,7 +116,7 @@ class Explainer:
                 self.lines += text.shown(first + start, first + end, self.paint)
             if data.endswith(b"\r") and role in (SCRIPT, DELAYS, RULES, WAVE):
                 self.say("this line ends with CR and LF, as on Windows; only LF may stand there")
-        self.cause(number)
+        self.cause(number, hint)
 
     def wrong_words(self) -> None:
         """The words are no command: which one is wrong, where that can be told."""
@@ -102,7 +127,7 @@ class Explainer:
             self.say("  " + " ".join(["chpx", *words]))
             self.say("  " + " " * left + self.paint.red("^" * wide) + f" {why}")
         if not self.taken.faults:
-            self.say("which word is wrong can't be told here")
+            self.say("which word is wrong isn't known here: each looks like one of these forms")
         for form in forms_of(self.taken.command):
             self.say(f"a form: chpx {form.text}")
 

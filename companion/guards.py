@@ -3,6 +3,7 @@ made of the guards, which receives the values of the variables and sends what ea
 
 from __future__ import annotations
 
+import itertools
 from collections.abc import Iterator
 from dataclasses import dataclass, field
 
@@ -12,6 +13,7 @@ from companion.waves import read_report
 
 MOST_BITS = 12
 MOST_VALUES = 65_536  # a script sends no more
+MOST_ROWS = 2_048  # of values at the ends of ranges
 
 
 @dataclass
@@ -52,6 +54,24 @@ def rows(places: dict[str, list[int]]) -> Iterator[tuple[int, ...]]:
         yield tuple(row)
 
 
+def ends(it: Program, stmt: Stmt) -> dict[str, list[int]]:
+    """For each variable that the guards read the values at which its ranges end: the least and the greatest ones, and
+    those next to the numbers in the guards."""
+    numbers = {node.value for guard in stmt.guards for node in guard.tree.walk() if node.kind == "number"}
+    widths = {name: decl.width for name, decl in it.of_kind("var").items()}
+    found = {}
+    for name in bits_read(it, stmt):
+        most = (1 << widths[name]) - 1
+        near = {0, 1, most - 1, most, *(number + by for number in numbers for by in (-1, 0, 1))}
+        found[name] = sorted(value for value in near if 0 <= value <= most)
+    return found
+
+
+def rows_at_ends(it: Program, stmt: Stmt) -> list[tuple[int, ...]]:
+    """All values of the variables at the ends of their ranges, or some of these where they are too many."""
+    return list(itertools.islice(itertools.product(*ends(it, stmt).values()), MOST_ROWS))
+
+
 def fresh(letter: str, count: int, taken: set[str]) -> list[str]:
     """So many names that aren't taken."""
     names, at = [], 0
@@ -80,10 +100,11 @@ def asking(it: Program, stmt: Stmt, data: bytes, names: list[str]) -> tuple[str,
 
 
 def choices_of(it: Program, stmt: Stmt, data: bytes, folder: str) -> Choice:
-    """What the guards are worth, for all values of the bits that they read."""
+    """What the guards are worth, for all values of the bits that they read, or at the ends of their ranges where these
+    are too many bits."""
     places = bits_read(it, stmt)
     choice = Choice(list(places))
-    choice.values = list(rows(places))
+    choice.values = rows_at_ends(it, stmt) if is_wide(places) else list(rows(places))
     text, ins, outs = asking(it, stmt, data, choice.names)
     columns = list(zip(*choice.values)) if places else [(0,)]
     script = "".join(f"{channel}: {' '.join(map(str, column))}\n" for channel, column in zip(ins, columns))

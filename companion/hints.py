@@ -7,6 +7,7 @@ import re
 
 from companion.causes import wrote
 
+BEGINS = r"(\bbegin|[;,(\[]|->|\|\|)\s*"  # what may stand before a statement
 # for each row, by its first cell: what stands right before the place and what begins there
 ROWS: list[tuple[str, tuple[int, ...], str, str]] = [
     ("`true`, `false`", (21,), r"", r"(true|false|TRUE|FALSE|True|False)\b"),
@@ -17,12 +18,18 @@ ROWS: list[tuple[str, tuple[int, ...], str, str]] = [
     ("`if b then S`, `while b do S`", (11,), r"", r"(if|while|then|do)\b"),
     ("`not b`, `a and b`, `a or b`", (11,), r"\b(not|and|or|xor)\s*$", r""),
     ("`not b`, `a and b`, `a or b`", (11,), r"", r"(and|or|xor)\b"),
+    ("`=>`", (11,), r"", r"=>"),
     ("`x == y`", (11,), r"=\s*$", r"="),
     ("`a && b`, `a || b`", (11,), r"&\s*$", r"&"),
     ("`a && b`, `a || b`", (11,), r"(\[|\[\]|->|:=)[^\[\];]*$", r"\|\|[^;\[\]]*->"),
     ("`x <- 1`", (11,), r"\w\s*$", r"<\s*-"),
     ("`x << 1`", (11,), r"<\s*$", r"<"),
     ("`x >> 1`", (11,), r">\s*$", r">"),
+    ("`3 < x < 9`", (11,), r"[<>=]\s*\w[\w\[\]:]*\s*$", r"(<=|>=|!=|<(?!-)|>|=)"),
+    ("`-- ..` as a comment", (11,), r"(^|[;\n\])}]|\bbegin|\bend)\s*$", r"--"),
+    ("`-- ..` as a comment", (11,), r"-$", r"-\s"),
+    ("`# ..` as a comment", (13,), r"(^|[;\n\])}]|\bbegin)\s*$", r"#"),
+    ("`→`, `≠`, `∧` and other signs beyond ASCII", (10,), r"", r"[\x80-\xff]"),
     ("`x++`, `x += 1`", (11,), r"\w\s*$", r"(\+\s*\+|\+\s*=|-\s*-|-\s*=)"),
     ("`!b`", (11,), r"(:=|!|->|\[|\[\]|[&|^=<>+\-~({,])\s*$", r"!"),
     ("`~~x`", (11,), r"~\s*$", r"~"),
@@ -37,7 +44,9 @@ ROWS: list[tuple[str, tuple[int, ...], str, str]] = [
     ("`x[3:0] := y`", (11,), r"(\bbegin|[;,(\[]|->|\|\|)\s*[A-Za-z]\w*\s*$", r"\[[^\]]*\]\s*:="),
     ("`X!`, `X?`", (11,), r"[A-Za-z]\w*\s*[!?]\s*$", r"(;|,|\]|\[\]|\)|\|\||end\b|$)"),
     ("`X!(a, b)`", (11,), r"!\s*\([^()]*$", r","),
+    ("`L?x[3:0]`", (11,), r"\?\s*[A-Za-z]\w*\s*$", r"\["),
     ("`in X, Y : 8;`", (11,), r"\b(in|out|chan|var)\s+\w+\s*$", r","),
+    ("`in X;`, `out X;`", (11,), r"\b(in|out|chan)\s+\w+\s*$", r"[;=]|:="),
     ("`var x;`, `var x := 0;`", (11,), r"\bvar\s+\w+\s*$", r"[;=\[]|:="),
     ("`var x : 8 := 0;`", (11,), r"\bvar\s+\w+\s*:\s*\w+\s*$", r":="),
     (
@@ -48,8 +57,14 @@ ROWS: list[tuple[str, tuple[int, ...], str, str]] = [
     ),
     ("`[x]`, `*[x]`", (11,), r"\[[^\[\]]*[\w)}\]]\s*$", r"\]"),
     ("`[a -> S | b -> T]`", (11,), r"->.*$", r"\|(?!\|)[^\[\]]*->"),
+    ("`[a -> S | b -> T]`", (11,), r"->[^\[\]]*[^|\[]\|(?!\|)[^\[\]]*$", r"->"),
     ("`;` before `]`, `)` or `end`", (11,), r";\s*$", r"(\]|\[\]|\)|\|\||end\b)"),
     ("`end;`", (11,), r"\bend\s*$", r"[;.]"),
+    ("`x, y := a, b`", (11,), rf"{BEGINS}[A-Za-z]\w*\s*$", r",\s*[A-Za-z]\w*(\s*,\s*\w+)*\s*:="),
+    ("`loop S`, `forever S`, `repeat S`", (11,), r"\b(loop|forever|repeat)\s*$", r""),
+    ("`p`, `p()`", (11,), rf"{BEGINS}[A-Za-z]\w*\s*$", r"(;|,|\]|\[\]|\)|\|\||end\b|\(|$)"),
+    ("`proc p(a) = S;`", (11,), r"\bproc\s+\w+\s*$", r"\("),
+    ("`proc p = S; T;`", (11,), r"\bproc\s+\w+\s*=(?!\s*\()[^;]*;\s*$", r"(skip\b|\*|\[|\(|[A-Za-z]\w*\s*(:=|!|\?))"),
     ("`x = 1;` as a statement", (11,), r"(\bbegin|[;,(\[]|->|\|\|)\s*[A-Za-z]\w*\s*$", r"="),
     ("`x := 1  y := 2`", (11,), r"[\w)\]}]\s+$", r"([A-Za-z]\w*\s*(:=|!|\?)|skip\b|\*\s*\[|\[)"),
     ("`var x : 8` without `;`", (11,), r"\b(in|out|chan|var)\s+\w+\s*:\s*\w+\s*$", r"(in|out|chan|var|proc|begin)\b"),

@@ -64,3 +64,30 @@ def stretch(line: bytes, number: int, rules: Text | None) -> tuple[int, int]:
         found = (len(whole) - len(whole.lstrip()), len(whole))
     start, end = found
     return start, end - line[start:end].endswith(b":")
+
+
+def hint(line: bytes, number: int, rules: Text | None) -> str:
+    """What to write in place of a script's line, where its habit is known; else nothing."""
+    if number != 50:
+        return ""
+    text = line.decode("latin-1").split("//")[0].strip()
+    name, colon, rest = text.partition(":")
+    found = re.match(r"([A-Za-z]\w*)\s+[\d]", text)
+    if text.startswith(("#", ";", "--", "/*")):
+        return "`// ..`: a comment begins with `//`"
+    if not colon and found:
+        return f"`{found[1]}: {text[len(found[1]):].strip()}`: a colon stands right behind the channel's name"
+    if name != name.rstrip():
+        return f"`{name.rstrip()}:{rest}`: the colon stands right behind the channel's name"
+    if "=" in text and not colon:
+        return "`NAME: 1 2 3`: values stand behind a colon; what is expected belongs into a file for `chpx test`"
+    if "," in rest:
+        return f"`{name}: {' '.join(rest.replace(',', ' ').split())}`: blanks stand between values, and no commas"
+    words = rest.split()
+    if rules and re.search(rb"^out " + re.escape(name.encode()) + rb" \d+$", rules.data, re.M) and len(words) != 1:
+        return (f"`{name}: {len(words)}`: of an `out` channel a script says how many values are received; "
+                "which ones are expected belongs into a file for `chpx test`")
+    odd = next((word for word in words if value(word.encode()) < 0 and word != "all"), "")
+    if re.fullmatch(r"-\d+", odd):
+        return f"a number from 0 on in place of `{odd}`: values are unsigned"
+    return f"a number, in decimal or behind `0x`, in place of `{odd}`" if odd else ""

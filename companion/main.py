@@ -7,7 +7,7 @@ import os
 import sys
 from collections.abc import Sequence
 
-from companion import options, program
+from companion import check, options, program
 from companion.commands import forms, forms_of
 from companion.explain import explained
 from companion.own import OWN
@@ -80,6 +80,8 @@ def dispatch(words: Sequence[str]) -> int:
     if words and words[0] in OWN:
         return own(words[0], named[1:])
     asked = named[: named.index("--")] if "--" in named else named
+    if words and words[0] == "check" and "--json" in asked[1:]:
+        return check.main([word for word in named[1:] if word != "--json"])
     if ("--help" in asked[1:] or "-h" in asked[1:]) and forms_of(words[0]):
         print(help_of(words[0]))
         return 0

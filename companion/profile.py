@@ -5,9 +5,9 @@ from __future__ import annotations
 import sys
 from collections.abc import Sequence
 
+from companion.as_json import put
 from companion.chain import UNBOUNDED, Cycles, Profile, Share, profile_of
 from companion.compiled import compiled
-from companion.machine import Value, write_json
 from companion.options import Parser, natural
 from companion.owners import Owner
 from companion.program import Refusal
@@ -34,7 +34,7 @@ def parser() -> Parser:
     made.add_argument("--to", metavar="X:N", help="the chain of the N-th value on X, or of the N-th move of a node")
     made.add_argument("--from", dest="since", metavar="X:N", help="only what comes behind this value, or this move")
     made.add_argument("--most", metavar="N", type=natural, default=20, help="the most statements that are told (20)")
-    made.add_argument("--json", action="store_true", help="as JSON, all of it")
+    made.add_argument("--json", action="store_true", help="all of it as one JSON object")
     return made
 
 
@@ -112,26 +112,26 @@ def channels(it: Profile) -> list[str]:
     return aligned(rows, len(rows[0]))
 
 
-def as_json(scene: Scene, it: Profile) -> dict[str, Value]:
+def as_json(scene: Scene, it: Profile) -> dict[str, object]:
     """The whole profile for other programs; a slack that is null has no bound."""
 
     def bounded(slack: float) -> int | None:
         return None if slack == UNBOUNDED else int(slack)
 
-    found: list[Value] = []
+    found: list[object] = []
     for owner in sorted(it.slack, key=lambda each: -it.owners.get(each, Share()).time):
         share = it.owners.get(owner, Share())
         told = {"statement": named(scene, owner), "time": share.time, "moves": share.moves}
         found.append(told | {"slack": bounded(it.slack[owner])})
-    loops: list[Value] = [
+    loops: list[object] = [
         {"loop": named(scene, loop), "turns": [{"turn": turn, **vars(share)} for turn, share in shares.items()]}
         for loop, shares in it.turns.items()
     ]
-    passed: Value = {
+    passed: object = {
         name: {"times": cycles.times, "slack": [bounded(slack) for slack in cycles.slack]}
         for name, cycles in it.channels.items()
     }
-    made: dict[str, Value] = {"begin": it.begin, "end": it.end, "moves": len(it.chain), "statements": found}
+    made: dict[str, object] = {"begin": it.begin, "end": it.end, "moves": len(it.chain), "statements": found}
     return made | {"loops": loops, "channels": passed}
 
 
@@ -167,7 +167,7 @@ def main(words: Sequence[str]) -> int:
         checked(made.whole, wave, causes_of(given.rules, given.script, given.delays, end + 1))
     scene = circuit.scene({})
     if given.json:
-        write_json({"notes": circuit.notes, **as_json(scene, made)})
+        put({"notes": circuit.notes, **as_json(scene, made)})
         return 0
     paint = Paint(sys.stdout)
     lines = [*circuit.notes, head(made, wave, end, start), "", *statements(scene, made, given.most)]

@@ -6,8 +6,8 @@ import sys
 from collections.abc import Sequence
 
 from companion import options, program
+from companion.as_json import put
 from companion.compiled import compiled
-from companion.machine import Value, write_json
 from companion.options import Parser
 from companion.parts import width_of
 from companion.scene import Scene
@@ -31,7 +31,7 @@ def parser() -> Parser:
     add_until(made)
     made.add_argument("--all", action="store_true", help="also tell the statements that the waiting ones lie in")
     made.add_argument("--hex", action="store_true", help="values in hexadecimal")
-    made.add_argument("--json", action="store_true", help="as JSON")
+    made.add_argument("--json", action="store_true", help="the same as one JSON object")
     return made
 
 
@@ -86,10 +86,10 @@ def conclusion(scene: Scene, waits: list[Wait], paint: Paint) -> list[str]:
     return found
 
 
-def as_json(scene: Scene, waits: list[Wait], notes: list[str]) -> Value:
+def as_json(scene: Scene, waits: list[Wait], notes: list[str]) -> dict[str, object]:
     """All of it for other programs."""
     report = scene.report
-    under_way: list[Value] = []
+    under_way: list[object] = []
     for wait in waits:
         path = scene.path(wait.part)
         told = {"statement": scene.called_on(path), "in": [scene.called(part) for part in path[1:-1]]}
@@ -97,7 +97,7 @@ def as_json(scene: Scene, waits: list[Wait], notes: list[str]) -> Value:
         under_way.append(told | {"environment": wait.outside, "blocked": wait.blocked})
     values = {it.name: scene.number(it.name, width_of(it)) for it in scene.tree.variables()}
     found = [[scene.called(part) for part in cycle] for cycle in cycles(waits)] if scene.is_still() else []
-    ended: dict[str, Value] = {"end": " ".join(report.end), "moves": report.moves, "time": report.time}
+    ended: dict[str, object] = {"end": " ".join(report.end), "moves": report.moves, "time": report.time}
     ended |= {"done": report.done, "passed": report.passed, "notes": notes}
     return ended | {"under_way": under_way, "variables": values, "deadlocks": found}
 
@@ -117,7 +117,7 @@ def main(words: Sequence[str]) -> int:
     scene = circuit.scene(wave.last(), report, given.hex)
     waits = waits_of(scene)
     if given.json:
-        write_json(as_json(scene, waits, circuit.notes))
+        put(as_json(scene, waits, circuit.notes))
         return 0
     paint = Paint(sys.stdout)
     head = [*circuit.notes, ending(report, given.until)]

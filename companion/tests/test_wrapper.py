@@ -1,0 +1,80 @@
+"""What `./chpc` does before the proved program answers: it looks at the words, and reckons how long a build takes."""
+
+from __future__ import annotations
+
+import os
+import unittest
+
+from companion.tests.base import Case
+from wrapper import build
+from wrapper.words import fault, forms, with_whole_names
+
+
+class Words(Case):
+    """What is plainly wrong with a command line."""
+
+    def test_forms(self) -> None:
+        """Each command's words and options, as its forms show them."""
+        places, options = forms()["simulate"]
+        self.assertEqual(places, ["PRS", "SCRIPT"])
+        self.assertEqual(sorted(options), ["--against", "--delays", "--order", "--power", "--seed", "--steps"])
+        self.assertEqual(forms()["grow"], (["SEED", "STAGES"], {"--sum": ""}))
+
+    def test_wrong_words(self) -> None:
+        """Commands, options and numbers of words that no command has."""
+        self.write("a.prs", "")
+        for line, status, text in (
+            ("frobnicate a.prs", 2, "there is no command frobnicate"),
+            ("check", 2, "check takes FILE, and has 0"),
+            ("migrate a.prs a.prs", 2, "migrate takes FILE, and has 2"),
+            ("compile a.prs --bufer X", 2, "compile has no option --bufer"),
+            ("compile a.prs --buffer", 2, "--buffer wants X behind it"),
+            ("bench a.prs --order lowest", 2, "bench lacks --peer NAME"),
+            ("simulate a.prs none", 3, "none: there is no such file"),
+            ("waves a.prs a.prs --delays=none", 3, "none: there is no such file"),
+            ("check -- --none", 3, "--none: there is no such file"),
+        ):
+            found = fault(line.split())
+            self.assertIsNotNone(found, line)
+            assert found is not None
+            self.assertEqual(found[0], status, line)
+            self.assertIn(text, found[1])
+
+    def test_words_of_the_program(self) -> None:
+        """What the program itself has to find is left to it."""
+        self.write("a.prs", "")
+        for line in ("check a.prs", "simulate a.prs a.prs --order none", "grow x y", "waves a.prs a.prs --steps x --causes"):
+            self.assertIsNone(fault(line.split()), line)
+
+    def test_whole_names(self) -> None:
+        """Files are named by their whole paths, and nothing else is."""
+        here = os.getcwd()
+        made, names = with_whole_names(["simulate", "a", "b", "--order", "c", "--against=d"])
+        self.assertEqual(made, ["simulate", f"{here}/a", f"{here}/b", "--order", "c", f"--against={here}/d"])
+        self.assertEqual(names, {f"{here}/a": "a", f"{here}/b": "b", f"{here}/d": "d"})
+
+
+class Builds(unittest.TestCase):
+    """How long a build takes, by the table of the gate."""
+
+    def test_chain(self) -> None:
+        """Crates that stand one upon the other come one after the other, and the longest chain first."""
+        below = {"low": [], "high": ["low"], "beside": [], "other": []}
+        costs = {"low": 2.0, "high": 2.0, "beside": 2.0, "other": 1.0}
+        two, build_processors = build.planned, build.processors
+        build.processors = lambda: 2
+        try:
+            self.assertEqual(two(below, costs, set(below)), 4.0)
+            self.assertEqual(two(below, costs, {"high"}), 2.0)
+        finally:
+            build.processors = build_processors
+
+    def test_crates(self) -> None:
+        """Each crate of the program has its minutes."""
+        below = build.crates_below("chpc")
+        self.assertIn("chp_base", below)
+        self.assertTrue(all(cost > 0 for cost in build.minutes(below).values()))
+
+
+if __name__ == "__main__":
+    unittest.main()

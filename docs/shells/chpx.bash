@@ -1,0 +1,39 @@
+# Completion of chpc and chpx for bash: source it in ~/.bashrc. Made by bench/shells.
+_chpx() {
+  local word="${COMP_WORDS[COMP_CWORD]}" before="${COMP_WORDS[COMP_CWORD-1]}" options=""
+  COMPREPLY=()
+  if [ "$COMP_CWORD" -eq 1 ]; then
+    COMPREPLY=($(compgen -W "check compile expand run simulate bench waves unwave migrate grow why hunt view stat tree lint sort --help --version" -- "$word"))
+    return
+  fi
+  case "$before" in
+    --order) COMPREPLY=($(compgen -W "lowest oldest newest random" -- "$word")); return ;;
+    --power) COMPREPLY=($(compgen -W "low high" -- "$word")); return ;;
+    --peer) COMPREPLY=($(compgen -W "ramp echo" -- "$word")); return ;;
+  esac
+  case "${COMP_WORDS[1]}" in
+    check) options="" ;;
+    compile) options="--reset --buffer" ;;
+    expand) options="" ;;
+    run) options="--rounds --buffer" ;;
+    simulate) options="--order --seed --steps --power --against --delays" ;;
+    bench) options="--peer --order --seed --steps" ;;
+    waves) options="--steps --delays --causes" ;;
+    unwave) options="" ;;
+    migrate) options="" ;;
+    grow) options="--sum" ;;
+    why) options="--delays --steps --program --all" ;;
+    hunt) options="--seeds --mixed --steps --to" ;;
+    view) options="--delays --steps --to --causes-of --latency" ;;
+    stat) options="--json" ;;
+    tree) options="" ;;
+    lint) options="--json" ;;
+    sort) options="--program" ;;
+  esac
+  if [[ "$word" == -* ]]; then
+    COMPREPLY=($(compgen -W "$options" -- "$word"))
+  else
+    COMPREPLY=($(compgen -f -- "$word"))
+  fi
+}
+complete -o filenames -F _chpx chpc chpx ./chpc ./chpx

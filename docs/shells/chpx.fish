@@ -1,0 +1,80 @@
+# Completion of chpc and chpx for fish: put it into ~/.config/fish/completions. Made by bench/shells.
+complete -c chpc -n __fish_use_subcommand -a check -d 'whether the program is accepted, and how many nodes its circuit has'
+complete -c chpc -n __fish_use_subcommand -a compile -d 'the rule file of the program'
+complete -c chpc -n '__fish_seen_subcommand_from compile' -l reset
+complete -c chpc -n '__fish_seen_subcommand_from compile' -l buffer -r
+complete -c chpc -n __fish_use_subcommand -a expand -d 'the parts of its circuit'
+complete -c chpc -n __fish_use_subcommand -a run -d 'the report of rounds of the program, without a circuit'
+complete -c chpc -n '__fish_seen_subcommand_from run' -l rounds -r
+complete -c chpc -n '__fish_seen_subcommand_from run' -l buffer -r
+complete -c chpc -n __fish_use_subcommand -a simulate -d 'the report of a run of the rule file\'s net; with 5 and 10 too'
+complete -c chpc -n '__fish_seen_subcommand_from simulate' -l order -x -a 'lowest oldest newest random'
+complete -c chpc -n '__fish_seen_subcommand_from simulate' -l seed -r
+complete -c chpc -n '__fish_seen_subcommand_from simulate' -l steps -r
+complete -c chpc -n '__fish_seen_subcommand_from simulate' -l power -x -a 'low high'
+complete -c chpc -n '__fish_seen_subcommand_from simulate' -l against -r
+complete -c chpc -n '__fish_seen_subcommand_from simulate' -l delays -r
+complete -c chpc -n __fish_use_subcommand -a bench -d 'the report of a run against a device that reacts to what it takes; with 5 too'
+complete -c chpc -n '__fish_seen_subcommand_from bench' -l peer -x -a 'ramp echo'
+complete -c chpc -n '__fish_seen_subcommand_from bench' -l order -x -a 'lowest oldest newest random'
+complete -c chpc -n '__fish_seen_subcommand_from bench' -l seed -r
+complete -c chpc -n '__fish_seen_subcommand_from bench' -l steps -r
+complete -c chpc -n __fish_use_subcommand -a waves -d 'the wave of a timed run, or why its last move came; with 5 too'
+complete -c chpc -n '__fish_seen_subcommand_from waves' -l steps -r
+complete -c chpc -n '__fish_seen_subcommand_from waves' -l delays -r
+complete -c chpc -n '__fish_seen_subcommand_from waves' -l causes
+complete -c chpc -n __fish_use_subcommand -a unwave -d 'the changes of a wave'
+complete -c chpc -n __fish_use_subcommand -a migrate -d 'this rule file with a reset node'
+complete -c chpc -n __fish_use_subcommand -a grow -d 'the text of a generated program, or a summary of it'
+complete -c chpc -n '__fish_seen_subcommand_from grow' -l sum
+complete -c chpx -n __fish_use_subcommand -a check -d 'whether the program is accepted, and how many nodes its circuit has'
+complete -c chpx -n __fish_use_subcommand -a compile -d 'the rule file of the program'
+complete -c chpx -n '__fish_seen_subcommand_from compile' -l reset
+complete -c chpx -n '__fish_seen_subcommand_from compile' -l buffer -r
+complete -c chpx -n __fish_use_subcommand -a expand -d 'the parts of its circuit'
+complete -c chpx -n __fish_use_subcommand -a run -d 'the report of rounds of the program, without a circuit'
+complete -c chpx -n '__fish_seen_subcommand_from run' -l rounds -r
+complete -c chpx -n '__fish_seen_subcommand_from run' -l buffer -r
+complete -c chpx -n __fish_use_subcommand -a simulate -d 'the report of a run of the rule file\'s net; with 5 and 10 too'
+complete -c chpx -n '__fish_seen_subcommand_from simulate' -l order -x -a 'lowest oldest newest random'
+complete -c chpx -n '__fish_seen_subcommand_from simulate' -l seed -r
+complete -c chpx -n '__fish_seen_subcommand_from simulate' -l steps -r
+complete -c chpx -n '__fish_seen_subcommand_from simulate' -l power -x -a 'low high'
+complete -c chpx -n '__fish_seen_subcommand_from simulate' -l against -r
+complete -c chpx -n '__fish_seen_subcommand_from simulate' -l delays -r
+complete -c chpx -n __fish_use_subcommand -a bench -d 'the report of a run against a device that reacts to what it takes; with 5 too'
+complete -c chpx -n '__fish_seen_subcommand_from bench' -l peer -x -a 'ramp echo'
+complete -c chpx -n '__fish_seen_subcommand_from bench' -l order -x -a 'lowest oldest newest random'
+complete -c chpx -n '__fish_seen_subcommand_from bench' -l seed -r
+complete -c chpx -n '__fish_seen_subcommand_from bench' -l steps -r
+complete -c chpx -n __fish_use_subcommand -a waves -d 'the wave of a timed run, or why its last move came; with 5 too'
+complete -c chpx -n '__fish_seen_subcommand_from waves' -l steps -r
+complete -c chpx -n '__fish_seen_subcommand_from waves' -l delays -r
+complete -c chpx -n '__fish_seen_subcommand_from waves' -l causes
+complete -c chpx -n __fish_use_subcommand -a unwave -d 'the changes of a wave'
+complete -c chpx -n __fish_use_subcommand -a migrate -d 'this rule file with a reset node'
+complete -c chpx -n __fish_use_subcommand -a grow -d 'the text of a generated program, or a summary of it'
+complete -c chpx -n '__fish_seen_subcommand_from grow' -l sum
+complete -c chpx -n __fish_use_subcommand -a why -d 'what is under way where a run stops, and what each waits for'
+complete -c chpx -n '__fish_seen_subcommand_from why' -l delays -r
+complete -c chpx -n '__fish_seen_subcommand_from why' -l steps -r
+complete -c chpx -n '__fish_seen_subcommand_from why' -l program -r
+complete -c chpx -n '__fish_seen_subcommand_from why' -l all
+complete -c chpx -n __fish_use_subcommand -a hunt -d 'looks for hazards in a rule file by many orders and delays'
+complete -c chpx -n '__fish_seen_subcommand_from hunt' -l seeds -r
+complete -c chpx -n '__fish_seen_subcommand_from hunt' -l mixed -r
+complete -c chpx -n '__fish_seen_subcommand_from hunt' -l steps -r
+complete -c chpx -n '__fish_seen_subcommand_from hunt' -l to -r
+complete -c chpx -n __fish_use_subcommand -a view -d 'writes a wave with channels and variables as vectors; causes; latency and cycle time'
+complete -c chpx -n '__fish_seen_subcommand_from view' -l delays -r
+complete -c chpx -n '__fish_seen_subcommand_from view' -l steps -r
+complete -c chpx -n '__fish_seen_subcommand_from view' -l to -r
+complete -c chpx -n '__fish_seen_subcommand_from view' -l causes-of -r
+complete -c chpx -n '__fish_seen_subcommand_from view' -l latency -r
+complete -c chpx -n __fish_use_subcommand -a stat -d 'how large a circuit is, by part and by kind of part'
+complete -c chpx -n '__fish_seen_subcommand_from stat' -l json
+complete -c chpx -n __fish_use_subcommand -a tree -d 'draws the parts of a circuit'
+complete -c chpx -n __fish_use_subcommand -a lint -d 'what a program that is accepted may still be doing wrong'
+complete -c chpx -n '__fish_seen_subcommand_from lint' -l json
+complete -c chpx -n __fish_use_subcommand -a sort -d 'brings a rule file\'s lines into the one order'
+complete -c chpx -n '__fish_seen_subcommand_from sort' -l program -r

@@ -1,0 +1,1 @@
+"""What `./chpc` does before the proved program answers: it looks at the words, and proves and builds the program."""
