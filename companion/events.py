@@ -13,7 +13,7 @@ from companion.program import Refusal
 from companion.rules import Net, net_in
 from companion.stat import aligned
 from companion.terminal import Progress
-from companion.until import add_until, steps_of
+from companion.until import add_until, cut_off, steps_of
 from companion.waves import Wave, bits, wave_of
 
 ABOUT = """\
@@ -98,7 +98,7 @@ def main(words: Sequence[str]) -> int:
                 raise Refusal(f"there is no channel {name}", 2)
         wave = wave_of(given.rules, given.script, given.delays, steps_of(given, net))
         found = [it for it in events_of(net, wave, circuit) if not given.channel or it.channel in given.channel]
-    notes = circuit.notes if circuit else []
+    notes = [*(circuit.notes if circuit else []), *cut_off(given, wave)]
     if given.json:
         events = [
             {"move": it.move, "time": it.time, "channel": it.channel, "value": it.number(), "statements": it.ends}

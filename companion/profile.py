@@ -14,7 +14,7 @@ from companion.program import Refusal
 from companion.scene import Scene
 from companion.stat import aligned, joined
 from companion.terminal import Paint, Progress
-from companion.until import move_at
+from companion.until import cut_off, move_at
 from companion.waves import Wave, causes_of, wave_of
 
 ABOUT = """\
@@ -165,12 +165,12 @@ def main(words: Sequence[str]) -> int:
             raise Refusal(f"--from is move {start + 1} of the run, and has to come before --to, move {end + 1}", 2)
         made = profile_of(circuit.net, circuit.tree, wave, end, start)
         checked(made.whole, wave, causes_of(given.rules, given.script, given.delays, end + 1))
-    scene = circuit.scene({})
+    scene, notes = circuit.scene({}), circuit.notes + (cut_off(given, wave) if given.to is None else [])
     if given.json:
-        put({"notes": circuit.notes, **as_json(scene, made)})
+        put({"notes": notes, **as_json(scene, made)})
         return 0
     paint = Paint(sys.stdout)
-    lines = [*circuit.notes, head(made, wave, end, start), "", *statements(scene, made, given.most)]
+    lines = [*notes, head(made, wave, end, start), "", *statements(scene, made, given.most)]
     lines += ["", *turns(scene, made, paint)] if made.turns else []
     print("\n".join([*lines, "", *channels(made)]))
     return 0

@@ -11,6 +11,7 @@ from companion.program import Refusal
 from companion.rules import Net
 from companion.waves import Wave, wave_of
 
+STEPS = 100_000  # the most moves of a run where no other limit is given
 UNTIL = "stops where the N-th value passes on the channel X"
 
 
@@ -63,6 +64,14 @@ def move_at(wave: Wave, net: Net, asked: str) -> int:
     """The number of the move of a channel's value, or else of a node's move."""
     name = parted(asked)[0]
     return value_at(wave, net, asked) if net.channel(name) or name not in wave.first else node_at(wave, asked)
+
+
+def cut_off(given: Namespace, wave: Wave) -> list[str]:
+    """A note where the run may have been cut off by the limit of moves, in a line."""
+    most = given.steps if given.steps is not None else STEPS
+    if wave.status or len(wave.changes) < most or getattr(given, "until", None) is not None:
+        return []
+    return [f"note: the run has {most} moves, as many as are allowed; a greater --steps may let it go on"]
 
 
 def steps_of(given: Namespace, net: Net) -> int | None:

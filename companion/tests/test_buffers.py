@@ -112,7 +112,7 @@ class Circuits(Case):
     def test_profile(self) -> None:
         self.circuit(FIFO, FIFO_SCRIPT, "a")
         words = ("profile", "f.prs", "f.script", "--program", "f.chp", "--buffer", "a")
-        self.has(self.chpx(*words).out, ["the buffer on a: a?b0\n", "turns of loops", "the buffer on a: *[a?b0; B0!b0]"])
+        self.has(self.chpx(*words).out, ["the buffer on a: a?b0\n", "turns of", "the buffer on a: *[a?b0; B0!b0]"])
         told = json.loads(self.chpx(*words, "--json").out)
         self.assertEqual(sum(it["time"] for it in told["statements"]), told["end"])
 
