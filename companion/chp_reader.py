@@ -75,7 +75,7 @@ class Statements(Reader):
             depth += (token.kind in OPENING) - (token.kind in CLOSING)
             if depth < 0:
                 return False
-        raise Unread("a bracket isn't closed", self.now.start)
+        return False
 
     def loop(self, start: int) -> Stmt:
         """What stands in `*[ ]`."""

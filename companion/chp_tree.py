@@ -25,8 +25,8 @@ class Expr:
 class Stmt:
     """A statement. `kind` is that of its part (`skip`, `assign`, `through`, `send`, `receive`, `sequence`, `parallel`,
     `select`, `again`, `loop`) or `call`. `name` is the channel, the variable that is assigned, or the procedure;
-    `target` the variable of a receive, and `target_at` its place; `value` the expression; `guards` those of the arms, whose statements are the
-    children."""
+    `target` the variable of a receive, and `target_at` its place; `value` the expression; `guards` those of the arms,
+    whose statements are the children."""
 
     kind: str
     start: int

@@ -40,6 +40,6 @@ def left_of(terms: list[Fixed], node: str, high: bool) -> list[Fixed]:
 
 
 def needs_keeper(up: list[Term], down: list[Term]) -> bool:
-    """Whether there are values of the nodes at which neither the rule that raises nor the one that lowers is enabled."""
+    """Whether there are values of the nodes at which neither of the two rules is enabled."""
     terms = [term for term in map(fixed, (*up, *down)) if term is not None]
     return not covers_all(terms)

@@ -87,6 +87,9 @@ class Explainer:
     def taken_for(self, text: Text, role: str) -> bool:
         """Whether a file looks like another kind of file than the one that is wanted; if so that is said."""
         other = filekinds.other_than(text.data, role)
+        if not text.data.strip():
+            self.say(f"{self.paint.bold(text.name)}: this file is empty, and a {role} is wanted here")
+            return True
         if other:
             self.say(f"{self.paint.bold(text.name)}: this looks like a {other}, and a {role} is wanted here")
             ways = filekinds.WAYS.get((other, role))

@@ -32,7 +32,7 @@ def kind_of(data: bytes) -> str:
         return WAVE
     if re.match(r"[A-Za-z]\w*\s*:(?!=)", first):
         return SCRIPT
-    if re.match(r"[A-Za-z][\w.]* +\d+ +\d+$", first):
+    if re.match(r"([A-Za-z]\w*\.[\w.]*|n\d+|go|done) +\d+ +\d+$", first):
         return DELAYS
     words = re.findall(r"\w+", first)
     return PROGRAM if words and words[0] in KEYWORDS else ""

@@ -45,7 +45,8 @@ def unused(it: Program) -> Iterator[Finding]:
             elif decl.name not in read:
                 yield decl.start, decl.end, f"the variable {decl.name} is written and never read"
             elif decl.name not in written | zeros:
-                yield decl.start, decl.end, f"the variable {decl.name} is read and never written: it keeps its first value"
+                what = "is read and never written: it keeps its first value"
+                yield decl.start, decl.end, f"the variable {decl.name} {what}"
         elif decl.name not in sends | receives:
             yield decl.start, decl.end, f"the channel {decl.name} isn't used"
         elif decl.kind == "chan" and decl.name not in receives:

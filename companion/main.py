@@ -24,8 +24,9 @@ chpc's, byte for byte, with its status.
 """
 TAIL = """\
 `chpx COMMAND --help` tells more of one. A file `-` is standard input. The program that is called is
-./chpc of the folder of chpx, or the one that the variable CHPC names. NO_COLOR takes the colours
-away. docs/COMPANION.md shows it all.
+./chpc of the folder of chpx, or the one that the variable CHPC names; with --unproved before the
+words one that is compiled without a proof. NO_COLOR takes the colours away. docs/COMPANION.md
+shows it all.
 """
 
 
@@ -88,10 +89,23 @@ def dispatch(words: Sequence[str]) -> int:
     return call(named)
 
 
+def without_proof() -> None:
+    """Has all answers come from the program of which nothing is proved, and compiles it where it isn't there."""
+    from wrapper import unproved
+
+    status = unproved.ready()
+    if status:
+        raise Refusal("without that program there is no answer", status)
+    os.environ["CHPC"] = unproved.PROGRAM
+
+
 def main(words: Sequence[str]) -> int:
     """The same, with what stops it told on standard error."""
     sys.setrecursionlimit(20_000)
     try:
+        if words[:1] == ["--unproved"]:
+            words = words[1:]
+            without_proof()
         status = dispatch(words)
         sys.stdout.flush()
         return status

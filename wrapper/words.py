@@ -28,7 +28,8 @@ FILES = ("FILE", "PRS", "SCRIPT")  # what stands in a form for the name of a fil
 
 
 def forms() -> dict[str, tuple[list[str], dict[str, str]]]:
-    """For each command what its words stand for, and its options with what their values stand for (nothing where there is none)."""
+    """For each command what its words stand for, and its options with what their values stand for (nothing where an
+    option has no value)."""
     found: dict[str, tuple[list[str], dict[str, str]]] = {}
     for line in FORMS.splitlines():
         form = re.match(r"[a-z]+(?: [A-Z]+)+(?: (?:--\S+ [A-Z]+|\[[^]]*\]))*", line)
@@ -41,8 +42,8 @@ def forms() -> dict[str, tuple[list[str], dict[str, str]]]:
 
 
 def split(words: Sequence[str]) -> tuple[list[int], list[tuple[str, int]], str | None]:
-    """Where the words without an option stand behind the command, each option with the place of its value (0 where it has none), and an
-    option that the command hasn't or that lacks its value, if there is one."""
+    """Where the words without an option stand behind the command, each option with the place of its value (0 where it
+    has none), and what is wrong with an option, if something is."""
     options = forms()[words[0]][1]
     plain, given, at = [], [], 1
     while at < len(words):
@@ -65,8 +66,8 @@ def split(words: Sequence[str]) -> tuple[list[int], list[tuple[str, int]], str |
 
 
 def fault(words: Sequence[str]) -> tuple[int, str] | None:
-    """What is plainly wrong with the words, with the status that the program ends with: no such command or option, a word too many or too
-    few, a file that isn't there. Everything else the program finds itself."""
+    """What is plainly wrong with the words, with the status that the program ends with: no such command or option, a
+    word too many or too few, a file that isn't there. Everything else the program finds itself."""
     if words[0] not in forms():
         return 2, f"there is no command {words[0]}"
     places, options = forms()[words[0]]
@@ -92,26 +93,3 @@ def named_files(words: Sequence[str]) -> list[str]:
     found = [words[at] for at, place in zip(plain, places) if place in FILES]
     return found + [words[at].partition("=")[2] if "=" in words[at] and words[at].startswith(name) else words[at]
                     for name, at in given if options[name] in FILES]
-
-
-def with_whole_names(words: Sequence[str]) -> tuple[list[str], dict[str, str]]:
-    """The words with the whole path in place of each file's name, and the name for each such path."""
-    made, names = list(words), {}
-    if not words or words[0] not in forms():
-        return made, names
-    places, options = forms()[words[0]]
-    plain, given, _ = split(words)
-
-    def whole(name: str) -> str:
-        path = os.path.join(os.getcwd(), name)
-        names[path] = name
-        return path
-
-    for at, place in zip(plain, places):
-        if place in FILES:
-            made[at] = whole(words[at])
-    for name, at in given:
-        if options[name] in FILES and at:
-            front = f"{name}=" if words[at].startswith(f"{name}=") else ""
-            made[at] = front + whole(words[at][len(front):])
-    return made, names

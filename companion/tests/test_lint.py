@@ -40,7 +40,7 @@ class Lint(Case):
         self.assertEqual(self.found(wide.format("[40:29]", "[40:29]")), [])
         self.has(
             self.chpx("lint", self.write("f.chp", wide.format("", ""))).out,
-            ["nothing found\nnot tried", "more than 12 bits: f.chp:1:37"],
+            ["nothing found\ntried at the ends", "more than 12 bits: f.chp:1:37"],
         )
 
     def test_names(self) -> None:
@@ -51,10 +51,25 @@ class Lint(Case):
             "f.chp:3:6: the channel w isn't used",
             "f.chp:4:4: the channel A isn't used",
             "f.chp:5:5: the variable u isn't used",
+            "f.chp:6:5: the variable v is written and never read",
         ])
+        text = "in A : 1; out B : 2;\nvar a : 1;\nvar z : 1;\nvar k : 1;\nbegin *[A?a; B!{z, a}; B!{a, k ^ a}] end"
+        kept = "f.chp:4:5: the variable k is read and never written: it keeps its first value"
+        self.assertEqual(self.found(text), [kept])
+
+    def test_constant_guards(self) -> None:
+        head = "in A : 4; out B : 4; var a : 4;\n"
+        text = f"{head}begin *[A?a; [a <= 15 -> B!a [] a > 15 -> skip]] end"
+        self.assertEqual(
+            self.found(text), ["f.chp:2:15: this guard is always true", "f.chp:2:33: this guard is never true"]
+        )
+        wide = "in A : 32; var a : 32;\nbegin *[A?a; [a < 1000 -> skip [] a >= 999 -> skip]] end"
+        self.assertEqual(
+            self.found(wide), ["f.chp:2:14: the guards 1 and 2 are true at once for a = 999: it waits for ever then"]
+        )
 
     def test_loops(self) -> None:
-        text = "var x : 1;\nbegin\n  *[skip];\n  x := 1\nend"
+        text = "out X : 1;\nbegin\n  *[skip];\n  X!1\nend"
         self.assertEqual(self.found(text), ["f.chp:3:3: this never ends, so what follows at 4:3 is never reached"])
         self.assertEqual(self.found("var x : 1; begin [x -> *[skip] [] ~x -> x := 1]; *[x -> *[skip]]; skip end"), [])
         always = "out R : 1; var x : 1; begin *[1 -> skip]; R!x end"

@@ -24,7 +24,10 @@ WROTE = {
     "`loop S`, `forever S`, `repeat S`": ["begin loop skip end", "var x : 1; begin forever x := 1 end"],
     "`-- ..` as a comment": ["begin skip; -- c\nskip end", "var x : 1; begin x := 1 -- c\nend"],
     "`# ..` as a comment": ["# c\nbegin skip end", "begin skip;\n# c\nskip end"],
-    "`→`, `≠`, `∧` and other signs beyond ASCII": ["var a : 1; begin [a → skip] end", "var a : 1; begin [a ≠ 1 -> skip] end"],
+    "`→`, `≠`, `∧` and other signs beyond ASCII": [
+        "var a : 1; begin [a → skip] end",
+        "var a : 1; begin [a ≠ 1 -> skip] end",
+    ],
     "`p`, `p()`": ["proc p = skip; begin p; skip end", "proc p = skip; begin p() end"],
     "`proc p = S; T;`": ["var x : 8; out R : 8; proc p = x := x + 1; R!x; begin skip end"],
     "`proc p(a) = S;`": ["proc p(a) = skip; begin call p end"],

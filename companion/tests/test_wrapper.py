@@ -2,12 +2,12 @@
 
 from __future__ import annotations
 
-import os
 import unittest
+from unittest import mock
 
 from companion.tests.base import Case
-from wrapper import build
-from wrapper.words import fault, forms, with_whole_names
+from wrapper import crates, watch
+from wrapper.words import fault, forms
 
 
 class Words(Case):
@@ -43,15 +43,8 @@ class Words(Case):
     def test_words_of_the_program(self) -> None:
         """What the program itself has to find is left to it."""
         self.write("a.prs", "")
-        for line in ("check a.prs", "simulate a.prs a.prs --order none", "grow x y", "waves a.prs a.prs --steps x --causes"):
+        for line in ("check a.prs", "simulate a.prs a.prs --order none", "grow x y", "waves a.prs a.prs --steps x"):
             self.assertIsNone(fault(line.split()), line)
-
-    def test_whole_names(self) -> None:
-        """Files are named by their whole paths, and nothing else is."""
-        here = os.getcwd()
-        made, names = with_whole_names(["simulate", "a", "b", "--order", "c", "--against=d"])
-        self.assertEqual(made, ["simulate", f"{here}/a", f"{here}/b", "--order", "c", f"--against={here}/d"])
-        self.assertEqual(names, {f"{here}/a": "a", f"{here}/b": "b", f"{here}/d": "d"})
 
 
 class Builds(unittest.TestCase):
@@ -61,19 +54,15 @@ class Builds(unittest.TestCase):
         """Crates that stand one upon the other come one after the other, and the longest chain first."""
         below = {"low": [], "high": ["low"], "beside": [], "other": []}
         costs = {"low": 2.0, "high": 2.0, "beside": 2.0, "other": 1.0}
-        two, build_processors = build.planned, build.processors
-        build.processors = lambda: 2
-        try:
-            self.assertEqual(two(below, costs, set(below)), 4.0)
-            self.assertEqual(two(below, costs, {"high"}), 2.0)
-        finally:
-            build.processors = build_processors
+        with mock.patch.object(watch, "processors", lambda: 2):
+            self.assertEqual(watch.planned(below, costs, set(below)), 4.0)
+            self.assertEqual(watch.planned(below, costs, {"high"}), 2.0)
 
     def test_crates(self) -> None:
         """Each crate of the program has its minutes."""
-        below = build.crates_below("chpc")
+        below = crates.crates_below("chpc")
         self.assertIn("chp_base", below)
-        self.assertTrue(all(cost > 0 for cost in build.minutes(below).values()))
+        self.assertTrue(all(cost > 0 for cost in crates.minutes(below).values()))
 
 
 if __name__ == "__main__":
