@@ -6,6 +6,7 @@ from __future__ import annotations
 from dataclasses import dataclass, field
 
 from companion import options, program
+from companion.buffers import asked, buffered_program, buffered_text, told
 from companion.calls import shared_tree
 from companion.chp_reader import read_program
 from companion.chp_tokens import Unread
@@ -18,22 +19,27 @@ from companion.rules import Net, read_net
 
 @dataclass
 class Fit:
-    """For each part its statement; or, where `why` isn't empty, none, and the reason."""
+    """For each part its statement; or, where `why` isn't empty, none, and the reason. Parts of a buffer have no
+    statement in the text, but in `made` its text."""
 
     text: Text
     program: Program | None = None
     statements: dict[Part, Stmt] = field(default_factory=dict)
     why: str = ""
+    made: dict[Part, str] = field(default_factory=dict)
+    buffer: str | None = None
 
     def place(self, part: Part) -> str:
-        """FILE:LINE:COLUMN of a part, or of the statement round it that has a place; empty where there is none."""
+        """FILE:LINE:COLUMN of a part, or that it is the buffer's; empty where neither is known."""
+        if part in self.made:
+            return f"the buffer on {self.buffer}"
         statement = self.statements.get(part)
         return self.text.told(statement.start) if statement else ""
 
     def source(self, part: Part, most: int = 60) -> str:
         """The text of a part's statement on one line, cut to so many characters; empty where there is none."""
         statement = self.statements.get(part)
-        return self.cut(statement.start, statement.end, most) if statement else ""
+        return self.cut(statement.start, statement.end, most) if statement else self.made.get(part, "")
 
     def cut(self, start: int, end: int, most: int = 60) -> str:
         """A stretch of the text on one line."""
@@ -47,17 +53,22 @@ class Misfit(Exception):
     """The text and the parts aren't of one form."""
 
 
-def fitted(data: bytes, name: str, tree: Tree, net: Net | None) -> Fit:
-    """Fits a program's text to its parts and, where there is a net, to its rules."""
-    fit = Fit(Text(name, data))
+def fitted(data: bytes, name: str, tree: Tree, net: Net | None, buffer: str | None = None) -> Fit:
+    """Fits a program's text, with a buffer on a channel, to its parts and, where there is a net, to its rules."""
+    fit = Fit(Text(name, data), buffer=buffer)
     try:
         fit.program = read_program(data)
+        if buffer is not None:
+            fit.program = buffered_program(fit.program, buffer)
         for part in tree.procs:
             pair(fit.program.procs[part.name], part.children[0], fit.statements)
         pair(fit.program.body, tree.root.children[0], fit.statements)
         if net is not None:
             for part, statement in fit.statements.items():
                 compare_name(part, statement, tree, net)
+        fit.made = {part: told(it) for part, it in fit.statements.items() if it.start < 0}
+        for part in fit.made:
+            del fit.statements[part]
     except (Unread, Misfit, IndexError, KeyError) as error:
         fit.statements.clear()
         why = "its text as it is read here and its parts don't fit"
@@ -65,8 +76,18 @@ def fitted(data: bytes, name: str, tree: Tree, net: Net | None) -> Fit:
     return fit
 
 
-def tree_for(name: str, net: Net) -> Tree:
-    """The parts of the program in a file, as its net has them: of one with procedures with bodies that calls share."""
+def with_buffer(name: str, channel: str) -> str:
+    """The name of a file that has the program with a buffer on a channel."""
+    asked(name, channel)
+    path = f"{options.room()}/buffered.chp"
+    options.write(path, buffered_text(options.read(name), channel))
+    return path
+
+
+def tree_for(name: str, net: Net, buffer: str | None = None) -> Tree:
+    """The parts of the program in a file, as its net has them: of one with procedures with bodies that calls share, but
+    with a buffer on a channel with copies of them."""
+    name = with_buffer(name, buffer) if buffer is not None else name
     tree, data = tree_of(name), options.read(name)
     try:
         it = read_program(data)
@@ -78,11 +99,12 @@ def tree_for(name: str, net: Net) -> Tree:
     return tree
 
 
-def circuit_of(name: str) -> tuple[Tree, Net, Fit]:
-    """The parts of the program in a file, its net, and how its text fits them."""
-    net = read_net(program.wanted(["compile", name]).out.decode("latin-1"), name)
-    tree = tree_for(name, net)
-    return tree, net, fitted(options.read(name), name, tree, net)
+def circuit_of(name: str, buffer: str | None = None) -> tuple[Tree, Net, Fit]:
+    """The parts of the program in a file, its net, and how its text fits them; with a buffer on a channel."""
+    more = [f"--buffer={buffer}"] if buffer is not None else []
+    net = read_net(program.wanted(["compile", name, *more]).out.decode("latin-1"), name)
+    tree = tree_for(name, net, buffer)
+    return tree, net, fitted(options.read(name), name, tree, net, buffer)
 
 
 def pair(statement: Stmt, part: Part, found: dict[Part, Stmt]) -> None:

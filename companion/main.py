@@ -35,7 +35,7 @@ def help_text() -> str:
     lines = [HEAD, "commands of chpc, with its answer explained:"]
     lines += [f"  {form.text}" for form in forms()]
     lines += ["", "commands of chpx, which make many calls of chpc:"]
-    lines += [f"  {name:6} {about}" for name, (_, about) in OWN.items()]
+    lines += [f"  {name:9} {about}" for name, (_, about) in OWN.items()]
     return "\n".join([*lines, "", TAIL])
 
 

@@ -43,6 +43,16 @@ class Parser(argparse.ArgumentParser):
         self.add_argument("--delays", metavar="FILE", help="how long moves take; without it each takes 1")
         self.add_argument("--steps", metavar="N", type=natural, help="the most moves that are made (100,000)")
 
+    def program_file(self, required: bool = True) -> None:
+        """The words for the program that a rule file was compiled from."""
+        about = "the program that PRS was compiled from"
+        self.add_argument("--program", metavar="F", required=required, help=about)
+        self.buffer()
+
+    def buffer(self) -> None:
+        """The word for a circuit with a buffer."""
+        self.add_argument("--buffer", metavar="X", help="the circuit has a buffer on the channel X, as by `compile`")
+
 
 _rooms = contextlib.ExitStack()
 

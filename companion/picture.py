@@ -77,7 +77,7 @@ class Drawing:
     def title(self, part: Part) -> str:
         """What stands in a box: the kind with the text, or without a place the kind with the name that the rules
         tell."""
-        if part.kind in ("send", "receive", "assign", "through") and part in self.fit.statements:
+        if part.kind in ("send", "receive", "assign", "through") and self.fit.place(part):
             return self.fit.source(part, 34)
         if part.kind in ("select", "again") and part in self.fit.statements:
             guards = self.fit.statements[part].guards
@@ -96,7 +96,7 @@ class Drawing:
             )
         place = self.fit.place(part)
         small = f"{part.request} → {part.answer}, {part.count} nodes"
-        small += f", {':'.join(place.rsplit(':', 2)[1:])}" if place else ""
+        small += f", {':'.join(place.rsplit(':', 2)[1:]) or place}" if place else ""
         style = f'rx="4" fill="{COLOURS.get(part.kind, "#f4f4f4")}" stroke="#444"'
         lines += [
             f'<rect x="{x:g}" y="{y:g}" width="{WIDE}" height="{HIGH}" {style}/>',
@@ -143,9 +143,10 @@ def main(words: Sequence[str]) -> int:
     """Runs the command."""
     made = Parser("tree", ABOUT)
     made.add_argument("file", metavar="F", help="the program")
+    made.buffer()
     given = made.parse_args(words)
     with Progress(f"the parts of {given.file}"):
-        tree, net, fit = circuit_of(given.file)
+        tree, net, fit = circuit_of(given.file, given.buffer)
         drawing = Drawing(tree, fit, net)
     print(drawing.svg(), end="")
     return 0

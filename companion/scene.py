@@ -21,6 +21,7 @@ class Scene:
     tree: Tree
     fit: Fit
     report: Report
+    in_hex: bool = False
 
     def is_active(self, part: Part) -> bool:
         """Whether a part's request is high and its answer low."""
@@ -77,12 +78,19 @@ class Scene:
 
     def called(self, part: Part) -> str:
         """A part for people: its place and its text, or its kind and its nodes."""
-        if part in self.fit.statements:
+        if self.fit.place(part):
             return f"{self.fit.place(part)}: {self.fit.source(part)}"
         name = part.name or name_of(part, self.tree, self.net)
         return f"{part.kind} {name} ({part.request}, {part.answer})".replace("  ", " ")
 
     def value(self, name: str, width: int) -> str:
-        """The value of a channel or a variable, in decimal; `between values` where not each bit has one."""
+        """The value of a channel or a variable for people; `between values` where not each bit has one."""
+        number = self.number(name, width)
+        if number is None:
+            return f"between values ({bits(self.values, name, width)})"
+        return hex(number) if self.in_hex else str(number)
+
+    def number(self, name: str, width: int) -> int | None:
+        """The value of a channel or a variable; none where not each bit has one."""
         digits = bits(self.values, name, width)
-        return str(int(digits, 2)) if set(digits) <= {"0", "1"} else f"between values ({digits})"
+        return int(digits, 2) if set(digits) <= {"0", "1"} else None

@@ -110,7 +110,8 @@ def by_kind(net: Net, tree: Tree) -> tuple[list[str], list[tuple[str, Size]]]:
 
 def by_part(tree: Tree, fit: Fit, sizes: list[tuple[str, Size]]) -> list[str]:
     """A line for each block and each part, parents before children."""
-    declared = fit.program.of_kind("in", "out", "chan", "var") if fit.program and not fit.why else {}
+    known = fit.program.decls if fit.program and not fit.why else []
+    declared = {decl.name: decl for decl in known if decl.start >= 0}
     rows = [[*COLUMNS, "part"]]
     for block, (name, size) in zip(tree.blocks, sizes):
         place = f"  {fit.text.told(declared[block.name].start)}" if block.name in declared else ""
@@ -139,10 +140,11 @@ def main(words: Sequence[str]) -> int:
     """Runs the command."""
     made = Parser("stat", ABOUT)
     made.add_argument("file", metavar="F", help="the program")
+    made.buffer()
     made.add_argument("--json", action="store_true", help="the same as one JSON object")
     given = made.parse_args(words)
     with Progress(f"the size of {given.file}"):
-        tree, net, fit = circuit_of(given.file)
+        tree, net, fit = circuit_of(given.file, given.buffer)
         whole = size_of(net, net.first)
         kinds, sizes = by_kind(net, tree)
     if given.json:

@@ -90,14 +90,15 @@ def vector_dump(wave: Wave, signals: list[Signal]) -> str:
     return "\n".join(lines) + "\n"
 
 
-def gtkw(dump: str, signals: list[Signal]) -> str:
-    """A file for gtkwave beside a dump: channels with their acknowledges, then variables, in decimal."""
+def gtkw(dump: str, signals: list[Signal], in_hex: bool = False) -> str:
+    """A file for gtkwave beside a dump: channels with their acknowledges, then variables."""
+    number = "@22" if in_hex else "@24"
     lines = ["[*] written by chpx view", f'[dumpfile] "{dump}"', "[timestart] 0", "[size] 1200 800"]
     lines += ["@200", "-channels"]
     for signal in signals:
         if signal.what == "channel":
-            lines += ["@24", f"top.{signal.label()}", "@28", f"top.nodes.{signal.name}.a"]
-    lines += ["@200", "-variables", "@24"]
+            lines += [number, f"top.{signal.label()}", "@28", f"top.nodes.{signal.name}.a"]
+    lines += ["@200", "-variables", number]
     lines += [f"top.{signal.label()}" for signal in signals if signal.what == "variable"]
     lines += ["@200", "-start and end", "@28", "top.nodes.go", "top.nodes.done"]
     return "\n".join(lines) + "\n"

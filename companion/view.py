@@ -3,7 +3,6 @@
 from __future__ import annotations
 
 import os
-import re
 from collections.abc import Sequence
 
 from companion import options
@@ -13,8 +12,9 @@ from companion.rules import net_in
 from companion.signals import signals_of
 from companion.terminal import Progress
 from companion.times import between, passings, table
+from companion.until import add_until, node_at, steps_of
 from companion.vectors import gtkw, vector_dump
-from companion.waves import Wave, causes_of, wave_of
+from companion.waves import causes_of, wave_of
 
 ABOUT = """\
 Writes the wave of a timed run with its channels and variables as vectors: the value while each bit
@@ -27,6 +27,8 @@ def parser() -> Parser:
     """The words of `view`."""
     made = Parser("view", ABOUT)
     made.run_files()
+    add_until(made)
+    made.add_argument("--hex", action="store_true", help="NAME.gtkw shows values in hexadecimal")
     made.add_argument(
         "--to", metavar="NAME", help="the files that are written are NAME.vcd and NAME.gtkw (as PRS is called)"
     )
@@ -38,30 +40,14 @@ def parser() -> Parser:
     return made
 
 
-def move_number(wave: Wave, asked: str) -> int:
-    """The number of a move in its run, from 1: of `NODE:N` or `NODE`."""
-    told = re.fullmatch(r"(.*?)(?::(\d+))?", asked)
-    assert told is not None
-    node = told[1]
-    moves = [number for number, change in enumerate(wave.changes, 1) if change.node == node]
-    if node not in wave.first:
-        raise Refusal(f"there is no node {node}", 2)
-    if not moves:
-        raise Refusal(f"{node} never moves in this run", 2)
-    at = int(told[2]) if told[2] else len(moves)
-    if not 1 <= at <= len(moves):
-        raise Refusal(f"{node} moves {len(moves)} times in this run, so it has no move {at}", 2)
-    return moves[at - 1]
-
-
 def main(words: Sequence[str]) -> int:
     """Runs the command: 0, or 5 where the run ends in a hazard."""
     given = parser().parse_args(words)
     with Progress(f"the wave of {given.rules}"):
         net = net_in(given.rules)
-        wave = wave_of(given.rules, given.script, given.delays, given.steps)
+        wave = wave_of(given.rules, given.script, given.delays, steps_of(given, net))
         if given.causes_of:
-            number = move_number(wave, given.causes_of)
+            number = node_at(wave, given.causes_of)
             chain = causes_of(given.rules, given.script, given.delays, number)
     if given.causes_of:
         print(f"move {number} of the run, and the moves by which it came, each the cause of the next")
@@ -75,7 +61,7 @@ def main(words: Sequence[str]) -> int:
             raise Refusal(f"there is no channel {name}", 2)
     to = given.to or options.stem(given.rules)
     options.write(f"{to}.vcd", vector_dump(wave, signals))
-    options.write(f"{to}.gtkw", gtkw(f"{os.path.basename(to)}.vcd", signals))
+    options.write(f"{to}.gtkw", gtkw(f"{os.path.basename(to)}.vcd", signals, given.hex))
     vectors = f"{len(channels)} channels and {len(signals) - len(channels)} variables as vectors"
     print(f"{to}.vcd: {len(wave.changes)} moves of {len(wave.first)} nodes, {vectors}; {to}.gtkw shows them in gtkwave")
     print("\n".join(table(found)))

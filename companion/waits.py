@@ -7,6 +7,7 @@ from dataclasses import dataclass, field
 
 from companion.fit import name_of
 from companion.parts import Part, width_of
+from companion.rules import Net
 from companion.scene import Scene
 
 
@@ -52,6 +53,9 @@ def wait_on_channel(scene: Scene, wait: Wait) -> None:
     count = f"{passed} value{' has' if passed == 1 else 's have'} passed"
     if is_send:
         wait.lines.append(f"it offers {scene.value(name, channel.width)} on {name}")
+    if scene.values[f"{name}.a"] == "1" and not scene.is_still():
+        wait.lines.append(f"the value has passed on {name}, and its handshake isn't over: {count}")
+        return
     if channel.kind != "chan":
         wait.outside = True
         does = "takes no more" if is_send else "sends no more"
@@ -81,12 +85,12 @@ def wait_on_channel(scene: Scene, wait: Wait) -> None:
         wait.lines.append(f"{name} is {other} at {where}, {told}")
 
 
-def guards_of(scene: Scene, part: Part) -> list[tuple[str, str]]:
+def guard_rails(net: Net, part: Part) -> list[tuple[str, str]]:
     """The rails of each guard of a selection, as the rule of its first start tells them: `l & ~h1.t & ~h1.f & ..`."""
     own = 3 if part.kind == "select" else 6
-    names = list(scene.net.first)
+    names = list(net.first)
     start = names[part.first + own + len(part.children)]
-    terms = scene.net.terms(start, "+")
+    terms = net.terms(start, "+")
     rails = [node for node, high in terms[0] if not high and node != "reset"] if terms else []
     return list(zip(rails[0::2], rails[1::2]))
 
@@ -94,7 +98,7 @@ def guards_of(scene: Scene, part: Part) -> list[tuple[str, str]]:
 def wait_on_guards(scene: Scene, wait: Wait) -> None:
     """A selection waits where not exactly one guard is true, a guarded repetition where several are."""
     part = wait.part
-    guards = guards_of(scene, part)
+    guards = guard_rails(scene.net, part)
     true = [at for at, (high, _) in enumerate(guards) if scene.values[high] == "1"]
     known = all(scene.values[high] != scene.values[low] for high, low in guards)
     if not guards or not known or len(true) == 1 or (part.kind == "again" and not true):

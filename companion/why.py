@@ -6,13 +6,13 @@ import sys
 from collections.abc import Sequence
 
 from companion import options, program
-from companion.fit import fitted, tree_for
+from companion.as_json import put
+from companion.compiled import compiled
 from companion.options import Parser
 from companion.parts import width_of
-from companion.program import Refusal
-from companion.rules import Net, net_in, read_net
 from companion.scene import Scene
 from companion.terminal import Paint, Progress
+from companion.until import add_until, steps_of
 from companion.waits import Wait, cycles, waits_of
 from companion.waves import Report, read_report, run_words, wave_of
 
@@ -27,26 +27,20 @@ def parser() -> Parser:
     """The words of `why`."""
     made = Parser("why", ABOUT)
     made.run_files()
-    made.add_argument("--program", metavar="F", required=True, help="the program that PRS was compiled from")
+    made.program_file()
+    add_until(made)
     made.add_argument("--all", action="store_true", help="also tell the statements that the waiting ones lie in")
+    made.add_argument("--hex", action="store_true", help="values in hexadecimal")
+    made.add_argument("--json", action="store_true", help="the same as one JSON object")
     return made
 
 
-def compared(rules: str, source: str) -> tuple[Net, str]:
-    """The net of a rule file, and what is to be said of it beside the program: nothing where `compile` writes it."""
-    net, data = net_in(rules), options.read(rules)
-    words = ["compile", source, *(["--reset"] if net.version == "prs 2" else [])]
-    made = program.wanted(words).out
-    if made == data:
-        return net, ""
-    if list(read_net(made.decode("latin-1"), source).first) != list(net.first):
-        raise Refusal(f"{rules} isn't the rule file of {source}, nor that with --reset: its nodes are others")
-    return net, f"note: {rules} has the nodes of {source}, but isn't what `compile` writes: its rules were changed"
-
-
-def ending(report: Report) -> str:
-    """How the run ended, in a sentence."""
+def ending(report: Report, until: str | None = None) -> str:
+    """How the run ended, in a sentence; or that it was ended where a value passed."""
     after = f"after {report.moves} moves, at time {report.time}"
+    if until is not None and report.end == ["spent"]:
+        name, _, number = until.partition(":")
+        return f"the run is stopped {after}, by which value {number} passes on {name}"
     if report.end == ["rest"]:
         state = "and the program has ended" if report.done else "and the program hasn't ended"
         return f"the run comes to rest {after}: no move is enabled, {state}"
@@ -92,24 +86,40 @@ def conclusion(scene: Scene, waits: list[Wait], paint: Paint) -> list[str]:
     return found
 
 
+def as_json(scene: Scene, waits: list[Wait], notes: list[str]) -> dict[str, object]:
+    """All of it for other programs."""
+    report = scene.report
+    under_way: list[object] = []
+    for wait in waits:
+        path = scene.path(wait.part)
+        told = {"statement": scene.called_on(path), "in": [scene.called(part) for part in path[1:-1]]}
+        told |= {"why": wait.lines, "waits_for": [scene.called(part) for part in wait.on]}
+        under_way.append(told | {"environment": wait.outside, "blocked": wait.blocked})
+    values = {it.name: scene.number(it.name, width_of(it)) for it in scene.tree.variables()}
+    found = [[scene.called(part) for part in cycle] for cycle in cycles(waits)] if scene.is_still() else []
+    ended: dict[str, object] = {"end": " ".join(report.end), "moves": report.moves, "time": report.time}
+    ended |= {"done": report.done, "passed": report.passed, "notes": notes}
+    return ended | {"under_way": under_way, "variables": values, "deadlocks": found}
+
+
 def main(words: Sequence[str]) -> int:
     """Runs the command; its status is 0, whatever the run ends with."""
     given = parser().parse_args(words)
     with Progress(f"the run of {given.rules}"):
-        net, note = compared(given.rules, given.program)
-        tree = tree_for(given.program, net)
-        delays = given.delays
+        circuit = compiled(given.rules, given.program, given.buffer)
+        steps, delays = steps_of(given, circuit.net), given.delays
         if delays is None:
             delays = f"{options.room()}/delays"
             options.write(delays, "")
-        words = ["simulate", *run_words(given.rules, given.script, delays, given.steps)]
+        words = ["simulate", *run_words(given.rules, given.script, delays, steps)]
         report = read_report(program.wanted(words, (0, 5)).text())
-        wave = wave_of(given.rules, given.script, given.delays, given.steps)
-    fit = fitted(options.read(given.program), given.program, tree, net)
-    scene = Scene(net, wave.last(), tree, fit, report)
-    paint = Paint(sys.stdout)
+        wave = wave_of(given.rules, given.script, given.delays, steps)
+    scene = circuit.scene(wave.last(), report, given.hex)
     waits = waits_of(scene)
-    notes = [note] if note else []
-    notes += [f"note: {fit.why}"] if fit.why else []
-    print("\n".join([*notes, ending(report), *told(scene, waits, paint, given.all), *conclusion(scene, waits, paint)]))
+    if given.json:
+        put(as_json(scene, waits, circuit.notes))
+        return 0
+    paint = Paint(sys.stdout)
+    head = [*circuit.notes, ending(report, given.until)]
+    print("\n".join([*head, *told(scene, waits, paint, given.all), *conclusion(scene, waits, paint)]))
     return 0

@@ -3,7 +3,7 @@ _chpx() {
   local word="${COMP_WORDS[COMP_CWORD]}" before="${COMP_WORDS[COMP_CWORD-1]}" options=""
   COMPREPLY=()
   if [ "$COMP_CWORD" -eq 1 ]; then
-    COMPREPLY=($(compgen -W "check compile expand run simulate bench waves unwave migrate grow why hunt view stat tree lint sort --help --version" -- "$word"))
+    COMPREPLY=($(compgen -W "check compile expand run simulate bench waves unwave migrate grow why hunt view events cover profile buffered stat tree lint sort --help --version" -- "$word"))
     return
   fi
   case "$before" in
@@ -22,11 +22,15 @@ _chpx() {
     unwave) options="" ;;
     migrate) options="" ;;
     grow) options="--sum" ;;
-    why) options="--delays --steps --program --all" ;;
+    why) options="--delays --steps --program --buffer --until --all --hex --json" ;;
     hunt) options="--seeds --mixed --steps --to" ;;
-    view) options="--delays --steps --to --causes-of --latency" ;;
-    stat) options="--json" ;;
-    tree) options="" ;;
+    view) options="--delays --steps --until --hex --to --causes-of --latency" ;;
+    events) options="--delays --steps --program --buffer --until --channel --hex --json" ;;
+    cover) options="--steps --buffer" ;;
+    profile) options="--delays --steps --program --buffer --to --from --most --json" ;;
+    buffered) options="" ;;
+    stat) options="--buffer --json" ;;
+    tree) options="--buffer" ;;
     lint) options="--json" ;;
     sort) options="--program" ;;
   esac

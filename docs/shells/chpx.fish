@@ -59,7 +59,11 @@ complete -c chpx -n __fish_use_subcommand -a why -d 'what is under way where a r
 complete -c chpx -n '__fish_seen_subcommand_from why' -l delays -r
 complete -c chpx -n '__fish_seen_subcommand_from why' -l steps -r
 complete -c chpx -n '__fish_seen_subcommand_from why' -l program -r
+complete -c chpx -n '__fish_seen_subcommand_from why' -l buffer -r
+complete -c chpx -n '__fish_seen_subcommand_from why' -l until -r
 complete -c chpx -n '__fish_seen_subcommand_from why' -l all
+complete -c chpx -n '__fish_seen_subcommand_from why' -l hex
+complete -c chpx -n '__fish_seen_subcommand_from why' -l json
 complete -c chpx -n __fish_use_subcommand -a hunt -d 'looks for hazards in a rule file by many orders and delays'
 complete -c chpx -n '__fish_seen_subcommand_from hunt' -l seeds -r
 complete -c chpx -n '__fish_seen_subcommand_from hunt' -l mixed -r
@@ -68,12 +72,38 @@ complete -c chpx -n '__fish_seen_subcommand_from hunt' -l to -r
 complete -c chpx -n __fish_use_subcommand -a view -d 'writes a wave with channels and variables as vectors; causes; latency and cycle time'
 complete -c chpx -n '__fish_seen_subcommand_from view' -l delays -r
 complete -c chpx -n '__fish_seen_subcommand_from view' -l steps -r
+complete -c chpx -n '__fish_seen_subcommand_from view' -l until -r
+complete -c chpx -n '__fish_seen_subcommand_from view' -l hex
 complete -c chpx -n '__fish_seen_subcommand_from view' -l to -r
 complete -c chpx -n '__fish_seen_subcommand_from view' -l causes-of -r
 complete -c chpx -n '__fish_seen_subcommand_from view' -l latency -r
+complete -c chpx -n __fish_use_subcommand -a events -d 'what passed in a run, in one order over all channels'
+complete -c chpx -n '__fish_seen_subcommand_from events' -l delays -r
+complete -c chpx -n '__fish_seen_subcommand_from events' -l steps -r
+complete -c chpx -n '__fish_seen_subcommand_from events' -l program -r
+complete -c chpx -n '__fish_seen_subcommand_from events' -l buffer -r
+complete -c chpx -n '__fish_seen_subcommand_from events' -l until -r
+complete -c chpx -n '__fish_seen_subcommand_from events' -l channel -r
+complete -c chpx -n '__fish_seen_subcommand_from events' -l hex
+complete -c chpx -n '__fish_seen_subcommand_from events' -l json
+complete -c chpx -n __fish_use_subcommand -a cover -d 'what of a program never happened in some runs'
+complete -c chpx -n '__fish_seen_subcommand_from cover' -l steps -r
+complete -c chpx -n '__fish_seen_subcommand_from cover' -l buffer -r
+complete -c chpx -n __fish_use_subcommand -a profile -d 'where the time of a run goes, by statement, by turn of a loop and by channel'
+complete -c chpx -n '__fish_seen_subcommand_from profile' -l delays -r
+complete -c chpx -n '__fish_seen_subcommand_from profile' -l steps -r
+complete -c chpx -n '__fish_seen_subcommand_from profile' -l program -r
+complete -c chpx -n '__fish_seen_subcommand_from profile' -l buffer -r
+complete -c chpx -n '__fish_seen_subcommand_from profile' -l to -r
+complete -c chpx -n '__fish_seen_subcommand_from profile' -l from -r
+complete -c chpx -n '__fish_seen_subcommand_from profile' -l most -r
+complete -c chpx -n '__fish_seen_subcommand_from profile' -l json
+complete -c chpx -n __fish_use_subcommand -a buffered -d 'the text of a program with a one-place buffer on a channel'
 complete -c chpx -n __fish_use_subcommand -a stat -d 'how large a circuit is, by part and by kind of part'
+complete -c chpx -n '__fish_seen_subcommand_from stat' -l buffer -r
 complete -c chpx -n '__fish_seen_subcommand_from stat' -l json
 complete -c chpx -n __fish_use_subcommand -a tree -d 'draws the parts of a circuit'
+complete -c chpx -n '__fish_seen_subcommand_from tree' -l buffer -r
 complete -c chpx -n __fish_use_subcommand -a lint -d 'what a program that is accepted may still be doing wrong'
 complete -c chpx -n '__fish_seen_subcommand_from lint' -l json
 complete -c chpx -n __fish_use_subcommand -a sort -d 'brings a rule file\'s lines into the one order'
