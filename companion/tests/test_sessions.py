@@ -27,6 +27,10 @@ class Sessions(Case):
         commands = " ".join(it.command for it in sessions.sessions(page))
         for name in ("check", "compile", "simulate", "why", "hunt", "view", "stat", "tree", "lint", "sort"):
             self.assertRegex(commands, rf"\./chpx {name}\b")
+        with open(os.path.join(TOP, "docs", "EVENTS.md"), encoding="utf-8") as file:
+            more = " ".join(it.command for it in sessions.sessions(file.read()))
+        for name in ("events", "why", "cover", "profile", "buffered"):
+            self.assertRegex(more, rf"\./chpx {name}\b")
         self.assertIn("nothing is found proves nothing", " ".join(page.replace("**", "").split()))
 
     def test_house(self) -> None:
