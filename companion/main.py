@@ -7,7 +7,7 @@ import os
 import sys
 from collections.abc import Sequence
 
-from companion import options, program
+from companion import bench, options, program
 from companion.commands import forms, forms_of
 from companion.explain import explained
 from companion.own import OWN
@@ -43,6 +43,8 @@ def help_of(command: str) -> str:
     lines = [f"chpx calls `chpc {command}`; on standard output comes, with status 0,", ""]
     for form in forms_of(command):
         lines += [f"  chpx {form.text}", f"      {form.about}", ""]
+    if command == "bench":
+        lines += ["  chpx bench PRS --device NAME ..", "      the same against a device in Python; --device x --help", ""]
     lines.append("More of it is in docs/COMMANDS.md. Nothing that chpx adds to it is proved.")
     return "\n".join(lines)
 
@@ -79,6 +81,8 @@ def dispatch(words: Sequence[str]) -> int:
     named = options.with_standard_input(words)
     if words and words[0] in OWN:
         return own(words[0], named[1:])
+    if bench.is_asked(named):
+        return bench.main(named[1:])
     asked = named[: named.index("--")] if "--" in named else named
     if ("--help" in asked[1:] or "-h" in asked[1:]) and forms_of(words[0]):
         print(help_of(words[0]))
