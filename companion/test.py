@@ -54,7 +54,7 @@ def files_of(names: Sequence[str]) -> list[str]:
         inside = sorted(it for it in os.listdir(name) if it.endswith(".test"))
         if not inside:
             raise Refusal(f"{name} has no file that ends in .test", 3)
-        found += [os.path.join(name, it) for it in inside]
+        found += [os.path.normpath(os.path.join(name, it)) for it in inside]
     return found
 
 

@@ -1,8 +1,9 @@
-"""The sessions of docs/COMPANION.md: commands that a person types, and what comes back, typed again and compared.
+"""The sessions of the companion's pages: commands that a person types, and what comes back, typed again and compared.
 
 A session is a block of code marked `session`. A line behind `$ ` is a command for a shell; lines behind `> ` go on with
-it; what follows is what it prints on both streams, and at last `[N]` where it ends with a status other than 0. All
-sessions are typed one after the other in one folder that has the files of `examples`, with `./chpx` and `./chpc` there.
+it; what follows is what it prints on both streams, and at last `[N]` where it ends with a status other than 0. The
+sessions of a page are typed one after the other in one folder that has the files of `examples`, with `./chpx` and
+`./chpc` there.
 """
 
 from __future__ import annotations
@@ -12,11 +13,13 @@ import re
 import shutil
 import subprocess
 import tempfile
+from collections.abc import Sequence
 from dataclasses import dataclass
 
 from companion.program import TOP
 
 PAGE = os.path.join(TOP, "docs", "COMPANION.md")
+PAGES = ("COMPANION.md", "DESIGN-TESTS.md", "DEVICES.md", "LINKING.md")
 
 
 @dataclass(frozen=True)
@@ -64,20 +67,26 @@ def typed(it: Typed, folder: str, program: str, more: dict[str, str]) -> str:
     return re.sub(r"(?m)[ \t]+$", "", out + ("" if out.endswith("\n") or not out else "\n") + status)
 
 
-def compare(program: str, more: dict[str, str] | None = None) -> list[str]:
-    """Types all sessions with a program; tells where they differ, as lines."""
-    with open(PAGE, encoding="utf-8") as file:
-        page = file.read()
+def compare(program: str, more: dict[str, str] | None = None, pages: Sequence[str] = PAGES) -> list[str]:
+    """Types all sessions of some pages with a program; tells where they differ, as lines."""
     lines = []
+    for page in pages:
+        lines += compare_page(f"docs/{page}", program, more or {})
+    return lines
+
+
+def compare_page(name: str, program: str, more: dict[str, str]) -> list[str]:
+    """The same of one page."""
+    lines = []
+    with open(os.path.join(TOP, name), encoding="utf-8") as file:
+        page = file.read()
     with tempfile.TemporaryDirectory() as folder:
-        for name in os.listdir(os.path.join(TOP, "examples")):
-            shutil.copy(os.path.join(TOP, "examples", name), folder)
-        for name, target in (("chpx", os.path.join(TOP, "chpx")), ("chpc", program)):
-            os.symlink(target, os.path.join(folder, name))
+        for example in os.listdir(os.path.join(TOP, "examples")):
+            shutil.copy(os.path.join(TOP, "examples", example), folder)
+        for link, target in (("chpx", os.path.join(TOP, "chpx")), ("chpc", program)):
+            os.symlink(target, os.path.join(folder, link))
         for it in sessions(page):
-            came = typed(it, folder, program, more or {})
+            came = typed(it, folder, program, more)
             if came != it.wanted:
-                lines.append(
-                    f"docs/COMPANION.md:{it.line}: {it.command}\n--- the page says\n{it.wanted}--- it is\n{came}"
-                )
+                lines.append(f"{name}:{it.line}: {it.command}\n--- the page says\n{it.wanted}--- it is\n{came}")
     return lines

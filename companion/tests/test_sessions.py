@@ -1,4 +1,4 @@
-"""The sessions of docs/COMPANION.md, typed over recorded answers."""
+"""The sessions of the companion's pages, typed over recorded answers."""
 
 from __future__ import annotations
 
@@ -11,11 +11,13 @@ from companion.tests.base import Case
 
 
 class Sessions(Case):
-    """What the page shows is what comes."""
+    """What the pages show is what comes."""
 
     def test_sessions(self) -> None:
-        differing = sessions.compare(recorded.stand_in("."))
-        self.assertEqual("\n".join(differing), "")
+        for page in sessions.PAGES:
+            with self.subTest(page):
+                differing = sessions.compare(recorded.stand_in("."), pages=[page])
+                self.assertEqual("\n".join(differing), "")
 
     def test_page(self) -> None:
         """The page is short, and shows each of the commands."""
