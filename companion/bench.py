@@ -61,16 +61,14 @@ def main(words: Sequence[str]) -> int:
     name = given.keep_script or f"{options.stem(given.rules)}-device.script"
     with Progress(f"bench of {given.rules}") as progress:
         drive = drive_of(given.rules, given.device, given.image, given.steps)
-        drive.drive(progress)
-        runs = drive.runs
-        answer = drive.run()
+        answer = drive.drive(progress)
         report = read_report(answer.text())
         told = confirmed(drive, report.passed) if report.end == ["rest"] else ""
     options.write(name, drive.text())
     sent = sum(len(report.passed[it]) for it in drive.sent)
     heard = sum(len(report.passed[it]) for it in drive.heard)
     print(answer.text(), end="")
-    print(f"the devices sent {sent} values and took {heard}, in {runs} run{'s' * (runs != 1)}")
+    print(f"the devices sent {sent} values and took {heard}, in {drive.runs} run{'s' * (drive.runs != 1)}")
     if told:
         print(told)
     print(f"the script is {name}: chpx simulate {given.rules} {name} makes this run again")

@@ -12,6 +12,7 @@ from dataclasses import dataclass, field
 from companion import options, program
 from companion.devices import Device
 from companion.loaded import Player, beside, players
+from companion.onward import Lost, Onward
 from companion.options import Parser
 from companion.program import Answer, Refusal
 from companion.rules import Channel, net_in
@@ -20,6 +21,7 @@ from companion.waves import Report, read_report
 
 MOST_VALUES = 65_536  # of a script
 MOST_MOVES = 1_000_000
+ENOUGH = 10_000_000  # moves of all runs from the start, after which runs go on where the last one ended
 
 
 def device_words(made: argparse.ArgumentParser) -> None:
@@ -30,9 +32,10 @@ def device_words(made: argparse.ArgumentParser) -> None:
 
 @dataclass
 class Drive:
-    """Runs of one rule file against devices. `sent` is the script of `in` channels, `allowed` how many values are taken
-    on those `out` channels whose device says when, `heard` how many values of each `out` channel the device knows,
-    `before` how many values the last run had on each channel, `ahead` for how many a device is asked at once."""
+    """Runs of one rule file against devices. `sent` is the script of `in` channels, `allowed` how many values are
+    taken on those `out` channels whose device says when, `heard` how many values of each `out` channel the device
+    knows, `before` how many values the last run had on each channel, `ahead` for how many a device is asked at once,
+    `made` how many moves were made by runs from the start, and `known` what has passed by the last run."""
 
     rules: str
     players: list[Player]
@@ -44,6 +47,9 @@ class Drive:
     before: dict[str, int] = field(default_factory=dict)
     ahead: int = 1
     runs: int = 0
+    made: int = 0
+    onward: Onward | None = None
+    known: dict[str, list[int]] = field(default_factory=dict)
 
     def __post_init__(self) -> None:
         for player, channel in self.ends():
@@ -76,15 +82,16 @@ class Drive:
         return True
 
     def ask(self, passed: dict[str, list[int]]) -> bool:
-        """Asks the devices on all channels that were idle at the end of the last run: whether there is something new."""
+        """Asks the devices on channels that were idle at the end of the last run: whether there is something new."""
         is_new = False
         for player, channel in self.ends():
             name, count = channel.name, len(passed.get(channel.name, []))
             if count < self.before.get(name, count):
                 continue
-            while channel.kind == "in" and len(self.sent[name]) < count + self.ahead and self.offer(player, channel):
+            most = count + self.ahead
+            while channel.kind == "in" and len(self.sent[name]) < most and self.offer(player, channel):
                 is_new = True
-            while name in self.allowed and self.allowed[name] < count + self.ahead and player.call("ready", name):
+            while name in self.allowed and self.allowed[name] < most and player.call("ready", name):
                 self.allowed[name] += 1
                 is_new = True
         return is_new
@@ -104,25 +111,54 @@ class Drive:
                 is_new |= self.ask(passed)
 
     def run(self, *more: str) -> Answer:
-        """A run under the script so far; it may end in a hazard."""
+        """A run from the start under the script so far; it may end in a hazard."""
         options.write(self.script, self.text())
-        self.before = {**{name: len(values) for name, values in self.sent.items()}, **self.allowed}
-        self.runs += 1
         return program.wanted(["simulate", self.rules, self.script, "--steps", str(self.steps), *more], (0, 5))
 
-    def drive(self, progress: Progress) -> Report:
-        """Runs until no device has anything new, or a run is cut off or ends in a hazard. At last the script has of
-        what was sent what passed, and one value more."""
+    def next(self) -> Report:
+        """The next run: from the start, or where these have made many moves from where the last one ended."""
+        self.before = {**{name: len(values) for name, values in self.sent.items()}, **self.allowed}
+        self.runs += 1
+        if self.onward is not None:
+            try:
+                return self.onward.run(self.sent, self.allowed, self.steps)
+            except Lost:
+                self.onward, self.made = None, -MOST_MOVES * MOST_VALUES
+        report = read_report(self.run().text())
+        self.made += report.moves
+        if self.made > ENOUGH and report.end == ["rest"]:
+            try:
+                self.onward = Onward(self.rules, report, os.path.dirname(self.script))
+                self.onward.begin(self.script, self.steps)
+            except Lost:
+                self.onward, self.made = None, -MOST_MOVES * MOST_VALUES
+        return report
+
+    def compare(self, report: Report) -> None:
+        """Refuses a circuit of which a longer run doesn't begin as a shorter one."""
+        for name, values in self.known.items():
+            came = report.passed.get(name, values)
+            least = len(values) if report.end == ["rest"] else min(len(values), len(came))
+            if came[:least] != values[:least]:
+                raise Refusal(f"{name}: other values pass in a longer run, so no device can drive {self.rules}")
+        self.known = {name: list(values) for name, values in report.passed.items()}
+
+    def drive(self, progress: Progress) -> Answer:
+        """Runs until no device has anything new, or a run is cut off or ends in a hazard. Of what was sent the script
+        then has what passed, and one value more; the answer is that of a run from the start under it."""
         self.ask({})
         while True:
-            report = read_report(self.run().text())
+            report = self.next()
+            self.compare(report)
             progress.count = f", {self.runs} runs, {report.moves} moves"
             self.ahead = min(2 * self.ahead, MOST_VALUES)
             if report.end != ["rest"] or not (self.hear(report.passed) | self.ask(report.passed)):
                 break
         for name, values in self.sent.items():
             del values[len(report.passed[name]) + 1 :]
-        return report
+        answer = self.run()
+        self.compare(read_report(answer.text()))
+        return answer
 
 
 def drive_of(rules: str, words: Sequence[str], image: str | None, steps: int = MOST_MOVES) -> Drive:

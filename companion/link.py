@@ -26,7 +26,8 @@ HASH_LINE = re.compile(rb'^#line (\d+)(?: "([^"]*)")?$')
 
 
 def marked(data: bytes) -> bytes:
-    """A text with marks in place of the lines `#line N "FILE"`; where a line names no file, it is the last one named."""
+    """A text with marks in place of the lines `#line N "FILE"`; where such a line names no file, that of the one
+    before is meant."""
     lines, name = [], b""
     for line in data.split(b"\n"):
         told = HASH_LINE.match(line)

@@ -1,5 +1,5 @@
-"""How several programs become one: channels of one name that are `in` in one and `out` in another become internal, and all
-other names are renamed apart."""
+"""How several programs become one: channels of one name that are `in` in one and `out` in another become internal, and
+all other names are renamed apart."""
 
 from __future__ import annotations
 
@@ -49,7 +49,8 @@ def member(name: str, data: bytes) -> Member:
     try:
         return Member(text, read_program(data), tokens_of(data))
     except Unread as error:
-        raise Refusal(f"{text.told(error.at)}: chpc accepts this program, but it can't be read here: {error}") from error
+        why = f"chpc accepts this program, but it can't be read here: {error}"
+        raise Refusal(f"{text.told(error.at)}: {why}") from error
 
 
 def joined(members: list[Member]) -> set[str]:

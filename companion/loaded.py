@@ -37,7 +37,8 @@ class Player:
 
 def where(name: str, error: BaseException) -> str:
     """FILE:LINE of the last line of a device's file at which an error passed."""
-    lines = [it.lineno for it in traceback.extract_tb(error.__traceback__) if it.filename == name]
+    path = os.path.abspath(name)
+    lines = [it.lineno for it in traceback.extract_tb(error.__traceback__) if os.path.abspath(it.filename) == path]
     if isinstance(error, SyntaxError) and not lines:
         lines = [error.lineno]
     return f"{name}:{lines[-1]}" if lines else name

@@ -44,7 +44,7 @@ def help_of(command: str) -> str:
     for form in forms_of(command):
         lines += [f"  chpx {form.text}", f"      {form.about}", ""]
     if command == "bench":
-        lines += ["  chpx bench PRS --device NAME ..", "      the same against a device in Python; --device x --help", ""]
+        lines += ["  chpx bench PRS --device NAME ..", "      the same against a device in Python: docs/DEVICES.md", ""]
     lines.append("More of it is in docs/COMMANDS.md. Nothing that chpx adds to it is proved.")
     return "\n".join(lines)
 

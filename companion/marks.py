@@ -1,6 +1,6 @@
 """Marks in a program's text that say from which file its lines come, as `chpx link` writes them:
 
-    //#line LINE:COLUMN "FILE"    the next line's first token stands there, its other tokens behind it, and so line by line
+    //#line LINE:COLUMN "FILE"    the next line's first token stands there, the others behind it, and so line by line
     //#line LINE "FILE"           the next line comes of this line of a text that was worked on, as by m4
 """
 

@@ -97,7 +97,8 @@ class Checker:
         is_there = not place or any(f":{place}: " in line for line in lines)
         if not answer.said().startswith(f"chp: {number} ") or not is_there:
             wanted = f"{number} at {place}" if place else f"{number}"
-            raise Failed(f"{case.file}:{case.line}: refused otherwise, wanted `refused {wanted}`", answer.said(), *lines)
+            why = f"{case.file}:{case.line}: refused otherwise, wanted `refused {wanted}`"
+            raise Failed(why, answer.said(), *lines)
 
     def check_runs(self, case: Case, name: str, result: Result) -> None:
         """Whether all runs are as they are wanted, and pass the same."""
