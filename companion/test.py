@@ -67,10 +67,9 @@ def cases_of(names: Sequence[str]) -> list[Case]:
     return cases
 
 
-def results(cases: list[Case], progress: Progress) -> Iterator[Result]:
+def results(cases: list[Case], checker: Checker, progress: Progress) -> Iterator[Result]:
     """What comes of the cases, in their order. Circuits are made one after the other, for the first call may build the
     program; then cases are checked side by side."""
-    checker = Checker(options.room())
     for case in cases:
         if not case.refused:
             checker.compile(case)
@@ -102,13 +101,15 @@ def main(words: Sequence[str]) -> int:
     made = Parser("test", ABOUT, FORMS)
     made.add_argument("files", metavar="FILE", nargs="+", help="a test file, or a folder: all of its files *.test")
     made.add_argument("--json", action="store_true", help="one JSON object in place of TAP")
+    made.add_argument("--keep", metavar="FOLDER", help="a folder in which the rule files and scripts are kept")
     given = made.parse_args(words)
     cases = cases_of(given.files)
     found = []
+    checker = Checker(given.keep or options.room(), bool(given.keep))
     with Progress("test") as progress:
         if not given.json:
             print(f"TAP version 13\n1..{len(cases)}", flush=True)
-        for number, result in enumerate(results(cases, progress), 1):
+        for number, result in enumerate(results(cases, checker, progress), 1):
             found.append(result)
             if not given.json:
                 print("\n".join(told(number, result)), flush=True)

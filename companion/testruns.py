@@ -44,8 +44,9 @@ class Failed(Exception):
 class Checker:
     """Checks cases. `folder` is for rule files, scripts and delay files."""
 
-    def __init__(self, folder: str) -> None:
-        self.folder = folder
+    def __init__(self, folder: str, keep: bool = False) -> None:
+        self.folder, self.keep = folder, keep
+        os.makedirs(folder, exist_ok=True)
         self.paint = Paint(io.StringIO())  # no terminal, so no colours
         self.circuits: dict[tuple[str, tuple[str, ...]], tuple[str, Answer]] = {}
 
@@ -77,14 +78,20 @@ class Checker:
                 result.runs = 1
                 self.check_refused(case)
             else:
-                self.check_runs(case, os.path.join(self.folder, f"{number}"), result)
+                self.check_runs(case, os.path.join(self.folder, f"{number + 1}"), result)
         except Failed as failed:
-            result.why = failed.lines
+            result.why = failed.lines + self.kept(number, case)
         except program.Refusal as refusal:
             result.why = refusal.text.split("\n")
         except program.Ended as ended:
             result.why = [ended.answer.said(), *explained(ended.words, ended.answer, self.paint)]
         return result
+
+    def kept(self, number: int, case: Case) -> list[str]:
+        """Where the files of a case are, in a folder that is kept."""
+        rules = self.circuits[case.program, case.options][0] if not case.refused else ""
+        names = [rules, os.path.join(self.folder, f"{number + 1}.script")]
+        return [f"its files are {' and '.join(names)}"] if self.keep and all(map(os.path.exists, names)) else []
 
     def check_refused(self, case: Case) -> None:
         """Whether the program is refused as it is wanted."""

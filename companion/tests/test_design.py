@@ -98,6 +98,12 @@ class Tests(Case):
         self.assertEqual((case["file"], case["line"], case["title"]), ("it.test", 6, "two"))
         self.assertEqual(case["why"][0], "it.test:8: R: value 1 is 1, wanted 2 (by chpc run)")
 
+    def test_keep(self) -> None:
+        ran = self.of("program fifo1.chp\nscript L: 3\nR = 4\n", "--keep", "kept")
+        self.has(ran.out, ["# its files are kept/0-fifo1.prs and kept/1.script\n"])
+        with open("kept/1.script", encoding="ascii") as file:
+            self.assertEqual(file.read(), "L: 3\n")
+
     def test_device(self) -> None:
         self.fails("device fifo:R,K\n", "fifo:R,K: the circuit has no channel K to the outside; it has L, R\n")
         self.assertEqual(self.of("program fifo1.chp\ndevice source\nR = 0 1 2 3 4 5 6 7 8 9\n").status, 0)

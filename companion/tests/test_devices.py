@@ -3,7 +3,10 @@
 from __future__ import annotations
 
 import os
+from unittest import mock
 
+from companion import drive
+from companion.onward import Onward
 from companion.tests import recorded
 from companion.tests.base import Case, Ran
 
@@ -50,6 +53,22 @@ class Devices(Case):
         self.has(ran.out, ["end rest\n", "done 1\n", written, "the script is kept: "])
         with open("kept", encoding="ascii") as file, open(self.example("machine.script"), encoding="ascii") as other:
             self.assertEqual(file.read(), "".join(line for line in other if not line.startswith("//")))
+
+    def test_onward(self) -> None:
+        """Runs that go on where the last one ended tell the same, and what none can go on from is run from the start."""
+        whole = self.bench("squares", "--device", self.example("squares.py"))
+        with mock.patch.object(drive, "ENOUGH", 0):
+            with mock.patch.object(Onward, "run", autospec=True, side_effect=Onward.run) as run:
+                self.assertEqual(self.bench("squares", "--device", "squares.py"), whole)
+            self.assertEqual(run.call_count, 5)
+            # a rail of c stays high, which does no harm; while X isn't taken, a rail of it does
+            self.write("p.chp", "in A : 1; chan c : 1; out X : 1; var a : 1; begin c!1 || *[A?a; X!a] end")
+            self.compiled("p")
+            self.has(self.chpx("bench", "p.prs", "--device", "source").out, ["A: 0 1 0 1 0 1 0 1 0 1\n"])
+            start = "    def start(self):\n        for value in (1, 0, 1):\n            self.send('A', value)\n\n"
+            ready = "    def ready(self, channel):\n        return not self.due['A']\n"
+            ran = self.chpx("bench", "p.prs", "--device", self.write("it.py", FRONT + start + ready))
+            self.has(ran.out, ["A: 1 0 1\nc:\nX: 1 0 1\n"])
 
     def test_echo(self) -> None:
         """It does what chpc's own device of that name does."""
