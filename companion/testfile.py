@@ -8,6 +8,7 @@ from dataclasses import replace
 
 from companion import options
 from companion.places import Text
+from companion.program import Refusal
 from companion.testcases import Case
 from companion.testlines import FORMS, Words, put_values
 
@@ -33,4 +34,7 @@ def read_cases(name: str) -> list[Case]:
             FORMS[words.all[0]](now, words, own)
         else:
             raise words.fault(0, f"a line begins with `case`, NAME =, {', '.join(FORMS)}")
+    for case in cases or [common]:
+        if case.device and case.script:
+            raise Refusal(f"{name}:{case.line}: a case has a script or a device, and this one has both", 8)
     return cases or [common]

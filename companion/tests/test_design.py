@@ -136,6 +136,11 @@ class Files(Case):
                 number = line.count("\n") + 1
                 self.has(ran.err, [f"chpx: f.test:{number}:{place}: {why}", f"    {number} | ", "^"])
 
+    def test_script_and_device(self) -> None:
+        ran = self.chpx("test", self.write("f.test", "device sink\ncase one\nscript L: 1\n"))
+        self.assertEqual((ran.status, ran.out), (8, ""))
+        self.has(ran.err, ["chpx: f.test:2: a case has a script or a device, and this one has both\n"])
+
     def test_missing(self) -> None:
         self.assertEqual(self.chpx("test", "none.test").status, 3)
         ran = self.chpx("test", self.write("f.test", "done\n"))

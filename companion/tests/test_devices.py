@@ -55,7 +55,7 @@ class Devices(Case):
             self.assertEqual(file.read(), "".join(line for line in other if not line.startswith("//")))
 
     def test_onward(self) -> None:
-        """Runs that go on where the last one ended tell the same, and what none can go on from is run from the start."""
+        """Runs that go on where the last one ended tell the same; where none can go on, one is made from the start."""
         whole = self.bench("squares", "--device", self.example("squares.py"))
         with mock.patch.object(drive, "ENOUGH", 0):
             with mock.patch.object(Onward, "run", autospec=True, side_effect=Onward.run) as run:
