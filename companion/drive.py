@@ -21,7 +21,7 @@ from companion.waves import Report, read_report
 
 MOST_VALUES = 65_536  # of a script
 MOST_MOVES = 1_000_000
-ENOUGH = 10_000_000  # moves of all runs from the start, after which runs go on where the last one ended
+ENOUGH = 3_000_000  # moves of all runs from the start, after which runs go on where the last one ended
 
 
 def device_words(made: argparse.ArgumentParser) -> None:

@@ -30,7 +30,8 @@ class Values:
 @dataclass
 class Case:
     """A case: its file, line and title, the program and how it is compiled and driven, and what is wanted. `moves` and
-    `time` are the most of each, `refused` a cause with its place, `end` how a run has to end."""
+    `time` are the most of each, `refused` a cause with its place, `end` how a run has to end, and `places` the lines at
+    which these were told."""
 
     file: str
     line: int
@@ -49,6 +50,11 @@ class Case:
     seeds: int = 3
     delays: int = 2
     steps: int = MOST_MOVES
+    places: dict[str, int] = field(default_factory=dict)
+
+    def place(self, what: str) -> int:
+        """The line that tells one of these, or that of the case."""
+        return self.places.get(what, self.line)
 
     def script_text(self) -> str:
         """The script of the case."""

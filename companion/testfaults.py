@@ -27,13 +27,14 @@ class Outcome:
 
 @dataclass(frozen=True)
 class Fault:
-    """A difference: in a sentence, with the line of the test file; and where it is one of a channel, the channel and
-    which of its values differs, from 0."""
+    """A difference: in a sentence, with the line of the test file; where it is one of a channel, the channel and which
+    of its values differs, from 0; and whether what passed before tells something of it."""
 
     why: str
     line: int
     channel: str = ""
     place: int = -1
+    is_late: bool = False
 
 
 def outcome_of(text: str) -> Outcome:
@@ -72,14 +73,15 @@ def fault_of(case: Case, came: Outcome, is_unit: bool = False) -> Fault | None:
         if found:
             return found
     if came.end != case.end:
-        return Fault(f"the run ends with `{came.end}`, wanted `{case.end}`", case.line)
+        return Fault(f"the run ends with `{came.end}`, wanted `{case.end}`", case.place("end"))
     if case.done is not None and came.done != case.done:
         state = "has ended" if came.done else "hasn't ended"
-        return Fault(f"the program {state}, wanted `{'done' if case.done else 'not done'}`", case.line)
+        return Fault(f"the program {state}, wanted `{'done' if case.done else 'not done'}`", case.place("done"))
     if case.moves is not None and came.moves > case.moves:
-        return Fault(f"the run takes {came.moves} moves, more than {case.moves}", case.line)
+        return Fault(f"the run takes {came.moves} moves, more than {case.moves}", case.place("moves"), is_late=True)
     if case.time is not None and is_unit and came.time > case.time:
-        return Fault(f"the run takes {came.time} where each move takes 1, more than {case.time}", case.line)
+        why = f"the run takes {came.time} where each move takes 1, more than {case.time}"
+        return Fault(why, case.place("time"), is_late=True)
     return None
 
 

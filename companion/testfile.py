@@ -27,8 +27,8 @@ def read_cases(name: str) -> list[Case]:
         if words.all[1:2] == ["="] and NAME.match(words.all[0]):
             put_values(now, words, own)
         elif words.all[0] == "case":
-            now, own = replace(common, line=number, script=dict(common.script), wanted=dict(common.wanted)), set()
-            now.title = " ".join(words.rest())
+            copies = {name: dict(getattr(common, name)) for name in ("script", "wanted", "places")}
+            now, own = replace(common, line=number, title=" ".join(words.rest()), **copies), set()
             cases.append(now)
         elif words.all[0] in FORMS:
             FORMS[words.all[0]](now, words, own)

@@ -89,6 +89,7 @@ def put_refused(case: Case, words: Words, own: set[str]) -> None:
         raise words.fault(2, "`at LINE:COLUMN` is wanted here")
     words.only(4)
     case.refused = (number, "".join(words.all[3:4]))
+    case.places["refused"] = words.number
 
 
 def put_end(case: Case, words: Words, own: set[str]) -> None:
@@ -97,6 +98,7 @@ def put_end(case: Case, words: Words, own: set[str]) -> None:
     if words.rest()[0] not in ("rest", "spent"):
         raise words.fault(1, "`rest` or `spent` is wanted here; a hazard is always a failure")
     case.end = words.all[1]
+    case.places["end"] = words.number
 
 
 def put_done(case: Case, words: Words, own: set[str]) -> None:
@@ -106,6 +108,7 @@ def put_done(case: Case, words: Words, own: set[str]) -> None:
         raise words.fault(1, "`done` is wanted here")
     words.only(1 + is_not)
     case.done = not is_not
+    case.places["done"] = words.number
 
 
 def put_within(case: Case, words: Words, own: set[str]) -> None:
@@ -115,6 +118,7 @@ def put_within(case: Case, words: Words, own: set[str]) -> None:
         raise words.fault(2, "`moves` or `time` is wanted here")
     words.only(3)
     setattr(case, unit, number)
+    case.places[unit] = words.number
 
 
 def put_orders(case: Case, words: Words, own: set[str]) -> None:

@@ -100,11 +100,11 @@ class Checker:
         number, place = case.refused or (0, "")
         lines = explained(words, answer, self.paint)
         if answer.status == 0:
-            raise Failed(f"{case.file}:{case.line}: {case.program} is accepted, wanted `refused {number}`")
+            raise Failed(f"{case.file}:{case.place('refused')}: {case.program} is accepted, wanted `refused {number}`")
         is_there = not place or any(f":{place}: " in line for line in lines)
         if not answer.said().startswith(f"chp: {number} ") or not is_there:
             wanted = f"{number} at {place}" if place else f"{number}"
-            why = f"{case.file}:{case.line}: refused otherwise, wanted `refused {wanted}`"
+            why = f"{case.file}:{case.place('refused')}: refused otherwise, wanted `refused {wanted}`"
             raise Failed(why, answer.said(), *lines)
 
     def check_runs(self, case: Case, name: str, result: Result) -> None:
@@ -167,6 +167,6 @@ class Checker:
         if fault is None:
             return
         lines = [f"{case.file}:{fault.line}: {fault.why} (by {what})"]
-        if came.moves < 0 or came.end in ("rest", "spent"):
+        if not fault.is_late and came.end in ("rest", "spent"):
             lines += events_before(fault, rules, script)
         raise Failed(*lines)

@@ -65,9 +65,9 @@ class Tests(Case):
         self.assertEqual(self.of(GOOD.replace("R = 1 2", "R = 1 ..")).status, 0)
 
     def test_ends(self) -> None:
-        self.fails("done\n", "# it.test:2: the program hasn't ended, wanted `done` (by chpc run)\n")
+        self.fails("done\n", "# it.test:3: the program hasn't ended, wanted `done` (by chpc run)\n")
         self.fails("end spent\n", "the run ends with `rest`, wanted `spent` (by chpc run)")
-        self.fails("script L: 1 2\nwithin 100 moves\n", "moves, more than 100 (by the order lowest)")
+        self.fails("script L: 1 2\nwithin 100 moves\n", "266 moves, more than 100 (by the order lowest)\n")
         self.fails("script L: 1 2\nwithin 20 time\n", "where each move takes 1, more than 20 (by delays of 1)")
         self.fails("script L: 1 2\nsteps 50\n", "the run ends with `spent`, wanted `rest` (by the order lowest)")
 
@@ -81,7 +81,7 @@ class Tests(Case):
         self.has(self.chpx("test", "bad.test").out, ["bad.test:1: refused otherwise, wanted `refused 24`\n"])
         self.write("bad.test", "end rest\n")
         self.has(self.chpx("test", "bad.test").out, ["# chpc compile of bad.chp: chp: 25 ", "bad.chp:2:12: "])
-        self.fails("refused 24\n", "# it.test:2: fifo1.chp is accepted, wanted `refused 24`\n")
+        self.fails("refused 24\n", "# it.test:3: fifo1.chp is accepted, wanted `refused 24`\n")
 
     def test_refused_scripts(self) -> None:
         self.fails("script L: 256\n", "# it.test:3: 52 TooWide: a value doesn't fit")

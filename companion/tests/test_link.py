@@ -6,6 +6,7 @@ import os
 import shutil
 import subprocess
 
+from companion import marks
 from companion.tests.base import EXAMPLES, Case
 
 FED = """\
@@ -64,13 +65,14 @@ class Link(Case):
         self.write("it.chp", self.chpx("link", "a.chp", "b.chp").out)
         self.compiled("it")
         ran = self.chpx("why", "it.prs", self.write("s", "R: 0\n"), "--program", "it.chp")
-        self.has(ran.out, ["b.chp:1:46: R!b_x + 1\n"])
+        self.has(ran.out, ["b.chp:1:45: R!b_x + 1\n"])
         with open("it.chp", encoding="ascii") as file:
             text = file.read()
         self.write("it.chp", text.replace("R!b_x + 1", "R!b_y + 1"))
         ran = self.chpx("check", "it.chp")
-        self.has(ran.err, ["b.chp:1:48: Undeclared", "R!x + 1 end\n", "      | " + " " * 47 + "^\n"])
+        self.has(ran.err, ["b.chp:1:47: Undeclared", "R!x + 1 end\n", "      | " + " " * 46 + "^\n"])
         os.remove("b.chp")
+        marks.lines_of.cache_clear()
         self.has(self.chpx("check", "it.chp").err, ["b.chp:1 (it.chp:", ": Undeclared"])
 
     def test_refused(self) -> None:
