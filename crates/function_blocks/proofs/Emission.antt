@@ -10,15 +10,15 @@ use Rattle.chp_syntax.specs.declared.tree.Op.{Op}
 use Rattle.std.specs.declared.alloc.Global.{Global}
 use Rattle.std.specs.declared.boxed.Box.{Box}
 use Rattle.width_check.specs.declared.typed.Var.{Var}
-use Rattle.width_check.specs.declared.typed.TExpr.{TExpr, Compare}
+use Rattle.width_check.specs.declared.typed.TExpr.{TExpr, Not, Compare}
 use Rattle.width_check.specs.declared.typed.TLink.{TLink}
 use Rattle.width_check.specs.View.{formula_of}
-use Rattle.width_check.specs.Processes.{Formula, joined, chained, compared, Formulas, and_part, Operations, and_operation}
+use Rattle.width_check.specs.Processes.{Formula, joined, inverted, chained, compared, Formulas, and_part, Operations, and_operation}
 use Rattle.width_check.specs.Values.{width_of, IsWellFormed, AreWellFormed, AreOperations}
 use Rattle.width_check.specs.Typing.{ReadsFrom}
 use Rattle.handshake_expand.specs.Layout.{operator_size, formula_size, parts_size, operations_size}
 use Rattle.function_blocks.specs.Gates.{operator_rules, operator_result}
-use Rattle.function_blocks.specs.Expressions.{HasBits, bits_between, formula_result, joined_result, chained_result, formula_rules, joined_rules, chained_rules}
+use Rattle.function_blocks.specs.Expressions.{HasBits, OperatorFits, bits_between, formula_result, joined_result, chained_result, formula_rules, joined_rules, chained_rules}
 use Rattle.function_blocks.specs.Blocks.{bits_apart, bits_in_blocks, HasBit}
 use Rattle.function_blocks.specs.BitsRead.{EachRead, EachPart, EachOperation, bits_read}
 use Rattle.function_blocks.specs.ExpressionParts.{IsOutside, AreDistinct, InItsMoments, IsWhollyNeutral, IsWhollyValid, StandsApart, WaitsAtRest, expression_part}
@@ -78,6 +78,10 @@ pub compare_is : (e : TExpr) (op : Op) (a b : Box TExpr Global) (left right : TE
 compare_is e op a b left right is left_is right_is =
     ap formula_of is
     ∙ (ap (λ x. compared op (formula_of x) (formula_of b.value)) (sym left_is) ∙ ap (λ x. compared op (formula_of left) (formula_of x)) (sym right_is))
+
+-- a negation by its inner expression
+pub not_is : (e : TExpr) (a : Box TExpr Global) (inner : TExpr) → e ≡ Not a → inner ≡ a.value → formula_of e ≡ inverted (formula_of inner)
+not_is e a inner is inner_is = ap formula_of is ∙ ap (λ (x : TExpr). inverted (formula_of x)) (sym inner_is)
 
 -- the place behind what was added
 grown : (from : ℕ) (old more now : List NodeRules) (n : ℕ) → now ≡ old ++ more → length more ≡ n → from + length now ≡ from + length old + n
@@ -192,15 +196,9 @@ module _ (firsts : List ℕ) (request from : ℕ) where
   link_left old f ls i l made bits j within is = subst (λ (r : Operations). Chaining old f r made bits) (link_at ls i l within is) j
 
   -- the right side is made: then the operator's gates fit
-  pub record Fits (made : List NodeRules) (op : Op) (left right : List Pair) : Type 0 where
-    pub some : 1 ≤ length left
-    pub most : length left ≤ 64
-    pub agree : length right ≡ length left
-    pub room : from + length made + operator_size op (length left) < 2 ^ 32
-
   pub chain_fits : (old : List NodeRules) (f e : Formula) (op : Op) (more : Operations) (made there : List NodeRules) (bits right : List Pair)
       → Chaining old f (and_operation op e more) made bits → there ≡ made ++ formula_rules Bits e request (from + length made)
-      → right ≡ formula_result e (from + length made) → Fits there op bits right
+      → right ≡ formula_result e (from + length made) → OperatorFits from there op bits right
   chain_fits old f e op more made there bits right j there_is right_is =
       let first = from + length made in
       let at = grown from made (formula_rules Bits e request first) there (formula_size e) there_is (counted firsts e request first j.formed.2) in
@@ -275,7 +273,7 @@ module _ (firsts : List ℕ) (request from : ℕ) where
       }
 
   pub compare_fits : (old : List NodeRules) (f e g : Formula) (op : Op) (made there : List NodeRules) (left right : List Pair) → f ≡ compared op e g
-      → IsWellFormed f → Read f → from + length old + formula_size f < 2 ^ 32 → Done old e made left → Done made g there right → Fits there op left right
+      → IsWellFormed f → Read f → from + length old + formula_size f < 2 ^ 32 → Done old e made left → Done made g there right → OperatorFits from there op left right
   compare_fits old f e g op made there left right is h r room d k =
       let formed = subst IsWellFormed is h in
       let read = subst Read is r in

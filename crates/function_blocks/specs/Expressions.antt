@@ -1,7 +1,8 @@
 -- The circuit of an expression: dual-rail bits that rise to its value under a request, and fall when that falls.
-use Rattle.std.specs.Prelude.{◌≡◌, ℕ, ◌<◌, length, zero, suc, ◌+◌, ◌-◌, ◌/◌, ◌%◌, ◌==◌, Bool, true, false, List, [], ◌∷◌, ◌++◌, map, take, drop}
+use Rattle.std.specs.Prelude.{◌≡◌, ℕ, ◌<◌, ◌≤◌, ◌^◌, length, zero, suc, ◌+◌, ◌-◌, ◌/◌, ◌%◌, ◌==◌, Bool, true, false, List, [], ◌∷◌, ◌++◌, map, take, drop}
 use Rattle.prs_core.specs.Nets.{NodeRules, is_high, is_low, one_term}
 use Rattle.prs_core.specs.Pairs.{Pair, pairs_from, exchanged, no_rules}
+use Rattle.chp_syntax.specs.declared.tree.Op.{Op}
 use Rattle.width_check.specs.declared.typed.Var.{Var}
 use Rattle.width_check.specs.Processes.{Formula, constant, reading, joined, inverted, chained, compared, Formulas, no_parts, and_part, Operations, no_operations, and_operation}
 use Rattle.width_check.specs.Values.{width_of}
@@ -89,3 +90,10 @@ abbrev mutual
 -- each of the variables has as many bits as its width
 abbrev pub HasBits : List Var → (ℕ → List Pair) → Type 0
 HasBits vars bits = (x : ℕ) → x < length vars → length (bits x) ≡ var_width vars x
+
+-- both sides of an operator are of one width, and its gates fit behind what was made
+pub record OperatorFits (from : ℕ) (made : List NodeRules) (op : Op) (left right : List Pair) : Type 0 where
+  pub some : 1 ≤ length left
+  pub most : length left ≤ 64
+  pub agree : length right ≡ length left
+  pub room : from + length made + operator_size op (length left) < 2 ^ 32
