@@ -1,26 +1,22 @@
-//! Reading and writing whole, under faults, and the adapters over real files and writers.
+//! Reading and writing whole, under faults, and the adapters over writers.
 
 use crate::bench::Bench;
 use case_text::{bytes_of, put_bytes};
 use chp_edge::{
-    ErrSink, Failed, FileShelf, OutSink, ReadEnd, Shelf, Sink, SureShelf, read_all, write_all,
+    ErrSink, Failed, MemSink, OutSink, ReadEnd, Shelf, Sink, SureShelf, read_all, write_all,
 };
 use std::alloc::{AllocError, Global};
 use std::io;
 use std::io::Write as IoWrite;
-use std::rt::Files;
 
 fn put_read<S: Shelf>(
     alloc: Global,
     shelf: &mut S,
     name: &str,
-    limit: usize,
+    limit: u32,
     page: &mut String,
 ) -> Result<(), AllocError> {
-    if limit == usize::MAX {
-        return page.push_str("?\n");
-    }
-    match read_all(alloc, shelf, name, limit) {
+    match read_all(alloc, shelf, name, limit as usize) {
         Ok(text) => {
             page.push_str("read ")?;
             put_bytes(page, &text)?;
@@ -32,41 +28,31 @@ fn put_read<S: Shelf>(
     }
 }
 
-/// Reads the named files one after the other from one shelf.
+/// Reads the named files one after the other from one shelf, on which the call of this number fails.
 pub fn read(
     alloc: Global,
     bench: &Bench,
-    limit: usize,
+    failing: u32,
+    limit: u32,
     names: &str,
     page: &mut String,
 ) -> Result<(), AllocError> {
-    let mut shelf = bench.shelf(alloc, usize::MAX)?;
-    for name in names.split_whitespace() {
+    let mut shelf = bench.shelf(alloc, u64::from(failing))?;
+    for name in names.split(' ') {
         put_read(alloc, &mut shelf, name, limit, page)?;
     }
     Ok(())
 }
 
-/// Reads the last file from a shelf that never fails.
+/// Reads the text from a shelf that never fails.
 pub fn read_surely(
     alloc: Global,
-    bench: &Bench,
-    limit: usize,
+    text: &[u8],
+    limit: u32,
     page: &mut String,
 ) -> Result<(), AllocError> {
-    let mut shelf = SureShelf::new(Vec::from_slice(alloc, bench.last())?);
+    let mut shelf = SureShelf::new(Vec::from_slice(alloc, text)?);
     put_read(alloc, &mut shelf, "any", limit, page)
-}
-
-/// Reads a real file of data/.
-pub fn read_disk<R: Files + AllocGlobal>(
-    rt: &R,
-    limit: usize,
-    name: &str,
-    page: &mut String,
-) -> Result<(), AllocError> {
-    let mut shelf = FileShelf::new(rt);
-    put_read(rt.alloc(), &mut shelf, name, limit, page)
 }
 
 fn put_writes<K: Sink>(
@@ -85,14 +71,19 @@ fn put_writes<K: Sink>(
     Ok(())
 }
 
-/// Writes the texts one after the other to the sink of the case.
+/// The most bytes that the sink takes in a call.
+const MOST: usize = 4;
+
+/// Writes the texts one after the other to a sink with room for so many bytes, of which the call of this number fails.
 pub fn write(
     alloc: Global,
-    bench: &Bench,
+    room: u32,
+    failing: u32,
     texts: &str,
     page: &mut String,
 ) -> Result<(), AllocError> {
-    let mut sink = bench.out.sink(alloc)?;
+    let failing = Vec::from_slice(alloc, &[u64::from(failing)])?;
+    let mut sink = MemSink::new(alloc, MOST, room as usize, failing)?;
     put_writes(alloc, &mut sink, texts, page)?;
     put_bytes(page, sink.written())?;
     page.push('\n')
@@ -101,7 +92,7 @@ pub fn write(
 /// A writer that takes two bytes a call, so many calls long, and then nothing.
 #[derive(Drop)]
 struct Narrow<'a> {
-    calls: u64,
+    calls: u32,
     taken: &'a mut Vec<u8>,
 }
 
@@ -125,7 +116,7 @@ impl IoWrite for Narrow<'_> {
 /// standard error.
 pub fn write_narrowly(
     alloc: Global,
-    calls: u64,
+    calls: u32,
     texts: &str,
     page: &mut String,
 ) -> Result<(), AllocError> {

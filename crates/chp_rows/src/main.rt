@@ -1,11 +1,13 @@
-//! Worked cases of the commands and of the edge. They are in data/, and the output that they must give in the file
-//! stdout; docs/TESTS.md says how they are written.
+//! Worked cases that no command shows, or only over devices in memory. They are in data/, and the output that they must
+//! give in the file stdout; docs/TESTS.md says how they are written.
 #![tactic(auto)]
 
 mod bench;
 mod cases;
 mod drops;
 mod edge;
+mod nets;
+mod orders;
 mod peers;
 mod pickers;
 mod printer;
@@ -18,33 +20,18 @@ use bench::Bench;
 use cases::obey;
 use std::{fs, io};
 
-const TOPICS: [&str; 17] = [
-    "texts",
-    "compile",
-    "stream",
-    "check",
-    "expand",
-    "grow",
-    "migrate",
-    "simulate",
-    "rounds",
-    "buffers",
-    "procedures",
-    "edge",
-    "against",
-    "delays",
-    "waves",
-    "unwave",
-    "bench",
+const TOPICS: [&str; 7] = [
+    "texts", "stream", "edge", "shelves", "rounds", "devices", "nets",
 ];
 
 fn main(rt: HostRuntime) -> io::Result<()> {
-    let mut page = String::new(rt.alloc());
+    let alloc = rt.alloc();
+    let mut page = String::new(alloc);
     for topic in TOPICS {
-        let mut bench = Bench::new(rt.alloc());
+        let mut bench = Bench::new(alloc);
         let cases = fs::read_to_string(&rt, topic)?;
         for line in cases.lines() {
-            obey(&rt, &mut bench, line, &mut page)?;
+            obey(alloc, &mut bench, line, &mut page)?;
         }
     }
     rt.print(page)

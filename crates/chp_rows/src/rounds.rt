@@ -43,8 +43,8 @@ fn make_rounds(
     alloc: Global,
     program: &Typed,
     script: &[u8],
-    n: u32,
     most: u32,
+    n: u32,
     page: &mut String,
 ) -> Result<(), AllocError>
     requires { MeetsSharing (process_of program.now.body) }
@@ -66,25 +66,19 @@ fn make_rounds(
     put_end(page, program, &config, end)
 }
 
-/// Rounds of the program that the text is, under a script of one line: the words are the most values that may pass, how
-/// many rounds are wanted, and that line. Says whether the words are these.
+/// Makes `n` rounds of the program that the text is, under a script of this line, where no more than `most` values may
+/// pass.
 pub fn rounds_within(
     alloc: Global,
     text: &[u8],
-    words: &str,
+    most: u32,
+    n: u32,
+    script: &str,
     page: &mut String,
-) -> Result<bool, AllocError> {
-    let mut words = words.splitn(3, ' ');
-    let (Some(most), Some(n), Some(script)) = (words.next(), words.next(), words.next()) else {
-        return Ok(false);
-    };
-    let (Ok(most), Ok(n)) = (most.parse::<u32>(), n.parse::<u32>()) else {
-        return Ok(false);
-    };
+) -> Result<(), AllocError> {
     let script = bytes_of(alloc, script)?;
     match accepted(alloc, text) {
-        Some(program) => make_rounds(alloc, program.typed(), &script, n, most, page)?,
-        None => page.push_str("no program\n")?,
+        Some(program) => make_rounds(alloc, program.typed(), &script, most, n, page),
+        None => page.push_str("no program\n"),
     }
-    Ok(true)
 }
