@@ -7,7 +7,7 @@ import os
 import sys
 from collections.abc import Sequence
 
-from companion import check, options, program
+from companion import bench, check, options, program
 from companion.commands import forms, forms_of
 from companion.explain import explained
 from companion.own import OWN
@@ -44,6 +44,8 @@ def help_of(command: str) -> str:
     lines = [f"chpx calls `chpc {command}`; on standard output comes, with status 0,", ""]
     for form in forms_of(command):
         lines += [f"  chpx {form.text}", f"      {form.about}", ""]
+    if command == "bench":
+        lines += ["  chpx bench PRS --device NAME ..", "      the same against a device in Python: docs/DEVICES.md", ""]
     lines.append("More of it is in docs/COMMANDS.md. Nothing that chpx adds to it is proved.")
     return "\n".join(lines)
 
@@ -80,6 +82,8 @@ def dispatch(words: Sequence[str]) -> int:
     named = options.with_standard_input(words)
     if words and words[0] in OWN:
         return own(words[0], named[1:])
+    if bench.is_asked(named):
+        return bench.main(named[1:])
     asked = named[: named.index("--")] if "--" in named else named
     if words and words[0] == "check" and "--json" in asked[1:]:
         return check.main([word for word in named[1:] if word != "--json"])

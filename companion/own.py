@@ -14,4 +14,6 @@ OWN = {
     "tree": ("picture", "draws the parts of a circuit"),
     "lint": ("lint", "what a program that is accepted may still be doing wrong"),
     "sort": ("sort", "brings a rule file's lines into the one order"),
+    "test": ("test", "checks programs by test files: what has to pass under a script"),
+    "link": ("link", "makes one program of several that talk by channels of one name"),
 }

@@ -2,9 +2,11 @@
 
 from __future__ import annotations
 
+import functools
 from dataclasses import dataclass
 
 from companion.labels import called
+from companion.marks import Source, sources, stretch
 from companion.terminal import Paint
 
 WIDEST = 100  # columns of a source line that are shown
@@ -22,6 +24,7 @@ class Text:
     """A file's bytes with the name by which a person knows it."""
 
     def __init__(self, name: str, data: bytes) -> None:
+        self.path = name
         self.name = called(name)
         self.data = data
         self.starts = [0, *(at + 1 for at, byte in enumerate(data) if byte == 10)]
@@ -40,19 +43,43 @@ class Text:
             return b""
         return self.data[self.starts[number - 1] :].split(b"\n", 1)[0]
 
+    @functools.cached_property
+    def sources(self) -> dict[int, Source]:
+        """Of which file's lines its own lines come, where marks say so."""
+        return sources(self.path, self.data)
+
     def place(self, offset: int) -> Place:
         """Line and column of a byte offset."""
         number = self.line_at(offset)
         before = self.data[self.starts[number - 1] : offset]
         return Place(number, len(before.decode("utf-8", "replace")) + 1)
 
+    def source(self, start: int, end: int) -> tuple[Source, tuple[int, int] | None] | None:
+        """The line of another file of which a stretch of bytes comes, and its bytes there, where that is known."""
+        number = self.line_at(start)
+        if number not in self.sources:
+            return None
+        it, first = self.sources[number], self.starts[number - 1]
+        return it, stretch(it, self.line(number), start - first, end - first) if it.text is not None else None
+
     def told(self, offset: int) -> str:
-        """FILE:LINE:COLUMN of a byte offset."""
+        """FILE:LINE:COLUMN of a byte offset; where it comes of another file, FILE:LINE of that, with the column if that
+        is known, or else with the place here."""
         it = self.place(offset)
-        return f"{self.name}:{it.line}:{it.column}"
+        here = f"{self.name}:{it.line}:{it.column}"
+        told = self.source(offset, offset + 1)
+        if told is None:
+            return here
+        source, there = told
+        if there is None or source.text is None:
+            return f"{source.name}:{source.line} ({here})"
+        return f"{source.name}:{source.line}:{len(source.text[: there[0]].decode('utf-8', 'replace')) + 1}"
 
     def shown(self, start: int, end: int, paint: Paint) -> list[str]:
         """The line of a stretch of bytes, and a line with carets below its first line's part."""
+        told = self.source(start, end)
+        if told and told[1] and told[0].text is not None:
+            return marked(told[0].text, *told[1], told[0].line, paint)
         number = self.line_at(start)
         from_line = self.starts[number - 1]
         return marked(self.line(number), start - from_line, end - from_line, number, paint)

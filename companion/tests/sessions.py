@@ -19,7 +19,7 @@ from dataclasses import dataclass
 from companion.program import TOP
 
 PAGE = os.path.join(TOP, "docs", "COMPANION.md")
-PAGES = ("COMPANION.md", "EVENTS.md")
+PAGES = ("COMPANION.md", "TUTORIAL.md", "EVENTS.md", "DESIGN-TESTS.md", "DEVICES.md", "LINKING.md")
 
 
 @dataclass(frozen=True)

@@ -3,7 +3,7 @@ _chpx() {
   local word="${COMP_WORDS[COMP_CWORD]}" before="${COMP_WORDS[COMP_CWORD-1]}" options=""
   COMPREPLY=()
   if [ "$COMP_CWORD" -eq 1 ]; then
-    COMPREPLY=($(compgen -W "check compile expand run simulate bench waves unwave migrate grow why hunt view events cover profile buffered stat tree lint sort --help --version" -- "$word"))
+    COMPREPLY=($(compgen -W "check compile expand run simulate bench waves unwave migrate grow why hunt view events cover profile buffered stat tree lint sort test link --help --version" -- "$word"))
     return
   fi
   case "$before" in
@@ -33,6 +33,8 @@ _chpx() {
     tree) options="--buffer" ;;
     lint) options="--json" ;;
     sort) options="--program" ;;
+    test) options="--json --keep" ;;
+    link) options="--line" ;;
   esac
   if [[ "$word" == -* ]]; then
     COMPREPLY=($(compgen -W "$options" -- "$word"))

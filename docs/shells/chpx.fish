@@ -110,3 +110,8 @@ complete -c chpx -n __fish_use_subcommand -a lint -d 'what a program that is acc
 complete -c chpx -n '__fish_seen_subcommand_from lint' -l json
 complete -c chpx -n __fish_use_subcommand -a sort -d 'brings a rule file\'s lines into the one order'
 complete -c chpx -n '__fish_seen_subcommand_from sort' -l program -r
+complete -c chpx -n __fish_use_subcommand -a test -d 'checks programs by test files: what has to pass under a script'
+complete -c chpx -n '__fish_seen_subcommand_from test' -l json
+complete -c chpx -n '__fish_seen_subcommand_from test' -l keep -r
+complete -c chpx -n __fish_use_subcommand -a link -d 'makes one program of several that talk by channels of one name'
+complete -c chpx -n '__fish_seen_subcommand_from link' -l line

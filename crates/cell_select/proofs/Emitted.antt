@@ -4,20 +4,27 @@ use Rattle.std.proofs.lemmas.List.{take_more}
 use Rattle.std.proofs.Math.Seq.{drop-cons}
 use Rattle.prs_core.specs.declared.rule.Literal.{Literal}
 use Rattle.std.proofs.lemmas.List.Elements.{Contains-append_left, Contains-append_right}
-use Rattle.prs_core.specs.Nets.{GuardValue, NodeRules, RulesValue, IsAlone, is_high, is_low, one_term, with_rules}
+use Rattle.prs_core.specs.Nets.{NodeRules, RulesValue, IsAlone, is_high, is_low, one_term, with_rules}
 use Rattle.prs_core.specs.Pairs.{Pair, rails_of, lows, or_of}
 use Rattle.prs_core.specs.Parts.{Owned, owned, owned_at, with_owned}
 use Rattle.cell_select.specs.Selections.{all_false, only_one_true, latches, started, starts, joined_answer, evaluation, turn_request, leave_latch, leave_answer}
-use Rattle.cell_select.specs.Contract.{latches_of, starts_of, answers_of, guards_of, select_owned, again_owned}
-use Rattle.cell_select.specs.PortNodes.{pairs_of, branches_from, select_of, again_of, AreBranches}
+use Rattle.cell_select.specs.Contract.{latches_of, starts_of, answers_of, guards_of, shared_owned, branches_owned, select_owned, again_owned}
+use Rattle.cell_select.specs.PortNodes.{pairs_of, branches_from, select_of, again_of, turn_shared, AreBranches}
 use Rattle.cell_select.specs.declared.emit.SelectPorts.{SelectPorts}
 use Rattle.cell_select.specs.declared.emit.AgainPorts.{AgainPorts}
 use Rattle.cell_select.proofs.PairLists.{pair_is, pair_in, rails_again, pairs_length}
 use Rattle.cell_select.proofs.GuardLemmas.{alone_then, alone_still}
-use Rattle.prs_core.specs.Partly.{IsPartly, partly_none, partly_all, partly_of, partly_on}
+use Rattle.prs_core.specs.Partly.{IsPartly, partly_none, partly_all, partly_of, partly_on, then_one, then_none}
+use Rattle.std.specs.Prelude.{Result, Ok, Err, OnOk, OnErr}
 
 abbrev pub latch_of : (request : ℕ) → List Literal → NodeRules
 latch_of request wanted = record { up = one_term wanted; down = one_term (is_low request ∷ []) }
+
+-- the latch of one of the guards
+abbrev pub latch_at : (request : ℕ) → (rails : List ℕ) → (i : ℕ) → NodeRules
+latch_at request rails i =
+    let hs = pairs_of rails in
+    latch_of request (all_false (take i hs) ++ is_high (slice_index_or rails (2 * i) 0) ∷ all_false (drop (i + 1) hs))
 
 abbrev pub latches_behind : (request : ℕ) → (before behind : List Pair) → List NodeRules
 latches_behind request before behind = map (latch_of request) (only_one_true before behind)
@@ -83,21 +90,15 @@ latches_next : (request : ℕ) (nodes : List ℕ) (hs : List Pair) (i : ℕ) (h 
     with_owned (owned_at (drop i nodes) (latches_behind request (take i hs) (drop i hs))) now
 latches_next request nodes hs i h ln lh at now = sym (ap (λ os. with_owned os now) (latches_list request nodes hs i h ln lh at))
 
-pub latches_step : (request : ℕ) (nodes rails : List ℕ) (i : ℕ) (old now new : RulesValue) (up down : GuardValue) → length rails ≡ 2 * length nodes →
-    i < length nodes → LatchesSoFar request nodes (pairs_of rails) i old now →
-    up ≡ one_term (all_false (take i (pairs_of rails)) ++ is_high (slice_index_or rails (2 * i) 0) ∷ all_false (drop (i + 1) (pairs_of rails))) →
-    down ≡ one_term (is_low request ∷ []) → new ≡ with_rules (slice_index_or nodes i 0) (record { up = up; down = down }) now → length new.up ≡ length now.up →
-    ((other : ℕ) → other ≢ slice_index_or nodes i 0 → IsAlone now new other) → LatchesSoFar request nodes (pairs_of rails) (i + 1) old new
-latches_step request nodes rails i old now new up down even lt before ups downs made count others =
+pub latches_step : (request : ℕ) (nodes rails : List ℕ) (i : ℕ) (old now new : RulesValue) → length rails ≡ 2 * length nodes →
+    i < length nodes → LatchesSoFar request nodes (pairs_of rails) i old now → new ≡ with_rules (slice_index_or nodes i 0) (latch_at request rails i) now →
+    length new.up ≡ length now.up → ((other : ℕ) → other ≢ slice_index_or nodes i 0 → IsAlone now new other) →
+    LatchesSoFar request nodes (pairs_of rails) (i + 1) old new
+latches_step request nodes rails i old now new even lt before wrote count others =
     let hs = pairs_of rails in
     let same : length hs ≡ length nodes = pairs_length (length nodes) rails even in
-    let wrote : new ≡ with_rules (slice_index_or nodes i 0) (latch_of request (all_false (take i hs) ++ is_high (slice_index_or rails (2 * i) 0)
-    ∷ all_false (drop (i + 1) hs))) now = made ∙ ap (λ (g : GuardValue). with_rules (slice_index_or nodes i 0) (record { up = g; down = down }) now) ups
-    ∙ ap (λ (g : GuardValue). with_rules (slice_index_or nodes i 0)
-    (record { up = one_term (all_false (take i hs) ++ is_high (slice_index_or rails (2 * i) 0) ∷ all_false (drop (i + 1) hs)); down = g }) now) downs in
     let all : List Owned = owned_at nodes (latches request hs) in
-    let this : Owned = owned (slice_index_or nodes i 0) (latch_of request (all_false (take i hs) ++ is_high (slice_index_or rails (2 * i) 0)
-    ∷ all_false (drop (i + 1) hs))) in
+    let this : Owned = owned (slice_index_or nodes i 0) (latch_at request rails i) in
     let left : List Owned = owned_at (drop (i + 1) nodes) (latches_behind request (take (i + 1) hs) (drop (i + 1) hs)) in
     let list : owned_at (drop i nodes) (latches_behind request (take i hs) (drop i hs)) ≡ this ∷ left =
     latches_list request nodes hs i (pair_in rails i) lt (omega (arith, same, lt)) (pair_is (length nodes) rails i no_pair even lt) in
@@ -126,18 +127,19 @@ starts_next : (nodes latched : List ℕ) (hs : List Pair) (i : ℕ) → i < leng
     now
 starts_next nodes latched hs i ln ll now = sym (ap (λ os. with_owned os now) (starts_list nodes latched hs i ln ll))
 
-pub starts_step : (nodes latched rails : List ℕ) (i : ℕ) (old now new : RulesValue) (up down : GuardValue) → length rails ≡ 2 * length latched →
+-- the start under a latch, by the rails of the guards
+abbrev pub start_at : (latch : ℕ) → (rails : List ℕ) → NodeRules
+start_at latch rails = record { up = one_term (is_high latch ∷ lows rails); down = one_term (is_low latch ∷ []) }
+
+pub starts_step : (nodes latched rails : List ℕ) (i : ℕ) (old now new : RulesValue) → length rails ≡ 2 * length latched →
     length nodes ≡ length latched → i < length nodes → StartsSoFar nodes latched (pairs_of rails) i old now →
-    up ≡ one_term (is_high (slice_index_or latched i 0) ∷ lows rails) → down ≡ one_term (is_low (slice_index_or latched i 0) ∷ []) →
-    new ≡ with_rules (slice_index_or nodes i 0) (record { up = up; down = down }) now → length new.up ≡ length now.up →
+    new ≡ with_rules (slice_index_or nodes i 0) (start_at (slice_index_or latched i 0) rails) now → length new.up ≡ length now.up →
     ((other : ℕ) → other ≢ slice_index_or nodes i 0 → IsAlone now new other) → StartsSoFar nodes latched (pairs_of rails) (i + 1) old new
-starts_step nodes latched rails i old now new up down even same lt before ups downs made count others =
+starts_step nodes latched rails i old now new even same lt before made count others =
     let hs = pairs_of rails in
     let again : rails_of hs ≡ rails = rails_again (length latched) rails even in
-    let wanted : up ≡ (started (slice_index_or latched i 0) hs).up = ups ∙ ap (λ ns. one_term (is_high (slice_index_or latched i 0) ∷ lows ns)) (sym again) in
     let wrote : new ≡ with_rules (slice_index_or nodes i 0) (started (slice_index_or latched i 0) hs) now =
-    made ∙ ap (λ (g : GuardValue). with_rules (slice_index_or nodes i 0) (record { up = g; down = down }) now) wanted
-    ∙ ap (λ (g : GuardValue). with_rules (slice_index_or nodes i 0) (record { up = (started (slice_index_or latched i 0) hs).up; down = g }) now) downs in
+    made ∙ ap (λ ns. with_rules (slice_index_or nodes i 0) (start_at (slice_index_or latched i 0) ns) now) (sym again) in
     let all : List Owned = owned_at nodes (starts latched hs) in
     let this : Owned = owned (slice_index_or nodes i 0) (started (slice_index_or latched i 0) hs) in
     let left : List Owned = owned_at (drop (i + 1) nodes) (starts (drop (i + 1) latched) hs) in
@@ -190,14 +192,15 @@ latches_length : (request : ℕ) (wanted : List (List Literal)) → length (map 
 latches_length request [] = refl
 latches_length request (w ∷ ws) = let rest = latches_length request ws in omega (arith, rest)
 
--- the latches and the starts, one after the other
-pub branches_made : (request : ℕ) (ls ss : List ℕ) (hs : List Pair) (a b c : RulesValue) → length hs ≡ length ls →
-    b ≡ with_owned (owned_at ls (latches request hs)) a → c ≡ with_owned (owned_at ss (starts ls hs)) b →
-    c ≡ with_owned (owned_at (ls ++ ss) (latches request hs ++ starts ls hs)) a
-branches_made request ls ss hs a b c same first second =
-    let count : length ls ≡ length (latches request hs) = sym same ∙ sym (wanted_length [] hs) ∙ sym (latches_length request (only_one_true [] hs)) in
-    second ∙ ap (with_owned (owned_at ss (starts ls hs))) first ∙ sym (with_owned_append (owned_at ls (latches request hs)) (owned_at ss (starts ls hs)) a)
-    ∙ ap (λ os. with_owned os a) (sym (owned_append ls ss (latches request hs) (starts ls hs) count))
+-- what one list of nodes has and then another one
+pub then_owned : (os ps : List Owned) (a b c : RulesValue) → b ≡ with_owned os a → c ≡ with_owned ps b → c ≡ with_owned (os ++ ps) a
+then_owned os ps a b c first second = second ∙ ap (with_owned ps) first ∙ sym (with_owned_append os ps a)
+
+-- one node more, or none where memory ran out
+pub then_either : {T E : Type 0} (os : List Owned) (a b c : RulesValue) (o : Owned) (r : Result T E) → IsPartly os a b → Contains os o →
+    OnOk r (c ≡ with_rules o.node o.rules b) → OnErr r (c ≡ b) → IsPartly os a c
+then_either os a b c o (Ok x) before own made kept = then_one os a b c o before own made
+then_either os a b c o (Err e) before own made kept = then_none os a b c before kept
 
 abbrev select_first : (request answer eval any : ℕ) → (ls ans : List ℕ) → List Owned
 select_first request answer eval any ls ans =
@@ -214,24 +217,46 @@ select_lists_are p are =
     (pairs_length (length p.latches.items) p.guard_rails.items are.railed) in
     rw (lists.latches, lists.started, lists.answered, lists.guards) refl
 
-pub select_made : (p : SelectPorts) (a b c d e f : RulesValue) → AreBranches p.latches.items p.starts.items p.answers.items p.guard_rails.items →
-    b ≡ with_rules p.answer (joined_answer p.any p.answers.items) a → c ≡ with_rules p.eval (evaluation p.request p.any) b →
-    d ≡ with_rules p.any (or_of p.latches.items) c → e ≡ with_owned (owned_at p.latches.items (latches p.request (pairs_of p.guard_rails.items))) d →
-    f ≡ with_owned (owned_at p.starts.items (starts p.latches.items (pairs_of p.guard_rails.items))) e → f ≡ with_owned (select_owned (select_of p)) a
-select_made p a b c d e f are first second third fourth fifth =
-    let hs = pairs_of p.guard_rails.items in
-    let same : length hs ≡ length p.latches.items = pairs_length (length p.latches.items) p.guard_rails.items are.railed in
-    branches_made p.request p.latches.items p.starts.items hs d e f same fourth fifth
-    ∙ ap (with_owned (owned_at (p.latches.items ++ p.starts.items) (latches p.request hs ++ starts p.latches.items hs))) (third
-    ∙ ap (with_rules p.any (or_of p.latches.items)) (second ∙ ap (with_rules p.eval (evaluation p.request p.any)) first))
-    ∙ ap (λ os. with_owned os a) (sym (select_lists_are p are))
+-- the OR of one node or more
+abbrev pub some_of : List ℕ → NodeRules
+some_of ns = record { up = map (λ n. is_high n ∷ []) ns; down = one_term (lows ns) }
 
-abbrev again_six : AgainPorts → List Pair → List Owned
+pub some_or : (ns : List ℕ) → 0 < length ns → or_of ns ≡ some_of ns
+some_or [] h = absurd (omega (arith, h))
+some_or (n ∷ ns) h = refl
+
+-- the latches and the starts as one list, and as two
+branches_among : (request : ℕ) (ls ss : List ℕ) (hs : List Pair) → length hs ≡ length ls →
+    owned_at (ls ++ ss) (latches request hs ++ starts ls hs) ≡ branches_owned request ls ss hs
+branches_among request ls ss hs same =
+    let count : length ls ≡ length (latches request hs) = sym same ∙ sym (wanted_length [] hs) ∙ sym (latches_length request (only_one_true [] hs)) in
+    owned_append ls ss (latches request hs) (starts ls hs) count
+
+abbrev pub select_shared : SelectPorts → List Owned
+select_shared p = shared_owned p.answer p.eval p.any p.request p.answers.items p.latches.items
+
+abbrev pub select_branches : SelectPorts → List Owned
+select_branches p = branches_owned p.request p.latches.items p.starts.items (pairs_of p.guard_rails.items)
+
+select_is : (p : SelectPorts) → AreBranches p.latches.items p.starts.items p.answers.items p.guard_rails.items →
+    select_owned (select_of p) ≡ select_shared p ++ select_branches p
+select_is p are =
+    let hs = pairs_of p.guard_rails.items in
+    select_lists_are p are ∙ ap (λ os. select_shared p ++ os) (branches_among p.request p.latches.items p.starts.items hs
+    (pairs_length (length p.latches.items) p.guard_rails.items are.railed))
+
+pub select_made : (p : SelectPorts) (a b c : RulesValue) → AreBranches p.latches.items p.starts.items p.answers.items p.guard_rails.items →
+    b ≡ with_owned (select_shared p) a → c ≡ with_owned (select_branches p) b → c ≡ with_owned (select_owned (select_of p)) a
+select_made p a b c are first second =
+    then_owned (select_shared p) (select_branches p) a b c first second ∙ ap (λ os. with_owned os a) (sym (select_is p are))
+
+abbrev pub again_six : AgainPorts → List Pair → List Owned
 again_six p hs =
-    let ls = p.latches.items in
-    owned p.answer (leave_answer p.leave p.any hs) ∷ owned p.loop_request (turn_request p.request p.joined)
-    ∷ owned p.joined (joined_answer p.any p.answers.items)
-    ∷ owned p.eval (evaluation p.loop_request p.any) ∷ owned p.any (or_of (p.leave ∷ ls)) ∷ owned p.leave (leave_latch p.loop_request hs) ∷ []
+    owned p.answer (leave_answer p.leave p.any hs) ∷ owned p.loop_request (turn_request p.request p.joined) ∷ []
+    ++ (turn_shared p ++ owned p.leave (leave_latch p.loop_request hs) ∷ [])
+
+abbrev pub again_branches : AgainPorts → List Owned
+again_branches p = branches_owned p.loop_request p.latches.items p.starts.items (pairs_of p.guard_rails.items)
 
 abbrev again_lists : AgainPorts → List Pair → List Owned
 again_lists p hs = again_six p hs ++ owned_at (p.latches.items ++ p.starts.items) (latches p.loop_request hs ++ starts p.latches.items hs)
@@ -244,87 +269,58 @@ again_lists_are p are =
     (pairs_length (length p.latches.items) p.guard_rails.items are.railed) in
     rw (lists.latches, lists.started, lists.answered, lists.guards) refl
 
--- what the first six calls make
+again_is : (p : AgainPorts) → AreBranches p.latches.items p.starts.items p.answers.items p.guard_rails.items →
+    again_owned (again_of p) ≡ again_six p (pairs_of p.guard_rails.items) ++ again_branches p
+again_is p are =
+    let hs = pairs_of p.guard_rails.items in
+    again_lists_are p are ∙ ap (λ os. again_six p hs ++ os) (branches_among p.loop_request p.latches.items p.starts.items hs
+    (pairs_length (length p.latches.items) p.guard_rails.items are.railed))
+
+-- what is made before the latches and the starts
 abbrev pub again_first : AgainPorts → RulesValue → RulesValue
 again_first p a =
     let hs = pairs_of p.guard_rails.items in
-    with_rules p.leave (leave_latch p.loop_request hs)
-    (with_rules p.any (or_of (p.leave ∷ p.latches.items)) (with_rules p.eval (evaluation p.loop_request p.any)
-    (with_rules p.joined (joined_answer p.any p.answers.items)
-    (with_rules p.loop_request (turn_request p.request p.joined) (with_rules p.answer (leave_answer p.leave p.any hs) a)))))
+    with_rules p.leave (leave_latch p.loop_request hs) (with_owned (turn_shared p)
+    (with_rules p.loop_request (turn_request p.request p.joined) (with_rules p.answer (leave_answer p.leave p.any hs) a)))
 
-pub again_made : (p : AgainPorts) (a g h i : RulesValue) → AreBranches p.latches.items p.starts.items p.answers.items p.guard_rails.items →
-    g ≡ again_first p a → h ≡ with_owned (owned_at p.latches.items (latches p.loop_request (pairs_of p.guard_rails.items))) g →
-    i ≡ with_owned (owned_at p.starts.items (starts p.latches.items (pairs_of p.guard_rails.items))) h → i ≡ with_owned (again_owned (again_of p)) a
-again_made p a g h i are first second third =
-    let hs = pairs_of p.guard_rails.items in
-    let same : length hs ≡ length p.latches.items = pairs_length (length p.latches.items) p.guard_rails.items are.railed in
-    branches_made p.loop_request p.latches.items p.starts.items hs g h i same second third
-    ∙ ap (with_owned (owned_at (p.latches.items ++ p.starts.items) (latches p.loop_request hs ++ starts p.latches.items hs))) first
-    ∙ ap (λ os. with_owned os a) (sym (again_lists_are p are))
+pub again_made : (p : AgainPorts) (a b c : RulesValue) → AreBranches p.latches.items p.starts.items p.answers.items p.guard_rails.items →
+    b ≡ again_first p a → c ≡ with_owned (again_branches p) b → c ≡ with_owned (again_owned (again_of p)) a
+again_made p a b c are first second =
+    then_owned (again_six p (pairs_of p.guard_rails.items)) (again_branches p) a b c first second ∙ ap (λ os. with_owned os a) (sym (again_is p are))
 
 -- which nodes are own
-branches_among : (request : ℕ) (ls ss : List ℕ) (hs : List Pair) → length hs ≡ length ls →
-    owned_at (ls ++ ss) (latches request hs ++ starts ls hs) ≡ owned_at ls (latches request hs) ++ owned_at ss (starts ls hs)
-branches_among request ls ss hs same =
-    let count : length ls ≡ length (latches request hs) = sym same ∙ sym (wanted_length [] hs) ∙ sym (latches_length request (only_one_true [] hs)) in
-    owned_append ls ss (latches request hs) (starts ls hs) count
-
 pub record SelectOwns (p : SelectPorts) : Type 0 where
-  pub answer : Contains (select_owned (select_of p)) (owned p.answer (joined_answer p.any p.answers.items))
-  pub eval : Contains (select_owned (select_of p)) (owned p.eval (evaluation p.request p.any))
-  pub any : Contains (select_owned (select_of p)) (owned p.any (or_of p.latches.items))
-  pub latched : (o : Owned) → Contains (owned_at p.latches.items (latches p.request (pairs_of p.guard_rails.items))) o → Contains (select_owned (select_of p)) o
-  pub started : (o : Owned) → Contains (owned_at p.starts.items (starts p.latches.items (pairs_of p.guard_rails.items))) o →
-      Contains (select_owned (select_of p)) o
+  pub shared : (o : Owned) → Contains (select_shared p) o → Contains (select_owned (select_of p)) o
+  pub branches : (o : Owned) → Contains (select_branches p) o → Contains (select_owned (select_of p)) o
 
 pub select_owns : (p : SelectPorts) → AreBranches p.latches.items p.starts.items p.answers.items p.guard_rails.items → SelectOwns p
 select_owns p are =
-    let hs = pairs_of p.guard_rails.items in
-    let same : length hs ≡ length p.latches.items = pairs_length (length p.latches.items) p.guard_rails.items are.railed in
-    let front : List Owned = select_first p.request p.answer p.eval p.any p.latches.items p.answers.items in
-    let ls : List Owned = owned_at p.latches.items (latches p.request hs) in
-    let ss : List Owned = owned_at p.starts.items (starts p.latches.items hs) in
-    let is : select_owned (select_of p) ≡ front ++ (ls ++ ss) =
-    select_lists_are p are ∙ ap (λ os. front ++ os) (branches_among p.request p.latches.items p.starts.items hs same) in
-    let back : (o : Owned) → Contains (front ++ (ls ++ ss)) o → Contains (select_owned (select_of p)) o = λ o k. subst (λ os. Contains os o) (sym is) k in
+    let back : (o : Owned) → Contains (select_shared p ++ select_branches p) o → Contains (select_owned (select_of p)) o =
+    λ o k. subst (λ os. Contains os o) (sym (select_is p are)) k in
     record {
-      answer = back (owned p.answer (joined_answer p.any p.answers.items)) (0, omega arith, refl);
-      eval = back (owned p.eval (evaluation p.request p.any)) (1, omega arith, refl);
-      any = back (owned p.any (or_of p.latches.items)) (2, omega arith, refl);
-      latched = λ o k. back o (Contains-append_right front (ls ++ ss) o (Contains-append_left ls ss o k));
-      started = λ o k. back o (Contains-append_right front (ls ++ ss) o (Contains-append_right ls ss o k));
+      shared = λ o k. back o (Contains-append_left (select_shared p) (select_branches p) o k);
+      branches = λ o k. back o (Contains-append_right (select_shared p) (select_branches p) o k);
     }
 
 pub record AgainOwns (p : AgainPorts) : Type 0 where
   pub answer : Contains (again_owned (again_of p)) (owned p.answer (leave_answer p.leave p.any (pairs_of p.guard_rails.items)))
   pub turn : Contains (again_owned (again_of p)) (owned p.loop_request (turn_request p.request p.joined))
-  pub joined : Contains (again_owned (again_of p)) (owned p.joined (joined_answer p.any p.answers.items))
-  pub eval : Contains (again_owned (again_of p)) (owned p.eval (evaluation p.loop_request p.any))
-  pub any : Contains (again_owned (again_of p)) (owned p.any (or_of (p.leave ∷ p.latches.items)))
+  pub shared : (o : Owned) → Contains (turn_shared p) o → Contains (again_owned (again_of p)) o
   pub leave : Contains (again_owned (again_of p)) (owned p.leave (leave_latch p.loop_request (pairs_of p.guard_rails.items)))
-  pub latched : (o : Owned) → Contains (owned_at p.latches.items (latches p.loop_request (pairs_of p.guard_rails.items))) o →
-      Contains (again_owned (again_of p)) o
-  pub started : (o : Owned) → Contains (owned_at p.starts.items (starts p.latches.items (pairs_of p.guard_rails.items))) o →
-      Contains (again_owned (again_of p)) o
+  pub branches : (o : Owned) → Contains (again_branches p) o → Contains (again_owned (again_of p)) o
 
 pub again_owns : (p : AgainPorts) → AreBranches p.latches.items p.starts.items p.answers.items p.guard_rails.items → AgainOwns p
 again_owns p are =
     let hs = pairs_of p.guard_rails.items in
-    let same : length hs ≡ length p.latches.items = pairs_length (length p.latches.items) p.guard_rails.items are.railed in
-    let front : List Owned = again_six p hs in
-    let ls : List Owned = owned_at p.latches.items (latches p.loop_request hs) in
-    let ss : List Owned = owned_at p.starts.items (starts p.latches.items hs) in
-    let is : again_owned (again_of p) ≡ front ++ (ls ++ ss) =
-    again_lists_are p are ∙ ap (λ os. front ++ os) (branches_among p.loop_request p.latches.items p.starts.items hs same) in
-    let back : (o : Owned) → Contains (front ++ (ls ++ ss)) o → Contains (again_owned (again_of p)) o = λ o k. subst (λ os. Contains os o) (sym is) k in
+    let ends : List Owned = owned p.answer (leave_answer p.leave p.any hs) ∷ owned p.loop_request (turn_request p.request p.joined) ∷ [] in
+    let last : List Owned = owned p.leave (leave_latch p.loop_request hs) ∷ [] in
+    let back : (o : Owned) → Contains (again_six p hs ++ again_branches p) o → Contains (again_owned (again_of p)) o =
+    λ o k. subst (λ os. Contains os o) (sym (again_is p are)) k in
     record {
       answer = back (owned p.answer (leave_answer p.leave p.any hs)) (0, omega arith, refl);
       turn = back (owned p.loop_request (turn_request p.request p.joined)) (1, omega arith, refl);
-      joined = back (owned p.joined (joined_answer p.any p.answers.items)) (2, omega arith, refl);
-      eval = back (owned p.eval (evaluation p.loop_request p.any)) (3, omega arith, refl);
-      any = back (owned p.any (or_of (p.leave ∷ p.latches.items))) (4, omega arith, refl);
+      shared = λ o k. back o (Contains-append_left (again_six p hs) (again_branches p) o (Contains-append_right ends (turn_shared p ++ last) o
+          (Contains-append_left (turn_shared p) last o k)));
       leave = back (owned p.leave (leave_latch p.loop_request hs)) (5, omega arith, refl);
-      latched = λ o k. back o (Contains-append_right front (ls ++ ss) o (Contains-append_left ls ss o k));
-      started = λ o k. back o (Contains-append_right front (ls ++ ss) o (Contains-append_right ls ss o k));
+      branches = λ o k. back o (Contains-append_right (again_six p hs) (again_branches p) o k);
     }

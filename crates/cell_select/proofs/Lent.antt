@@ -1,5 +1,5 @@
 -- What the calls are lent: lists and nodes that are within the rules as the calls before have left them.
-use Rattle.std.proofs.Common.{◌≡◌, ℕ, ◌<◌, ◌*◌, List, [], ◌∷◌, ◌++◌, All, length, arith, ap, sym, ◌∙◌, subst}
+use Rattle.std.proofs.Common.{◌≡◌, ℕ, ◌<◌, ◌*◌, List, ◌∷◌, All, length, arith, ap, sym, ◌∙◌, subst}
 use Rattle.cell_select.specs.PortNodes.{AreBranches}
 
 pub below_still : (n a b : ℕ) → b ≡ a → n < a → n < b
@@ -20,8 +20,12 @@ some_latch ls ss ans rails are = let some = are.some in omega (arith, some)
 pub lent_some : (ns ms : List ℕ) → ms ≡ ns → 0 < length ns → 0 < length ms
 lent_some ns ms lent some = subst (λ (xs : List ℕ). 0 < length xs) (sym lent) some
 
--- the list of the end's latch and the others, as it is made
-pub ends_made : (leave : ℕ) (ls lent none one all view : List ℕ) → none ≡ [] → one ≡ none ++ leave ∷ [] → lent ≡ ls → all ≡ one ++ lent → view ≡ all →
-    view ≡ leave ∷ ls
-ends_made leave ls lent none one all view n o l a v =
-    v ∙ a ∙ ap (λ (xs : List ℕ). xs ++ lent) (o ∙ ap (λ (xs : List ℕ). xs ++ leave ∷ []) n) ∙ ap (λ (xs : List ℕ). leave ∷ xs) l
+pub all_lent : (leave : ℕ) (ls lent all view : List ℕ) → lent ≡ ls → all ≡ leave ∷ lent → view ≡ all → view ≡ leave ∷ ls
+all_lent leave ls lent all view l a v = v ∙ a ∙ ap (λ (xs : List ℕ). leave ∷ xs) l
+
+-- what is said of two lists or three, of the lists that they are lent
+pub of_two : (P : List ℕ → List ℕ → Type 0) {xs us ys vs : List ℕ} → us ≡ xs → vs ≡ ys → P us vs → P xs ys
+of_two P {xs} {us} {ys} {vs} first second h = subst (P xs) second (subst (λ ns. P ns vs) first h)
+
+pub of_three : (P : List ℕ → List ℕ → List ℕ → Type 0) {xs us ys vs zs ws : List ℕ} → us ≡ xs → vs ≡ ys → ws ≡ zs → P us vs ws → P xs ys zs
+of_three P {xs} {us} {ys} {vs} {zs} {ws} first second third h = subst (P xs ys) third (of_two (λ ns ms. P ns ms ws) first second h)

@@ -1,4 +1,3 @@
-pub mod Alone
 pub mod Examples
 pub mod PairLists
 pub mod GuardLemmas

@@ -2,9 +2,9 @@
 -- four-phase handshakes). The guards answer their request by their rails, each branch answers its start.
 use Rattle.std.specs.Prelude.{◌||◌, ◌≢◌, ℕ, Bool, false, not, ◌&&◌, ◌==◌, if◌then◌else◌, List, [], ◌∷◌, ◌++◌, map, AllPairs}
 use Rattle.std.specs.List.{list_all}
-use Rattle.prs_core.specs.Pairs.{Pair, rails_of}
-use Rattle.prs_core.specs.Parts.{Owned, owned_at, Part, Wire, wire, Moment, all_low, is_valid}
-use Rattle.cell_select.specs.Selections.{Choosing, Repeating, select_rules, again_rules}
+use Rattle.prs_core.specs.Pairs.{Pair, rails_of, or_of}
+use Rattle.prs_core.specs.Parts.{Owned, owned, owned_at, Part, Wire, wire, Moment, all_low, is_valid}
+use Rattle.cell_select.specs.Selections.{Choosing, Repeating, joined_answer, evaluation, latches, starts, select_rules, again_rules}
 
 -- a branch: its latch, its start, its answer, and the rails of its guard
 pub record Branch : Type 0 where
@@ -79,6 +79,14 @@ repeating_of c =
 
 abbrev pub again_owned : AgainNodes → List Owned
 again_owned c = owned_at (again_inner c) (again_rules (repeating_of c))
+
+-- of a selection's own nodes, or of those of a guarded repetition: what all branches share, and the latches and starts
+abbrev pub shared_owned : (joined eval any request : ℕ) → (answers latched : List ℕ) → List Owned
+shared_owned joined eval any request answers latched =
+    owned joined (joined_answer any answers) ∷ owned eval (evaluation request any) ∷ owned any (or_of latched) ∷ []
+
+abbrev pub branches_owned : (request : ℕ) → (latched begun : List ℕ) → List Pair → List Owned
+branches_owned request latched begun hs = owned_at latched (latches request hs) ++ owned_at begun (starts latched hs)
 
 -- no rail of a guard is high
 abbrev pub guards_neutral : (ℕ → Bool) → List Branch → Bool

@@ -1,7 +1,8 @@
 -- The nodes that the calls are given, as those of the contracts.
 use Rattle.std.specs.Prelude.{◌≡◌, ◌<◌, ◌≤◌, ◌*◌, ℕ, List, [], ◌∷◌, length, All}
 use Rattle.prs_core.specs.Pairs.{Pair}
-use Rattle.cell_select.specs.Contract.{Branch, SelectNodes, AgainNodes, select_nodes, again_nodes, AreApart}
+use Rattle.prs_core.specs.Parts.{Owned}
+use Rattle.cell_select.specs.Contract.{Branch, SelectNodes, AgainNodes, select_nodes, again_nodes, shared_owned, AreApart}
 use Rattle.cell_select.specs.declared.emit.SelectPorts.{SelectPorts}
 use Rattle.cell_select.specs.declared.emit.AgainPorts.{AgainPorts}
 
@@ -35,6 +36,10 @@ again_of p = record {
   leave = p.leave;
   branches = branches_from p.latches.items p.starts.items p.answers.items (pairs_of p.guard_rails.items);
 }
+
+-- what the branches of a guarded repetition share
+abbrev pub turn_shared : AgainPorts → List Owned
+turn_shared p = shared_owned p.joined p.eval p.any p.loop_request p.answers.items (p.leave ∷ p.latches.items)
 
 -- one to sixteen branches, with a latch, a start, an answer and two rails each
 pub record AreBranches (latches starts answers rails : List ℕ) : Type 0 where

@@ -1,13 +1,13 @@
 //! The rules of the selection and of the guarded repetition.
 
-ghost use Rattle.std.specs.Prelude.{◌≡◌, ◌≢◌, ◌<◌, ◌*◌, ℕ, [], ◌∷◌, All, length, OnOk, OnErr};
+ghost use Rattle.std.specs.Prelude.{◌≡◌, ◌≢◌, ◌<◌, ◌*◌, ℕ, [], ◌∷◌, All, length, OnOk, OnErr, IfOk};
 ghost use Rattle.prs_core.specs.Nets.{with_rules, IsAlone};
 ghost use Rattle.prs_core.specs.Pairs.{or_of};
 ghost use Rattle.prs_core.specs.Parts.{Owned, Keeps, owned_at, with_owned};
 ghost use Rattle.prs_core.specs.Partly.{IsPartly};
 ghost use Rattle.cell_select.specs.Selections.{joined_answer, evaluation, turn_request, leave_latch, leave_answer, latches, starts};
-ghost use Rattle.cell_select.specs.Contract.{select_owned, select_part, again_owned, again_part};
-ghost use Rattle.cell_select.specs.PortNodes.{pairs_of, select_of, again_of, IsSelect, IsAgain};
+ghost use Rattle.cell_select.specs.Contract.{shared_owned, branches_owned, select_owned, select_part, again_owned, again_part};
+ghost use Rattle.cell_select.specs.PortNodes.{pairs_of, select_of, again_of, turn_shared, IsSelect, IsAgain};
 
 use crate::guards::{all_low, either, none_true, only_true, set_both, some_high, with_lows};
 use crate::laws::{again_keeps, select_keeps};
@@ -50,7 +50,6 @@ pub struct AgainPorts {
 }
 
 /// Writes the guards of the branches' answers joined into one.
-#[tactic(auto, using(crate::proofs::GuardLemmas::some_within, crate::proofs::GuardLemmas::with_lows_within))]
 fn emit_joined(
     alloc: Global,
     node: u32,
@@ -66,10 +65,9 @@ fn emit_joined(
     ensures nodes { length rules.new.up ≡ length rules.old.up }
     ensures others { (other : ℕ) → other ≢ node → IsAlone rules.old rules.new other }
 {
-    let up = some_high(alloc, answers)?;
-    let down = with_lows(alloc, low(any), answers)?;
-    set_both(rules, node, up, down);
-    Ok(())
+    let up = some_high(alloc, answers);
+    let down = with_lows(alloc, low(any), answers);
+    set_both(rules, node, up, down)
 }
 
 /// Writes the guards of the request of the guards.
@@ -88,14 +86,12 @@ fn emit_evaluation(
     ensures nodes { length rules.new.up ≡ length rules.old.up }
     ensures others { (other : ℕ) → other ≢ node → IsAlone rules.old rules.new other }
 {
-    let up = all_of(alloc, &[high(request), low(any)])?;
-    let down = all_of(alloc, &[high(any)])?;
-    set_both(rules, node, up, down);
-    Ok(())
+    let up = all_of(alloc, &[high(request), low(any)]);
+    let down = all_of(alloc, &[high(any)]);
+    set_both(rules, node, up, down)
 }
 
 /// Writes the guards of the OR of some nodes. There is at least one node.
-#[tactic(auto, using(crate::proofs::GuardLemmas::some_within, crate::proofs::GuardLemmas::lows_within))]
 fn emit_any(alloc: Global, node: u32, inputs: &[u32], rules: &mut Rules) -> Result<(), AllocError>
     requires node { node < length rules.old.up }
     requires some { 0 < length inputs.now }
@@ -105,14 +101,12 @@ fn emit_any(alloc: Global, node: u32, inputs: &[u32], rules: &mut Rules) -> Resu
     ensures nodes { length rules.new.up ≡ length rules.old.up }
     ensures others { (other : ℕ) → other ≢ node → IsAlone rules.old rules.new other }
 {
-    let up = some_high(alloc, inputs)?;
-    let down = all_low(alloc, inputs)?;
-    set_both(rules, node, up, down);
-    Ok(())
+    let up = some_high(alloc, inputs);
+    let down = all_low(alloc, inputs);
+    set_both(rules, node, up, down)
 }
 
 /// Writes the guards of the latches.
-#[tactic(auto, using(crate::proofs::Alone::within, crate::proofs::Alone::next, crate::proofs::Alone::still))]
 fn emit_latches(
     alloc: Global,
     request: u32,
@@ -131,15 +125,14 @@ fn emit_latches(
     ensures others { (other : ℕ) → All (λ n. n ≢ other) nodes.now → IsAlone rules.old rules.new other }
 {
     for guard in 0..nodes.len() {
-        let up = only_true(alloc, rails, guard)?;
-        let down = all_of(alloc, &[low(request)])?;
-        set_both(rules, nodes[guard], up, down);
+        let up = only_true(alloc, rails, guard);
+        let down = all_of(alloc, &[low(request)]);
+        set_both(rules, nodes[guard], up, down)?;
     }
     Ok(())
 }
 
 /// Writes the guards of the starts.
-#[tactic(auto, using(crate::proofs::Alone::lows_too, crate::proofs::Alone::next, crate::proofs::Alone::still))]
 fn emit_starts(
     alloc: Global,
     nodes: &[u32],
@@ -159,11 +152,65 @@ fn emit_starts(
     ensures others { (other : ℕ) → All (λ n. n ≢ other) nodes.now → IsAlone rules.old rules.new other }
 {
     for branch in 0..nodes.len() {
-        let up = with_lows(alloc, high(latched[branch]), rails)?;
-        let down = all_of(alloc, &[low(latched[branch])])?;
-        set_both(rules, nodes[branch], up, down);
+        let up = with_lows(alloc, high(latched[branch]), rails);
+        let down = all_of(alloc, &[low(latched[branch])]);
+        set_both(rules, nodes[branch], up, down)?;
     }
     Ok(())
+}
+
+/// Writes the guards of the latches and of the starts.
+fn emit_branches(
+    alloc: Global,
+    request: u32,
+    latched: &[u32],
+    begun: &[u32],
+    rails: &[u32],
+    rules: &mut Rules,
+) -> Result<(), AllocError>
+    requires request { request < length rules.old.up }
+    requires latched { All (λ n. n < length rules.old.up) latched.now }
+    requires begun { All (λ n. n < length rules.old.up) begun.now }
+    requires rails { All (λ n. n < length rules.old.up) rails.now }
+    requires agree { length begun.now ≡ length latched.now }
+    requires pairs { length rails.now ≡ 2 * length latched.now }
+    ensures made { OnOk result (rules.new ≡ with_owned
+        (branches_owned request latched.now begun.now (pairs_of rails.now)) rules.old) }
+    ensures partly { IsPartly (branches_owned request latched.now begun.now (pairs_of rails.now))
+        rules.old rules.new }
+    ensures nodes { length rules.new.up ≡ length rules.old.up }
+{
+    emit_latches(alloc, request, latched, rails, rules)?;
+    emit_starts(alloc, begun, latched, rails, rules)
+}
+
+/// Writes the guards of the nodes that the branches share: of the answer that joins theirs, of the request of the
+/// guards, and of the OR of the latches.
+fn emit_shared(
+    alloc: Global,
+    joined: u32,
+    eval: u32,
+    any: u32,
+    request: u32,
+    answers: &[u32],
+    latched: &[u32],
+    rules: &mut Rules,
+) -> Result<(), AllocError>
+    requires joined { joined < length rules.old.up }
+    requires eval { eval < length rules.old.up }
+    requires any { any < length rules.old.up }
+    requires request { request < length rules.old.up }
+    requires answers { All (λ n. n < length rules.old.up) answers.now }
+    requires some { 0 < length latched.now }
+    requires latched { All (λ n. n < length rules.old.up) latched.now }
+    ensures made { OnOk result (rules.new ≡ with_owned
+        (shared_owned joined eval any request answers.now latched.now) rules.old) }
+    ensures partly { IsPartly (shared_owned joined eval any request answers.now latched.now) rules.old rules.new }
+    ensures nodes { length rules.new.up ≡ length rules.old.up }
+{
+    emit_joined(alloc, joined, any, answers, rules)?;
+    emit_evaluation(alloc, eval, request, any, rules)?;
+    emit_any(alloc, any, latched, rules)
 }
 
 /// Writes the guards of the request of one turn.
@@ -182,14 +229,12 @@ fn emit_turn(
     ensures nodes { length rules.new.up ≡ length rules.old.up }
     ensures others { (other : ℕ) → other ≢ node → IsAlone rules.old rules.new other }
 {
-    let up = all_of(alloc, &[high(request), low(joined)])?;
-    let down = either(alloc, high(joined), low(request))?;
-    set_both(rules, node, up, down);
-    Ok(())
+    let up = all_of(alloc, &[high(request), low(joined)]);
+    let down = either(alloc, high(joined), low(request));
+    set_both(rules, node, up, down)
 }
 
 /// Writes the guards of the latch of the end.
-#[tactic(auto, using(crate::proofs::GuardLemmas::none_within))]
 fn emit_leave(
     alloc: Global,
     node: u32,
@@ -206,14 +251,12 @@ fn emit_leave(
     ensures nodes { length rules.new.up ≡ length rules.old.up }
     ensures others { (other : ℕ) → other ≢ node → IsAlone rules.old rules.new other }
 {
-    let up = none_true(alloc, rails)?;
-    let down = all_of(alloc, &[low(turn)])?;
-    set_both(rules, node, up, down);
-    Ok(())
+    let up = none_true(alloc, rails);
+    let down = all_of(alloc, &[low(turn)]);
+    set_both(rules, node, up, down)
 }
 
 /// Writes the guards of the answer of a guarded repetition.
-#[tactic(auto, using(crate::proofs::GuardLemmas::with_lows_within, crate::proofs::PairLists::rails_again))]
 fn emit_end(
     alloc: Global,
     node: u32,
@@ -232,10 +275,39 @@ fn emit_end(
     ensures nodes { length rules.new.up ≡ length rules.old.up }
     ensures others { (other : ℕ) → other ≢ node → IsAlone rules.old rules.new other }
 {
-    let up = with_lows(alloc, high(leave), rails)?;
-    let down = all_of(alloc, &[low(any)])?;
-    set_both(rules, node, up, down);
-    Ok(())
+    let up = with_lows(alloc, high(leave), rails);
+    let down = all_of(alloc, &[low(any)]);
+    set_both(rules, node, up, down)
+}
+
+/// The latch of the end, and the other latches.
+fn all_latches(alloc: Global, leave: u32, latches: &[u32]) -> Result<Vec<u32>, AllocError>
+    ensures { IfOk result (λ all. all.items ≡ leave ∷ latches.now) }
+{
+    let mut all = Vec::new(alloc);
+    all.push(leave)?;
+    all.extend_from_slice(latches)?;
+    Ok(all)
+}
+
+/// Writes the guards of the nodes that the branches of a guarded repetition share.
+fn emit_turn_shared(alloc: Global, p: &AgainPorts, rules: &mut Rules) -> Result<(), AllocError>
+    requires { IsAgain (length rules.old.up) p.now }
+    ensures made { OnOk result (rules.new ≡ with_owned (turn_shared p.now) rules.old) }
+    ensures partly { IsPartly (turn_shared p.now) rules.old rules.new }
+    ensures nodes { length rules.new.up ≡ length rules.old.up }
+{
+    let all = all_latches(alloc, p.leave, &p.latches)?;
+    emit_shared(
+        alloc,
+        p.joined,
+        p.eval,
+        p.any,
+        p.loop_request,
+        &p.answers,
+        &all,
+        rules,
+    )
 }
 
 /// Writes the guards of the selection's own nodes, and no others. There are 1 to 16 latches, as many starts and
@@ -251,12 +323,17 @@ pub fn emit_select(alloc: Global, p: &SelectPorts, rules: &mut Rules) -> Result<
     ensures keeps { Keeps (select_part (select_of p.now)) }
 {
     select_keeps();
-    emit_joined(alloc, p.answer, p.any, &p.answers, rules)?;
-    emit_evaluation(alloc, p.eval, p.request, p.any, rules)?;
-    emit_any(alloc, p.any, &p.latches, rules)?;
-    emit_latches(alloc, p.request, &p.latches, &p.guard_rails, rules)?;
-    emit_starts(alloc, &p.starts, &p.latches, &p.guard_rails, rules)?;
-    Ok(())
+    emit_shared(
+        alloc, p.answer, p.eval, p.any, p.request, &p.answers, &p.latches, rules,
+    )?;
+    emit_branches(
+        alloc,
+        p.request,
+        &p.latches,
+        &p.starts,
+        &p.guard_rails,
+        rules,
+    )
 }
 
 /// Writes the guards of the guarded repetition's own nodes, and no others. There are 1 to 16 latches, as many starts
@@ -272,16 +349,16 @@ pub fn emit_again(alloc: Global, p: &AgainPorts, rules: &mut Rules) -> Result<()
     ensures keeps { Keeps (again_part (again_of p.now)) }
 {
     again_keeps();
-    let mut ends = Vec::new(alloc);
-    ends.push(p.leave)?;
-    ends.extend_from_slice(&p.latches)?;
     emit_end(alloc, p.answer, p.leave, p.any, &p.guard_rails, rules)?;
     emit_turn(alloc, p.loop_request, p.request, p.joined, rules)?;
-    emit_joined(alloc, p.joined, p.any, &p.answers, rules)?;
-    emit_evaluation(alloc, p.eval, p.loop_request, p.any, rules)?;
-    emit_any(alloc, p.any, &ends, rules)?;
+    emit_turn_shared(alloc, p, rules)?;
     emit_leave(alloc, p.leave, p.loop_request, &p.guard_rails, rules)?;
-    emit_latches(alloc, p.loop_request, &p.latches, &p.guard_rails, rules)?;
-    emit_starts(alloc, &p.starts, &p.latches, &p.guard_rails, rules)?;
-    Ok(())
+    emit_branches(
+        alloc,
+        p.loop_request,
+        &p.latches,
+        &p.starts,
+        &p.guard_rails,
+        rules,
+    )
 }

@@ -1,7 +1,7 @@
 //! Guards of the shapes that a selection has, and the two guards of one node.
 
-ghost use Rattle.std.specs.Prelude.{◌≡◌, ◌≢◌, ◌<◌, ◌≤◌, ◌+◌, ◌-◌, ◌*◌, ℕ, [], ◌∷◌, ◌++◌, map, length, take, drop, slice_index_or, OnOk, IfOk};
-ghost use Rattle.prs_core.specs.Nets.{with_rules, is_high, IsAlone, IsBelow};
+ghost use Rattle.std.specs.Prelude.{◌≡◌, ◌≢◌, ◌<◌, ◌≤◌, ◌+◌, ◌-◌, ◌*◌, ℕ, [], ◌∷◌, ◌++◌, map, length, take, drop, slice_index_or, OnOk, OnErr, IfOk};
+ghost use Rattle.prs_core.specs.Nets.{NodeRules, with_rules, is_high, IsAlone, IsBelow};
 ghost use Rattle.prs_core.specs.Pairs.{lows};
 ghost use Rattle.cell_select.specs.Selections.{all_false};
 ghost use Rattle.cell_select.specs.PortNodes.{pairs_of};
@@ -9,36 +9,46 @@ ghost use Rattle.cell_select.specs.PortNodes.{pairs_of};
 use prs_core::{Guard, Literal, Rules, Term, all_of, high, low};
 use std::alloc::{AllocError, Global};
 
-/// Replaces both guards of the node.
-pub fn set_both(rules: &mut Rules, node: u32, up: Guard, down: Guard)
+/// Replaces both guards of the node, if they could be made. It takes them as they were made, so that none of the
+/// functions that write rules owns one guard where making the other one may fail.
+pub fn set_both(
+    rules: &mut Rules,
+    node: u32,
+    up: Result<Guard, AllocError>,
+    down: Result<Guard, AllocError>,
+) -> Result<(), AllocError>
     requires node { node < length rules.old.up }
-    requires up { IsBelow (length rules.old.up) up }
-    requires down { IsBelow (length rules.old.up) down }
-    ensures made { rules.new ≡ with_rules node (record { up = up; down = down }) rules.old }
+    requires up { IfOk up (IsBelow (length rules.old.up)) }
+    requires down { IfOk down (IsBelow (length rules.old.up)) }
+    ensures made { (wanted : NodeRules) → IfOk up (λ guard. guard ≡ wanted.up) →
+        IfOk down (λ guard. guard ≡ wanted.down) → OnOk result (rules.new ≡ with_rules node wanted rules.old) }
+    ensures kept { OnErr result (rules.new ≡ rules.old) }
     ensures nodes { length rules.new.up ≡ length rules.old.up }
     ensures others { (other : ℕ) → other ≢ node → IsAlone rules.old rules.new other }
 {
+    let up = up?;
+    let down = down?;
     rules.set_up(node, up);
     rules.set_down(node, down);
+    Ok(())
 }
 
-/// The term that requires one node to be high.
-fn high_term(alloc: Global, node: u32) -> Result<Term, AllocError>
-    ensures { IfOk result (λ term. term ≡ is_high node ∷ []) }
+/// Adds the term of one literal.
+fn add_term(alloc: Global, terms: &mut Vec<Term>, literal: Literal) -> Result<(), AllocError>
+    ensures { OnOk result (terms.new.items ≡ terms.old.items ++ (literal ∷ []) ∷ []) }
 {
-    let literals = Vec::from_slice(alloc, &[high(node)])?;
-    Ok(Term::new(literals).unwrap())
+    let literals = Vec::from_slice(alloc, &[literal])?;
+    terms.push(Term::new(literals).unwrap())?;
+    Ok(())
 }
 
 /// The guard that holds where one of two literals does.
 pub fn either(alloc: Global, first: Literal, second: Literal) -> Result<Guard, AllocError>
     ensures { IfOk result (λ guard. guard ≡ (first ∷ []) ∷ (second ∷ []) ∷ []) }
 {
-    let first = Term::new(Vec::from_slice(alloc, &[first])?).unwrap();
-    let second = Term::new(Vec::from_slice(alloc, &[second])?).unwrap();
     let mut terms = Vec::new(alloc);
-    terms.push(first)?;
-    terms.push(second)?;
+    add_term(alloc, &mut terms, first)?;
+    add_term(alloc, &mut terms, second)?;
     Ok(Guard::new(terms))
 }
 
@@ -48,7 +58,7 @@ pub fn some_high(alloc: Global, nodes: &[u32]) -> Result<Guard, AllocError>
 {
     let mut terms = Vec::new(alloc);
     for node in nodes {
-        terms.push(high_term(alloc, *node)?)?;
+        add_term(alloc, &mut terms, high(*node))?;
     }
     Ok(Guard::new(terms))
 }

@@ -122,6 +122,15 @@ pub record AreReadTo (names : List (List ℕ)) (lines : Words) (at : ℕ) (up do
   pub ls : List DelayLine
   pub so_far : AreDelaysSoFar names (texts (take at lines)) ls up down marks
 
+-- each node has its delays and its mark
+pub counts : (names : List (List ℕ)) (lines : Words) (at : ℕ) (up down : List ℕ) (marks : List Bool) → AreReadTo names lines at up down marks →
+    (length up ≡ length names) × (length down ≡ length names) × (length marks ≡ length names)
+counts names lines at up down marks read = (
+  ap length read.so_far.rises ∙ length-map names (rise_said read.ls),
+  ap length read.so_far.falls ∙ length-map names (fall_said read.ls),
+  ap length read.so_far.marks_are ∙ length-map names (has_line read.ls),
+)
+
 pub refused_at : (names : List (List ℕ)) (text : List ℕ) (lines : Words) (at : ℕ) (d : Bor (List ℕ)) (up down : List ℕ) (marks flags : List Bool)
     (fault : DelayFault) → texts lines ≡ lines_of text → at < length lines → AreReadTo names lines at up down marks → flags ≡ marks →
     DelayStepFault names flags (words_of (get_or lines at d).now) fault → IsDelayRefused names text fault (at + 1)

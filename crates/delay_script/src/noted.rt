@@ -21,7 +21,7 @@ use crate::due::{Due, Next, fill, refill};
 use crate::queue::Queue;
 use env_script::{Hazard, Script};
 use event_sim::{End, Ran, Stage, end_from, power_state};
-use prs_core::Net;
+use prs_core::{Net, State};
 use std::alloc::{AllocError, Global};
 use std::marker::Model;
 
@@ -82,59 +82,45 @@ fn last_end(hazard: Option<Hazard>, next: Option<Next>) -> End
     }
 }
 
-/// The stage of a run that has made no move, from the values at power-up, with room for so many values.
-fn stage_at_power_up(
+/// What a run on the net begins with: the values at power-up, and room for its moves and for those that are due.
+fn room_for(
     alloc: Global,
-    net: Net,
-    script: Script,
+    net: &Net,
     steps: u32,
     high: bool,
-) -> Result<Stage, AllocError>
-    requires { IsScript (net_channels net) script }
-    ensures { IfOk result (λ s. s ≡ stage_with net script (power_of net high) [] steps) }
+) -> Result<(State, Vec<NotedMove>, Queue), AllocError>
+    ensures state { IfOk result (λ r. r.0 ≡ power_of net.now high) }
+    ensures count { IfOk result (λ r. length r.0 ≡ length net.now.first) }
+    ensures moves { IfOk result (λ r. r.1.items ≡ []) }
+    ensures slots { IfOk result (λ r. steps ≤ vec_capacity r.1) }
+    ensures queue { IfOk result (λ r. r.2 ≡ replicate (length net.now.first) None) }
 {
-    let state = power_state(alloc, &net, high)?;
-    Stage::new(alloc, net, script, state, steps)
-}
-
-/// Room for the moves of a run, and for those that are due.
-fn room_for(alloc: Global, nodes: usize, steps: u32) -> Result<(Vec<NotedMove>, Queue), AllocError>
-    ensures moves { IfOk result (λ r. r.0.items ≡ []) }
-    ensures slots { IfOk result (λ r. steps ≤ vec_capacity r.0) }
-    ensures queue { IfOk result (λ r. r.1 ≡ replicate nodes None) }
-{
+    let state = power_state(alloc, net, high)?;
     let moves = Vec::with_capacity(alloc, steps as usize)?;
-    let queue = Queue::new(alloc, nodes)?;
-    Ok((moves, queue))
+    let queue = Queue::new(alloc, net.first().len())?;
+    Ok((state, moves, queue))
 }
 
 impl Course {
-    /// The course of a run that has made no move.
-    fn begin(
-        alloc: Global,
-        stage: Stage,
-        delays: Delays,
-        nodes: usize,
-        steps: u32,
-    ) -> Result<Course, AllocError>
+    /// The course of a run that has made no move, which takes the room that was made for it.
+    fn begin(stage: Stage, delays: Delays, moves: Vec<NotedMove>, queue: Queue) -> Course
         requires delays { IsDelayTable (length stage.net.first) delays }
-        requires nodes { nodes ≡ length stage.net.first }
-        ensures stage { IfOk result (λ c. c.stage ≡ stage) }
-        ensures delays { IfOk result (λ c. c.delays ≡ delays) }
-        ensures queue { IfOk result (λ c. AreFilled stage delays (record { cause = 0; time = 0 }) (moves_now stage)
-            (replicate nodes None) c.queue) }
-        ensures moves { IfOk result (λ c. c.moves.items ≡ []) }
-        ensures slots { IfOk result (λ c. steps ≤ vec_capacity c.moves) }
+        requires queue { length queue ≡ length stage.net.first }
+        ensures stage { result.stage ≡ stage }
+        ensures delays { result.delays ≡ delays }
+        ensures queue { AreFilled stage delays (record { cause = 0; time = 0 }) (moves_now stage) queue result.queue }
+        ensures moves { result.moves.items ≡ moves.items }
+        ensures slots { vec_capacity result.moves ≡ vec_capacity moves }
     {
-        let (moves, mut queue) = room_for(alloc, nodes, steps)?;
+        let mut queue = queue;
         let start = Due { cause: 0, time: 0 };
         fill(&stage, &delays, &mut queue, stage.moves(), start);
-        Ok(Course {
+        Course {
             stage,
             delays,
             queue,
             moves,
-        })
+        }
     }
 
     /// Makes the move, which was removed from the queue, and returns the hazard that this brings.
@@ -251,9 +237,9 @@ impl Noted {
         requires steps { steps ≤ 1000000 }
         ensures { IfOk result (λ n. n ≡ timed_value net script steps delays high) }
     {
-        let nodes = net.first().len();
-        let stage = stage_at_power_up(alloc, net, script, steps, high)?;
-        let course = Course::begin(alloc, stage, delays, nodes, steps)?;
+        let (state, moves, queue) = room_for(alloc, &net, steps, high)?;
+        let stage = Stage::new(alloc, net, script, state, steps)?;
+        let course = Course::begin(stage, delays, moves, queue);
         Ok(Noted {
             course,
             steps,

@@ -14,10 +14,12 @@ use Rattle.env_script.specs.declared.line.Said.{Said}
 use Rattle.env_script.specs.declared.line.Said.TheVariants.{Numbers, Every}
 use Rattle.env_script.specs.declared.line.Line.{Line}
 use Rattle.env_script.specs.declared.fault.ScriptFault.{ScriptFault}
+use Rattle.env_script.specs.declared.fault.ScriptError.{ScriptError}
+use Rattle.env_script.specs.declared.fault.ScriptError.TheVariants.{Refused, NoMemory}
 use Rattle.env_script.specs.Scripts.{OfferValue}
 use Rattle.env_script.specs.Numbers.{IsNumber, IsDecimalWord, IsHexadecimalWord, number_of_word}
 use Rattle.env_script.specs.Cutting.{lines_of, words_of}
-use Rattle.env_script.specs.ScriptText.{SaysBehind, LineSays, channel_named, is_inside, suits, fits, values_in, values_on, values_told, IsLineOf, IsGood, is_some_line, IsTold, is_told, script_of, fault_at, fault_on, line_fault, ScriptLineFault, bad_line, of_line, IsScriptText, IsScriptRefused}
+use Rattle.env_script.specs.ScriptText.{SaysBehind, LineSays, channel_named, is_inside, suits, fits, values_in, values_on, values_told, IsLineOf, IsGood, is_some_line, IsTold, is_told, script_of, fault_at, fault_on, line_fault, ScriptLineFault, bad_line, of_line, IsScriptText, IsScriptRefused, OfScriptRefusal}
 use Rattle.env_script.proofs.OneMore.{differ}
 
 -- Words say one thing.
@@ -268,3 +270,7 @@ one_refusal channels text f g n m one two = by_order (cases_order (length one.be
     by_order (inr (inr less)) =
         let more = longer two.before two.here two.behind one.before one.here one.behind (sym same) less in
         absurd (no_fault_within channels one.before one.lines two.before two.here more.between two.lines g one.told more.whole two.told two.fault_here)
+
+pub of_refusal : (P Q : ScriptFault → ℕ → Type 0) (e : ScriptError) → ((f : ScriptFault) (n : ℕ) → P f n → Q f n) → OfScriptRefusal P e → OfScriptRefusal Q e
+of_refusal P Q (Refused fault line) more is = more fault line is
+of_refusal P Q (NoMemory e) more is = tt

@@ -8,8 +8,10 @@ use Rattle.std.proofs.lemmas.List.{length-map}
 use Rattle.std.proofs.lemmas.List.Quantifiers.{position-Some}
 use Rattle.chp_base.specs.declared.channel.Channel.{Channel}
 use Rattle.env_script.specs.declared.line.Line.{Line}
-use Rattle.env_script.specs.ScriptText.{LineSays, channel_named}
-use Rattle.env_script.specs.LineSteps.{IsPlace}
+use Rattle.env_script.specs.declared.step.Step.{Step}
+use Rattle.env_script.specs.declared.step.Step.TheVariants.{Skip, Refused, Take}
+use Rattle.env_script.specs.ScriptText.{LineSays, channel_named, fault_on}
+use Rattle.env_script.specs.LineSteps.{IsPlace, IsStepOn, IsStepOf, told_at, of_channel}
 use Rattle.env_script.proofs.Sayings.{Words, texts}
 
 pub position_cases : {X : Type 0} (p : X → Bool) (x : X) (xs : List X) (b : Bool) → p x ≡ b →
@@ -84,17 +86,26 @@ pub no_place : (channels : List Channel) (bytes name : List ℕ) (answer : Optio
 no_place channels bytes name answer same answers none =
     ap (channel_named channels) (sym same) ∙ named_at channels bytes ∙ ap (at_place channels) (sym answers ∙ none)
 
-pub said_so : (words list : Words) (ws : List (List ℕ)) (l : Line) (o : Option Line) → list ≡ words → texts words ≡ ws → IfSome o (LineSays (texts list)) →
-    o ≡ Some l → LineSays ws l
-said_so words list ws l o same is says found =
-    let told : LineSays (texts list) l = rw found at says in
-    subst (λ (xs : List (List ℕ)). LineSays xs l) (ap texts same ∙ is) told
+-- what is done on the channel that the line names is done for the line
+pub on_channel : (channels : List Channel) (told : List Bool) (values : ℕ) (words : List (List ℕ)) (l : Line) (c : Channel) (place : ℕ) (step : Step) →
+    LineSays words l → IsPlace channels l.name place c → IsStepOn c (told_at told place) values place l.said step → IsStepOf channels told values words step
+on_channel channels told values words l c place Skip says here on = absurd on
+on_channel channels told values words l c place (Refused fault) says here on = of_channel l c place says here on
+on_channel channels told values words l c place (Take t) says here on = record {
+  line = l;
+  channel = c;
+  says = says;
+  place = subst (λ (k : ℕ). IsPlace channels l.name k c) (sym on.0) here;
+  faultless = ap (λ (k : ℕ). fault_on c (told_at told k) values l.said) on.0 ∙ on.1;
+  offer = on.2;
+  count = on.3;
+}
 
-pub said_nothing : (words list : Words) (ws : List (List ℕ)) (o : Option Line) → list ≡ words → texts words ≡ ws →
-    IfNone o ((l : Line) → LineSays (texts list) l → ⊥) → o ≡ None → (l : Line) → LineSays ws l → ⊥
-said_nothing words list ws o same is none nothing l says =
-    let never : (l : Line) → LineSays (texts list) l → ⊥ = rw nothing at none in
-    never l (subst (λ (xs : List (List ℕ)). LineSays xs l) (sym (ap texts same ∙ is)) says)
+pub line_said : (words : List (List ℕ)) (o : Option Line) (l : Line) → IfSome o (LineSays words) → o ≡ Some l → LineSays words l
+line_said words o l says found = rw found at says
+
+pub nothing_said : (words : List (List ℕ)) (o : Option Line) → IfNone o ((l : Line) → LineSays words l → ⊥) → o ≡ None → (l : Line) → LineSays words l → ⊥
+nothing_said words o none nothing = rw nothing at none
 
 pub some_words : (words : Words) (ws : List (List ℕ)) → texts words ≡ ws → 0 < length words → 0 < length ws
 some_words words ws is some = omega (arith, ap length is, length-map words (λ word. word.now))

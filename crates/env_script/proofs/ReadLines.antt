@@ -18,8 +18,8 @@ use Rattle.env_script.specs.declared.step.Taken.{Taken}
 use Rattle.env_script.specs.Scripts.{OfferValue}
 use Rattle.env_script.specs.Offers.{offered}
 use Rattle.env_script.specs.Cutting.{lines_of, words_of}
-use Rattle.env_script.specs.ScriptText.{LineSays, channel_named, is_inside, suits, fits, values_in, values_on, values_told, IsLineOf, is_some_line, IsTold, is_told, script_of, fault_on, fault_at, ScriptLineFault, bad_line, of_line, IsScriptText, IsScriptRefused}
-use Rattle.env_script.specs.LineSteps.{told_at, StepFault, says_nothing, of_nothing, of_channel, IsStep, IsReadSoFar}
+use Rattle.env_script.specs.ScriptText.{LineSays, channel_named, is_inside, suits, fits, values_in, values_on, values_told, IsLineOf, is_some_line, IsTold, is_told, script_of, fault_on, fault_at, ScriptLineFault, bad_line, of_line, IsScriptRefused}
+use Rattle.env_script.specs.LineSteps.{told_at, StepFault, says_nothing, of_nothing, of_channel, IsStep, IsReadSoFar, AreTold}
 use Rattle.env_script.proofs.Sayings.{Words, texts}
 use Rattle.env_script.proofs.OneMore.{other_name, script_more, flags_more, flag_at, AreDistinct}
 
@@ -177,13 +177,11 @@ texts_parts lines at d within =
 abbrev IsReadTo : List Channel → Words → ℕ → List OfferValue → List Bool → ℕ → Type 0
 IsReadTo channels lines at offers told values = (ls : List Line) × IsReadSoFar channels (texts (take at lines)) ls offers told values
 
-pub refused_at : (channels : List Channel) (text : List ℕ) (lines : Words) (at : ℕ) (d : Bor (List ℕ)) (offers : List OfferValue) (told flags : List Bool)
-    (values : ℕ) (fault : ScriptFault) → texts lines ≡ lines_of text → at < length lines → IsReadTo channels lines at offers told values → flags ≡ told →
-    StepFault channels flags values (words_of (get_or lines at d).now) fault → IsScriptRefused channels text fault (at + 1)
-refused_at channels text lines at d offers told flags values fault cut within so_far same step =
+pub refused_at : (channels : List Channel) (text : List ℕ) (lines : Words) (at : ℕ) (d : Bor (List ℕ)) (offers : List OfferValue) (told : List Bool)
+    (values : ℕ) (fault : ScriptFault) → texts lines ≡ lines_of text → at < length lines → IsReadTo channels lines at offers told values →
+    StepFault channels told values (words_of (get_or lines at d).now) fault → IsScriptRefused channels text fault (at + 1)
+refused_at channels text lines at d offers told values fault cut within so_far here =
     let line : List ℕ = (get_or lines at d).now in
-    let here : StepFault channels told values (words_of line) fault =
-    subst (λ (bs : List Bool). StepFault channels bs values (words_of line) fault) same step in
     record {
       before = texts (take at lines);
       here = line;
@@ -202,13 +200,12 @@ skip_line channels lines at d offers told values within so_far none =
     let more = skipped channels (texts (take at lines)) (get_or lines at d).now so_far.0 offers told values so_far.1 none in
     (so_far.0, subst (λ (ws : List (List ℕ)). IsReadSoFar channels ws so_far.0 offers told values) (sym (texts_more lines at d within)) more)
 
-pub take_line : (channels : List Channel) (lines : Words) (at : ℕ) (d : Bor (List ℕ)) (offers made : List OfferValue) (told flags marked : List Bool)
-    (values : ℕ) (t : Taken) → AreDistinct channels → at < length lines → IsReadTo channels lines at offers told values → flags ≡ told →
-    IsStep channels flags values (words_of (get_or lines at d).now) t → made ≡ set offers t.place (offered t.offer) → marked ≡ set told t.place true →
+pub take_line : (channels : List Channel) (lines : Words) (at : ℕ) (d : Bor (List ℕ)) (offers made : List OfferValue) (told marked : List Bool)
+    (values : ℕ) (t : Taken) → AreDistinct channels → at < length lines → IsReadTo channels lines at offers told values →
+    IsStep channels told values (words_of (get_or lines at d).now) t → made ≡ set offers t.place (offered t.offer) → marked ≡ set told t.place true →
     IsReadTo channels lines (at + 1) made marked (values + t.values)
-take_line channels lines at d offers made told flags marked values t distinct within so_far same step is_made is_marked =
+take_line channels lines at d offers made told marked values t distinct within so_far here is_made is_marked =
     let line : List ℕ = (get_or lines at d).now in
-    let here : IsStep channels told values (words_of line) t = subst (λ (bs : List Bool). IsStep channels bs values (words_of line) t) same step in
     let more = taken channels (texts (take at lines)) line so_far.0 offers told values t distinct so_far.1 here in
     (more.0, rw (is_made, is_marked, texts_more lines at d within) more.1)
 
@@ -217,8 +214,7 @@ pub few_lines : (text : List ℕ) (lines : Words) → length text ≤ 2097152 �
 few_lines text lines size cut =
     omega (arith, ap length cut, length-map lines (λ (w : Bor (List ℕ)). w.now), length-slice_split (λ b. b == 10) text, count_by-le-length (λ b. b == 10) text)
 
-pub all_read : (channels : List Channel) (text : List ℕ) (lines : Words) (at : ℕ) (ls : List Line) (offers : List OfferValue) (told : List Bool) (values : ℕ) →
-    texts lines ≡ lines_of text → length lines ≤ at → IsReadSoFar channels (texts (take at lines)) ls offers told values → IsScriptText channels text offers
-all_read channels text lines at ls offers told values cut past so_far =
-    let whole : texts (take at lines) ≡ lines_of text = ap texts (take_all at lines past) ∙ cut in
-    record { lines = ls; told = subst (λ (ws : List (List ℕ)). IsTold channels ws ls) whole so_far.lines_told; is = so_far.made }
+pub all_told : (channels : List Channel) (lines : Words) (at : ℕ) (ls : List Line) (offers : List OfferValue) (told : List Bool) (values : ℕ) →
+    length lines ≤ at → IsReadSoFar channels (texts (take at lines)) ls offers told values → AreTold channels (texts lines) offers
+all_told channels lines at ls offers told values past so_far =
+    (ls, subst (λ (ws : List (List ℕ)). IsTold channels ws ls) (ap texts (take_all at lines past)) so_far.lines_told, so_far.made)

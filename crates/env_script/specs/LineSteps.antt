@@ -1,6 +1,7 @@
 -- What one line of a script does to what was read before it.
 use Rattle.std.specs.Prelude.{◌≡◌, ℕ, ◌<◌, Bool, false, List, [], length, map, slice_index_or, Some, None}
 use Rattle.chp_base.specs.declared.channel.Channel.{Channel}
+use Rattle.env_script.specs.declared.line.Said.{Said}
 use Rattle.env_script.specs.declared.line.Line.{Line}
 use Rattle.env_script.specs.declared.fault.ScriptFault.{ScriptFault}
 use Rattle.env_script.specs.declared.fault.ScriptFault.TheVariants.{BadLine, NoSuchChannel}
@@ -9,7 +10,8 @@ use Rattle.env_script.specs.declared.step.Step.TheVariants.{Skip, Refused, Take}
 use Rattle.env_script.specs.declared.step.Taken.{Taken}
 use Rattle.env_script.specs.Scripts.{OfferValue}
 use Rattle.env_script.specs.Offers.{offered}
-use Rattle.env_script.specs.ScriptText.{LineSays, channel_named, fault_on, offer_of, script_of, is_told, values_in, values_told, IsTold}
+use Rattle.env_script.specs.Cutting.{lines_of}
+use Rattle.env_script.specs.ScriptText.{LineSays, channel_named, fault_on, offer_of, script_of, is_told, values_in, values_told, IsTold, IsScriptRefused}
 
 abbrev pub told_at : List Bool → ℕ → Bool
 told_at told place = slice_index_or told place false
@@ -47,6 +49,13 @@ IsStepOf channels told values words Skip = words ≡ []
 IsStepOf channels told values words (Refused fault) = StepFault channels told values words fault
 IsStepOf channels told values words (Take t) = IsStep channels told values words t
 
+-- what a line that says this does on the channel, which has this number
+abbrev pub IsStepOn : Channel → Bool → ℕ → ℕ → Said → Step → Type 0
+IsStepOn c again values place said Skip = ⊥
+IsStepOn c again values place said (Refused fault) = fault_on c again values said ≡ Some fault
+IsStepOn c again values place said (Take t) = (t.place ≡ place) × (fault_on c again values said ≡ None)
+    × (offered t.offer ≡ offer_of c.kind (Some said)) × (t.values ≡ values_in c.kind said)
+
 -- what was read of the lines
 pub record IsReadSoFar (channels : List Channel) (lines : List (List ℕ)) (ls : List Line) (offers : List OfferValue)
     (told : List Bool) (values : ℕ) : Type 0 where
@@ -54,3 +63,12 @@ pub record IsReadSoFar (channels : List Channel) (lines : List (List ℕ)) (ls :
   pub made : offers ≡ script_of channels ls
   pub flags : told ≡ map (λ (c : Channel). is_told ls c.name) channels
   pub count : values ≡ values_told channels ls
+
+-- the offers are what the lines of a script say
+abbrev pub AreTold : List Channel → List (List ℕ) → List OfferValue → Type 0
+AreTold channels lines offers = (ls : List Line) × IsTold channels lines ls × (offers ≡ script_of channels ls)
+
+-- each text of these lines is refused for this cause at this line
+abbrev pub IsRefusedLine : List Channel → List (List ℕ) → ScriptFault → ℕ → Type 0
+IsRefusedLine channels lines fault line = (text : List ℕ) → lines ≡ lines_of text →
+    IsScriptRefused channels text fault line

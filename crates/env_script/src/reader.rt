@@ -1,9 +1,10 @@
 //! The reader of scripts.
 
-ghost use Rattle.std.specs.Prelude.{◌≡◌, ◌≢◌, ◌≤◌, All, AllPairs, ◌<◌, true, None, [], length, map, slice_set, IfOk, IfErr};
+ghost use Rattle.std.specs.Prelude.{◌≡◌, ◌≢◌, ◌≤◌, All, AllPairs, ◌<◌, true, None, [], length, map, slice_set, IfOk, IfErr, OnOk};
 ghost use Rattle.chp_base.specs.declared.channel.Channel.{Channel};
 ghost use Rattle.env_script.specs.Scripts.{IsScript};
 ghost use Rattle.env_script.specs.Offers.{offered};
+ghost use Rattle.env_script.specs.LineSteps.{AreTold, IsRefusedLine};
 ghost use Rattle.env_script.specs.ScriptText.{offer_of, script_of, is_told, IsScriptText, IsOnlyScript, IsNoScript, IsScriptRefused, IsOnlyRefusal, OfScriptRefusal};
 
 use crate::channel_index::ChannelIndex;
@@ -56,6 +57,60 @@ fn note(offers: &mut [Offer], told: &mut [bool], taken: Taken)
     told[place] = true;
 }
 
+/// Takes up what the lines say, one after the other, where no line has been told yet.
+fn read_lines(
+    alloc: Global,
+    channels: &ChannelIndex,
+    lines: &[&[u8]],
+    offers: &mut [Offer],
+    told: &mut [bool],
+) -> Result<(), ScriptError>
+    requires few { length lines.now ≤ 2097153 }
+    requires distinct { AllPairs (λ (a b : Channel). a.name ≢ b.name) channels.now }
+    requires widths { All (λ (c : Channel). (1 ≤ c.width) × (c.width ≤ 64)) channels.now }
+    requires offers { map offered offers.old ≡ script_of channels.now [] }
+    requires told { told.old ≡ map (λ (c : Channel). is_told [] c.name) channels.now }
+    ensures read { OnOk result (AreTold channels.now (map (λ line. line.now) lines.now) (map offered offers.new)) }
+    ensures refused { IfErr result
+        (OfScriptRefusal (IsRefusedLine channels.now (map (λ line. line.now) lines.now))) }
+{
+    let mut values = 0;
+    for (at, line) in lines.iter().enumerate() {
+        match step_of(alloc, channels, told, values, line)? {
+            Step::Skip => {}
+            Step::Refused(fault) => {
+                let line = at as u32 + 1;
+                return Err(ScriptError::Refused { fault, line });
+            }
+            Step::Take(taken) => {
+                values += taken.values;
+                note(offers, told, taken);
+            }
+        }
+    }
+    Ok(())
+}
+
+/// Changes the offers of a script without lines to what the lines say.
+fn read_offers(
+    alloc: Global,
+    channels: &[Channel],
+    lines: &[&[u8]],
+    offers: &mut [Offer],
+) -> Result<(), ScriptError>
+    requires few { length lines.now ≤ 2097153 }
+    requires distinct { AllPairs (λ (a b : Channel). a.name ≢ b.name) channels.now }
+    requires widths { All (λ (c : Channel). (1 ≤ c.width) × (c.width ≤ 64)) channels.now }
+    requires offers { map offered offers.old ≡ script_of channels.now [] }
+    ensures read { OnOk result (AreTold channels.now (map (λ line. line.now) lines.now) (map offered offers.new)) }
+    ensures refused { IfErr result
+        (OfScriptRefusal (IsRefusedLine channels.now (map (λ line. line.now) lines.now))) }
+{
+    let index = ChannelIndex::from_channels(alloc, channels)?;
+    let mut told = none_told(alloc, channels)?;
+    read_lines(alloc, &index, lines, offers, &mut told)
+}
+
 /// The script of these channels that the text says. A line is the name of a channel, a colon right after it, and
 /// words that are separated by spaces or tabs: the values of an `in` channel, or for an `out` channel how many values
 /// are received, a number or `all`. A comment runs from `//` to the end of its line. An `in` channel without a line
@@ -75,22 +130,7 @@ pub fn read_script(alloc: Global, text: &[u8], channels: &[Channel]) -> Result<S
     ensures none { IfErr result (OfScriptRefusal (λ fault line. IsNoScript channels.now text.now)) }
 {
     let lines = lines_of(alloc, text)?;
-    let index = ChannelIndex::from_channels(alloc, channels)?;
     let mut offers = first_offers(alloc, channels)?;
-    let mut told = none_told(alloc, channels)?;
-    let mut values = 0;
-    for (at, line) in lines.iter().enumerate() {
-        match step_of(alloc, &index, &told, values, line)? {
-            Step::Skip => {}
-            Step::Refused(fault) => {
-                let line = at as u32 + 1;
-                return Err(ScriptError::Refused { fault, line });
-            }
-            Step::Take(taken) => {
-                values += taken.values;
-                note(&mut offers, &mut told, taken);
-            }
-        }
-    }
+    read_offers(alloc, channels, &lines, &mut offers)?;
     Ok(Script::new(offers))
 }

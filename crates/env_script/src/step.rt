@@ -1,17 +1,17 @@
 //! What a line of a script does.
 
-ghost use Rattle.std.specs.Prelude.{◌≡◌, ◌<◌, ◌≤◌, ◌^◌, nat_lt, ℕ, All, length, Some, None, IfOk, IfSome, IfNone};
+ghost use Rattle.std.specs.Prelude.{◌≡◌, ◌<◌, ◌≤◌, ◌^◌, nat_lt, ℕ, List, All, length, map, Some, None, IfOk, IfSome, IfNone};
 ghost use Rattle.std.specs.List.{list_all};
 ghost use Rattle.chp_base.specs.declared.channel.Channel.{Channel};
 ghost use Rattle.env_script.specs.Cutting.{words_of};
 ghost use Rattle.env_script.specs.Scripts.{takes};
 ghost use Rattle.env_script.specs.Offers.{offered};
-ghost use Rattle.env_script.specs.ScriptText.{is_inside, suits, fits, values_in, fault_on, offer_of, channel_named};
-ghost use Rattle.env_script.specs.LineSteps.{IsPlace, IsStepOf, told_at};
+ghost use Rattle.env_script.specs.ScriptText.{LineSays, is_inside, suits, fits, values_in, fault_on, offer_of, channel_named};
+ghost use Rattle.env_script.specs.LineSteps.{IsPlace, IsStepOf, IsStepOn, told_at};
 
 use crate::channel_index::ChannelIndex;
 use crate::fault::ScriptFault;
-use crate::line::{Said, line_in};
+use crate::line::{Line, Said, line_in};
 use crate::script::{Count, Offer};
 use crate::words::words_of;
 use chp_base::{Channel, Kind};
@@ -143,6 +143,75 @@ fn offer_of(alloc: Global, kind: Kind, said: Said) -> Offer
     }
 }
 
+/// What a line that says this does on the channel of this number: `again` and `values` are as for `fault_on`.
+fn step_on(
+    alloc: Global,
+    channel: &Channel,
+    again: bool,
+    values: usize,
+    place: usize,
+    said: Said,
+) -> Step
+    requires width { channel.now.width ≤ 64 }
+    requires values { values ≤ 65536 }
+    ensures { IsStepOn channel.now again values place said result }
+{
+    if let Some(fault) = fault_on(channel, again, values, &said) {
+        return Step::Refused(fault);
+    }
+    let values = values_in(channel.kind, &said);
+    let offer = offer_of(alloc, channel.kind, said);
+    Step::Take(Taken {
+        place,
+        offer,
+        values,
+    })
+}
+
+/// What the line does, where the marked channels already had a line and so many values came before.
+fn step_of_line(
+    alloc: Global,
+    channels: &ChannelIndex,
+    told: &[bool],
+    values: usize,
+    line: Line,
+) -> Step
+    requires widths { All (λ (c : Channel). c.width ≤ 64) channels.now }
+    requires told { length told.now ≡ length channels.now }
+    requires values { values ≤ 65536 }
+    ensures { (words : List (List ℕ)) → LineSays words line → IsStepOf channels.now told.now values words result }
+{
+    match channels.find(line.name.bytes()) {
+        Some(place) => {
+            let channel = &channels.channels()[place];
+            step_on(alloc, channel, told[place], values, place, line.said)
+        }
+        None => Step::Refused(ScriptFault::NoSuchChannel),
+    }
+}
+
+/// What a line of these words does, as `step_of` of the whole line.
+fn step_of_words(
+    alloc: Global,
+    channels: &ChannelIndex,
+    told: &[bool],
+    values: usize,
+    words: &[&[u8]],
+) -> Result<Step, AllocError>
+    requires widths { All (λ (c : Channel). c.width ≤ 64) channels.now }
+    requires told { length told.now ≡ length channels.now }
+    requires values { values ≤ 65536 }
+    ensures { IfOk result (IsStepOf channels.now told.now values (map (λ word. word.now) words.now)) }
+{
+    if words.is_empty() {
+        return Ok(Step::Skip);
+    }
+    match line_in(alloc, words)? {
+        Some(line) => Ok(step_of_line(alloc, channels, told, values, line)),
+        None => Ok(Step::Refused(ScriptFault::BadLine)),
+    }
+}
+
 /// What the line does, where the marked channels already had a line and so many values came before.
 pub fn step_of(
     alloc: Global,
@@ -157,24 +226,5 @@ pub fn step_of(
     ensures { IfOk result (IsStepOf channels.now told.now values (words_of line.now)) }
 {
     let words = words_of(alloc, line)?;
-    if words.is_empty() {
-        return Ok(Step::Skip);
-    }
-    let Some(line) = line_in(alloc, &words)? else {
-        return Ok(Step::Refused(ScriptFault::BadLine));
-    };
-    let Some(place) = channels.find(line.name.bytes()) else {
-        return Ok(Step::Refused(ScriptFault::NoSuchChannel));
-    };
-    let channel = &channels.channels()[place];
-    if let Some(fault) = fault_on(channel, told[place], values, &line.said) {
-        return Ok(Step::Refused(fault));
-    }
-    let values = values_in(channel.kind, &line.said);
-    let offer = offer_of(alloc, channel.kind, line.said);
-    Ok(Step::Take(Taken {
-        place,
-        offer,
-        values,
-    }))
+    step_of_words(alloc, channels, told, values, &words)
 }

@@ -15,6 +15,10 @@ set_apart (y ∷ xs) zero (suc j) x apart = refl
 set_apart (y ∷ xs) (suc k) zero x apart = refl
 set_apart (y ∷ xs) (suc k) (suc j) x apart = set_apart xs k j x (λ same. apart (ap suc same))
 
+-- what holds of the element
+pub there : {X : Type 0} (xs : List X) (k : ℕ) (x : X) (P : X → Type 0) → k < length xs → x ≡ get_or xs k x → IfSome (slice_get xs k) P → P x
+there {X} xs k x P within here holds = subst (λ (o : Option X). IfSome o P) (slice_get_read xs (length xs) k x refl within here) holds
+
 -- what holds of the two
 pub both_there : {X : Type 0} (xs : List X) (k : ℕ) (was is : X) (Q : X → X → Type 0) → k < length xs → was ≡ get_or xs k was → Q was is →
     IfSome (slice_get xs k) (λ a. IfSome (slice_get (set xs k is) k) (λ b. Q a b))

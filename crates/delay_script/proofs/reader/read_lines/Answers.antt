@@ -1,11 +1,34 @@
 use Rattle.std.proofs.Common.{◌<◌, ◌≤◌, length, ap, ◌∙◌, [], arith, rules}
 use Rattle.env_script.proofs.Sayings.{texts}
-use Rattle.delay_script.proofs.DelayReads.{begun, skip_line, take_line, refused_at, few_lines, all_read}
+use Rattle.delay_script.proofs.DelayReads.{begun, counts, skip_line, take_line, refused_at, few_lines, all_read}
 use Rattle.delay_script.proofs.reader.read_lines.Goals as goal
 use Rattle.delay_script.proofs.reader.read_lines.Goals.{in-Skip, in-Take}
 
 pub loop-at-init : goal.loop-at-init
 loop-at-init c = record { ls = []; so_far = begun c.args.names.now _ _ _ c.requires.up c.requires.down c.requires.marks }
+
+pub step_of-requires : goal.step_of-requires
+step_of-requires c =
+    let told = c.loop-at.told in
+    ap length c.deref.ensures.value ∙ (counts c.args.names.now _ _ told.up.items told.down.items told.marks.items c.loop-at.invariant).2
+
+pub note-requires-clause-up : goal.note-requires-clause-up
+note-requires-clause-up c =
+    let told = c.loop-at.told in
+    let taken = rw c.in-Take.is at c.in_ok-step_of.ensures in
+    omega (arith, taken.place.within, (counts c.args.names.now _ _ told.up.items told.down.items told.marks.items c.loop-at.invariant).0)
+
+pub note-requires-clause-down : goal.note-requires-clause-down
+note-requires-clause-down c =
+    let told = c.loop-at.told in
+    let taken = rw c.in-Take.is at c.in_ok-step_of.ensures in
+    omega (arith, taken.place.within, (counts c.args.names.now _ _ told.up.items told.down.items told.marks.items c.loop-at.invariant).1)
+
+pub note-requires-clause-marks : goal.note-requires-clause-marks
+note-requires-clause-marks c =
+    let told = c.loop-at.told in
+    let taken = rw c.in-Take.is at c.in_ok-step_of.ensures in
+    omega (arith, taken.place.within, (counts c.args.names.now _ _ told.up.items told.down.items told.marks.items c.loop-at.invariant).2)
 
 pub overflow_cast-line : goal.overflow_cast-line
 overflow_cast-line c =

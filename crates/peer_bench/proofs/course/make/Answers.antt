@@ -1,13 +1,32 @@
-use Rattle.std.proofs.Common.{◌≡◌, ◌∙◌, List, sym, ap, subst, arith}
+use Rattle.std.proofs.Common.{◌≡◌, ◌∙◌, Bool, true, false, List, length, refl, sym, ap, subst, arith}
+use Rattle.std.specs.Prelude.{not, ◌&&◌}
 use Rattle.prs_core.specs.Nets.{NetValue}
 use Rattle.env_script.specs.Scripts.{OfferValue}
 use Rattle.env_script.specs.Runs.{RunState, moved}
+use Rattle.prs_core.specs.Moves.{high}
+use Rattle.event_sim.proofs.Passed.{completion_within}
 use Rattle.event_sim.specs.Stages.{StageValue, now_of}
 use Rattle.peer_bench.specs.Steps.{AreOffered, free_on}
 use Rattle.peer_bench.proofs.Moments.{asked_then, told_then}
 use Rattle.peer_bench.proofs.Rails.{offered_moved}
 use Rattle.peer_bench.proofs.Room.{free_moved, told_few}
 use Rattle.peer_bench.proofs.course.make.Goals as goal
+
+is_low : (b c : Bool) → (not b && c) ≡ true → b ≡ false
+is_low true c both = absurd (cc both)
+is_low false c both = refl
+
+pub tell-requires-clause-chan : goal.tell-requires-clause-chan
+tell-requires-clause-chan g c =
+    let s = c.args.stage.now in
+    completion_within s.net (high s.values) c.args.node c.completion-passed.result (length c.make-hazard.new.self.net.channels) c.completion-passed.ensures
+    (ap (λ (w : NetValue). length w.channels) c.make-hazard.ensures.net)
+
+pub tell-requires-clause-room : goal.tell-requires-clause-room
+tell-requires-clause-room g c = omega (arith, c.requires.spare)
+
+pub ask_if-requires-clause-low : goal.ask_if-requires-clause-low
+ask_if-requires-clause-low g c = λ asked. sym c.in_reset.ensures ∙ is_low c.in_reset.result _ (sym c.may_ask-asks.ensures ∙ asked)
 
 pub ask_if-requires-clause-offered : goal.ask_if-requires-clause-offered
 ask_if-requires-clause-offered g c =
@@ -29,6 +48,27 @@ ask_if-requires-clause-room g c =
     let more = free_moved s c.args.node s.script c.is_external_ack-is_ack.ensures.net in
     let few = told_few l.net c.args.at c.completion-passed.result in
     omega (arith, c.tell.ensures.spare, c.requires.spare)
+
+pub returns-clause-net : goal.returns-clause-net
+returns-clause-net g c = ap (λ (t : StageValue). t.net) c.ask_if.ensures.stage ∙ c.make-hazard.ensures.net
+
+pub returns-clause-moved : goal.returns-clause-moved
+returns-clause-moved g c = ap now_of c.ask_if.ensures.stage ∙ c.make-hazard.ensures.moved
+
+pub returns-clause-fits : goal.returns-clause-fits
+returns-clause-fits g c = c.net-kept.ensures.script
+
+pub returns-clause-passed : goal.returns-clause-passed
+returns-clause-passed g c = ap (λ (t : StageValue). t.passed) c.ask_if.ensures.stage ∙ c.make-hazard.ensures.passed
+
+pub returns-clause-room : goal.returns-clause-room
+returns-clause-room g c = omega (arith, ap (λ (t : StageValue). t.room) c.ask_if.ensures.stage, c.make-hazard.ensures.room)
+
+pub returns-clause-hazard : goal.returns-clause-hazard
+returns-clause-hazard g c = c.make-hazard.ensures.hazard
+
+pub returns-clause-offered : goal.returns-clause-offered
+returns-clause-offered g c = c.ask_if.ensures.offered
 
 pub returns-clause-noted : goal.returns-clause-noted
 returns-clause-noted g c =

@@ -1,7 +1,37 @@
 use Rattle.std.proofs.Common.{arith}
-use Rattle.peer_bench.proofs.Listed.{set_apart, both_there}
+use Rattle.std.proofs.lemmas.List.{length-set}
+use Rattle.peer_bench.proofs.Listed.{set_apart, there, both_there}
 use Rattle.peer_bench.proofs.Seen.{run_seen}
 use Rattle.peer_bench.proofs.bench.Bench.run.Goals as goal
+
+pub drive-ran-requires-clause-spare : goal.drive-ran-requires-clause-spare
+drive-ran-requires-clause-spare g c = c.requires.spare
+
+pub drive-ran-requires-clause-nodes : goal.drive-ran-requires-clause-nodes
+drive-ran-requires-clause-nodes g c = c.requires.nodes
+
+pub drive-ran-requires-clause-room : goal.drive-ran-requires-clause-room
+drive-ran-requires-clause-room g c =
+    let self = c.args.self in
+    there self.peers.items self.which c.index_mut.result.now _ (omega (arith, self.within, self.peers.ok.0)) c.index_mut.ensures.value c.requires.room
+
+pub returns-clause-log : goal.returns-clause-log
+returns-clause-log g c = c.drive-ran.ensures.log
+
+pub returns-clause-count : goal.returns-clause-count
+returns-clause-count g c = length-set c.args.self.peers.items c.args.self.which c.drive-ran.new.peer
+
+pub returns-clause-spare : goal.returns-clause-spare
+returns-clause-spare g c = c.drive-ran.ensures.spare
+
+pub returns-clause-name : goal.returns-clause-name
+returns-clause-name g c = c.drive-ran.ensures.name
+
+pub returns-clause-nodes : goal.returns-clause-nodes
+returns-clause-nodes g c = c.drive-ran.ensures.nodes
+
+pub returns-clause-seeded : goal.returns-clause-seeded
+returns-clause-seeded g c = c.drive-ran.ensures.seeded
 
 pub returns-clause-noted : goal.returns-clause-noted
 returns-clause-noted g c =
