@@ -2,33 +2,36 @@
 
 from __future__ import annotations
 
+from argparse import Namespace
 from collections.abc import Iterator, Sequence
 from dataclasses import dataclass, field
 
 from companion.as_json import put
 from companion.compiled import Compiled, compiled
-from companion.options import Parser
+from companion.options import Parser, natural
 from companion.parts import Part
 from companion.program import Refusal
 from companion.rules import Net, net_in
 from companion.stat import aligned
 from companion.terminal import Progress
-from companion.until import add_until, cut_off, steps_of
+from companion.until import STEPS, add_until, cut_note, cut_off, steps_of
+from companion.untimed import Untimed
 from companion.waves import Wave, bits, wave_of
 
 ABOUT = """\
 What passed on all channels in a timed run, in the order of its moves and so of time: the number of the
 move by which a value passed, which raises the channel's acknowledge, the time, the channel and the
-value; and with --program the statements that sent and took it. The run is that of `chpc waves`."""
+value; and with --program the statements that sent and took it. The run is that of `chpc waves`, or,
+with --order, one of `chpc simulate`, which has no times."""
 
 
 @dataclass(frozen=True)
 class Event:
-    """A value that passed: the number of the move, the time, the channel, its digits on the rails, the highest first,
-    and the statements at its ends, as places and texts."""
+    """A value that passed: the number of the move, the time of a timed run, the channel, its digits on the rails, the
+    highest first, and the statements at its ends, as places and texts."""
 
     move: int
-    time: int
+    time: int | None
     channel: str
     digits: str
     ends: list[str] = field(default_factory=list)
@@ -41,6 +44,17 @@ class Event:
         """The value for people."""
         number = self.number()
         return self.digits if number is None else hex(number) if in_hex else str(number)
+
+
+@dataclass(frozen=True)
+class Listed:
+    """All events of a run, how many moves it has, whether it ends in a hazard, the net, and notes."""
+
+    net: Net
+    events: list[Event]
+    moves: int
+    has_hazard: bool
+    notes: list[str]
 
 
 def events_of(net: Net, wave: Wave, circuit: Compiled | None) -> Iterator[Event]:
@@ -65,7 +79,9 @@ def table(found: list[Event], in_hex: bool, with_ends: bool) -> list[str]:
     """A line for each event."""
     wide = max(len("channel"), *(len(it.channel) for it in found), 0)
     rows = [["move", "time", "channel".ljust(wide), "value"]]
-    rows += [[str(it.move), str(it.time), it.channel.ljust(wide), it.value(in_hex)] for it in found]
+    for it in found:
+        time = "-" if it.time is None else str(it.time)
+        rows.append([str(it.move), time, it.channel.ljust(wide), it.value(in_hex)])
     lines = aligned(rows, 0)
     if not with_ends:
         return lines
@@ -79,10 +95,33 @@ def parser() -> Parser:
     made.run_files()
     made.program_file(required=False)
     add_until(made)
+    made.add_argument("--order", metavar="NAME", help="a run by this order, as by `simulate`, in place of a timed one")
+    made.add_argument("--seed", metavar="N", type=natural, help="where the order `random` begins (0)")
     made.add_argument("--channel", metavar="X", action="append", help="only this channel; may come several times")
     made.add_argument("--hex", action="store_true", help="values in hexadecimal")
     made.add_argument("--json", action="store_true", help="the same as one JSON object")
     return made
+
+
+def in_time(given: Namespace) -> Listed:
+    """The events of a timed run."""
+    circuit = compiled(given.rules, given.program, given.buffer) if given.program else None
+    net = circuit.net if circuit else net_in(given.rules)
+    wave = wave_of(given.rules, given.script, given.delays, steps_of(given, net))
+    notes = [*(circuit.notes if circuit else []), *cut_off(given, wave)]
+    return Listed(net, list(events_of(net, wave, circuit)), len(wave.changes), wave.status == 5, notes)
+
+
+def by_order(given: Namespace) -> Listed:
+    """The events of a run by an order."""
+    if given.program or given.delays or given.until:
+        raise Refusal("--order goes without --program, --delays and --until: these are of timed runs", 2)
+    net = net_in(given.rules)
+    seed = ["--seed", str(given.seed)] if given.seed is not None else []
+    run = Untimed(given.rules, given.script, ("--order", given.order, *seed))
+    found, report = run.events(given.steps if given.steps is not None else STEPS)
+    events = [Event(move, None, name, f"{value:b}") for move, name, value in found]
+    return Listed(net, events, report.moves, report.end[0] not in ("rest", "spent"), cut_note(report.moves, report.end))
 
 
 def main(words: Sequence[str]) -> int:
@@ -90,23 +129,22 @@ def main(words: Sequence[str]) -> int:
     given = parser().parse_args(words)
     if given.buffer is not None and given.program is None:
         raise Refusal("--buffer says where the program has a buffer, so it wants --program too", 2)
+    if given.seed is not None and given.order is None:
+        raise Refusal("--seed goes with --order random", 2)
     with Progress(f"the run of {given.rules}"):
-        circuit = compiled(given.rules, given.program, given.buffer) if given.program else None
-        net = circuit.net if circuit else net_in(given.rules)
-        for name in given.channel or []:
-            if net.channel(name) is None:
-                raise Refusal(f"there is no channel {name}", 2)
-        wave = wave_of(given.rules, given.script, given.delays, steps_of(given, net))
-        found = [it for it in events_of(net, wave, circuit) if not given.channel or it.channel in given.channel]
-    notes = [*(circuit.notes if circuit else []), *cut_off(given, wave)]
+        listed = by_order(given) if given.order else in_time(given)
+    for name in given.channel or []:
+        if listed.net.channel(name) is None:
+            raise Refusal(f"there is no channel {name}", 2)
+    found = [it for it in listed.events if not given.channel or it.channel in given.channel]
     if given.json:
         events = [
             {"move": it.move, "time": it.time, "channel": it.channel, "value": it.number(), "statements": it.ends}
             for it in found
         ]
-        put({"notes": notes, "events": events, "moves": len(wave.changes), "hazard": wave.status == 5})
-        return wave.status
-    print("\n".join([*notes, *table(found, given.hex, circuit is not None)]))
-    if wave.status == 5:
-        print("the run ends in a hazard; `chpx hunt` tells of it")
-    return wave.status
+        put({"notes": listed.notes, "events": events, "moves": listed.moves, "hazard": listed.has_hazard})
+    else:
+        print("\n".join([*listed.notes, *table(found, given.hex, given.program is not None)]))
+        if listed.has_hazard:
+            print("the run ends in a hazard; `chpx hunt` tells of it")
+    return 5 if listed.has_hazard else 0

@@ -69,9 +69,15 @@ def move_at(wave: Wave, net: Net, asked: str) -> int:
 def cut_off(given: Namespace, wave: Wave) -> list[str]:
     """A note where the run may have been cut off by the limit of moves, in a line."""
     most = given.steps if given.steps is not None else STEPS
-    if wave.status or len(wave.changes) < most or getattr(given, "until", None) is not None:
+    is_cut = not wave.status and len(wave.changes) >= most and getattr(given, "until", None) is None
+    return cut_note(most, ["spent"] if is_cut else ["rest"])
+
+
+def cut_note(moves: int, end: list[str]) -> list[str]:
+    """A note where a run ended since no more moves were allowed."""
+    if end != ["spent"]:
         return []
-    return [f"note: the run has {most} moves, as many as are allowed; a greater --steps may let it go on"]
+    return [f"note: the run has {moves} moves, as many as are allowed; a greater --steps may let it go on"]
 
 
 def steps_of(given: Namespace, net: Net) -> int | None:

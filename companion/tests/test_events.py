@@ -64,6 +64,24 @@ class Events(Case):
         self.assertEqual(self.chpx("events", "pipeline.prs", "pipeline.script", "--channel", "q").status, 2)
         self.assertEqual(self.chpx("events", "pipeline.prs", "pipeline.script", "--buffer", "M").status, 2)
 
+    def test_order(self) -> None:
+        """The events of a run by an order: on each channel the same values pass, by other moves."""
+        words = ("events", "pipeline.prs", "pipeline.script", "--order", "newest", "--json")
+        told = json.loads(self.chpx(*words).out)
+        timed = json.loads(self.chpx(*words[:3], "--json").out)
+        for name in "LMR":
+            of_both = [[it["value"] for it in each["events"] if it["channel"] == name] for each in (told, timed)]
+            self.assertEqual(of_both[0], of_both[1])
+        moves = [it["move"] for it in told["events"]]
+        self.assertEqual((moves, told["moves"]), (sorted(moves), 1022))
+        ran = self.chpx(*words[:5], "--steps", str(moves[3]), "--hex")
+        self.has(ran.out, [f"note: the run has {moves[3]} moves, as many as are allowed", "move  time", "   -  "])
+        self.assertEqual(ran.out.splitlines()[-1].split()[0], str(moves[3]))
+        for more in (("--until", "R:1"), ("--program", "pipeline.chp"), ("--delays", "d")):
+            self.assertEqual(self.chpx(*words, *more).status, 2)
+        self.assertEqual(self.chpx(*words[:3], "--seed", "1").status, 2)
+        self.assertEqual(self.chpx(*words[:3], "--order", "fastest").status, 9)
+
     def test_hazard(self) -> None:
         """The events up to a hazard, and its status."""
         with open("pipeline.prs", encoding="ascii") as file:

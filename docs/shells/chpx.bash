@@ -25,7 +25,7 @@ _chpx() {
     why) options="--delays --steps --program --buffer --until --all --hex --json" ;;
     hunt) options="--seeds --mixed --steps --to" ;;
     view) options="--delays --steps --until --hex --to --causes-of --latency" ;;
-    events) options="--delays --steps --program --buffer --until --channel --hex --json" ;;
+    events) options="--delays --steps --program --buffer --until --order --seed --channel --hex --json" ;;
     cover) options="--steps --buffer" ;;
     profile) options="--delays --steps --program --buffer --to --from --most --json" ;;
     buffered) options="" ;;

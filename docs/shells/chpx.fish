@@ -83,6 +83,8 @@ complete -c chpx -n '__fish_seen_subcommand_from events' -l steps -r
 complete -c chpx -n '__fish_seen_subcommand_from events' -l program -r
 complete -c chpx -n '__fish_seen_subcommand_from events' -l buffer -r
 complete -c chpx -n '__fish_seen_subcommand_from events' -l until -r
+complete -c chpx -n '__fish_seen_subcommand_from events' -l order -x -a 'lowest oldest newest random'
+complete -c chpx -n '__fish_seen_subcommand_from events' -l seed -r
 complete -c chpx -n '__fish_seen_subcommand_from events' -l channel -r
 complete -c chpx -n '__fish_seen_subcommand_from events' -l hex
 complete -c chpx -n '__fish_seen_subcommand_from events' -l json
