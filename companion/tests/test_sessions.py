@@ -23,7 +23,7 @@ class Sessions(Case):
         """The page is short, and shows each of the commands."""
         with open(sessions.PAGE, encoding="utf-8") as file:
             page = file.read()
-        self.assertLessEqual(page.count("\n"), 200)
+        self.assertLessEqual(page.count("\n"), 250)
         commands = " ".join(it.command for it in sessions.sessions(page))
         for name in ("check", "compile", "simulate", "why", "hunt", "view", "stat", "tree", "lint", "sort"):
             self.assertRegex(commands, rf"\./chpx {name}\b")
