@@ -23,10 +23,10 @@ help, and add nothing to what chpc promises. What stands on standard output of a
 chpc's, byte for byte, with its status.
 """
 TAIL = """\
-`chpx COMMAND --help` tells more of one. A file `-` is standard input. The program that is called is
-./chpc of the folder of chpx, or the one that the variable CHPC names; with --unproved before the
-words one that is compiled without a proof. NO_COLOR takes the colours away. docs/COMPANION.md
-shows it all.
+`chpx COMMAND --help` tells more of one; `chpx bench PRS --device NAME` runs a circuit against a device
+in Python. A file `-` is standard input. The program that is called is ./chpc of the folder of chpx, or
+the one that the variable CHPC names; with --unproved before the words one that is compiled without a
+proof. NO_COLOR takes the colours away. docs/COMPANION.md shows it all.
 """
 
 
