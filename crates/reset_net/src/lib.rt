@@ -30,6 +30,7 @@ fn add_term(
 fn terms_with(alloc: Global, guard: &Guard, more: &[Literal]) -> Result<Vec<Term>, AllocError>
     ensures { IfOk result (λ v. v.items ≡ map (λ t. t ++ more.now) guard.now) }
 {
+    // a forced guard has one term more
     let mut terms = Vec::with_capacity(alloc, guard.terms().len() + 1)?;
     for term in guard.terms() {
         add_term(alloc, term.literals(), more, &mut terms)?;
@@ -152,8 +153,7 @@ fn reset_name(alloc: Global) -> Result<Name, AllocError>
     Ok(name.unwrap())
 }
 
-/// Adds the reset node, which is high at first, to the nodes of a net with these rules, and makes those of the net with
-/// it.
+/// Adds the reset node, which is high at first, to these nodes, and makes the rules of the net with it of theirs.
 fn add_reset(
     alloc: Global,
     names: &mut Vec<Name>,
