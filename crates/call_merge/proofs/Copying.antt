@@ -1,10 +1,10 @@
 -- Members that are copied one after the other, each by the same map of statements.
-use Rattle.std.proofs.Common.{◌≡◌, ℕ, ◌≤◌, Bool, List, [], ◌∷◌, map, length, take, refl, sym, ap, ◌∙◌, ◌⊎◌, inl, inr}
-use Rattle.std.specs.Prelude.{Result, Ok, Err, IfOk}
+use Rattle.std.proofs.Common.{◌≡◌, ℕ, ◌+◌, ◌<◌, ◌≤◌, Bool, List, [], ◌∷◌, ◌++◌, map, length, get_or, take, refl, sym, ap, ◌∙◌, ◌⊎◌, inl, inr}
+use Rattle.std.specs.Prelude.{Result, Ok, Err, IfOk, IsOk}
 use Rattle.std.specs.declared.alloc.Global.{Global}
 use Rattle.std.specs.declared.boxed.Box.{Box}
 use Rattle.std.specs.declared.vec.Vec.{Vec}
-use Rattle.std.proofs.lemmas.List.{take_all}
+use Rattle.std.proofs.lemmas.List.{take_all, map-append, map_more}
 use Rattle.chp_base.specs.declared.span.Span.{Span}
 use Rattle.chp_syntax.specs.declared.tree.Expr.{Expr, Join, Chain}
 use Rattle.chp_syntax.specs.declared.tree.Link.{Link}
@@ -115,6 +115,31 @@ pub selected_mapped : {E : Type 0} {f : Statement → Statement} {each : Stateme
     IfOk made (λ (b : Box Stmt Global). b.value ≡ Select again w) → IfOk made (λ (b : Box Stmt Global). statement_of b.value ≡ f (statement_of s))
 selected_mapped into s (Ok b) again v w xs i is items all so_far same = ap statement_of same ∙ select_mapped into s again v w xs i is items all so_far
 selected_mapped into s (Err e) again v w xs i is items all so_far same = tt
+
+-- one more member, or arm, where it was made
+pub member_mapped : {E : Type 0} (f : Statement → Statement) (ss : List Stmt) (i : ℕ) (s : Stmt) (r : Result (Box Stmt Global) E) (old new : List Stmt)
+    → i < length ss → s ≡ get_or ss i s → map statement_of old ≡ map (λ (t : Stmt). f (statement_of t)) (take i ss)
+    → IfOk r (λ (b : Box Stmt Global). statement_of b.value ≡ f (statement_of s)) → IsOk r → IfOk r (λ (b : Box Stmt Global). new ≡ old ++ b.value ∷ [])
+    → map statement_of new ≡ map (λ (t : Stmt). f (statement_of t)) (take (i + 1) ss)
+member_mapped f ss i s (Ok b) old new within is so_far made ok next =
+    let before = map (λ (t : Stmt). f (statement_of t)) (take i ss) in
+    ap (map statement_of) next ∙ (map-append statement_of old (b.value ∷ []) ∙ (ap (λ (z : List Statement). z ++ statement_of b.value ∷ []) so_far
+    ∙ (ap (λ (z : Statement). before ++ z ∷ []) (made ∙ ap (λ (t : Stmt). f (statement_of t)) is)
+    ∙ sym (map_more (λ (t : Stmt). f (statement_of t)) ss i s within))))
+member_mapped f ss i s (Err e) old new within is so_far made ok next = absurd (cc ok)
+
+pub arm_mapped : {E : Type 0} (f : Statement → Statement) (guards : Expression → Expression) (xs : List Arm) (i : ℕ) (a : Arm)
+    (r : Result (Box Stmt Global) E) (old new : List Arm) → i < length xs → a ≡ get_or xs i a
+    → map guarded_of old ≡ map (mapped_arm f guards) (take i xs) → IfOk r (λ (b : Box Stmt Global). statement_of b.value ≡ f (statement_of a.body)) → IsOk r
+    → IfOk r (λ (b : Box Stmt Global). map guarded_of new
+    ≡ map guarded_of old ++ guarded (guards (expression_of a.guard)) (statement_of b.value) ∷ [])
+    → map guarded_of new ≡ map (mapped_arm f guards) (take (i + 1) xs)
+arm_mapped f guards xs i a (Ok b) old new within is so_far made ok next =
+    let before = map (mapped_arm f guards) (take i xs) in
+    next ∙ (ap (λ (z : List Guarded). z ++ guarded (guards (expression_of a.guard)) (statement_of b.value) ∷ []) so_far
+    ∙ (ap (λ (z : Statement). before ++ guarded (guards (expression_of a.guard)) z ∷ []) made
+    ∙ (ap (λ (x : Arm). before ++ mapped_arm f guards x ∷ []) is ∙ sym (map_more (mapped_arm f guards) xs i a within))))
+arm_mapped f guards xs i a (Err e) old new within is so_far made ok next = absurd (cc ok)
 
 -- the map that changes nothing
 pub goes_nowhere : GoesInto (λ s. s) (λ us. us) (λ xs. xs) (λ e. e)

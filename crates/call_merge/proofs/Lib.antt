@@ -14,6 +14,7 @@ pub mod Flats
 pub mod OwnNames
 pub mod OwnVars
 pub mod Whole
+pub mod PlainPrograms
 pub mod NamedBodies
 pub mod CallEndings
 pub mod NamesAdded

@@ -139,8 +139,9 @@ fn refuse_shared(alloc: Global, calls: Typed) -> Result<(), CallError>
         IsFirstShared (process_of calls.body) code.SharedSend f.at f.other)) }
     ensures fault { IfErr result IsNoCount }
 {
-    match share(alloc, calls) {
-        Ok(_) => Ok(()),
+    // what is shared is dropped by `and`, in one call
+    match share(alloc, calls).and(Ok(())) {
+        Ok(()) => Ok(()),
         Err(TextError::Refused(fault)) => {
             Err(refusal(FaultCode::SharedProcedure, fault.at, fault.other))
         }
@@ -173,7 +174,10 @@ fn resolved_calls(alloc: Global, program: &Program) -> Result<Typed, TextError>
         IsFirstFault (calls_program (tree_of program.now)) naming_faults f.code f.at)) }
 {
     let calls = calls_program(alloc, program)?;
-    resolve(alloc, &calls)
+    let typed = resolve(alloc, &calls);
+    // at the end of the body it would be dropped part by part, which makes a long proof; this is one call
+    drop(calls);
+    typed
 }
 
 /// Refuses a program with a call in the body of a procedure, or else with a procedure that no call names.

@@ -1,7 +1,7 @@
 //! The program of a program's calls alone: its procedures are channels, and its calls are sends.
 
-ghost use Rattle.std.specs.Prelude.{◌≡◌, ◌++◌, ◌∷◌, [], map, IfOk, OnOk, IsOk};
-ghost use Rattle.chp_syntax.specs.Trees.{sends};
+ghost use Rattle.std.specs.Prelude.{◌≡◌, ◌++◌, ◌∷◌, [], map, Ok, IfOk, OnOk, IsOk};
+ghost use Rattle.chp_syntax.specs.Trees.{Procedure, sends};
 ghost use Rattle.chp_syntax.specs.Grammar.{guarded};
 ghost use Rattle.chp_syntax.specs.View.{program_tree as tree_of, procedure_of, statement_of, guarded_of};
 ghost use Rattle.call_merge.specs.CallSites.{no_place, zero_expression, call_channel, call_sends, calls_program};
@@ -16,20 +16,28 @@ const NOWHERE: Span = Span { from: 0, to: 0 };
 
 const ZERO_WIDTH: u64 = 1;
 
+/// A channel of one bit with this name.
+fn call_channel(name: Ident) -> Decl
+    ensures { (q : Procedure) → q.name ≡ name → result ≡ call_channel q }
+{
+    Decl {
+        kind: DeclKind::Chan,
+        name,
+        width: ZERO_WIDTH,
+        width_at: NOWHERE,
+        first: 0,
+        first_at: NOWHERE,
+    }
+}
+
 /// For each procedure a channel of one bit with its name.
 fn call_channels(alloc: Global, procs: &[Proc]) -> Result<Vec<Decl>, AllocError>
     ensures { IfOk result (λ made. made.items ≡ map call_channel (map procedure_of procs.now)) }
 {
     let mut made = Vec::new(alloc);
     for procedure in procs {
-        made.push(Decl {
-            kind: DeclKind::Chan,
-            name: copied_name(&procedure.name)?,
-            width: ZERO_WIDTH,
-            width_at: NOWHERE,
-            first: 0,
-            first_at: NOWHERE,
-        })?;
+        let name = copied_name(&procedure.name)?;
+        made.push(call_channel(name))?;
     }
     Ok(made)
 }
@@ -87,15 +95,31 @@ fn call_sends(alloc: Global, s: &Stmt) -> Made
     }
 }
 
-/// The program in which each procedure is a channel, each call a send on it, and all else is skipped.
-pub(crate) fn calls_program(alloc: Global, program: &Program) -> Result<Program, AllocError>
-    ensures { IfOk result (λ made. tree_of made ≡ calls_program (tree_of program.now)) }
+/// The program without procedures of these declarations and this body, if both could be made.
+pub(crate) fn plain_program(
+    alloc: Global,
+    decls: Result<Vec<Decl>, AllocError>,
+    body: Made,
+) -> Result<Program, AllocError>
+    ensures decls { IfOk result (λ made. decls ≡ Ok made.decls) }
+    ensures procs { IfOk result (λ made. made.procs.items ≡ []) }
+    ensures body { IfOk result (λ made. IfOk body (λ b. made.body ≡ b.value)) }
+    ensures made { OnOk result (IsOk body) }
 {
-    let decls = call_channels(alloc, &program.procs)?;
-    let body = call_sends(alloc, &program.body)?;
+    let decls = decls?;
+    let body = body?;
     Ok(Program {
         decls,
         procs: Vec::new(alloc),
         body: Box::into_inner(body),
     })
+}
+
+/// The program in which each procedure is a channel, each call a send on it, and all else is skipped.
+pub(crate) fn calls_program(alloc: Global, program: &Program) -> Result<Program, AllocError>
+    ensures { IfOk result (λ made. tree_of made ≡ calls_program (tree_of program.now)) }
+{
+    let decls = call_channels(alloc, &program.procs);
+    let body = call_sends(alloc, &program.body);
+    plain_program(alloc, decls, body)
 }

@@ -15,6 +15,7 @@ ghost use Rattle.call_merge.specs.Inlining.{inlined_statement, IsInlined, HasToo
 
 use crate::bodies::Procedures;
 use crate::causes::refuse_calls;
+use crate::channels::plain_program;
 use crate::copies::{
     Made, add, add_arm, called, copied, copied_decls, grouped, repeated, selected,
 };
@@ -103,6 +104,15 @@ fn split_bodies(alloc: Global, program: &Program) -> Result<SplitBodies, AllocEr
     })
 }
 
+/// Copies of the declarations, and these behind them.
+fn decls_with(alloc: Global, decls: &[Decl], mut more: Vec<Decl>) -> Result<Vec<Decl>, AllocError>
+    ensures { IfOk result (λ made. made.items ≡ decls.now ++ more.items) }
+{
+    let mut made = copied_decls(alloc, decls)?;
+    made.append(&mut more)?;
+    Ok(made)
+}
+
 /// The program with each call its procedure's body, without procedures, and with the new variables declared last.
 fn with_bodies(alloc: Global, program: &Program, split: SplitBodies) -> Result<Program, AllocError>
     ensures decls { IfOk result (λ made. made.decls.items ≡ program.now.decls.items ++ split.vars.items) }
@@ -110,15 +120,9 @@ fn with_bodies(alloc: Global, program: &Program, split: SplitBodies) -> Result<P
     ensures body { IfOk result (λ made. statement_of made.body
         ≡ inlined_statement (procedures_in split.procs) (statement_of program.now.body)) }
 {
-    let mut vars = split.vars;
-    let mut decls = copied_decls(alloc, &program.decls)?;
-    decls.append(&mut vars)?;
-    let body = inlined(alloc, &split.procs, &program.body)?;
-    Ok(Program {
-        decls,
-        procs: Vec::new(alloc),
-        body: Box::into_inner(body),
-    })
+    let body = inlined(alloc, &split.procs, &program.body);
+    let decls = decls_with(alloc, &program.decls, split.vars);
+    plain_program(alloc, decls, body)
 }
 
 /// Refuses a program that would have so many statements and expressions, if that is more than are served.
