@@ -73,7 +73,9 @@ class Lint(Case):
         self.assertEqual(self.found(text), ["f.chp:3:3: this never ends, so what follows at 4:3 is never reached"])
         self.assertEqual(self.found("var x : 1; begin [x -> *[skip] [] ~x -> x := 1]; *[x -> *[skip]]; skip end"), [])
         always = "out R : 1; var x : 1; begin *[1 -> skip]; R!x end"
-        self.assertEqual(self.found(always), ["f.chp:1:29: this never ends, so what follows at 1:43 is never reached"])
+        kept = "f.chp:1:16: the variable x is read and never written: it keeps its first value"
+        never = "f.chp:1:29: this never ends, so what follows at 1:43 is never reached"
+        self.assertEqual(self.found(always), [kept, never])
         inner = "var x : 1; begin *[[x = 1 -> *[skip] [] x = 0 -> (skip || *[skip])]; x := 0] end"
         self.assertEqual(self.found(inner), ["f.chp:1:20: this never ends, so what follows at 1:70 is never reached"])
         called = "out R : 1; proc p = *[R!1]; begin call p; R!0 end"
