@@ -20,8 +20,10 @@ class Lint(Case):
 
     def test_examples(self) -> None:
         for path in sorted(glob.glob(os.path.join(EXAMPLES, "*.chp"))):
-            ran = self.chpx("lint", self.example(os.path.basename(path)))
-            self.assertEqual(ran.status, 0, ran.out)
+            name = os.path.basename(path)
+            ran = self.chpx("lint", self.example(name))
+            wanted = "1 found\n" if name == "sink.chp" else "nothing found\n"  # a sink throws away what it takes
+            self.assertIn(wanted, ran.out)
 
     def test_guards(self) -> None:
         head, arms = "in A : 3; out B : 3; var a : 3;\n", "[a = 0 -> B!a [] a > 4 -> B!1 [] a[0] & a[2] -> skip]"
@@ -72,10 +74,8 @@ class Lint(Case):
         text = "out X : 1;\nbegin\n  *[skip];\n  X!1\nend"
         self.assertEqual(self.found(text), ["f.chp:3:3: this never ends, so what follows at 4:3 is never reached"])
         self.assertEqual(self.found("var x : 1; begin [x -> *[skip] [] ~x -> x := 1]; *[x -> *[skip]]; skip end"), [])
-        always = "out R : 1; var x : 1; begin *[1 -> skip]; R!x end"
-        kept = "f.chp:1:16: the variable x is read and never written: it keeps its first value"
-        never = "f.chp:1:29: this never ends, so what follows at 1:43 is never reached"
-        self.assertEqual(self.found(always), [kept, never])
+        always = "out R : 1; begin *[1 -> skip]; R!0 end"
+        self.assertEqual(self.found(always), ["f.chp:1:18: this never ends, so what follows at 1:32 is never reached"])
         inner = "var x : 1; begin *[[x = 1 -> *[skip] [] x = 0 -> (skip || *[skip])]; x := 0] end"
         self.assertEqual(self.found(inner), ["f.chp:1:20: this never ends, so what follows at 1:70 is never reached"])
         called = "out R : 1; proc p = *[R!1]; begin call p; R!0 end"

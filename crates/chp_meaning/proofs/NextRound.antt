@@ -1,5 +1,5 @@
 -- The plan of a round is the round.
-use Rattle.std.proofs.Common.{◌≡◌, ◌⊎◌, ℕ, zero, suc, ◌+◌, ◌<◌, ◌≤◌, Bool, true, false, cond, List, [], ◌∷◌, ◌++◌, length, get_or, map, set, replicate, refl, sym, ap, ◌∙◌, subst, inl, inr, arith}
+use Rattle.std.proofs.Common.{◌≡◌, ◌⊎◌, ℕ, zero, suc, ◌+◌, ◌<◌, Bool, true, false, cond, List, [], ◌∷◌, ◌++◌, length, get_or, map, set, replicate, refl, sym, ap, ◌∙◌, subst, inl, inr, arith}
 use Rattle.std.specs.Prelude.{if◌then◌else◌, fold, All, is_some, option_to_list, slice_index_or, count_by, Option, Some, None}
 use Rattle.std.proofs.lemmas.Bool.{lt-ltb, ltb-true}
 use Rattle.std.proofs.lemmas.List.{length-map, length-set, length-append}
@@ -300,6 +300,9 @@ settled_after c d e left moves u s = record {
   sends = s.sends ∙ u.sends;
   receives = s.receives ∙ u.receives;
 }
+
+pub unchanged_self : (c : Config) → IsUnchanged c c
+unchanged_self c = record { left_is = refl; store = refl; rests = refl; histories = refl; sends = refl; receives = refl }
 
 pub unchanged_after : (c d e : Config) → IsUnchanged c d → IsUnchanged d e → IsUnchanged c e
 unchanged_after c d e u v = record {

@@ -1,7 +1,7 @@
 -- What a plan makes of each statement.
 use Rattle.std.proofs.Common.{◌≡◌, ℕ, suc, ◌+◌, ◌<◌, ◌≤◌, Bool, true, false, List, [], ◌∷◌, ◌++◌, length, get_or, drop, refl, sym, ap, ◌∙◌, subst, inl, inr, arith}
-use Rattle.std.specs.Prelude.{if◌then◌else◌, ◌==◌, slice_index, fold, option_to_list, Option, None, Result, Ok, Err, OnOk}
-use Rattle.std.proofs.lemmas.List.{drop_more, drop_all, length-set, append_assoc, append-nil}
+use Rattle.std.specs.Prelude.{if◌then◌else◌, ◌==◌, slice_index, fold, option_to_list, Option}
+use Rattle.std.proofs.lemmas.List.{drop_more, drop_all, length-set, append_assoc}
 use Rattle.std.specs.declared.alloc.Global.{Global}
 use Rattle.std.specs.declared.boxed.Box.{Box}
 use Rattle.std.specs.declared.vec.Vec.{Vec}
@@ -15,8 +15,8 @@ use Rattle.chp_meaning.specs.declared.effect.TrueGuards.{TrueGuards}
 use Rattle.chp_meaning.specs.declared.effect.TrueGuards.TheVariants.{Zero, One, Several as Many}
 use Rattle.chp_meaning.specs.declared.left.Left.{Left, Branches, Inside}
 use Rattle.chp_meaning.specs.declared.config.Config.{Config}
-use Rattle.chp_meaning.specs.Remaining.{over, whole, Several, no_more, and_left, remains_of, several_of, part_of, part_count, CanRemain, EachCanRemain, gathered, IsRunnable, RunsOn, ChoicesRunnable, GuardsHaveValues}
-use Rattle.chp_meaning.specs.AtOnce.{Outset, plain_move, true_guards, guards_counted, choosing_move, move_of, chosen_remains, step_remains, advanced, each_advanced, statements, each_statements, moves_of, noted_send, noted_receive, if_waiting}
+use Rattle.chp_meaning.specs.Remaining.{Several, no_more, and_left, remains_of, several_of, part_of, part_count, CanRemain, EachCanRemain, gathered, IsRunnable, RunsOn, ChoicesRunnable, GuardsHaveValues}
+use Rattle.chp_meaning.specs.AtOnce.{Outset, true_guards, guards_counted, choosing_move, HasBranch, move_of, chosen_remains, step_remains, advanced, each_advanced, statements, each_statements, moves_of, noted_send, noted_receive, if_waiting}
 use Rattle.chp_meaning.specs.Standing.{CanRun}
 use Rattle.chp_meaning.proofs.Places.{In}
 use Rattle.chp_meaning.proofs.Rows.{select_said, inside_said, branches_said, count_lefts, part_runnable, front, front_push, front_all}
@@ -59,6 +59,12 @@ one_within store s again v xs k is same e =
     ∙ ap part_count (sym (select_said s again v is)) in
     omega (arith, below, count)
 
+pub has_branch : (store : List ℕ) (s : TStmt) (again : Bool) (v : Vec TArm Global) (xs : List TArm) (g : TrueGuards) → s ≡ Select again v → xs ≡ v.items →
+    g ≡ guards_counted (true_guards store 0 (choices_in xs)) → HasBranch (process_of s) g
+has_branch store s again v xs Zero is same e = tt
+has_branch store s again v xs (One k) is same e = one_within store s again v xs k is same e
+has_branch store s again v xs Many is same e = tt
+
 pub select_remains : (o : Outset) (s : TStmt) (again : Bool) (v : Vec TArm Global) (xs : List TArm) (g : TrueGuards) → s ≡ Select again v → xs ≡ v.items →
     g ≡ guards_counted (true_guards o.store 0 (choices_in xs))
     → step_remains o (process_of s) ≡ chosen_remains (process_of s) again g
@@ -100,42 +106,6 @@ runs_part n p k lt r = (r.0, part_runnable n r.0 p k lt r.1)
 
 pub carries_part : (c : Config) (p : Process) (k : ℕ) → k < part_count p → CanRun c p → CanRun c (part_of p k)
 carries_part c p k lt r = record { tables = r.tables; numbers = part_runnable (length c.rests.items) (length c.store.items) p k lt r.numbers }
-
-pub whatever : {X E : Type 0} (r : Result X E) (P : Type 0) → P → OnOk r P
-whatever (Ok x) P h = h
-whatever (Err e) P h = tt
-
-pub one_more : (o : Outset) (s : TStmt) (again : Bool) (k : ℕ) (before after : List Move) (m : Move) → move_of o (process_of s) ≡ choosing_move again (One k) →
-    m ≡ plain_move → after ≡ before ++ m ∷ [] → after ≡ before ++ option_to_list (move_of o (process_of s))
-one_more o s again k before after m is plain e = e ∙ (ap (λ x. before ++ x ∷ []) plain ∙ ap (λ x. before ++ option_to_list x) (sym is))
-
-pub end_more : (o : Outset) (s : TStmt) (again : Bool) (before after : List Move) (m : Move) → move_of o (process_of s) ≡ choosing_move again Zero →
-    again ≡ true → m ≡ plain_move → after ≡ before ++ m ∷ [] → after ≡ before ++ option_to_list (move_of o (process_of s))
-end_more o s true before after m is again_is plain e = e ∙ (ap (λ x. before ++ x ∷ []) plain ∙ ap (λ x. before ++ option_to_list x) (sym is))
-end_more o s false before after m is again_is plain e = absurd (cc again_is)
-
-pub none_more : (before : List Move) (x : Option Move) → x ≡ None → before ≡ before ++ option_to_list x
-none_more before x e = sym (append-nil before) ∙ ap (λ y. before ++ option_to_list y) (sym e)
-
-pub ends_over : (p : Process) (again : Bool) → again ≡ true → over ≡ chosen_remains p again Zero
-ends_over p true e = refl
-ends_over p false e = absurd (cc e)
-
-pub stays_whole : (p : Process) (again : Bool) → again ≡ false → whole ≡ chosen_remains p again Zero
-stays_whole p true e = absurd (cc e)
-stays_whole p false e = refl
-
-pub stays_put : (again : Bool) → again ≡ false → choosing_move again Zero ≡ None
-stays_put true e = absurd (cc e)
-stays_put false e = refl
-
-pub torn_whole : (p : Process) (again : Bool) → whole ≡ chosen_remains p again Many
-torn_whole p true = refl
-torn_whole p false = refl
-
-pub torn_put : (again : Bool) → choosing_move again Many ≡ None
-torn_put true = refl
-torn_put false = refl
 
 -- what is noted
 

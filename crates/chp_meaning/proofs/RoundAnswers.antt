@@ -1,7 +1,7 @@
 -- What rounds answer.
 use Rattle.std.proofs.Common.{◌≡◌, ◌↔◌, ◌⊎◌, ℕ, zero, suc, ◌+◌, ◌-◌, ◌<◌, ◌≤◌, Bool, true, false, List, [], ◌∷◌, ◌++◌, length, refl, sym, ap, ◌∙◌, subst, inl, inr, arith}
-use Rattle.std.specs.Prelude.{◌==◌, fold, slice_set, Option, Some, None, Result, Ok, Err, IfOk, OnOk, OnErr}
-use Rattle.std.proofs.lemmas.Bool.{cases_lt, eqb-true}
+use Rattle.std.specs.Prelude.{◌==◌, nat_lt, if◌then◌else◌, fold, slice_set, Option, Some, None, Result, Ok, Err, IfOk, OnOk, OnErr}
+use Rattle.std.proofs.lemmas.Bool.{cases_lt, eqb-true, ltb-true, ltb-false}
 use Rattle.std.proofs.lemmas.List.{set_past, nil_from_length, length-set, length-replicate}
 use Rattle.env_script.specs.Runs.{history_at}
 use Rattle.width_check.specs.Processes.{Process}
@@ -19,7 +19,7 @@ use Rattle.chp_meaning.specs.declared.left.Left.{Left}
 use Rattle.chp_meaning.specs.declared.run.RunEnd.{RunEnd}
 use Rattle.chp_meaning.specs.declared.run.RunEnd.TheVariants.{Rest, Spent, TooMany}
 use Rattle.chp_meaning.specs.Standing.{configuration_of, histories_of, IsStanding, IsUnchanged, IsPlan, HaveMoved, next_moves}
-use Rattle.chp_meaning.specs.Ends.{IsReached, CanStep, held_in, is_some_step, IsEnd, IsWithin, end_by}
+use Rattle.chp_meaning.specs.Ends.{IsReached, CanStep, held_in, is_some_step, IsEnd, IsWithin, IsEndBy, end_before, end_by}
 use Rattle.chp_meaning.proofs.Places.{In}
 use Rattle.chp_meaning.proofs.Fitting.{meeting_sound, opened_fits}
 use Rattle.chp_meaning.proofs.Moves.{Entry, entry, appended, deal, step_deals}
@@ -159,15 +159,51 @@ ended body old n most c d left moves f a p few (x ∷ xs) e =
     let can = step_planned body c x xs (sym (e ∙ p.moves_are)) in
     (omega (arith, few, held_there body old n c d a, ap held_in last), last, subst CanStep (sym (unchanged_same body c d a.unchanged)) can)
 
+-- before a round that isn't made
+
+pub ends_before : (moves some : List Move) (count held most : ℕ) (o : Option RunEnd) {end : RunEnd} → some ≡ moves → count ≡ held →
+    o ≡ end_before some count most → o ≡ Some end → end_before moves held most ≡ Some end
+ends_before moves some count held most o same counted is found =
+    sym (ap (λ (ms : List Move). end_before ms held most) same) ∙ (sym (ap (λ n. end_before some n most) counted) ∙ (sym is ∙ found))
+
+pub goes_on : (moves : List Move) (count most : ℕ) → end_before moves count most ≡ None → count + passing moves ≤ most
+goes_on moves count most e = by_tests (length moves == 0) (nat_lt most (count + passing moves)) refl e
+  where
+    by_tests : (none many : Bool) → nat_lt most (count + passing moves) ≡ many → (if none then Some Rest else (if many then Some TooMany else None)) ≡ None →
+        count + passing moves ≤ most
+    by_tests true many is e = absurd (cc e)
+    by_tests false true is e = absurd (cc e)
+    by_tests false false is e = ltb-false most (count + passing moves) is
+
+pub ended_before : (body : Process) (old : Configuration) (i n most : ℕ) (c d : Config) (left : Left) (moves : List Move) (end : RunEnd) → Fits old.term →
+    IsAt body old i c d → IsPlan body c left moves → end_before moves (held_values (histories_of c)) most ≡ Some end → i < n →
+    held_values (histories_of c) ≤ most → IsEnd n most old (configuration_of body d) end
+ended_before body old i n most c d left moves end f a p e lt few =
+    by_tests (length moves == 0) (nat_lt most (held_values (histories_of c) + passing moves)) refl refl e
+  where
+    by_tests : (none many : Bool) → (length moves == 0) ≡ none → nat_lt most (held_values (histories_of c) + passing moves) ≡ many →
+        (if none then Some Rest else (if many then Some TooMany else None)) ≡ Some end → IsEnd n most old (configuration_of body d) end
+    by_tests true many empty is found =
+        let last : Rest ≡ end = cc found in
+        subst (λ (x : RunEnd). IsEnd n most old (configuration_of body d) x) last
+        (rested body old i n most c d left moves f a p (nil_from_length moves (eqb-true (length moves) 0 empty)) (omega (arith, lt)) few)
+    by_tests false true empty is found =
+        let last : TooMany ≡ end = cc found in
+        subst (λ (x : RunEnd). IsEnd n most old (configuration_of body d) x) last
+        (overfull body old i n most c d left moves f a p lt few (ltb-true most (held_values (histories_of c) + passing moves) is))
+    by_tests false false empty is found = absurd (cc found)
+
+pub ended_by : (body : Process) (old : Configuration) (n most : ℕ) (c d : Config) (end : RunEnd) → Fits old.term → IsAt body old n c d →
+    held_values (histories_of c) ≤ most → IsEndBy body c end → IsEnd n most old (configuration_of body d) end
+ended_by body old n most c d end f a few e =
+    subst (λ (x : RunEnd). IsEnd n most old (configuration_of body d) x) (sym e.3) (ended body old n most c d e.0 e.1 f a e.2 few e.1 refl)
+
 pub after_round : (body : Process) (old : Configuration) (i : ℕ) (c d e : Config) (left : Left) (moves : List Move) → Fits old.term → IsAt body old i c d →
     IsPlan body c left moves → HaveMoved d e left moves → configuration_of body e ≡ rounds_from old (i + 1)
 after_round body old i c d e left moves f a p s =
     let k : suc i ≡ i + 1 = omega arith in
     settled_round body c e left moves a.standing (at_fits body old i c d f a) p (settled_after c d e left moves a.unchanged s)
     ∙ (ap round a.so_far ∙ (sym (one_round_more i old) ∙ ap (rounds_from old) k))
-
-pub nothing_in : {X : Type 0} (xs : List X) (n : ℕ) → n ≡ length xs → (n == 0) ≡ true → xs ≡ []
-nothing_in xs n len e = nil_from_length xs (sym len ∙ eqb-true n 0 e)
 
 -- a run of rounds ends after some of them
 some_rounds : {E : Type 0} (n most : ℕ) (old new : Configuration) (r : Result RunEnd E) → IfOk r (λ end. IsEnd n most old new end) →

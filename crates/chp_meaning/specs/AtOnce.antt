@@ -1,5 +1,5 @@
 -- A round as one change: what each active statement does depends only on the state at the round's start.
-use Rattle.std.specs.Prelude.{ℕ, suc, ◌+◌, ◌-◌, Bool, true, false, ◌==◌, if◌then◌else◌, nat_lt, List, [], ◌∷◌, ◌++◌, length, take, option_to_list, slice_index, slice_index_or, slice_set, sum_by, Option, Some, None}
+use Rattle.std.specs.Prelude.{ℕ, suc, ◌+◌, ◌-◌, ◌<◌, Bool, true, false, ◌==◌, if◌then◌else◌, nat_lt, List, [], ◌∷◌, ◌++◌, length, take, option_to_list, slice_index, slice_index_or, slice_set, sum_by, Option, Some, None}
 use Rattle.env_script.specs.Scripts.{OfferValue, gives, takes, nothing, offer_at, is_over}
 use Rattle.env_script.specs.Runs.{history_at}
 use Rattle.width_check.specs.Processes.{Process, skipping, assigning, sending, receiving, choosing, repeating, Choices, no_choices, and_choice}
@@ -68,6 +68,11 @@ abbrev pub guards_counted : List ℕ → TrueGuards
 guards_counted [] = Zero
 guards_counted (k ∷ []) = One k
 guards_counted _ = Many
+
+-- the branch of the one guard that is true is a part of the statement
+abbrev pub HasBranch : Process → TrueGuards → Type 0
+HasBranch p (One k) = k < left.part_count p
+HasBranch p _ = Unit {0}
 
 abbrev pub choosing_move : Bool → TrueGuards → Option Move
 choosing_move again (One k) = Some plain_move

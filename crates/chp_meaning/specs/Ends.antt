@@ -1,16 +1,19 @@
 -- The results of rounds.
-use Rattle.std.specs.Prelude.{◌≡◌, ℕ, suc, ◌<◌, ◌≤◌, Bool, true, false, List, [], ◌∷◌, length}
+use Rattle.std.specs.Prelude.{◌≡◌, ℕ, suc, ◌+◌, ◌<◌, ◌≤◌, nat_lt, ◌==◌, if◌then◌else◌, Bool, true, false, List, [], ◌∷◌, length, count_by, Option, None, Some, is_some}
 use Rattle.env_script.specs.Scripts.{OfferValue, IsScript}
 use Rattle.width_check.specs.Typed.{TypedValue, program_of}
+use Rattle.width_check.specs.Processes.{Process}
 use Rattle.width_check.specs.View.{process_of}
 use Rattle.chp_meaning.specs.declared.config.Config.{Config}
+use Rattle.chp_meaning.specs.declared.left.Left.{Left}
+use Rattle.chp_meaning.specs.declared.effect.Move.{Move}
 use Rattle.chp_meaning.specs.declared.run.RunEnd.{RunEnd}
 use Rattle.chp_meaning.specs.declared.run.RunEnd.TheVariants.{Rest, Spent, TooMany}
 use Rattle.chp_meaning.specs.Terms.{Place}
 use Rattle.chp_meaning.specs.Steps.{Configuration, Step, Leads, start_of}
 use Rattle.chp_meaning.specs.Rounds.{rounds_from}
 use Rattle.chp_meaning.specs.AtOnce.{held_values}
-use Rattle.chp_meaning.specs.Standing.{IsStanding, configuration_of}
+use Rattle.chp_meaning.specs.Standing.{IsStanding, IsPlan, HaveMoved, IsUnchanged, configuration_of, histories_of}
 
 -- the state of a program
 abbrev pub seen : TypedValue → Config → Configuration
@@ -56,3 +59,22 @@ is_some_step (x ∷ xs) = true
 abbrev pub end_by : {X : Type 0} → List X → RunEnd
 end_by [] = Rest
 end_by (x ∷ xs) = Spent
+
+-- before a round of these moves, where so many values have passed, and no more than most may
+abbrev pub end_before : List Move → ℕ → ℕ → Option RunEnd
+end_before moves count most =
+    if length moves == 0 then Some Rest else (
+    if nat_lt most (count + count_by (λ (step : Move). is_some step.pass) moves) then Some TooMany else None)
+
+-- The next round of a program that does this was made, by these moves; or the run ends before it, and nothing is
+-- changed.
+abbrev pub IsNext : Process → (most : ℕ) → Config → Config → Option RunEnd → Type 0
+IsNext body most old new None = (left : Left) × (moves : List Move) × IsPlan body old left moves
+    × HaveMoved old new left moves
+    × (held_values (histories_of old) + count_by (λ (step : Move). is_some step.pass) moves ≤ most)
+IsNext body most old new (Some end) = (left : Left) × (moves : List Move) × IsPlan body old left moves
+    × IsUnchanged old new × (end_before moves (held_values (histories_of old)) most ≡ Some end)
+
+-- after the last round of a program that does this
+abbrev pub IsEndBy : Process → Config → RunEnd → Type 0
+IsEndBy body c end = (left : Left) × (moves : List Move) × IsPlan body c left moves × (end ≡ end_by moves)

@@ -1,5 +1,5 @@
 -- What is claimed of rounds and runs.
-use Rattle.std.specs.Prelude.{◌≡◌, ◌≤◌, ℕ, suc, List}
+use Rattle.std.specs.Prelude.{◌≤◌, ℕ, suc, List}
 use Rattle.env_script.specs.Scripts.{OfferValue}
 use Rattle.env_script.specs.Runs.{history_at}
 use Rattle.width_check.specs.Processes.{TypedProgram}

@@ -1,10 +1,7 @@
 -- What is left of a program, by the numbers of its parts.
 use Rattle.std.specs.Prelude.{◌≡◌, ℕ, zero, suc, ◌+◌, ◌<◌, ◌≤◌, Bool, true, false, ◌&&◌, nat_lt, if◌then◌else◌, List, [], ◌∷◌}
-use Rattle.width_check.specs.declared.typed.TStmt.{TStmt}
-use Rattle.width_check.specs.declared.typed.TArm.{TArm}
 use Rattle.width_check.specs.Processes.{Process, skipping, assigning, sending, receiving, in_turn, side_by_side, choosing, repeating, Processes, no_members, and_member, Choices, no_choices, and_choice, member_count, choice_count}
 use Rattle.width_check.specs.Values.{IsWellFormed}
-use Rattle.width_check.specs.View.{formula_of, process_of}
 use Rattle.chp_meaning.specs.declared.left.Left.{Left, Done, Whole, Inside', Branches', Row_of-Left, end_of-Left, more_of-Left}
 use Rattle.chp_meaning.specs.Terms.{Term, Terms, finished, active, in_sequence, in_parallel, no_branches, and_branch}
 

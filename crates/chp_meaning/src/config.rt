@@ -113,13 +113,18 @@ pub(crate) fn begun(
       histories = replicate channels [];
     }) }
 {
+    let rests = whole_script(alloc, script)?;
+    let histories = no_values(alloc, channels)?;
+    let sends = no_sends(alloc, channels)?;
+    let receives = no_receives(alloc, channels)?;
     Ok(Config {
+        // Last: it isn't a list, so a way out that owns it is long.
         left: opened(alloc, body)?,
         store,
-        rests: whole_script(alloc, script)?,
-        histories: no_values(alloc, channels)?,
-        sends: no_sends(alloc, channels)?,
-        receives: no_receives(alloc, channels)?,
+        rests,
+        histories,
+        sends,
+        receives,
     })
 }
 

@@ -2,8 +2,8 @@
 
 ghost use Rattle.std.specs.Prelude.{◌≡◌, ◌++◌, length, fold, option_to_list, IfOk, OnOk};
 ghost use Rattle.width_check.specs.View.{process_of};
-ghost use Rattle.chp_meaning.specs.Remaining.{remains_of, CanRemain, RunsOn};
-ghost use Rattle.chp_meaning.specs.AtOnce.{statements, noted_send, noted_receive, step_remains, move_of, advanced, moves_of};
+ghost use Rattle.chp_meaning.specs.Remaining.{remains_of, CanRemain, RunsOn, HasMembers};
+ghost use Rattle.chp_meaning.specs.AtOnce.{statements, noted_send, noted_receive, step_remains, chosen_remains, choosing_move, HasBranch, move_of, advanced, moves_of};
 ghost use Rattle.chp_meaning.specs.Standing.{outset_of, CanRun};
 
 use crate::config::Config;
@@ -46,6 +46,36 @@ pub(crate) fn note(
     }
 }
 
+/// What is left of an active selection after the round, where these of its guards are true.
+fn stepped_selection(
+    alloc: Global,
+    stmt: &TStmt,
+    again: bool,
+    found: TrueGuards,
+    moves: &mut Vec<Move>,
+) -> Result<Left, AllocError>
+    requires members { HasMembers (process_of stmt.now) }
+    requires within { HasBranch (process_of stmt.now) found }
+    ensures left { IfOk result (λ left. remains_of left ≡ chosen_remains (process_of stmt.now) again found) }
+    ensures moves { OnOk result (moves.new.items ≡ moves.old.items ++ option_to_list (choosing_move again found)) }
+{
+    match found {
+        TrueGuards::One(index) => {
+            moves.push(plain_move())?;
+            entered(alloc, stmt, index)
+        }
+        TrueGuards::Zero => {
+            if again {
+                moves.push(plain_move())?;
+                Ok(Left::Done)
+            } else {
+                Ok(Left::Whole)
+            }
+        }
+        TrueGuards::Several => Ok(Left::Whole),
+    }
+}
+
 /// What is left of an active statement after the round.
 fn stepped(
     alloc: Global,
@@ -59,21 +89,10 @@ fn stepped(
         ++ option_to_list (move_of (outset_of config.now) (process_of stmt.now))) }
 {
     match stmt {
-        TStmt::Select { again, arms } => match chosen(arms, &config.store) {
-            TrueGuards::One(index) => {
-                moves.push(plain_move())?;
-                entered(alloc, stmt, index)
-            }
-            TrueGuards::Zero => {
-                if *again {
-                    moves.push(plain_move())?;
-                    Ok(Left::Done)
-                } else {
-                    Ok(Left::Whole)
-                }
-            }
-            TrueGuards::Several => Ok(Left::Whole),
-        },
+        TStmt::Select { again, arms } => {
+            let found = chosen(arms, &config.store);
+            stepped_selection(alloc, stmt, *again, found, moves)
+        }
         TStmt::Repeat { .. } => {
             moves.push(plain_move())?;
             entered(alloc, stmt, 0)

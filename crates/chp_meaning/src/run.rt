@@ -10,7 +10,7 @@ ghost use Rattle.chp_meaning.specs.Rounds.{round};
 ghost use Rattle.chp_meaning.specs.Laws.{OneHistory, RoundsHold};
 ghost use Rattle.chp_meaning.specs.Remaining.{remains_of, CanRemain};
 ghost use Rattle.chp_meaning.specs.AtOnce.{advanced, moves_of, statements, held_values};
-ghost use Rattle.chp_meaning.specs.Ends.{seen, IsOf, CanStep, IsEnd, IsWithin, held_in, is_some_step, end_by};
+ghost use Rattle.chp_meaning.specs.Ends.{seen, IsOf, CanStep, IsEnd, IsWithin, IsNext, IsEndBy, held_in, is_some_step, end_before, end_by};
 ghost use Rattle.chp_meaning.specs.Standing.{outset_of, histories_of, items_of, configuration_of, next_moves, CanRun, IsStanding, IsPlan, AreWithin, HaveMoved, IsUnchanged};
 
 use crate::config::Config;
@@ -150,6 +150,55 @@ fn end_by(moves: &[Move]) -> RunEnd
     }
 }
 
+/// How a run ends before a round of these moves, or None where the round is made: `count` values have passed so far,
+/// and no more than `most` may.
+fn end_before(moves: &[Move], count: u64, most: u32) -> Option<RunEnd>
+    requires { count ≤ most }
+    ensures { result ≡ end_before moves.now count most }
+{
+    if moves.is_empty() {
+        Some(RunEnd::Rest)
+    } else if count + passing(moves) > u64::from(most) {
+        Some(RunEnd::TooMany)
+    } else {
+        None
+    }
+}
+
+/// Makes the next round, or tells how the run ends before it. `count` is how many values have passed.
+fn next_round(
+    alloc: Global,
+    config: &mut Config,
+    body: &TStmt,
+    count: &mut u64,
+    most: u32,
+) -> Result<Option<RunEnd>, AllocError>
+    requires standing { IsStanding (process_of body.now) config.old }
+    requires count { count.old ≡ held_values (histories_of config.old) }
+    requires most { count.old ≤ most }
+    ensures next { IfOk result (IsNext (process_of body.now) most config.old config.new) }
+    ensures count { OnOk result (count.new ≡ held_values (histories_of config.new)) }
+    ensures err { OnErr result (IsUnchanged config.old config.new) }
+{
+    let (left, moves) = planned(alloc, config, body)?;
+    if let Some(end) = end_before(&moves, *count, most) {
+        return Ok(Some(end));
+    }
+    *count += passing(&moves);
+    settled(config, left, &moves)?;
+    Ok(None)
+}
+
+/// How a run ends after which no round more is wanted.
+fn end_after(alloc: Global, config: &mut Config, body: &TStmt) -> Result<RunEnd, AllocError>
+    requires { IsStanding (process_of body.now) config.old }
+    ensures end { IfOk result (IsEndBy (process_of body.now) config.old) }
+    ensures unchanged { IsUnchanged config.old config.new }
+{
+    let (_, moves) = planned(alloc, config, body)?;
+    Ok(end_by(&moves))
+}
+
 /// Makes rounds of a program that does this.
 pub(crate) fn run_of(
     alloc: Global,
@@ -171,18 +220,11 @@ pub(crate) fn run_of(
 {
     let mut count = held(&config.histories, most);
     for _made in 0..n {
-        let (left, moves) = planned(alloc, config, body)?;
-        if moves.is_empty() {
-            return Ok(RunEnd::Rest);
+        if let Some(end) = next_round(alloc, config, body, &mut count, most)? {
+            return Ok(end);
         }
-        count += passing(&moves);
-        if count > u64::from(most) {
-            return Ok(RunEnd::TooMany);
-        }
-        settled(config, left, &moves)?;
     }
-    let (_, moves) = planned(alloc, config, body)?;
-    Ok(end_by(&moves))
+    end_after(alloc, config, body)
 }
 
 /// Makes `n` rounds, but none that would bring the values that have passed over `most` in all. Stops early where no

@@ -1,6 +1,6 @@
 //! What a text is read as.
 
-ghost use Rattle.std.specs.Prelude.{◌≤◌, length};
+ghost use Rattle.std.specs.Prelude.{◌≤◌, length, IfOk};
 ghost use Rattle.chp_syntax.specs.Shape.{IsShaped};
 ghost use Rattle.chp_syntax.specs.View.{program_tree};
 
@@ -16,6 +16,14 @@ use width_check::{Typed, is_call_free, resolve};
 /// The most bytes of a program text.
 const MOST: usize = 262_144;
 
+/// The program that the text is. Functions that own one drop it by one call, since it is in a box.
+fn parsed(alloc: Global, text: &[u8]) -> Result<Box<Program>, TextError>
+    requires { length text.now ≤ 262144 }
+    ensures { IfOk result (λ program. IsShaped (program_tree program.value)) }
+{
+    Ok(Box::new(alloc, parse(alloc, text)?)?)
+}
+
 /// The program with its names resolved, where it has neither procedures nor calls.
 fn resolved(alloc: Global, program: &Program) -> Option<Typed>
     requires { IsShaped (program_tree program.now) }
@@ -30,7 +38,8 @@ fn resolved(alloc: Global, program: &Program) -> Option<Typed>
 fn typed_of(alloc: Global, text: &[u8]) -> Option<Typed>
     requires { length text.now ≤ 262144 }
 {
-    resolved(alloc, &parse(alloc, text).ok()?)
+    let program = parsed(alloc, text).ok()?;
+    resolved(alloc, &program)
 }
 
 /// The accepted program that the text is. `None` where the text is too long or refused, has procedures or calls, or
@@ -71,7 +80,7 @@ fn put_text(alloc: Global, text: &[u8], page: &mut String) -> Result<Option<Vec<
     if text.len() > MOST {
         return page.push_str("too long\n").and(Ok(None));
     }
-    match parse(alloc, text) {
+    match parsed(alloc, text) {
         Ok(program) => put_tree(alloc, page, &program),
         Err(error) => put_refusal(page, &error).and(Ok(None)),
     }

@@ -88,8 +88,7 @@ fn put_end(page: &mut String, line: &str, ran: &Ran) -> Result<(), AllocError> {
 }
 
 fn put_all(page: &mut String, line: &str, ran: &Ran) -> Result<(), AllocError> {
-    put_end(page, line, ran)?;
-    put_lines(page, ran.out.written())
+    put_end(page, line, ran).and(put_lines(page, ran.out.written()))
 }
 
 /// Runs the words over the files of the case.
@@ -140,11 +139,11 @@ pub fn keep(
 
 /// How a run ended under a planned fault, and what was written, on one line.
 fn put_fault(page: &mut String, call: u64, ran: &Ran) -> Result<(), AllocError> {
-    write!(page, "{call}: {} ", ran.status.number())?;
-    put_bytes(page, ran.say.written())?;
-    page.push(' ')?;
-    put_bytes(page, ran.out.written())?;
-    page.push('\n')
+    write!(page, "{call}: {} ", ran.status.number())
+        .and(put_bytes(page, ran.say.written()))
+        .and(page.push(' '))
+        .and(put_bytes(page, ran.out.written()))
+        .and(page.push('\n'))
 }
 
 /// The most calls of the shelf that are made to fail in turn.

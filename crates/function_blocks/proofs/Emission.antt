@@ -273,7 +273,8 @@ module _ (firsts : List ℕ) (request from : ℕ) where
       }
 
   pub compare_fits : (old : List NodeRules) (f e g : Formula) (op : Op) (made there : List NodeRules) (left right : List Pair) → f ≡ compared op e g
-      → IsWellFormed f → Read f → from + length old + formula_size f < 2 ^ 32 → Done old e made left → Done made g there right → OperatorFits from there op left right
+      → IsWellFormed f → Read f → from + length old + formula_size f < 2 ^ 32 → Done old e made left → Done made g there right
+      → OperatorFits from there op left right
   compare_fits old f e g op made there left right is h r room d k =
       let formed = subst IsWellFormed is h in
       let read = subst Read is r in

@@ -23,7 +23,6 @@ pub mod ReadBits
 pub mod ExpressionKeeps
 pub mod WaveExamples
 pub mod Emitted
-pub mod Taken
 pub mod Emission
 pub mod Within
 pub mod Giving

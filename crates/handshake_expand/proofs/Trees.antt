@@ -11,7 +11,7 @@ use Rattle.handshake_expand.specs.declared.parts.PartKind.{PartKind}
 use Rattle.width_check.specs.Processes.{Process, skipping, assigning, sending, receiving, in_turn, side_by_side, choosing, repeating, TypedProgram}
 use Rattle.handshake_expand.specs.Layout.{size_of}
 use Rattle.handshake_expand.specs.Answers.{answer_of}
-use Rattle.handshake_expand.specs.PartTree.{PartTree, part, PartTrees, no_children, and_child, expanded, tree_of, trees_of, each_tree}
+use Rattle.handshake_expand.specs.PartTree.{PartTree, part, PartTrees, no_children, and_child, expanded, tree_of, trees_of, each_tree, part_of}
 
 trees_row : {m : _} (row : Row_of-Part m) → trees_of row ≡ each_tree (items-the_row-Part m row)
 trees_row end_of-Part = refl
@@ -101,17 +101,22 @@ pub child_answer : (x : Part) (p : TypedProgram) (s : Process) (request from : �
     (out-Part x).answer ≡ answer_of p s from
 child_answer x p s request from is = answer_read x ∙ (ap tree_answer is ∙ expanded_answer p s request from)
 
+-- a part of what was found
+pub same_part : (kind k : PartKind) (request answer a from count n : ℕ) (children : List Part) (trees : PartTrees) → kind ≡ k → answer ≡ a → count ≡ n →
+    each_tree children ≡ trees → part_of kind request answer from count children ≡ part k request a from n trees
+same_part kind k request answer a from count n children trees is answers counts all =
+    ap (λ x. part x request answer from count (each_tree children)) is
+    ∙ (ap (λ x. part k request x from count (each_tree children)) answers
+    ∙ (ap (λ x. part k request a from x (each_tree children)) counts
+    ∙ ap (part k request a from n) all))
+
 -- the part of a statement that is made of what was found
 pub made_part : (kind k : PartKind) (request answer a from count n : ℕ) (children : Vec Part Global) (trees : PartTrees) → kind ≡ k → answer ≡ a → count ≡ n →
     each_tree children.items ≡ trees
     → tree_of (roll-Part (record { kind = kind; request = request; answer = answer; from = from; count = count; children = children })) ≡
     part k request a from n trees
 made_part kind k request answer a from count n children trees is answers counts all =
-    made_tree kind request answer from count children
-    ∙ (ap (λ x. part x request answer from count (each_tree children.items)) is
-    ∙ (ap (λ x. part k request x from count (each_tree children.items)) answers
-    ∙ (ap (λ x. part k request a from x (each_tree children.items)) counts
-    ∙ ap (part k request a from n) all)))
+    made_tree kind request answer from count children ∙ same_part kind k request answer a from count n children.items trees is answers counts all
 
 -- a part that is opened
 pub opened_tree : (x : Part) → tree_of x ≡ part (out-Part x).kind (out-Part x).request (out-Part x).answer (out-Part x).from (out-Part x).count

@@ -94,6 +94,10 @@ abbrev pub each_tree : List Part → PartTrees
 each_tree [] = no_children
 each_tree (child ∷ rest) = and_child (tree_of child) (each_tree rest)
 
+-- a part of this kind over these parts
+abbrev pub part_of : PartKind → (request answer from count : ℕ) → List Part → PartTree
+part_of kind request answer from count children = part kind request answer from count (each_tree children)
+
 -- each guard is a well-formed expression
 abbrev pub HasFormedGuards : Choices → Type 0
 HasFormedGuards no_choices = Unit {0}

@@ -1,13 +1,14 @@
 //! The tree of parts of a program.
 
-ghost use Rattle.std.specs.Prelude.{◌≡◌, ◌+◌, ◌^◌, ◌<◌, ◌≤◌, ◌++◌, IfOk, OnOk};
+ghost use Rattle.std.specs.Prelude.{◌≡◌, ◌+◌, ◌-◌, ◌^◌, ◌<◌, ◌≤◌, [], ◌∷◌, ◌++◌, IfOk, IsOkAnd, OnOk};
 ghost use Rattle.width_check.specs.Processes.{in_turn, side_by_side, choosing};
 ghost use Rattle.width_check.specs.Typed.{program_of};
 ghost use Rattle.width_check.specs.Typing.{IsProcess};
 ghost use Rattle.width_check.specs.View.{process_of, members_in, choices_in};
+ghost use Rattle.handshake_expand.specs.declared.parts.Part.{out-Part};
 ghost use Rattle.handshake_expand.specs.Layout.{size_of, nodes_of, node_count, root_request};
 ghost use Rattle.handshake_expand.specs.Expansions.{expansion, expansion_of};
-ghost use Rattle.handshake_expand.specs.PartTree.{part_kind, part_over, expanded, root_part, tree_of, no_children};
+ghost use Rattle.handshake_expand.specs.PartTree.{part_kind, part_over, expanded, root_part, tree_of, part_of, no_children};
 ghost use Rattle.handshake_expand.specs.Sites.{own_sites, sites_in, in_body};
 
 use crate::answer::answer_node;
@@ -74,6 +75,74 @@ fn single(
     })
 }
 
+// What follows takes a child as it was made, so that the function that makes it owns no part where it may be left.
+
+/// Adds the part of a child, and returns how many nodes it has.
+#[inline(never)]
+fn add_child(children: &mut Vec<Part>, child: Result<Part, AllocError>) -> Result<u32, AllocError>
+    ensures { IfOk result (λ count. IsOkAnd child (λ made. (children.new.items ≡ children.old.items ++ made ∷ [])
+        × (count ≡ (out-Part made).count))) }
+{
+    let child = child?;
+    let count = child.count;
+    children.push(child)?;
+    Ok(count)
+}
+
+/// The part around another one, whose own two nodes come first: a loop, or the root.
+#[inline(never)]
+fn around(
+    alloc: Global,
+    kind: PartKind,
+    request: u32,
+    answer: u32,
+    from: u32,
+    inner: Result<Part, AllocError>,
+) -> Result<Part, AllocError>
+    requires { IfOk inner (λ made. (out-Part made).count + 2 < 2 ^ 32) }
+    ensures { IfOk result (λ whole. IsOkAnd inner (λ made.
+        tree_of whole ≡ part_of kind request answer from (2 + (out-Part made).count) (made ∷ []))) }
+{
+    let mut children = Vec::new(alloc);
+    let count = add_child(&mut children, inner)?;
+    Ok(Part {
+        kind,
+        request,
+        answer,
+        from,
+        count: 2 + count,
+        children,
+    })
+}
+
+/// The part of a sequence, of which all members but the last one were made. The nodes of that one begin at `next`.
+#[inline(never)]
+fn finished(
+    request: u32,
+    from: u32,
+    next: u32,
+    mut children: Vec<Part>,
+    last: Result<Part, AllocError>,
+) -> Result<Part, AllocError>
+    requires low { from ≤ next }
+    requires room { IfOk last (λ made. next - from + (out-Part made).count < 2 ^ 32) }
+    ensures { IfOk result (λ whole. IsOkAnd last (λ made. tree_of whole ≡ part_of PartKind.Sequence request
+        (out-Part made).answer from (next - from + (out-Part made).count) (children.items ++ made ∷ []))) }
+{
+    let last = last?;
+    let answer = last.answer;
+    let count = next - from + last.count;
+    children.push(last)?;
+    Ok(Part {
+        kind: PartKind::Sequence,
+        request,
+        answer,
+        from,
+        count,
+        children,
+    })
+}
+
 /// The part of a sequence. Each member but the last is the child of a Q-element of three nodes: the child's request,
 /// the latch, and the request of what follows.
 #[cycle(parts)]
@@ -98,23 +167,12 @@ fn sequence(
     let mut asked = request;
     let mut next = from;
     for place in 0..last {
-        let child = part(alloc, program, &members[place], next, next + 3, sites)?;
+        let child = part(alloc, program, &members[place], next, next + 3, sites);
         asked = next + 2;
-        next += 3 + child.count;
-        children.push(child)?;
+        next += 3 + add_child(&mut children, child)?;
     }
-    let child = part(alloc, program, &members[last], asked, next, sites)?;
-    let answer = child.answer;
-    let count = next - from + child.count;
-    children.push(child)?;
-    Ok(Part {
-        kind: PartKind::Sequence,
-        request,
-        answer,
-        from,
-        count,
-        children,
-    })
+    let child = part(alloc, program, &members[last], asked, next, sites);
+    finished(request, from, next, children, child)
 }
 
 /// The part of a parallel composition. Each branch is the child of a Q-element; a completion tree over the branches
@@ -139,9 +197,8 @@ fn parallel(
     let mut children = Vec::new(alloc);
     let mut next = from;
     for branch in branches {
-        let child = part(alloc, program, branch, next, next + 3, sites)?;
-        next += 3 + child.count;
-        children.push(child)?;
+        let child = part(alloc, program, branch, next, next + 3, sites);
+        next += 3 + add_child(&mut children, child)?;
     }
     let count = next - from + (branches.len() as u32 - 1);
     Ok(Part {
@@ -178,10 +235,9 @@ fn selection(
     let mut next = start + guards + guard_nodes(arms) as u32;
     let mut children = Vec::new(alloc);
     for arm in arms {
-        let child = part(alloc, program, &arm.body, start, next, sites)?;
+        let child = part(alloc, program, &arm.body, start, next, sites);
         start += 1;
-        next += child.count;
-        children.push(child)?;
+        next += add_child(&mut children, child)?;
     }
     Ok(Part {
         kind: if again {
@@ -221,15 +277,8 @@ fn part(
             selection(alloc, program, *again, arms, request, from, sites)
         }
         TStmt::Repeat { body } => {
-            let child = part(alloc, program, body, from + 1, from + 2, sites)?;
-            Ok(Part {
-                kind: PartKind::Loop,
-                request,
-                answer: from,
-                from,
-                count: 2 + child.count,
-                children: vec![in alloc; child]?,
-            })
+            let inner = part(alloc, program, body, from + 1, from + 2, sites);
+            around(alloc, PartKind::Loop, request, from, from, inner)
         }
         _ => single(alloc, program, s, request, from, sites),
     }
@@ -248,15 +297,8 @@ fn root(
     ensures sites { OnOk result (sites.new.items ≡ sites.old.items
         ++ in_body (program_of program.now) (own_sites (program_of program.now))) }
 {
-    let body = part(alloc, program, program.body(), from, from + 2, sites)?;
-    Ok(Part {
-        kind: PartKind::Root,
-        request: 0,
-        answer: 1,
-        from,
-        count: 2 + body.count,
-        children: vec![in alloc; body]?,
-    })
+    let body = part(alloc, program, program.body(), from, from + 2, sites);
+    around(alloc, PartKind::Root, 0, 1, from, body)
 }
 
 /// The parts of a program of at most 65,536 nodes: a block for each channel and each variable, and the tree of parts.

@@ -1,61 +1,57 @@
 //! Nets with a reset node.
 #![tactic(auto)]
 
-ghost use Rattle.std.specs.Prelude.{◌≡◌, ◌≢◌, ◌<◌, ◌+◌, ◌-◌, ◌^◌, ◌++◌, ℕ, List, [], ◌∷◌, Bool, not, length, slice_index_or, All, IfOk, None, codes, if◌then◌else◌};
+ghost use Rattle.std.specs.Prelude.{◌≡◌, ◌≢◌, ◌<◌, ◌+◌, ◌-◌, ◌^◌, ◌++◌, ℕ, List, [], ◌∷◌, Bool, true, not, length, map, slice_index_or, All, IfOk, OnOk, None, codes, if◌then◌else◌};
 ghost use Rattle.prs_core.specs.Nets.{RulesValue, NodeRules, IsNet, IsBelow, net_of, net_rules, with_rules};
 ghost use Rattle.reset_net.specs.Resets.{held, forced, has_rules, reset_guard, reset_up, reset_down, reset_of};
 
 use chp_base::{Name, node_name_of};
-use prs_core::{Guard, Literal, Net, Rules, Term};
+use prs_core::{Guard, Literal, Net, Rules, Term, high, low};
 use std::alloc::{AllocError, Global};
 
-/// The term with one more literal at its end.
-fn with_literal(alloc: Global, term: &Term, literal: Literal) -> Result<Term, AllocError>
-    ensures { IfOk result (λ t. t ≡ term.now ++ literal ∷ []) }
+/// Adds the term of these literals, and of more of them at its end.
+fn add_term(
+    alloc: Global,
+    literals: &[Literal],
+    more: &[Literal],
+    terms: &mut Vec<Term>,
+) -> Result<(), AllocError>
+    requires { 0 < length literals.now + length more.now }
+    ensures { OnOk result (terms.new.items ≡ terms.old.items ++ (literals.now ++ more.now) ∷ []) }
 {
-    let mut literals = Vec::with_capacity(alloc, term.literals().len() + 1)?;
-    literals.extend_from_slice(term.literals())?;
-    literals.push(literal)?;
-    Ok(Term::new(literals).unwrap())
+    let mut all = Vec::with_capacity(alloc, literals.len() + more.len())?;
+    all.extend_from_slice(literals)?;
+    all.extend_from_slice(more)?;
+    terms.push(Term::new(all).unwrap())?;
+    Ok(())
+}
+
+/// The guard's terms, each with more literals at its end.
+fn terms_with(alloc: Global, guard: &Guard, more: &[Literal]) -> Result<Vec<Term>, AllocError>
+    ensures { IfOk result (λ v. v.items ≡ map (λ t. t ++ more.now) guard.now) }
+{
+    // a forced guard has one term more
+    let mut terms = Vec::with_capacity(alloc, guard.terms().len() + 1)?;
+    for term in guard.terms() {
+        add_term(alloc, term.literals(), more, &mut terms)?;
+    }
+    Ok(terms)
 }
 
 /// The guard of a rule that waits until the reset is over: each term has the last literal `~reset`.
 fn held_guard(alloc: Global, guard: &Guard, reset: u32) -> Result<Guard, AllocError>
     ensures { IfOk result (λ g. g ≡ held reset guard.now) }
 {
-    let mut terms = Vec::with_capacity(alloc, guard.terms().len())?;
-    let over = Literal {
-        node: reset,
-        high: false,
-    };
-    for term in guard.terms() {
-        terms.push(with_literal(alloc, term, over)?)?;
-    }
+    let terms = terms_with(alloc, guard, &[low(reset)])?;
     Ok(Guard::new(terms))
-}
-
-/// A second term of the same literals.
-fn copy(alloc: Global, term: &Term) -> Result<Term, AllocError>
-    ensures { IfOk result (λ t. t ≡ term.now) }
-{
-    let literals = Vec::from_slice(alloc, term.literals())?;
-    Ok(Term::new(literals).unwrap())
 }
 
 /// The guard of a rule that the reset enables: it has the last term `reset`.
 fn forced_guard(alloc: Global, guard: &Guard, reset: u32) -> Result<Guard, AllocError>
     ensures { IfOk result (λ g. g ≡ forced reset guard.now) }
 {
-    let mut terms = Vec::with_capacity(alloc, guard.terms().len())?;
-    for term in guard.terms() {
-        terms.push(copy(alloc, term)?)?;
-    }
-    let on = Literal {
-        node: reset,
-        high: true,
-    };
-    let alone = Vec::from_slice(alloc, &[on])?;
-    terms.push(Term::new(alone).unwrap())?;
+    let mut terms = terms_with(alloc, guard, &[])?;
+    add_term(alloc, &[], &[high(reset)], &mut terms)?;
     Ok(Guard::new(terms))
 }
 
@@ -94,6 +90,25 @@ fn new_guard(
     }
 }
 
+/// The guards that the node has in the net with the reset node, in place of these.
+fn guards_of(
+    alloc: Global,
+    up: &Guard,
+    down: &Guard,
+    is_high: bool,
+    reset: u32,
+) -> Result<(Guard, Guard), AllocError>
+    ensures up { IfOk result
+        (λ new. new.0 ≡ if has_rules up.now down.now then reset_guard reset is_high up.now else []) }
+    ensures down { IfOk result
+        (λ new. new.1 ≡ if has_rules up.now down.now then reset_guard reset (not is_high) down.now else []) }
+{
+    let is_driven = is_driven(up, down);
+    let raising = new_guard(alloc, up, is_driven, is_high, reset)?;
+    let lowering = new_guard(alloc, down, is_driven, !is_high, reset)?;
+    Ok((raising, lowering))
+}
+
 /// Takes the node's guards out of the rules, and makes those of the net with the reset node of them.
 fn new_guards(
     alloc: Global,
@@ -110,11 +125,7 @@ fn new_guards(
     ensures left { rules.new ≡ with_rules node (record { up = []; down = [] }) rules.old }
 {
     let (up, down) = (rules.take_up(node), rules.take_down(node));
-    let is_driven = is_driven(&up, &down);
-    Ok((
-        new_guard(alloc, &up, is_driven, is_high, reset)?,
-        new_guard(alloc, &down, is_driven, !is_high, reset)?,
-    ))
+    guards_of(alloc, &up, &down, is_high, reset)
 }
 
 /// The rules of the net with the reset node, of those of the net, which are let go one after the other.
@@ -142,6 +153,26 @@ fn reset_name(alloc: Global) -> Result<Name, AllocError>
     Ok(name.unwrap())
 }
 
+/// Adds the reset node, which is high at first, to these nodes, and makes the rules of the net with it of theirs.
+fn add_reset(
+    alloc: Global,
+    names: &mut Vec<Name>,
+    first: &mut Vec<bool>,
+    rules: Rules,
+) -> Result<Rules, AllocError>
+    requires nodes { length rules.up ≡ length first.old.items }
+    requires few { length first.old.items < 2 ^ 32 - 1 }
+    ensures names { IfOk result (λ _made. names.new.items ≡ names.old.items ++ codes "reset" ∷ []) }
+    ensures first { IfOk result (λ _made. first.new.items ≡ first.old.items ++ true ∷ []) }
+    ensures rules { IfOk result
+        (λ made. made ≡ net_rules (reset_of (net_of [] first.old.items rules [] None))) }
+{
+    names.push(reset_name(alloc)?)?;
+    let made = rules_with_reset(alloc, first, rules)?;
+    first.push(true)?;
+    Ok(made)
+}
+
 /// The net with one more node, named reset, that is high at first and has no rules. While it is high, the rules
 /// of each other node drive that node to its first value: the guard that leads there has one more term, `reset`,
 /// and each term of the other guard has one more literal, `~reset`.
@@ -153,8 +184,6 @@ pub fn with_reset(alloc: Global, net: Net) -> Result<Net, AllocError>
     // brings the invariant of the net's type into scope
     let _kept = net.first();
     let (mut names, mut first, rules, channels) = net.into_parts();
-    let rules = rules_with_reset(alloc, &first, rules)?;
-    names.push(reset_name(alloc)?)?;
-    first.push(true)?;
+    let rules = add_reset(alloc, &mut names, &mut first, rules)?;
     Ok(Net::new_reset(names, first, rules, channels))
 }

@@ -34,6 +34,21 @@ fn values_given(
     Ok(given)
 }
 
+/// The value that each move of a run from power-up gives its node.
+fn values_from_start(
+    alloc: Global,
+    net: &Net,
+    high: bool,
+    moves: &[NotedMove],
+) -> Result<Vec<bool>, AllocError>
+    requires { All (λ (m : NotedOne). m.node < length net.now.first) moves.now }
+    ensures values { IfOk result (λ v. v.items ≡ values_given (power_of net.now high) moves.now) }
+    ensures net { IsNet net.now }
+{
+    let mut values = start_values(alloc, net, high)?;
+    values_given(alloc, &mut values, moves)
+}
+
 /// The indexes of the moves by which the last one came, the last one first.
 fn cause_chain(alloc: Global, moves: &[NotedMove]) -> Result<Vec<usize>, AllocError>
     requires { (place : ℕ) → place < length moves.now → cause_at moves.now place ≤ place }
@@ -74,11 +89,8 @@ fn cause_line(
     let mut delay_buffer = Buffer::new();
     let time = time_buffer.format(time).as_bytes();
     let delay = delay_buffer.format(delay).as_bytes();
-    if value {
-        append(to, &[time, b" ", name, b" 1 delay ", delay, b"\n"])
-    } else {
-        append(to, &[time, b" ", name, b" 0 delay ", delay, b"\n"])
-    }
+    let taken: &[u8] = if value { b" 1 delay " } else { b" 0 delay " };
+    append(to, &[time, b" ", name, taken, delay, b"\n"])
 }
 
 /// Appends the line of the end.
@@ -133,6 +145,27 @@ fn lines_back(
     Ok(())
 }
 
+/// Appends the lines of the moves by which the last one came, the earliest one first.
+fn chain_lines(
+    alloc: Global,
+    names: &[Name],
+    delays: &Delays,
+    given: &[bool],
+    moves: &[NotedMove],
+    to: &mut Vec<u8>,
+) -> Result<(), AllocError>
+    requires earlier { (place : ℕ) → place < length moves.now → cause_at moves.now place ≤ place }
+    requires given { length given.now ≡ length moves.now }
+    requires names { All (λ (m : NotedOne). m.node < length names.now) moves.now }
+    requires delays { length delays.now.up ≡ length names.now }
+    ensures { OnOk result ((places : List ℕ) × IsCauseChain moves.now (length moves.now) places
+        × (to.new.items ≡ to.old.items
+        ++ flat_map (cause_line_at names.now delays.now given.now moves.now) (reverse places))) }
+{
+    let places = cause_chain(alloc, moves)?;
+    lines_back(names, delays, given, moves, &places, to)
+}
+
 /// The moves by which the last move of a run came. For each, the earliest one first, a line of its time, its node, the
 /// value that the node takes and the delay; then a line of the time of the last move, the sum of the delays. They
 /// are the last move, the one since which it was enabled, the one since which that was, and so on back to the start.
@@ -153,11 +186,9 @@ pub fn causes_text(
     ensures { IfOk result (λ text. TellsCauses net.now.names delays.now
         (values_given (power_of net.now high) ran.now.moves.items) ran.now.moves.items text.items) }
 {
-    let mut values = start_values(alloc, net, high)?;
-    let given = values_given(alloc, &mut values, &ran.moves)?;
-    let places = cause_chain(alloc, &ran.moves)?;
+    let given = values_from_start(alloc, net, high, &ran.moves)?;
     let mut text = Vec::new(alloc);
-    lines_back(net.names(), delays, &given, &ran.moves, &places, &mut text)?;
+    chain_lines(alloc, net.names(), delays, &given, &ran.moves, &mut text)?;
     end_line(ran.timed.time, &mut text)?;
     Ok(text)
 }

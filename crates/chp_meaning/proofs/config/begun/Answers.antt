@@ -7,10 +7,10 @@ returns-clause-standing c =
     first_stands (process_of c.args.body.now) c.args.channels c.args.script.now _ (record {
       runnable = c.requires.numbers;
       left_is = c.in_ok-opened.ensures;
-      rests = c.in_ok-whole_script.ensures;
-      histories = c.in_ok-no_values.ensures;
-      sends = c.in_ok-no_sends.ensures;
-      receives = c.in_ok-no_receives.ensures;
+      rests = c.in_ok-rests.ensures;
+      histories = c.in_ok-histories.ensures;
+      sends = c.in_ok-sends.ensures;
+      receives = c.in_ok-receives.ensures;
     }) c.requires.script
 
 pub returns-clause-start : goal.returns-clause-start
@@ -19,16 +19,16 @@ returns-clause-start c =
       left = c.in_ok-opened.field-0;
       store = c.args.store;
       rests =
-          c.in_ok-whole_script.field-0;
-      histories = c.in_ok-no_values.field-0;
-      sends = c.in_ok-no_sends.field-0;
-      receives = c.in_ok-no_receives.field-0;
+          c.in_ok-rests.rests;
+      histories = c.in_ok-histories.histories;
+      sends = c.in_ok-sends.sends;
+      receives = c.in_ok-receives.receives;
     })
     (record {
       runnable = c.requires.numbers;
       left_is = c.in_ok-opened.ensures;
-      rests = c.in_ok-whole_script.ensures;
-      histories = c.in_ok-no_values.ensures;
-      sends = c.in_ok-no_sends.ensures;
-      receives = c.in_ok-no_receives.ensures;
+      rests = c.in_ok-rests.ensures;
+      histories = c.in_ok-histories.ensures;
+      sends = c.in_ok-sends.ensures;
+      receives = c.in_ok-receives.ensures;
     })

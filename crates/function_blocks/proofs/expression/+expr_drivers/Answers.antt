@@ -5,10 +5,10 @@ use Rattle.width_check.specs.declared.typed.TExpr.{the_lemmas}
 use Rattle.width_check.specs.View.{formula_of}
 use Rattle.width_check.specs.Processes.{chained}
 use Rattle.handshake_expand.proofs.Rows.{parts_of, links_of, join_is, chain_is}
+use Rattle.handshake_expand.proofs.Taken.{taken, asked, told}
 use Rattle.function_blocks.specs.Blocks.{bits_in_blocks}
 use Rattle.function_blocks.specs.Expressions.{formula_result, formula_rules}
 use Rattle.function_blocks.proofs.Emission.{done, join_begin, part_left, join_more, chain_begin, link_left, chain_fits, chain_more, compare_is, compare_second, compare_fits, compare_end, not_is}
-use Rattle.function_blocks.proofs.Taken.{taken, asked, told}
 use Rattle.function_blocks.proofs.expression.+expr_drivers.Goals as goal
 
 pub loop-part-init : goal.loop-part-init
@@ -53,7 +53,8 @@ applied-requires t c =
     let here = link_left c.args.vars.now c.args.request c.args.from c.args.drivers.now.items (formula_of c.args.e.now) c.deref-link-items.result.now
     c.loop-link.link-index c.link-item.result _ _ c.loop-link.invariant c.loop-link-test.true c.link-item.is in
     asked c.expr_drivers-right.result _ _ _
-    (λ right made bits. chain_fits c.args.vars.now c.args.request c.args.from c.args.drivers.now.items (formula_of c.args.e.now) (formula_of c.link-item.result.right)
+    (λ right made bits. chain_fits c.args.vars.now c.args.request c.args.from c.args.drivers.now.items (formula_of c.args.e.now)
+    (formula_of c.link-item.result.right)
     c.link-item.result.op _ _ _ _ _ here made bits)
     c.expr_drivers-right.ensures.made c.expr_drivers-right.ensures.bits
 
@@ -79,7 +80,8 @@ applied-requires-in-Compare t c =
     let is = compare_is _ _ _ _ _ _ c.in-Compare.is c.deref-in-Compare.ensures c.deref-in-Compare-2.ensures in
     let left = done c.args.vars.now c.args.request c.args.from _ _ _ _ c.in_ok-left-in-Compare.ensures.made c.in_ok-left-in-Compare.ensures.bits in
     asked c.expr_drivers-right-in-Compare.result _ _ _
-    (λ right made bits. compare_fits c.args.vars.now c.args.request c.args.from c.args.drivers.now.items (formula_of c.args.e.now) _ _ c.in-Compare.op _ _ _ _ is
+    (λ right made bits. compare_fits c.args.vars.now c.args.request c.args.from c.args.drivers.now.items (formula_of c.args.e.now)
+    _ _ c.in-Compare.op _ _ _ _ is
     c.requires.formed c.requires.read c.requires.room left (done c.args.vars.now c.args.request c.args.from _ _ _ _ made bits))
     c.expr_drivers-right-in-Compare.ensures.made c.expr_drivers-right-in-Compare.ensures.bits
 
@@ -89,11 +91,13 @@ returns-in_ok-left-in-Compare t c =
     let left = done c.args.vars.now c.args.request c.args.from _ _ _ _ c.in_ok-left-in-Compare.ensures.made c.in_ok-left-in-Compare.ensures.bits in
     record {
       made = told c.applied-in-Compare.result c.expr_drivers-right-in-Compare.result _ _ _ _
-          (λ all right made bits h. (compare_end c.args.vars.now c.args.request c.args.from c.args.drivers.now.items (formula_of c.args.e.now) _ _ c.in-Compare.op _ _ _ _ _ _ is
+          (λ all right made bits h. (compare_end c.args.vars.now c.args.request c.args.from c.args.drivers.now.items (formula_of c.args.e.now)
+          _ _ c.in-Compare.op _ _ _ _ _ _ is
           c.requires.formed c.requires.read left (done c.args.vars.now c.args.request c.args.from _ _ _ _ made bits) h.0 h.1).made_is)
           c.expr_drivers-right-in-Compare.ensures.made c.expr_drivers-right-in-Compare.ensures.bits c.applied-in-Compare.ensures;
       bits = told c.applied-in-Compare.result c.expr_drivers-right-in-Compare.result _ _ _ _
-          (λ all right made bits h. (compare_end c.args.vars.now c.args.request c.args.from c.args.drivers.now.items (formula_of c.args.e.now) _ _ c.in-Compare.op _ _ _ _ _ _ is
+          (λ all right made bits h. (compare_end c.args.vars.now c.args.request c.args.from c.args.drivers.now.items (formula_of c.args.e.now)
+          _ _ c.in-Compare.op _ _ _ _ _ _ is
           c.requires.formed c.requires.read left (done c.args.vars.now c.args.request c.args.from _ _ _ _ made bits) h.0 h.1).bits_are)
           c.expr_drivers-right-in-Compare.ensures.made c.expr_drivers-right-in-Compare.ensures.bits c.applied-in-Compare.ensures;
     }

@@ -1,4 +1,4 @@
-use Rattle.std.proofs.Common.{◌≡◌, ◌+◌, ◌-◌, ◌<◌, Bool, [], ◌++◌, length, get_or, drop, refl, sym, ap, ◌∙◌, subst, rules, arith}
+use Rattle.std.proofs.Common.{◌≡◌, ◌+◌, ◌-◌, ◌<◌, Bool, [], ◌∷◌, ◌++◌, length, get_or, drop, refl, sym, ap, ◌∙◌, subst, rules, arith}
 use Rattle.std.specs.Prelude.{if◌then◌else◌}
 use Rattle.std.proofs.lemmas.List.{get_or_read}
 use Rattle.width_check.specs.declared.typed.TStmt.{the_lemmas}
@@ -6,15 +6,15 @@ use Rattle.width_check.specs.Processes.{in_turn, side_by_side, choosing, repeati
 use Rattle.width_check.specs.Typed.{program_of}
 use Rattle.width_check.specs.Typing.{IsProcess}
 use Rattle.width_check.specs.View.{process_of, members_in, choices_in}
-use Rattle.handshake_expand.specs.declared.parts.Part.{out-Part}
 use Rattle.handshake_expand.specs.declared.parts.PartKind.TheVariants.{Loop, Sequence, Parallel, Select, Again}
-use Rattle.handshake_expand.specs.Layout.{size_of, turn_size}
+use Rattle.handshake_expand.specs.Layout.{size_of}
 use Rattle.handshake_expand.specs.Answers.{turn_answer, bodies_from}
 use Rattle.handshake_expand.specs.PartTree.{no_children, and_child, expanded, expanded_in_turn, expanded_branches, expanded_bodies, own_before}
 use Rattle.handshake_expand.specs.Sites.{own_sites, sites_in, sites_in_turn, sites_in_branches, sites_in_bodies}
 use Rattle.handshake_expand.proofs.Branches.{branch_size_here, branch_expanded_here, branch_sites_here, branch_size_end, branch_expanded_end, body_size_here, body_expanded_here, body_sites_here, arm_typed, body_size_end, body_expanded_end, body_sites_end, choosing_sites, choosing_size, guards_formed, three_each, sites_more, sites_done}
 use Rattle.handshake_expand.proofs.Rows.{then_is, beside_is, select_is, members_counted, arms_counted}
-use Rattle.handshake_expand.proofs.Trees.{in_front, front_more, front_done, child_count, child_answer, made_part}
+use Rattle.handshake_expand.proofs.Taken.{taken, asked, told}
+use Rattle.handshake_expand.proofs.Trees.{in_front, front_more, front_done, child_count, child_answer, made_part, same_part}
 use Rattle.handshake_expand.proofs.Turns.{this_typed, size_here, size_last, answer_here, answer_last, expanded_here, expanded_last, sites_here, sites_last}
 use Rattle.handshake_expand.proofs.tree.+parts.Goals as goal
 use Rattle.handshake_expand.proofs.tree.+parts.Goals.{selection-then-again, selection-else-again}
@@ -26,8 +26,8 @@ sequence-overflow_add-next t c =
     let size = size_here (program_of c.args.program.now) c.args.members.now c.loop-place.place _ c.index-members-place.is (omega arith) in
     omega (arith, size, c.loop-place.invariant.size, c.requires.room)
 
-pub sequence-part-requires : goal.sequence-part-requires
-sequence-part-requires t c =
+pub sequence-part-child-requires : goal.sequence-part-child-requires
+sequence-part-child-requires t c =
     let size = size_here (program_of c.args.program.now) c.args.members.now c.loop-place.place _ c.index-members-place.is (omega arith) in (
       search (rules, the_lemmas, get_or_read),
       (
@@ -45,14 +45,16 @@ pub sequence-overflow_add-next-in-loop-place : goal.sequence-overflow_add-next-i
 sequence-overflow_add-next-in-loop-place t c =
     let p = program_of c.args.program.now in
     let size = size_here p c.args.members.now c.loop-place.place _ c.index-members-place.is (omega arith) in
-    let count = child_count c.in_ok-child.child p _ _ _ c.in_ok-child.ensures.part in
+    let made = taken c.part-child.result _ _ _ c.part-child.ensures.sites c.part-child.ensures.part c.in_ok-next.ensures in
+    let count = made.3.1 ∙ child_count made.0 p _ _ _ made.2 in
     omega (arith, size, count, c.loop-place.invariant.size, c.requires.room)
 
 pub sequence-overflow_add-next-in-loop-place-2 : goal.sequence-overflow_add-next-in-loop-place-2
 sequence-overflow_add-next-in-loop-place-2 t c =
     let p = program_of c.args.program.now in
     let size = size_here p c.args.members.now c.loop-place.place _ c.index-members-place.is (omega arith) in
-    let count = child_count c.in_ok-child.child p _ _ _ c.in_ok-child.ensures.part in
+    let made = taken c.part-child.result _ _ _ c.part-child.ensures.sites c.part-child.ensures.part c.in_ok-next.ensures in
+    let count = made.3.1 ∙ child_count made.0 p _ _ _ made.2 in
     omega (arith, size, count, c.loop-place.invariant.size, c.requires.room)
 
 pub sequence-loop-place-preserved : goal.sequence-loop-place-preserved
@@ -63,19 +65,19 @@ sequence-loop-place-preserved t c =
     let s = c.index-members-place.result in
     let at = c.index-members-place.is in
     let next = c.loop-place.next in
-    let child = c.in_ok-child.child in
+    let count = c.in_ok-next.field-0 in
+    let made = taken c.part-child.result _ _ _ c.part-child.ensures.sites c.part-child.ensures.part c.in_ok-next.ensures in
     let behind = members_in (drop (i + 1) members) in
     let within : i + 1 < length members = omega arith in
     let size = size_here p members i s at within in
-    let count = child_count child p (process_of s) next (next + 3) c.in_ok-child.ensures.part in
-    let step : next + 3 + size_of p (process_of s) ≡ next + (3 + (out-Part child).count) = omega (arith, count) in
+    let counted = made.3.1 ∙ child_count made.0 p (process_of s) next (next + 3) made.2 in
+    let step : next + 3 + size_of p (process_of s) ≡ next + (3 + count) = omega (arith, counted) in
     record {
-      children = front_more c.loop-place.children.items c.push.new.self.items child (expanded p (process_of s) next (next + 3)) _ _ _ c.in_ok-push.ensures.items
-          c.in_ok-child.ensures.part
+      children = front_more c.loop-place.children.items c.add_child.new.children.items made.0 (expanded p (process_of s) next (next + 3)) _ _ _ made.3.0 made.2
           (expanded_here p members i s at c.loop-place.asked next within
           ∙ ap (λ n. and_child (expanded p (process_of s) next (next + 3)) (expanded_in_turn p behind (next + 2) n)) step)
           c.loop-place.invariant.children;
-      sites = sites_more c.loop-place.sites.items c.part.new.sites.items (sites_in p (own_sites p) (process_of s) (next + 3)) _ _ _ c.in_ok-child.ensures.sites
+      sites = sites_more c.loop-place.sites.items c.part-child.new.sites.items (sites_in p (own_sites p) (process_of s) (next + 3)) _ _ _ made.1
           (sites_here p members i s at (own_sites p) next within
           ∙ ap (λ n. sites_in p (own_sites p) (process_of s) (next + 3) ++ sites_in_turn p (own_sites p) behind n) step)
           c.loop-place.invariant.sites;
@@ -85,17 +87,40 @@ sequence-loop-place-preserved t c =
       low = omega (arith, c.loop-place.invariant.low);
     }
 
-pub sequence-overflow_add-count : goal.sequence-overflow_add-count
-sequence-overflow_add-count t c =
+pub sequence-part-child-requires-2 : goal.sequence-part-child-requires-2
+sequence-part-child-requires-2 t c =
     let p = program_of c.args.program.now in
     let members = c.args.members.now in
     let i = c.loop-place.place in
+    let next = c.loop-place.next in
+    let s = c.index-members-last.result in
+    let end : length members - 1 ≡ i = omega arith in
+    let whole : i + 1 ≡ length members = omega (arith, end, c.requires.process.0, members_counted members) in
+    let at : s ≡ get_or members i s = c.index-members-last.is ∙ ap (λ n. get_or members n s) end in (
+      search (rules, the_lemmas, get_or_read),
+      (
+        (this_typed _ _ members i s at (omega (arith, whole)) c.loop-place.invariant.formed).0,
+        omega (arith, size_last p members i s at whole, c.loop-place.invariant.size, c.requires.room),
+      ),
+    )
+
+pub sequence-finished-requires : goal.sequence-finished-requires
+sequence-finished-requires t c =
+    let p = program_of c.args.program.now in
+    let members = c.args.members.now in
+    let i = c.loop-place.place in
+    let next = c.loop-place.next in
     let s = c.index-members-last.result in
     let end : length members - 1 ≡ i = omega arith in
     let whole : i + 1 ≡ length members = omega (arith, end, c.requires.process.0, members_counted members) in
     let at : s ≡ get_or members i s = c.index-members-last.is ∙ ap (λ n. get_or members n s) end in
-    let count = child_count c.in_ok-child-2.child p _ _ _ c.in_ok-child-2.ensures.part in
-    omega (arith, size_last p members i s at whole, count, c.loop-place.invariant.size, c.loop-place.invariant.low, c.requires.room)
+    let size = size_last p members i s at whole in
+    record {
+      low = c.loop-place.invariant.low;
+      room = asked c.part-child-2.result _ _ _
+          (λ made sites is. omega (arith, size, child_count made p _ _ _ is, c.loop-place.invariant.size, c.loop-place.invariant.low, c.requires.room))
+          c.part-child-2.ensures.sites c.part-child-2.ensures.part;
+    }
 
 pub sequence-returns : goal.sequence-returns
 sequence-returns t c =
@@ -107,38 +132,51 @@ sequence-returns t c =
     let end : length members - 1 ≡ i = omega arith in
     let whole : i + 1 ≡ length members = omega (arith, end, c.requires.process.0, members_counted members) in
     let at : s ≡ get_or members i s = c.index-members-last.is ∙ ap (λ n. get_or members n s) end in
-    let child = c.in_ok-child-2.child in
-    let last = c.in_ok-child-2.ensures in
-    let count = child_count child p (process_of s) c.loop-place.asked next last.part in
-    let counts : next - c.args.from + (out-Part child).count ≡ turn_size p (members_in members) =
-    omega (arith, size_last p members i s at whole, count, c.loop-place.invariant.size, c.loop-place.invariant.low) in
+    let size = size_last p members i s at whole in
     record {
-      part = made_part Sequence Sequence c.args.request _ _ c.args.from _ _ c.push-2.new.self _ refl
-          (child_answer child p (process_of s) c.loop-place.asked next last.part
-          ∙ (sym (answer_last p members i s at next whole) ∙ c.loop-place.invariant.answer))
-          counts
-          (front_done c.push-2.new.self.items no_children _ refl
-          (front_more c.loop-place.children.items c.push-2.new.self.items child (expanded p (process_of s) c.loop-place.asked next) _ no_children _
-          c.in_ok-push-2.ensures.items last.part (expanded_last p members i s at c.loop-place.asked next whole)
-          c.loop-place.invariant.children));
-      sites = last.sites ∙ (ap (λ xs. c.loop-place.sites.items ++ xs) (sym (sites_last p members i s at (own_sites p) next whole))
-          ∙ c.loop-place.invariant.sites);
+      part = told c.finished.result c.part-child-2.result _ _ _ _
+          (λ all made sites is h. h ∙ same_part Sequence Sequence c.args.request _ _ c.args.from _ _ _ _ refl
+          (child_answer made p (process_of s) c.loop-place.asked next is ∙ (sym (answer_last p members i s at next whole) ∙ c.loop-place.invariant.answer))
+          (omega (arith, size, child_count made p _ _ _ is, c.loop-place.invariant.size, c.loop-place.invariant.low))
+          (front_done _ no_children _ refl
+          (front_more c.loop-place.children.items _ made (expanded p (process_of s) c.loop-place.asked next) _ no_children _ refl is
+          (expanded_last p members i s at c.loop-place.asked next whole) c.loop-place.invariant.children)))
+          c.part-child-2.ensures.sites c.part-child-2.ensures.part c.finished.ensures;
+      sites = told c.finished.result c.part-child-2.result _ _ _ _
+          (λ all made sites is h. sites ∙ (ap (λ xs. c.loop-place.sites.items ++ xs) (sym (sites_last p members i s at (own_sites p) next whole))
+          ∙ c.loop-place.invariant.sites))
+          c.part-child-2.ensures.sites c.part-child-2.ensures.part c.finished.ensures;
     }
 
 -- parallel compositions
+
+pub parallel-part-child-requires : goal.parallel-part-child-requires
+parallel-part-child-requires t c =
+    let p = program_of c.args.program.now in
+    let branches = c.args.branches.now in
+    let i = c.loop-branch.branch-index in
+    let size = branch_size_here p branches i _ c.loop-branch-test.true c.branch-item.is in (
+      search (rules, the_lemmas, get_or_read),
+      (
+        (this_typed _ _ branches i _ c.branch-item.is c.loop-branch-test.true c.loop-branch.invariant.formed).0,
+        omega (arith, size, c.loop-branch.invariant.size, c.requires.room),
+      ),
+    )
 
 pub parallel-overflow_add-next-in-loop-branch : goal.parallel-overflow_add-next-in-loop-branch
 parallel-overflow_add-next-in-loop-branch t c =
     let p = program_of c.args.program.now in
     let size = branch_size_here p c.args.branches.now c.loop-branch.branch-index _ c.loop-branch-test.true c.branch-item.is in
-    let count = child_count c.in_ok-child.child p _ _ _ c.in_ok-child.ensures.part in
+    let made = taken c.part-child.result _ _ _ c.part-child.ensures.sites c.part-child.ensures.part c.in_ok-next.ensures in
+    let count = made.3.1 ∙ child_count made.0 p _ _ _ made.2 in
     omega (arith, size, count, c.loop-branch.invariant.size, c.requires.room)
 
 pub parallel-overflow_add-next-in-loop-branch-2 : goal.parallel-overflow_add-next-in-loop-branch-2
 parallel-overflow_add-next-in-loop-branch-2 t c =
     let p = program_of c.args.program.now in
     let size = branch_size_here p c.args.branches.now c.loop-branch.branch-index _ c.loop-branch-test.true c.branch-item.is in
-    let count = child_count c.in_ok-child.child p _ _ _ c.in_ok-child.ensures.part in
+    let made = taken c.part-child.result _ _ _ c.part-child.ensures.sites c.part-child.ensures.part c.in_ok-next.ensures in
+    let count = made.3.1 ∙ child_count made.0 p _ _ _ made.2 in
     omega (arith, size, count, c.loop-branch.invariant.size, c.requires.room)
 
 pub parallel-loop-branch-preserved : goal.parallel-loop-branch-preserved
@@ -150,18 +188,19 @@ parallel-loop-branch-preserved t c =
     let at = c.branch-item.is in
     let within = c.loop-branch-test.true in
     let next = c.loop-branch.next in
-    let child = c.in_ok-child.child in
+    let count = c.in_ok-next.field-0 in
+    let made = taken c.part-child.result _ _ _ c.part-child.ensures.sites c.part-child.ensures.part c.in_ok-next.ensures in
     let behind = members_in (drop (i + 1) branches) in
     let size = branch_size_here p branches i s within at in
-    let count = child_count child p (process_of s) next (next + 3) c.in_ok-child.ensures.part in
-    let step : next + 3 + size_of p (process_of s) ≡ next + (3 + (out-Part child).count) = omega (arith, count) in
+    let counted = made.3.1 ∙ child_count made.0 p (process_of s) next (next + 3) made.2 in
+    let step : next + 3 + size_of p (process_of s) ≡ next + (3 + count) = omega (arith, counted) in
     record {
-      children = front_more c.loop-branch.children.items c.push.new.self.items child (expanded p (process_of s) next (next + 3)) _ _ _
-          c.in_ok-push.ensures.items c.in_ok-child.ensures.part
+      children = front_more c.loop-branch.children.items c.add_child.new.children.items made.0 (expanded p (process_of s) next (next + 3)) _ _ _
+          made.3.0 made.2
           (branch_expanded_here p branches i s within at next ∙ ap (λ n. and_child (expanded p (process_of s) next (next + 3)) (expanded_branches p behind n))
           step)
           c.loop-branch.invariant.children;
-      sites = sites_more c.loop-branch.sites.items c.part.new.sites.items (sites_in p (own_sites p) (process_of s) (next + 3)) _ _ _ c.in_ok-child.ensures.sites
+      sites = sites_more c.loop-branch.sites.items c.part-child.new.sites.items (sites_in p (own_sites p) (process_of s) (next + 3)) _ _ _ made.1
           (branch_sites_here p branches i s within at (own_sites p) next
           ∙ ap (λ n. sites_in p (own_sites p) (process_of s) (next + 3) ++ sites_in_branches p (own_sites p) behind n) step)
           c.loop-branch.invariant.sites;
@@ -273,11 +312,25 @@ selection-loop-arm-init t c =
       formed = c.requires.process.2;
     }
 
+pub selection-part-child-requires : goal.selection-part-child-requires
+selection-part-child-requires t c =
+    let p = program_of c.args.program.now in
+    let arms = c.args.arms.now in
+    let i = c.loop-arm.arm-index in
+    let size = body_size_here p arms i _ c.loop-arm-test.true c.arm-item.is in (
+      search (rules, the_lemmas, get_or_read),
+      (
+        (arm_typed p arms i _ c.loop-arm-test.true c.arm-item.is _ _ c.loop-arm.invariant.formed).0,
+        omega (arith, size, c.loop-arm.invariant.size, c.requires.room),
+      ),
+    )
+
 pub selection-overflow_add-next-in-loop-arm : goal.selection-overflow_add-next-in-loop-arm
 selection-overflow_add-next-in-loop-arm t c =
     let p = program_of c.args.program.now in
     let size = body_size_here p c.args.arms.now c.loop-arm.arm-index _ c.loop-arm-test.true c.arm-item.is in
-    let count = child_count c.in_ok-child.child p _ _ _ c.in_ok-child.ensures.part in
+    let made = taken c.part-child.result _ _ _ c.part-child.ensures.sites c.part-child.ensures.part c.in_ok-next.ensures in
+    let count = made.3.1 ∙ child_count made.0 p _ _ _ made.2 in
     omega (arith, size, count, c.loop-arm.invariant.size, c.requires.room)
 
 pub selection-loop-arm-preserved : goal.selection-loop-arm-preserved
@@ -290,18 +343,18 @@ selection-loop-arm-preserved t c =
     let within = c.loop-arm-test.true in
     let start = c.loop-arm.start in
     let next = c.loop-arm.next in
-    let child = c.in_ok-child.child in
+    let count = c.in_ok-next.field-0 in
+    let made = taken c.part-child.result _ _ _ c.part-child.ensures.sites c.part-child.ensures.part c.in_ok-next.ensures in
     let behind = choices_in (drop (i + 1) arms) in
     let size = body_size_here p arms i a within at in
-    let count = child_count child p (process_of a.body) start next c.in_ok-child.ensures.part in
-    let step : next + size_of p (process_of a.body) ≡ next + (out-Part child).count = omega (arith, count) in
+    let counted = made.3.1 ∙ child_count made.0 p (process_of a.body) start next made.2 in
+    let step : next + size_of p (process_of a.body) ≡ next + count = omega (arith, counted) in
     record {
-      children = front_more c.loop-arm.children.items c.push.new.self.items child (expanded p (process_of a.body) start next) _ _ _ c.in_ok-push.ensures.items
-          c.in_ok-child.ensures.part
+      children = front_more c.loop-arm.children.items c.add_child.new.children.items made.0 (expanded p (process_of a.body) start next) _ _ _ made.3.0 made.2
           (body_expanded_here p arms i a within at start next
           ∙ ap (λ n. and_child (expanded p (process_of a.body) start next) (expanded_bodies p behind (start + 1) n)) step)
           c.loop-arm.invariant.children;
-      sites = sites_more c.loop-arm.sites.items c.part.new.sites.items (sites_in p (own_sites p) (process_of a.body) next) _ _ _ c.in_ok-child.ensures.sites
+      sites = sites_more c.loop-arm.sites.items c.part-child.new.sites.items (sites_in p (own_sites p) (process_of a.body) next) _ _ _ made.1
           (body_sites_here p arms i a within at (own_sites p) next
           ∙ ap (λ n. sites_in p (own_sites p) (process_of a.body) next ++ sites_in_bodies p (own_sites p) behind n) step)
           c.loop-arm.invariant.sites;
@@ -357,13 +410,20 @@ part-selection-requires t c =
     in
     (search (rules, the_lemmas, get_or_read), (subst (IsProcess p.channels p.vars) is c.requires.process, omega (arith, ap (size_of p) is, c.requires.room)))
 
-pub part-overflow_add-result : goal.part-overflow_add-result
-part-overflow_add-result t c =
+pub part-part-inner-requires : goal.part-part-inner-requires
+part-part-inner-requires t c =
     let p = program_of c.args.program.now in
     let is : process_of c.args.s.now ≡ repeating (process_of c.deref-in-Repeat.result.now) =
     ap process_of c.in-Repeat.is ∙ ap (λ s. repeating (process_of s)) (sym c.deref-in-Repeat.ensures) in
-    let count = child_count c.in_ok-child-in-Repeat.child p _ _ _ c.in_ok-child-in-Repeat.ensures.part in
-    omega (arith, ap (size_of p) is, count, c.requires.room)
+    (search (rules, the_lemmas, get_or_read), (subst (IsProcess p.channels p.vars) is c.requires.process, omega (arith, ap (size_of p) is, c.requires.room)))
+
+pub part-around-requires : goal.part-around-requires
+part-around-requires t c =
+    let p = program_of c.args.program.now in
+    let s = process_of c.deref-in-Repeat.result.now in
+    let is : process_of c.args.s.now ≡ repeating s = ap process_of c.in-Repeat.is ∙ ap (λ s. repeating (process_of s)) (sym c.deref-in-Repeat.ensures) in
+    asked c.part-inner.result _ _ _ (λ made sites at. omega (arith, ap (size_of p) is, child_count made p _ _ _ at, c.requires.room))
+    c.part-inner.ensures.sites c.part-inner.ensures.part
 
 pub part-returns-in-Then : goal.part-returns-in-Then
 part-returns-in-Then t c =
@@ -384,16 +444,20 @@ part-returns-in-Select t c =
     select_is _ again c.in-Select.arms c.in-Select.is ∙ ap (λ xs. choosing again (choices_in xs)) (sym c.deref-in-Select.ensures.value) in
     record { part = rw is c.selection.ensures.part; sites = rw is c.selection.ensures.sites }
 
-pub part-returns-in_ok-vec-in-Repeat-clause-part : goal.part-returns-in_ok-vec-in-Repeat-clause-part
-part-returns-in_ok-vec-in-Repeat-clause-part t c =
+pub part-returns-in-Repeat : goal.part-returns-in-Repeat
+part-returns-in-Repeat t c =
     let p = program_of c.args.program.now in
     let s = process_of c.deref-in-Repeat.result.now in
-    let from = c.args.from in
     let is : process_of c.args.s.now ≡ repeating s = ap process_of c.in-Repeat.is ∙ ap (λ s. repeating (process_of s)) (sym c.deref-in-Repeat.ensures) in
-    let count = child_count c.in_ok-child-in-Repeat.child p s (from + 1) (from + 2) c.in_ok-child-in-Repeat.ensures.part in
-    made_part Loop Loop c.args.request _ _ from _ _ c.in_ok-vec-in-Repeat.field-0 _ refl refl (ap (λ n. 2 + n) count)
-    (front_done c.in_ok-vec-in-Repeat.field-0.items no_children _ refl
-    (front_more [] c.in_ok-vec-in-Repeat.field-0.items c.in_ok-child-in-Repeat.child (expanded p s (from + 1) (from + 2))
-    (and_child (expanded p s (from + 1) (from + 2)) no_children) no_children _ c.in_ok-vec-in-Repeat.ensures.items c.in_ok-child-in-Repeat.ensures.part refl
-    refl))
-    ∙ ap (λ q. expanded p q c.args.request from) (sym is)
+    let from = c.args.from in
+    record {
+      part = told c.around.result c.part-inner.result _ _ _ _
+          (λ all made sites at h. h ∙ (same_part Loop Loop c.args.request from from from _ _ (made ∷ []) _ refl refl
+          (ap (λ n. 2 + n) (child_count made p s (from + 1) (from + 2) at))
+          (ap (λ tree. and_child tree no_children) at)
+          ∙ ap (λ q. expanded p q c.args.request from) (sym is)))
+          c.part-inner.ensures.sites c.part-inner.ensures.part c.around.ensures;
+      sites = told c.around.result c.part-inner.result _ _ _ _
+          (λ all made sites at h. sites ∙ ap (λ q. c.args.sites.now.items ++ sites_in p (own_sites p) q from) (sym is))
+          c.part-inner.ensures.sites c.part-inner.ensures.part c.around.ensures;
+    }

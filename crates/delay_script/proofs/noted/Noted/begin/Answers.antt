@@ -4,6 +4,7 @@ use Rattle.event_sim.specs.Following.{power_of}
 use Rattle.event_sim.specs.Stages.{StageValue, stage_with, moves_now}
 use Rattle.delay_script.specs.declared.due.Due.{Due}
 use Rattle.delay_script.specs.DelayTables.{DelayTable}
+use Rattle.delay_script.specs.TimedRuns.{timed_value}
 use Rattle.delay_script.specs.Dues.{IsTimedReady, AreFilled}
 use Rattle.delay_script.proofs.OnTheWay.{ready}
 use Rattle.delay_script.proofs.noted.Noted.begin.Goals as goal
@@ -26,3 +27,9 @@ invariant_of-result c =
     subst (λ (s : StageValue). IsTimedReady s made.delays made.queue made.moves.items slots c.args.steps c.args.high) (sym c.begin-course.ensures.stage)
     (subst (λ (d : DelayTable). IsTimedReady stage d made.queue made.moves.items slots c.args.steps c.args.high)
     (sym c.begin-course.ensures.delays) begun)
+
+pub returns : goal.returns
+returns c =
+    let made = c.begin-course.result in
+    ap (λ (s : StageValue). timed_value s.net s.script c.args.steps made.delays c.args.high) (c.begin-course.ensures.stage ∙ c.in_ok-stage.ensures)
+    ∙ ap (λ (d : DelayTable). timed_value c.args.net c.args.script c.args.steps d c.args.high) c.begin-course.ensures.delays
