@@ -12,6 +12,7 @@ import base64
 import functools
 import hashlib
 import json
+import mmap
 import os
 import stat
 import subprocess
@@ -87,6 +88,15 @@ def store() -> tuple[dict[str, str], dict[str, str]]:
     return calls, answers
 
 
+def found_in(name: str, key: str) -> str | None:
+    """What stands behind a key in one of the two files, whose lines begin with their keys, without reading all of it."""
+    with open(os.path.join(RECORDED, name), "rb") as file, mmap.mmap(file.fileno(), 0, access=mmap.ACCESS_READ) as lines:
+        at = 0 if lines[: len(key)] == key.encode() else lines.find(f"\n{key} ".encode()) + 1
+        if lines[at : at + len(key)] != key.encode():
+            return None
+        return lines[at + len(key) + 1 : lines.find(b"\n", at)].decode()
+
+
 def called(words: Sequence[str], full: bool) -> Kept:
     """Calls the program, and keeps the answer."""
     out = 1 if full else subprocess.PIPE
@@ -108,11 +118,11 @@ def answer(words: Sequence[str], full: bool = False) -> Answer:
     if "CHPX_RECORD" in os.environ:
         kept = called(words, full)
     else:
-        calls, answers = store()
         key = key_of(words, full)
-        if key not in calls:
+        name = found_in("calls", key)
+        if name is None:
             raise LookupError(f"no answer was recorded for: {' '.join(words)} ({key}); bench/companion records anew")
-        kept = json.loads(unpacked(answers[calls[key]]))
+        kept = json.loads(unpacked(found_in("answers", name) or ""))
     err = with_names(str(kept["err"]), words)
     return Answer(int(str(kept["status"])), str(kept["out"]).encode("latin-1"), err.encode("latin-1"))
 
@@ -121,7 +131,7 @@ def stand_in(folder: str) -> str:
     """Writes a program into a folder that answers as chpc did, and tells its path: `replay`, by this very Python."""
     path = os.path.join(os.path.abspath(folder), "recorded-chpc")
     with open(path, "w", encoding="utf-8") as file:
-        file.write(f"#!{sys.executable}\nimport runpy\n")
+        file.write(f"#!{sys.executable} -IS\nimport runpy\n")
         file.write(f"runpy.run_path({os.path.join(HERE, 'replay')!r}, run_name='__main__')\n")
     os.chmod(path, 0o755)
     return path
