@@ -7,7 +7,10 @@ from companion.chp_tree import CLOSING, OPENING, Decl, Program, Reader, Stmt
 
 
 class Statements(Reader):
-    """A reader of statements."""
+    """A reader of statements. Where `as_loops` is set, what stands in `*[ ]` is taken for a statement, even if a `->`
+    follows, as in `*[L?x -> S]`, which is refused at that."""
+
+    as_loops = False
 
     def group(self, kind: str, joint: str, members: list[Stmt]) -> Stmt:
         """Several members as one statement; one member alone is that member."""
@@ -69,7 +72,7 @@ class Statements(Reader):
     def has_arms(self) -> bool:
         """Whether the bracket that was opened has guards: a `->` of its own."""
         depth = 0
-        for token in self.tokens[self.at :]:
+        for token in () if self.as_loops else self.tokens[self.at :]:
             if token.kind == "->" and depth == 0:
                 return True
             depth += (token.kind in OPENING) - (token.kind in CLOSING)

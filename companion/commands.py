@@ -4,6 +4,7 @@ them."""
 from __future__ import annotations
 
 import functools
+import os
 import re
 from collections.abc import Sequence
 from dataclasses import dataclass, field
@@ -117,7 +118,8 @@ def take(words: Sequence[str]) -> Taken:
             plain.append((at, word))
         elif name not in options:
             there = ", ".join(options) or "none"
-            taken.faults.append((at, f"{taken.command} has no such option; it has {there}"))
+            other = elsewhere(taken.command, name, word)
+            taken.faults.append((at, other or f"{taken.command} has no such option; it has {there}"))
         elif name in seen:
             taken.faults.append((at, f"{name} stands here the second time"))
         elif not options[name]:
@@ -147,6 +149,14 @@ def take(words: Sequence[str]) -> Taken:
         taken.faults.append((len(words), f"{lacking} {known[0].options[lacking]} is missing"))
     taken.faults.sort()
     return taken
+
+
+def elsewhere(command: str, name: str, word: str) -> str:
+    """Where an option belongs that a command hasn't, or that a word is a file's name; nothing where neither is so."""
+    if os.path.exists(word):
+        return "a file whose name begins with `-` comes behind `--`"
+    known = [form.command for form in forms() if name in form.options]
+    return f"{command} has no such option; `{name}` is one of {known[0]}" if known else ""
 
 
 def note_option(taken: Taken, name: str, value: str, at: int) -> None:

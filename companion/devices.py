@@ -35,6 +35,10 @@ class Device:
 
     def send(self, channel: str, value: int) -> None:
         """Puts a value into the queue of an `in` channel."""
+        own = self.channels.get(channel)
+        if own is None or own.kind != "in":
+            there = ", ".join(self.of_kind("in")) or "none"
+            raise ValueError(f"{channel!r} is no `in` channel of this device; those are {there}")
         self.due.setdefault(channel, deque()).append(value)
 
     def offer(self, channel: str) -> int | None:

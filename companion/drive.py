@@ -75,7 +75,8 @@ class Drive:
         if value is None:
             return False
         if not isinstance(value, int) or not 0 <= value < 2**channel.width:
-            raise Refusal(f"{player.name} offers {value!r} on {channel.name}, which takes 0 to {2**channel.width - 1}")
+            most = 2**channel.width - 1
+            raise Refusal(f"{player.name}: it offers {value!r} on {channel.name}, which takes numbers from 0 to {most}")
         if sum(map(len, self.sent.values())) >= MOST_VALUES:
             raise Refusal(f"a script has at most {MOST_VALUES} values, and the device sends more")
         self.sent[channel.name].append(int(value))

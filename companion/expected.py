@@ -21,14 +21,16 @@ def at_fault(data: bytes, start: int) -> tuple[list[str], list[Token]]:
         tokens = tokens_of(data)
     except Unread:
         return [], []
-    reader = Statements(tokens)
-    try:
-        program_of(reader)
-    except Unread:
-        pass
-    if tokens[reader.far].start != start:
-        return [], []
-    return in_words(reader.asked), still_open(tokens[: reader.far])
+    for as_loops in (False, True):
+        reader = Statements(tokens)
+        reader.as_loops = as_loops
+        try:
+            program_of(reader)
+        except Unread:
+            pass
+        if tokens[reader.far].start == start:
+            return in_words(reader.asked), still_open(tokens[: reader.far])
+    return [], []
 
 
 def in_words(asked: set[str]) -> list[str]:

@@ -160,6 +160,8 @@ class Explainer:
         elif self.answer.status == 2:
             self.wrong_words()
         else:
+            if said.startswith("chp: 17 peer ") and said.endswith(".py"):
+                self.say("a device in Python is named by --device: `chpx bench PRS --device FILE.py`")
             if said.startswith("chp: 3 read "):
                 self.missing_file(said.removeprefix("chp: 3 read "))
             if self.answer.status not in causes.statuses():

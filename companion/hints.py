@@ -7,6 +7,7 @@ import re
 
 from companion.causes import wrote
 
+CALLED, WAITED = "`p`, `p()`", "`[x]`, `*[x]`"  # rows of which a name that is a procedure's decides
 BEGINS = r"(\bbegin|[;,(\[]|->|\|\|)\s*"  # what may stand before a statement
 # for each row, by its first cell: what stands right before the place and what begins there
 ROWS: list[tuple[str, tuple[int, ...], str, str]] = [
@@ -18,6 +19,9 @@ ROWS: list[tuple[str, tuple[int, ...], str, str]] = [
     ("`if b then S`, `while b do S`", (11,), r"", r"(if|while|then|do)\b"),
     ("`not b`, `a and b`, `a or b`", (11,), r"\b(not|and|or|xor)\s*$", r""),
     ("`not b`, `a and b`, `a or b`", (11,), r"", r"(and|or|xor)\b"),
+    ("`[L?x -> S]`, `*[L?x -> S]`", (11,), r"\[\s*[A-Za-z]\w*\s*$", r"[?!]"),
+    ("`[L?x -> S]`, `*[L?x -> S]`", (11,), r"\*\s*\[[^\[\]]*([?!]\s*\w+|\bskip|:=\s*\w+)\s*$", r"->"),
+    ("`x <= x + 1;`", (11,), rf"{BEGINS}[A-Za-z]\w*\s*$", r"<="),
     ("`=>`", (11,), r"", r"=\s*>"),
     ("`=>`", (11,), r"=\s*$", r">"),
     ("`x == y`", (11,), r"=\s*$", r"="),
@@ -83,7 +87,12 @@ def key_of(data: bytes, number: int, start: int) -> str:
     """The first cell of the row that fits the place, or nothing."""
     text = bare(data) if number != 10 else data.decode("latin-1")
     before, behind = text[max(0, start - 400) : start], text[start : start + 400]
+    procedures = re.findall(r"\bproc\s+(\w+)", text)
+    name = re.search(r"(\w*)\s*$", before)
+    is_procedure = name is not None and name[1] in procedures
     for key, numbers, front, back in ROWS:
+        if key == CALLED and not is_procedure or key == WAITED and is_procedure:
+            continue
         if number in numbers and re.search(front, before) and re.match(back, behind):
             return key
     return ""

@@ -68,9 +68,14 @@ def stretch(line: bytes, number: int, rules: Text | None) -> tuple[int, int]:
 
 def hint(line: bytes, number: int, rules: Text | None) -> str:
     """What to write in place of a script's line, where its habit is known; else nothing."""
+    text = line.decode("latin-1").split("//")[0].strip()
+    if number == 51 and rules:
+        there = re.findall(r"^(in|out) (\S+) ", rules.data.decode("latin-1"), re.M)
+        return "one of " + ", ".join(f"`{name}` ({kind})" for kind, name in there) if 0 < len(there) <= 12 else ""
+    if number == 60 and re.search(r"\d[.\w:]|:", text.partition(" ")[2] or text):
+        return "`NODE UP DOWN`: a node and two whole numbers, between blanks, without a unit, a colon or a fraction"
     if number != 50:
         return ""
-    text = line.decode("latin-1").split("//")[0].strip()
     name, colon, rest = text.partition(":")
     found = re.match(r"([A-Za-z]\w*)\s+[\d]", text)
     if text.startswith(("#", ";", "--", "/*")):

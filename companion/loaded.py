@@ -95,7 +95,11 @@ def players(words: Sequence[str], image: str | None, channels: Sequence[Channel]
     """The devices that words `NAME` or `NAME:CHANNEL,..` ask for, and a sink for the channels that none of them has."""
     outside = {it.name: it for it in channels if it.kind != "chan"}
     told = [(name, list(filter(None, rest.split(",")))) for name, _, rest in (word.partition(":") for word in words)]
-    taken = {name for _, names in told for name in names}
+    every = [name for _, names in told for name in names]
+    taken = set(every)
+    for name in taken:
+        if every.count(name) > 1:
+            raise Refusal(f"two devices have the channel {name}; each has channels of its own, as in NAME:A,B", 2)
     content = image_in(image) if image else {}
     made = []
     for word, (name, names) in zip(words, told):

@@ -109,7 +109,8 @@ def main(words: Sequence[str]) -> int:
     try:
         if words[:1] == ["--unproved"]:
             words = words[1:]
-            without_proof()
+            if words and not {"--help", "-h", "help", "--version"} & {*words}:
+                without_proof()
         status = dispatch(words)
         sys.stdout.flush()
         return status

@@ -33,6 +33,14 @@ class Parser(argparse.ArgumentParser):
             allow_abbrev=False,
         )
 
+    def parse_args(self, args=None, namespace=None):  # type: ignore[no-untyped-def, override]
+        """The words; a file whose name begins with `-`, behind `--`, is named by its folder too, for the program."""
+        given = super().parse_args(args, namespace)
+        for name, word in vars(given).items():
+            if isinstance(word, str) and word.startswith("-") and os.path.exists(word):
+                setattr(given, name, f"./{word}")
+        return given
+
     def error(self, message: str) -> NoReturn:
         raise Refusal(f"{message}\n{self.format_usage().strip()}", 2)
 

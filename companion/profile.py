@@ -96,8 +96,10 @@ def turns(scene: Scene, it: Profile, paint: Paint) -> list[str]:
     lines = []
     loops = sorted(it.turns.items(), key=lambda each: -sum(share.time for share in each[1].values()))
     for loop, shares in loops:
-        times = [share.time for share in shares.values()]
-        count = f"{len(times)} turn{'' if len(times) == 1 else 's'}"
+        *times, last = [shares[turn].time for turn in sorted(shares)]  # the last one may only have begun
+        begun = f" and a last one of {last}" if times else ""
+        times = times or [last]
+        count = f"{len(times)} turn{'' if len(times) == 1 else 's'}{begun}"
         lines.append(f"{count}, {min(times)}..{max(times)}, mean {sum(times) / len(times):.1f}: {named(scene, loop)}")
         for turn, share in sorted(shares.items(), key=lambda each: -each[1].time)[:TURNS]:
             lines.append(f"  turn {turn}: {share.time}, {percent(share, it)}, from {share.begin} to {share.end}")

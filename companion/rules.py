@@ -3,6 +3,7 @@
 from __future__ import annotations
 
 import functools
+import re
 from dataclasses import dataclass, field
 
 from companion.labels import called
@@ -74,8 +75,18 @@ def read_net(text: str, name: str) -> Net:
             guard, _, turned = line[len("rule ") :].rpartition(" -> ")
             net.rules[turned[:-1], turned[-1:]] = guard
         elif line or number < len(lines):
-            raise Refusal(f"{called(name)}:{number}: this line is none of a rule file", 8)
+            raise Refusal(f"{called(name)}:{number}: this line is none of a rule file{other(text)}", 8)
     return net
+
+
+def other(text: str) -> str:
+    """What a text looks like that is no rule file, and what to do; nothing where it isn't known."""
+    return "; it looks like a program: `chpx compile FILE > FILE.prs` makes its rule file" if is_program(text) else ""
+
+
+def is_program(text: str) -> bool:
+    """Whether a text begins as programs do."""
+    return re.match(r"(\s|//[^\n]*\n)*(in|out|chan|var|proc|begin)\b", text) is not None
 
 
 def net_in(name: str) -> Net:

@@ -39,11 +39,23 @@ class Scene:
             return []
         return [leaf for child in self.inside(part) for leaf in self.leaves(child)] or [part]
 
-    def held(self, path: list[Part]) -> list[Part]:
-        """What is under way in the first part of a path and has to end before its last one comes to its turn."""
+    def held(self, path: list[Part], repeats: bool = False) -> list[Part]:
+        """What is under way in the first part of a path and has to end before its last one comes to its turn; nothing
+        where that is over and doesn't come again. `repeats` says whether a repetition lies round the path."""
+        part = path[0]
+        repeats = repeats or part.kind in ("loop", "again")
         if len(path) > 1 and self.is_active(path[1]):
-            return self.held(path[1:])
-        return self.leaves(path[0])
+            return self.held(path[1:], repeats)
+        return [] if len(path) > 1 and not repeats and self.is_over(part, path[1]) else self.leaves(part)
+
+    def is_over(self, part: Part, child: Part) -> bool:
+        """Whether a part under way is done with one in it, which isn't under way: it is with a later one of a sequence
+        or in another arm, and of a parallel composition all have begun."""
+        inside = self.inside(part)
+        active = [at for at, it in enumerate(inside) if self.is_active(it)]
+        if part.kind == "sequence":
+            return any(at > inside.index(child) for at in active)
+        return part.kind == "parallel" or (part.kind == "select" and bool(active))
 
     def paths(self, part: Part) -> list[list[Part]]:
         """The parts from the root down to this one; where it lies in a procedure, by each call of that."""

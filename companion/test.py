@@ -86,7 +86,14 @@ def told(number: int, result: Result) -> list[str]:
     facts = [f"{result.runs} run{'s' * (result.runs != 1)}"]
     facts += [f"{result.moves} moves"] * (result.moves >= 0) + [f"time {result.time}"] * (result.time >= 0)
     head = f"ok {number} - {case.file}: {case.title} ({', '.join(facts)})"
-    return [f"not {head}", *(f"# {line}" for line in result.why)] if result.why else [head]
+    lines = [f"# {line}" for line in result.why or notes(case)]
+    return [f"not {head}" if result.why else head, *lines]
+
+
+def notes(case: Case) -> list[str]:
+    """What a case that passes doesn't say, in a line."""
+    says = case.wanted or case.refused or case.done is not None or case.moves is not None or case.time is not None
+    return [] if says else ["no line says what has to pass: only the end was looked at"]
 
 
 def as_json(result: Result) -> dict[str, object]:

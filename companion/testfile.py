@@ -6,7 +6,8 @@ import os
 import re
 from dataclasses import replace
 
-from companion import options
+from companion import filekinds, options
+from companion.commands import PROGRAM
 from companion.places import Text
 from companion.program import Refusal
 from companion.testcases import Case
@@ -33,6 +34,9 @@ def read_cases(name: str) -> list[Case]:
         elif words.all[0] in FORMS:
             FORMS[words.all[0]](now, words, own)
         else:
+            kind = filekinds.kind_of(text.data)
+            if kind == PROGRAM:
+                raise Refusal(f"{name}: this looks like a program; its test file stands beside it and ends in .test", 8)
             raise words.fault(0, f"a line begins with `case`, NAME =, {', '.join(FORMS)}")
     for case in cases or [common]:
         if case.device and case.script:

@@ -56,7 +56,9 @@ def put_script(case: Case, words: Words, own: set[str]) -> None:
     """`script NAME: WORD ..`, a line of the script, or `script FILE`, all lines of that file."""
     rest = words.rest()
     if not rest[0].endswith(":"):
-        words.only(2)
+        if len(rest) > 1:
+            line = f"`script {rest[0].rstrip('=')}: ..`"
+            raise words.fault(1, f"{line} is a line of the script, and `script FILE` all lines of a file")
         name = os.path.join(os.path.dirname(case.file), rest[0])
         for line in options.read(name).decode("latin-1").split("\n"):
             told = " ".join(WORD.findall(line.split("//", 1)[0]))

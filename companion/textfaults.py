@@ -2,15 +2,16 @@
 
 from __future__ import annotations
 
+import difflib
 from dataclasses import dataclass, field
 
 from companion import expected, widths
 from companion.chp_reader import read_program
-from companion.chp_tokens import Unread
+from companion.chp_tokens import Unread, number_of
 from companion.chp_tree import Program
 
-SYNTAX, WIDTH, TOO_WIDE, UNKNOWN = 11, 24, 25, 26
-ENDS = (b"end", b")", b"]", b"}", b"")
+SYNTAX, UNDECLARED, WIDTH, TOO_WIDE, UNKNOWN, SLICE = 11, 21, 24, 25, 26, 27
+ENDS = {b"end": "", b")": "(", b"]": "[", b"}": "{", b"": ""}  # what may close too early, with what each closes
 
 
 @dataclass
@@ -28,8 +29,8 @@ def of(data: bytes, number: int, start: int, end: int) -> Found:
     """What is known of a refused place."""
     if number == SYNTAX:
         wanted, opened = expected.at_fault(data, start)
-        is_end = data[start:end] in ENDS
-        last = [(opened[-1].start, opened[-1].end)] if opened and is_end else []
+        is_early = bool(opened) and data[start:end] in ENDS and ENDS[data[start:end]] != opened[-1].kind
+        last = [(opened[-1].start, opened[-1].end)] if is_early else []
         return Found(wanted=wanted, opened=last, what="this can't stand here" if wanted and start < len(data) else "")
     try:
         it = read_program(data)
@@ -38,7 +39,39 @@ def of(data: bytes, number: int, start: int, end: int) -> Found:
     if number in (WIDTH, TOO_WIDE):
         told = widths.told(it, number, start, end, data)
         return Found(what=told[0], instead=told[1]) if told else Found()
+    if number == SLICE:
+        return of_slice(it, data[start:end].decode("latin-1"))
+    if number == UNDECLARED:
+        return Found(instead=declared(it, start, data[start:end].decode("latin-1")))
     return Found(instead=bound_tighter(it, data, start, end)) if number == UNKNOWN else Found()
+
+
+def of_slice(it: Program, text: str) -> Found:
+    """For bits that a variable doesn't have: those that it has, or the two numbers the other way round."""
+    name, _, rest = text.partition("[")
+    bits = [number_of(word.strip()) for word in rest.rstrip("] \n\t").split(":")]
+    decl = it.of_kind("var").get(name.strip())
+    if decl is None or None in bits:
+        return Found()
+    numbers = [bit for bit in bits if bit is not None]
+    has = f"{decl.name} has the bits {decl.width - 1} to 0"
+    if max(numbers) >= decl.width:
+        return Found(what=has, instead=f"bits from {decl.width - 1} down to 0, or a wider variable")
+    return Found(what="the higher number comes first", instead=f"`{decl.name}[{max(numbers)}:{min(numbers)}]`")
+
+
+def declared(it: Program, start: int, name: str) -> str:
+    """How a name is declared that nothing declares, by how it is used there; or the one that it may be meant for."""
+    known = [*(decl.name for decl in it.decls), *it.procs]
+    near = difflib.get_close_matches(name, known, 1, 0.65)
+    also = f", or `{near[0]}`, if that was meant" if near else ""
+    for stmt in it.statements():
+        if stmt.name == name and stmt.start == start and stmt.kind in ("send", "receive"):
+            kind = "out" if stmt.kind == "send" else "in"
+            return f"a channel is declared, as by `{kind} {name} : 8;`, or `chan` between two branches{also}"
+        if stmt.kind == "call" and stmt.name == name:
+            return f"a procedure is declared, as by `proc {name} = skip;`{also}"
+    return f"a variable is declared, as by `var {name} : 8;`{also}"
 
 
 def bound_tighter(it: Program, data: bytes, start: int, end: int) -> str:

@@ -85,5 +85,6 @@ def steps_of(given: Namespace, net: Net) -> int | None:
     if given.until is None:
         return int(given.steps) if given.steps is not None else None
     if parted(given.until)[1] == 0:
-        raise Refusal(f"--until wants a channel and a number, as {parted(given.until)[0] or 'X'}:3", 2)
+        name = given.until.partition(":")[0] or "X"
+        raise Refusal(f"--until wants a channel and a number from 1 on, as {name}:3", 2)
     return value_at(wave_of(given.rules, given.script, given.delays, given.steps), net, given.until)

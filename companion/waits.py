@@ -14,13 +14,15 @@ from companion.scene import Scene
 @dataclass
 class Wait:
     """A part under way with none in it: why it waits, in lines; the parts that it waits for; whether it waits for the
-    environment; and whether it is blocked for good by itself, as a selection is where not exactly one guard is true."""
+    environment; whether it is blocked for good by itself, as a selection is where not exactly one guard is true; and
+    whether all that it waits for is over."""
 
     part: Part
     lines: list[str] = field(default_factory=list)
     on: list[Part] = field(default_factory=list)
     outside: bool = False
     blocked: bool = False
+    over: bool = False
 
 
 def waits_of(scene: Scene) -> list[Wait]:
@@ -80,9 +82,10 @@ def wait_on_channel(scene: Scene, wait: Wait) -> None:
         held = scene.held(path[at:])
         wait.on += [it for it in held if it not in wait.on]
         behind = f"which waits for {' and '.join(scene.called(it) for it in held if it is not site)}"
-        ended = "whose branch isn't under way any more"
+        ended = "which is over"
         told = "which is under way too" if site in held else behind if held else ended
         wait.lines.append(f"{name} is {other} at {where}, {told}")
+    wait.over = bool(sites) and not wait.on
 
 
 def guard_rails(net: Net, part: Part) -> list[tuple[str, str]]:

@@ -80,7 +80,9 @@ def conclusion(scene: Scene, waits: list[Wait], paint: Paint) -> list[str]:
             found.append(paint.red("blocked for good") + f": {scene.called(wait.part)}")
     if not found and waits and is_still:
         if any(wait.outside for wait in waits):
-            found.append("no deadlock: it would go on if the environment did, by the script")
+            found += [f"{paint.red('blocked for good')}: {scene.called(wait.part)}" for wait in waits if wait.over]
+            rest = "the rest would" if found else "no deadlock: it would"
+            found.append(f"{rest} go on if the environment did, by the script")
         else:
             found.append("blocked for good: what they wait for has ended")
     return found

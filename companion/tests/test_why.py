@@ -66,7 +66,7 @@ class Why(Case):
         ])
         text = "chan X : 1; var v : 1; proc p = X!1; begin (call p; call p) || X?v end"
         ran = self.why(text, "")
-        self.has(ran.out, ["f.chp:1:33: X!1, in f.chp:1:53: call p\n", "whose branch isn't under way any more"])
+        self.has(ran.out, ["f.chp:1:33: X!1, in f.chp:1:53: call p\n", "which is over"])
         text = "chan X : 1; var v : 1; proc get = X?v; begin X!1; call get; call get end"
         ran = self.why(text, "")
         self.has(ran.out, ["X is received at f.chp:1:35: X?v, in f.chp:1:51: call get, which isn't beside it"])
@@ -91,7 +91,7 @@ class Why(Case):
             ran.out,
             [
                 "f.chp:1:36: X!0",
-                "whose branch isn't under way any more",
+                "which is over",
                 "blocked for good: what they wait for has ended",
             ],
         )

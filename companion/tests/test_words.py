@@ -13,6 +13,11 @@ from companion.tests.base import Case
 # for each row of the table texts of which it speaks
 WROTE = {
     "`[x]`, `*[x]`": ["var x : 1; begin [x] end", "var x : 1; begin *[x = 1] end"],
+    "`[L?x -> S]`, `*[L?x -> S]`": [
+        "in L : 1; var x : 1; begin [L?x -> skip] end",
+        "in L : 1; var x : 1; begin *[L?x -> skip] end",
+    ],
+    "`x <= x + 1;`": ["var x : 4; begin x <= x + 1 end"],
     "`true`, `false`": ["var x : 1; begin *[true -> x := 1] end"],
     "`else -> S`": ["var x : 1; begin [x -> skip [] else -> skip] end"],
     "`x == y`": ["var x : 1; begin [x == 1 -> skip] end"],
