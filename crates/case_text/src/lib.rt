@@ -5,4 +5,4 @@ mod page;
 mod words;
 
 pub use page::{put_bytes, put_lines, put_numbers};
-pub use words::{bytes_of, words_of};
+pub use words::{bytes_of, numbers_of, words_of};

@@ -1,4 +1,4 @@
-//! The words and the texts of a case.
+//! The words, the numbers and the texts of a case.
 
 use std::alloc::{AllocError, Global};
 
@@ -67,4 +67,16 @@ pub fn words_of(alloc: Global, line: &str) -> Result<Vec<String>, AllocError> {
         words.push(word)?;
     }
     Ok(words)
+}
+
+/// The numbers of a line, or None where a word is none.
+pub fn numbers_of(alloc: Global, line: &str) -> Result<Option<Vec<u64>>, AllocError> {
+    let mut numbers = Vec::new(alloc);
+    for word in line.split_whitespace() {
+        match word.parse::<u64>() {
+            Ok(number) => numbers.push(number)?,
+            Err(_) => return Ok(None),
+        }
+    }
+    Ok(Some(numbers))
 }

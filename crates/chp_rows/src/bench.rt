@@ -1,33 +1,81 @@
-//! The files that a case sets out.
+//! What a case sets out: files, and devices with their planned faults.
 
-use chp_edge::MemShelf;
+use case_text::{bytes_of, numbers_of};
+use chp_edge::{MemShelf, MemSink};
 use std::alloc::{AllocError, Global};
 
-/// The files that a case has set out so far, each with its name.
+/// A sink to be made: what it takes in a call, what it has room for, and the numbers of the calls that fail.
+#[derive(Drop)]
+pub struct Plan {
+    most: usize,
+    room: usize,
+    failing: Vec<u64>,
+}
+
+const WIDE: usize = 1 << 23;
+
+impl Plan {
+    /// A sink that takes all at once.
+    fn wide(alloc: Global) -> Plan {
+        Plan {
+            most: WIDE,
+            room: WIDE,
+            failing: Vec::new(alloc),
+        }
+    }
+
+    /// The sink of these numbers: what it takes in a call, its room, and the calls that fail.
+    pub fn set(&mut self, alloc: Global, numbers: &[u64]) -> Result<bool, AllocError> {
+        let [most, room, failing @ ..] = numbers else {
+            return Ok(false);
+        };
+        let (Ok(most), Ok(room)) = (usize::try_from(*most), usize::try_from(*room)) else {
+            return Ok(false);
+        };
+        self.most = most;
+        self.room = room;
+        self.failing = Vec::from_slice(alloc, failing)?;
+        Ok(true)
+    }
+
+    pub fn sink(&self, alloc: Global) -> Result<MemSink, AllocError> {
+        MemSink::new(alloc, self.most.max(1), self.room, self.failing.clone()?)
+    }
+}
+
+/// What a case has set out so far.
 #[derive(Drop)]
 pub struct Bench {
     files: Vec<(String, Vec<u8>)>,
+    failing: Vec<u64>,
+    pub out: Plan,
+    pub say: Plan,
 }
 
 impl Bench {
     pub fn new(alloc: Global) -> Bench {
         Bench {
             files: Vec::new(alloc),
+            failing: Vec::new(alloc),
+            out: Plan::wide(alloc),
+            say: Plan::wide(alloc),
         }
     }
 
-    /// Adds a file of this name after the others.
-    pub fn add(&mut self, alloc: Global, name: &str, text: Vec<u8>) -> Result<(), AllocError> {
-        let name = name.to_string(alloc)?;
-        Ok(self.files.push((name, text))?)
+    /// Adds a file of this name after the others, with the text that may follow the name. True: any line can begin one.
+    pub fn begin_file(&mut self, alloc: Global, line: &str) -> Result<bool, AllocError> {
+        let (name, text) = line.split_once(' ').unwrap_or((line, ""));
+        let file = (name.to_string(alloc)?, bytes_of(alloc, text)?);
+        self.files.push(file)?;
+        Ok(true)
     }
 
     /// Appends to the last file.
     pub fn append(&mut self, bytes: &[u8]) -> Result<(), AllocError> {
-        match self.files.last_mut() {
-            Some(file) => file.1.extend_from_slice(bytes),
-            None => Ok(()),
+        if let Some(file) = self.files.last_mut() {
+            file.1.extend_from_slice(bytes)?;
         }
+        Ok(())
     }
 
     /// The bytes of the last file.
@@ -38,17 +86,35 @@ impl Bench {
         }
     }
 
-    /// The bytes of the last two files, none where there are fewer.
-    pub fn last_two(&self) -> (&[u8], &[u8]) {
-        match self.files.as_slice() {
-            [.., first, second] => (&first.1, &second.1),
-            _ => (&[], &[]),
+    /// The calls of the shelf that fail, and whether these words are numbers.
+    pub fn fail(&mut self, alloc: Global, line: &str) -> Result<bool, AllocError> {
+        match numbers_of(alloc, line)? {
+            Some(failing) => {
+                self.failing = failing;
+                Ok(true)
+            }
+            None => Ok(false),
         }
     }
 
-    /// A shelf of the files, on which the call of this number fails, counted from 1; with 0 none does.
-    pub fn shelf(&self, alloc: Global, failing: u64) -> Result<MemShelf, AllocError> {
-        let failing = Vec::from_slice(alloc, &[failing])?;
-        Ok(MemShelf::new(self.files.clone()?, failing))
+    /// These calls of the shelf fail.
+    pub fn fail_at(&mut self, failing: Vec<u64>) {
+        self.failing = failing;
+    }
+
+    /// A shelf of the files, the last one cut to at most this many bytes.
+    pub fn shelf(&self, alloc: Global, bytes: usize) -> Result<MemShelf, AllocError> {
+        let mut files = Vec::new(alloc);
+        for (place, file) in self.files.iter().enumerate() {
+            let is_last = place + 1 == self.files.len();
+            let kept = if is_last {
+                bytes.min(file.1.len())
+            } else {
+                file.1.len()
+            };
+            let text = Vec::from_slice(alloc, &file.1[..kept])?;
+            files.push((file.0.clone()?, text))?;
+        }
+        Ok(MemShelf::new(files, self.failing.clone()?))
     }
 }

@@ -1,22 +1,26 @@
-//! Reading and writing whole, under faults, and the adapters over writers.
+//! Reading and writing whole, under faults, and the adapters over real files and writers.
 
 use crate::bench::Bench;
 use case_text::{bytes_of, put_bytes};
 use chp_edge::{
-    ErrSink, Failed, MemSink, OutSink, ReadEnd, Shelf, Sink, SureShelf, read_all, write_all,
+    ErrSink, Failed, FileShelf, OutSink, ReadEnd, Shelf, Sink, SureShelf, read_all, write_all,
 };
 use std::alloc::{AllocError, Global};
 use std::io;
 use std::io::Write as IoWrite;
+use std::rt::Files;
 
 fn put_read<S: Shelf>(
     alloc: Global,
     shelf: &mut S,
     name: &str,
-    limit: u32,
+    limit: usize,
     page: &mut String,
 ) -> Result<(), AllocError> {
-    match read_all(alloc, shelf, name, limit as usize) {
+    if limit == usize::MAX {
+        return page.push_str("?\n");
+    }
+    match read_all(alloc, shelf, name, limit) {
         Ok(text) => {
             page.push_str("read ")?;
             put_bytes(page, &text)?;
@@ -28,31 +32,41 @@ fn put_read<S: Shelf>(
     }
 }
 
-/// Reads the named files one after the other from one shelf, on which the call of this number fails.
+/// Reads the named files one after the other from one shelf.
 pub fn read(
     alloc: Global,
     bench: &Bench,
-    failing: u32,
-    limit: u32,
+    limit: usize,
     names: &str,
     page: &mut String,
 ) -> Result<(), AllocError> {
-    let mut shelf = bench.shelf(alloc, u64::from(failing))?;
-    for name in names.split(' ') {
+    let mut shelf = bench.shelf(alloc, usize::MAX)?;
+    for name in names.split_whitespace() {
         put_read(alloc, &mut shelf, name, limit, page)?;
     }
     Ok(())
 }
 
-/// Reads the text from a shelf that never fails.
+/// Reads the last file from a shelf that never fails.
 pub fn read_surely(
     alloc: Global,
-    text: &[u8],
-    limit: u32,
+    bench: &Bench,
+    limit: usize,
     page: &mut String,
 ) -> Result<(), AllocError> {
-    let mut shelf = SureShelf::new(Vec::from_slice(alloc, text)?);
+    let mut shelf = SureShelf::new(Vec::from_slice(alloc, bench.last())?);
     put_read(alloc, &mut shelf, "any", limit, page)
+}
+
+/// Reads a real file of data/.
+pub fn read_disk<R: Files + AllocGlobal>(
+    rt: &R,
+    limit: usize,
+    name: &str,
+    page: &mut String,
+) -> Result<(), AllocError> {
+    let mut shelf = FileShelf::new(rt);
+    put_read(rt.alloc(), &mut shelf, name, limit, page)
 }
 
 fn put_writes<K: Sink>(
@@ -71,19 +85,14 @@ fn put_writes<K: Sink>(
     Ok(())
 }
 
-/// The most bytes that the sink takes in a call.
-const MOST: usize = 4;
-
-/// Writes the texts one after the other to a sink with room for so many bytes, of which the call of this number fails.
+/// Writes the texts one after the other to the sink of the case.
 pub fn write(
     alloc: Global,
-    room: u32,
-    failing: u32,
+    bench: &Bench,
     texts: &str,
     page: &mut String,
 ) -> Result<(), AllocError> {
-    let failing = Vec::from_slice(alloc, &[u64::from(failing)])?;
-    let mut sink = MemSink::new(alloc, MOST, room as usize, failing)?;
+    let mut sink = bench.out.sink(alloc)?;
     put_writes(alloc, &mut sink, texts, page)?;
     put_bytes(page, sink.written())?;
     page.push('\n')
@@ -92,7 +101,7 @@ pub fn write(
 /// A writer that takes two bytes a call, so many calls long, and then nothing.
 #[derive(Drop)]
 struct Narrow<'a> {
-    calls: u32,
+    calls: u64,
     taken: &'a mut Vec<u8>,
 }
 
@@ -116,7 +125,7 @@ impl IoWrite for Narrow<'_> {
 /// standard error.
 pub fn write_narrowly(
     alloc: Global,
-    calls: u32,
+    calls: u64,
     texts: &str,
     page: &mut String,
 ) -> Result<(), AllocError> {

@@ -1,13 +1,11 @@
-//! Worked cases that no command shows, or only over devices in memory. They are in data/, and the output that they must
-//! give in the file stdout; docs/TESTS.md says how they are written.
+//! Worked cases of the commands and of the edge. They are in data/, and the output that they must give in the file
+//! stdout; docs/TESTS.md says how they are written.
 #![tactic(auto)]
 
 mod bench;
 mod cases;
 mod drops;
 mod edge;
-mod nets;
-mod orders;
 mod peers;
 mod pickers;
 mod printer;
@@ -20,18 +18,33 @@ use bench::Bench;
 use cases::obey;
 use std::{fs, io};
 
-const TOPICS: [&str; 7] = [
-    "texts", "stream", "edge", "shelves", "rounds", "devices", "nets",
+const TOPICS: [&str; 17] = [
+    "texts",
+    "compile",
+    "stream",
+    "check",
+    "expand",
+    "grow",
+    "migrate",
+    "simulate",
+    "rounds",
+    "buffers",
+    "procedures",
+    "edge",
+    "against",
+    "delays",
+    "waves",
+    "unwave",
+    "bench",
 ];
 
 fn main(rt: HostRuntime) -> io::Result<()> {
-    let alloc = rt.alloc();
-    let mut page = String::new(alloc);
+    let mut page = String::new(rt.alloc());
     for topic in TOPICS {
-        let mut bench = Bench::new(alloc);
+        let mut bench = Bench::new(rt.alloc());
         let cases = fs::read_to_string(&rt, topic)?;
         for line in cases.lines() {
-            obey(alloc, &mut bench, line, &mut page)?;
+            obey(&rt, &mut bench, line, &mut page)?;
         }
     }
     rt.print(page)

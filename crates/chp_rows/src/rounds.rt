@@ -29,10 +29,10 @@ fn put_end(
     };
     writeln!(page, "{word}, done {}", u8::from(config.is_done()))?;
     for (channel, history) in program.channels().iter().zip(config.histories()) {
-        put_bytes(page, channel.name.bytes())
-            .and(page.push(':'))
-            .and(put_numbers(page, history))
-            .and(page.push('\n'))?;
+        put_bytes(page, channel.name.bytes())?;
+        page.push(':')?;
+        put_numbers(page, history)?;
+        page.push('\n')?;
     }
     Ok(())
 }
@@ -43,8 +43,8 @@ fn make_rounds(
     alloc: Global,
     program: &Typed,
     script: &[u8],
-    most: u32,
     n: u32,
+    most: u32,
     page: &mut String,
 ) -> Result<(), AllocError>
     requires { MeetsSharing (process_of program.now.body) }
@@ -66,19 +66,25 @@ fn make_rounds(
     put_end(page, program, &config, end)
 }
 
-/// Makes `n` rounds of the program that the text is, under a script of this line, where no more than `most` values may
-/// pass.
+/// Rounds of the program that the text is, under a script of one line: the words are the most values that may pass, how
+/// many rounds are wanted, and that line. Says whether the words are these.
 pub fn rounds_within(
     alloc: Global,
     text: &[u8],
-    most: u32,
-    n: u32,
-    script: &str,
+    words: &str,
     page: &mut String,
-) -> Result<(), AllocError> {
+) -> Result<bool, AllocError> {
+    let mut words = words.splitn(3, ' ');
+    let (Some(most), Some(n), Some(script)) = (words.next(), words.next(), words.next()) else {
+        return Ok(false);
+    };
+    let (Ok(most), Ok(n)) = (most.parse::<u32>(), n.parse::<u32>()) else {
+        return Ok(false);
+    };
     let script = bytes_of(alloc, script)?;
     match accepted(alloc, text) {
-        Some(program) => make_rounds(alloc, program.typed(), &script, most, n, page),
-        None => page.push_str("no program\n"),
+        Some(program) => make_rounds(alloc, program.typed(), &script, n, most, page)?,
+        None => page.push_str("no program\n")?,
     }
+    Ok(true)
 }

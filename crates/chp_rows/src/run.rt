@@ -7,44 +7,20 @@ use crate::peers::{Mood, Moody};
 use crate::pickers::{Adversary, Way};
 use case_text::{bytes_of, put_bytes, put_lines, words_of};
 use chp_cli::{Players, Status, chp_main};
-use chp_edge::MemSink;
-use event_sim::{Lowest, Picker, Random};
-use peer_bench::{Echo, Peer};
-use square_device::Square;
+use chp_edge::{MemSink, Shelf, SureShelf};
+use event_sim::{Lowest, Newest, Oldest, Picker, Random};
+use peer_bench::{Echo, Peer, Ramp};
 use std::alloc::{AllocError, Global};
 use std::fmt::Write;
 
 /// What a command left.
 #[derive(Drop)]
-pub struct Ran {
-    pub status: Status,
+struct Ran {
+    status: Status,
     out: MemSink,
     say: MemSink,
-}
-
-/// The most bytes that a command writes.
-const ROOM: usize = 1 << 23;
-
-/// A sink that takes all at once.
-fn wide_sink(alloc: Global) -> Result<MemSink, AllocError> {
-    MemSink::new(alloc, ROOM, ROOM, Vec::new(alloc))
-}
-
-/// Runs the words of the line over the files of the case, with these orders and devices. The call of the shelf of this
-/// number fails, counted from 1; with 0 none does.
-pub fn play(
-    alloc: Global,
-    bench: &Bench,
-    line: &str,
-    failing: u64,
-    players: &mut Players,
-) -> Result<Box<Ran>, AllocError> {
-    let words = words_of(alloc, line)?;
-    let mut out = wide_sink(alloc)?;
-    let mut say = wide_sink(alloc)?;
-    let mut shelf = bench.shelf(alloc, failing)?;
-    let status = chp_main(alloc, &words, &mut shelf, &mut out, &mut say, players);
-    Ok(Box::new(alloc, Ran { status, out, say })?)
+    /// What all orders have chosen, concatenated.
+    picks: Vec<usize>,
 }
 
 /// The text by which an order chooses: the last file, or some byte where it has none.
@@ -59,27 +35,82 @@ fn text_to_go_by(alloc: Global, bench: &Bench) -> Result<Vec<u8>, AllocError>
     }
 }
 
+/// What all orders have chosen, concatenated.
+fn picks_of(alloc: Global, orders: &[Box<dyn Picker>]) -> Result<Vec<usize>, AllocError> {
+    let mut picks = Vec::new(alloc);
+    for order in orders {
+        picks.extend_from_slice(order.log())?;
+    }
+    Ok(picks)
+}
+
+/// Runs the words of the line with these orders and devices.
+fn play<S: Shelf>(
+    alloc: Global,
+    bench: &Bench,
+    line: &str,
+    shelf: &mut S,
+    players: Players,
+) -> Result<Ran, AllocError> {
+    let mut players = players;
+    let words = words_of(alloc, line)?;
+    let mut out = bench.out.sink(alloc)?;
+    let mut say = bench.say.sink(alloc)?;
+    let status = chp_main(alloc, &words, shelf, &mut out, &mut say, &mut players);
+    let picks = picks_of(alloc, &players.orders)?;
+    Ok(Ran {
+        status,
+        out,
+        say,
+        picks,
+    })
+}
+
+/// Runs the words of the line with these orders, and the devices that a case may name.
+fn play_with<S: Shelf>(
+    alloc: Global,
+    bench: &Bench,
+    line: &str,
+    shelf: &mut S,
+    orders: Vec<Box<dyn Picker>>,
+) -> Result<Ran, AllocError> {
+    let mut peers: Vec<Box<dyn Peer>> = Vec::new(alloc);
+    peers.push(Box::new(alloc, Ramp::new(alloc))?)?;
+    peers.push(Box::new(alloc, Echo::new(alloc))?)?;
+    for mood in [Mood::Mute, Mood::Deaf, Mood::Greedy, Mood::Fickle] {
+        peers.push(Box::new(alloc, Moody::new(alloc, mood))?)?;
+    }
+    play(alloc, bench, line, shelf, Players { orders, peers })
+}
+
 /// Runs the words of the line, with the orders and devices that a case may name.
-fn command(alloc: Global, bench: &Bench, line: &str, failing: u64) -> Result<Box<Ran>, AllocError> {
+fn command<S: Shelf>(
+    alloc: Global,
+    bench: &Bench,
+    line: &str,
+    shelf: &mut S,
+) -> Result<Ran, AllocError> {
     let mut orders: Vec<Box<dyn Picker>> = Vec::new(alloc);
     orders.push(Box::new(alloc, Lowest::new(alloc))?)?;
+    orders.push(Box::new(alloc, Oldest::new(alloc))?)?;
+    orders.push(Box::new(alloc, Newest::new(alloc))?)?;
     orders.push(Box::new(alloc, Random::new(alloc))?)?;
     for way in [Way::Swing, Way::Starve, Way::ByText] {
         let text = text_to_go_by(alloc, bench)?;
         orders.push(Box::new(alloc, Adversary::new(alloc, way, text))?)?;
     }
-    let mut peers: Vec<Box<dyn Peer>> = Vec::new(alloc);
-    peers.push(Box::new(alloc, Echo::new(alloc))?)?;
-    peers.push(Box::new(alloc, Square::new(alloc))?)?;
-    for mood in [Mood::Mute, Mood::Deaf, Mood::Greedy, Mood::Fickle] {
-        peers.push(Box::new(alloc, Moody::new(alloc, mood))?)?;
-    }
-    play(alloc, bench, line, failing, &mut Players { orders, peers })
+    play_with(alloc, bench, line, shelf, orders)
 }
 
-/// The words, the status, and what was said.
-fn put_end(page: &mut String, line: &str, ran: &Ran) -> Result<(), AllocError> {
-    write!(page, "> {line}\n{}", ran.status.number())?;
+/// What the command leaves over the files of the case, the last one cut to at most so many bytes.
+fn over_files(alloc: Global, bench: &Bench, line: &str, bytes: usize) -> Result<Ran, AllocError> {
+    let mut shelf = bench.shelf(alloc, bytes)?;
+    command(alloc, bench, line, &mut shelf)
+}
+
+/// The status, and what was said.
+fn put_end(page: &mut String, ran: &Ran) -> Result<(), AllocError> {
+    write!(page, "{}", ran.status.number())?;
     if !ran.say.written().is_empty() {
         page.push(' ')?;
         put_bytes(page, ran.say.written())?;
@@ -88,24 +119,21 @@ fn put_end(page: &mut String, line: &str, ran: &Ran) -> Result<(), AllocError> {
 }
 
 fn put_all(page: &mut String, line: &str, ran: &Ran) -> Result<(), AllocError> {
-    put_end(page, line, ran).and(put_lines(page, ran.out.written()))
+    writeln!(page, "> {line}")?;
+    put_end(page, ran)?;
+    put_lines(page, ran.out.written())
 }
 
 /// Runs the words over the files of the case.
 pub fn run(alloc: Global, bench: &Bench, line: &str, page: &mut String) -> Result<(), AllocError> {
-    let ran = command(alloc, bench, line, 0)?;
-    put_all(page, line, &ran)
+    put_all(page, line, &over_files(alloc, bench, line, usize::MAX)?)
 }
 
 /// How many of the written lines begin with the prefix.
 fn put_count(alloc: Global, page: &mut String, front: &str, ran: &Ran) -> Result<(), AllocError> {
     let begins = bytes_of(alloc, front)?;
-    let mut count = 0_usize;
-    for line in ran.out.written().split(|byte| *byte == b'\n') {
-        if line.starts_with(&begins) {
-            count = count.saturating_add(1);
-        }
-    }
+    let lines = ran.out.written().split(|byte| *byte == b'\n');
+    let count = lines.filter(|line| line.starts_with(&begins)).count();
     writeln!(page, "{front}: {count}")
 }
 
@@ -117,9 +145,46 @@ pub fn run_count(
     line: &str,
     page: &mut String,
 ) -> Result<(), AllocError> {
-    let ran = command(alloc, bench, line, 0)?;
-    put_end(page, line, &ran)?;
+    writeln!(page, "> {line}")?;
+    let ran = over_files(alloc, bench, line, usize::MAX)?;
+    put_end(page, &ran)?;
     put_count(alloc, page, front, &ran)
+}
+
+/// Runs the words over a shelf that has the last file under every name, and never fails.
+pub fn run_surely(
+    alloc: Global,
+    bench: &Bench,
+    line: &str,
+    page: &mut String,
+) -> Result<(), AllocError> {
+    let mut shelf = SureShelf::new(Vec::from_slice(alloc, bench.last())?);
+    put_all(page, line, &command(alloc, bench, line, &mut shelf)?)
+}
+
+/// How the command ended with so many bytes of the last file, and what was written if it didn't end well.
+fn put_cut(page: &mut String, bytes: usize, ran: &Ran) -> Result<(), AllocError> {
+    write!(page, "{bytes}: ")?;
+    put_end(page, ran)?;
+    if ran.status != Status::Done {
+        put_lines(page, ran.out.written())?;
+    }
+    Ok(())
+}
+
+/// Runs the words for each length of the last file that is shorter than it: one line each, with the length, the status
+/// and what was said. What was written is printed only where the command didn't end well.
+pub fn run_cuts(
+    alloc: Global,
+    bench: &Bench,
+    line: &str,
+    page: &mut String,
+) -> Result<(), AllocError> {
+    writeln!(page, "> {line}")?;
+    for bytes in 0..bench.last().len() {
+        put_cut(page, bytes, &over_files(alloc, bench, line, bytes)?)?;
+    }
+    Ok(())
 }
 
 /// Runs the words, and what they write becomes a file after the others. Nothing is printed where all was written.
@@ -130,37 +195,104 @@ pub fn keep(
     line: &str,
     page: &mut String,
 ) -> Result<(), AllocError> {
-    let ran = command(alloc, bench, line, 0)?;
+    let ran = over_files(alloc, bench, line, usize::MAX)?;
     if ran.status != Status::Done {
         put_all(page, line, &ran)?;
     }
-    bench.add(alloc, name, Vec::from_slice(alloc, ran.out.written())?)
+    bench.begin_file(alloc, name)?;
+    bench.append(ran.out.written())
 }
 
-/// How a run ended under a planned fault, and what was written, on one line.
-fn put_fault(page: &mut String, call: u64, ran: &Ran) -> Result<(), AllocError> {
-    write!(page, "{call}: {} ", ran.status.number())
-        .and(put_bytes(page, ran.say.written()))
-        .and(page.push(' '))
-        .and(put_bytes(page, ran.out.written()))
-        .and(page.push('\n'))
+/// Whether a further order has the report of the first one, and whether it chose as one before it did.
+fn put_order(
+    page: &mut String,
+    order: &str,
+    ran: &Ran,
+    first: &Ran,
+    earlier: &[Ran],
+) -> Result<(), AllocError> {
+    let is_same = first.out.written() == ran.out.written();
+    let is_new = earlier.iter().all(|other| other.picks != ran.picks);
+    let report = if is_same { "the same" } else { "another" };
+    let picks = if is_new { "other" } else { "the same" };
+    writeln!(page, "{order}: {report} report, {picks} picks")
 }
 
-/// The most calls of the shelf that are made to fail in turn.
-const MOST_OF_CALLS: u64 = 100;
-
-/// Runs the words, and each call of the shelf fails in turn, up to the first run without a fault.
-pub fn run_shelf_faults(
+/// Runs the words by each of the four orders, with the seed 7: the report by the first one, and then of each further
+/// one whether its report is the same, and whether it chose as one before it did.
+pub fn run_orders(
     alloc: Global,
     bench: &Bench,
     line: &str,
     page: &mut String,
 ) -> Result<(), AllocError> {
+    let mut earlier: Vec<Ran> = Vec::new(alloc);
+    for order in ["lowest", "oldest", "newest", "random"] {
+        let words = format!(in alloc; "{line} --order {order} --seed 7")?;
+        let ran = over_files(alloc, bench, &words, usize::MAX)?;
+        match earlier.first() {
+            None => put_all(page, &words, &ran)?,
+            Some(first) => put_order(page, order, &ran, first, &earlier)?,
+        }
+        earlier.push(ran)?;
+    }
+    Ok(())
+}
+
+/// How a run ended under a planned fault, and what was written, on one line.
+fn put_fault(page: &mut String, call: u64, ran: &Ran) -> Result<(), AllocError> {
+    write!(page, "{call}: {} ", ran.status.number())?;
+    put_bytes(page, ran.say.written())?;
+    page.push(' ')?;
+    put_bytes(page, ran.out.written())?;
+    page.push('\n')
+}
+
+/// Runs the words under the planned fault of this call, and says whether they ended well.
+fn ends_well(
+    alloc: Global,
+    bench: &Bench,
+    line: &str,
+    call: u64,
+    page: &mut String,
+) -> Result<bool, AllocError> {
+    let ran = over_files(alloc, bench, line, usize::MAX)?;
+    put_fault(page, call, &ran)?;
+    Ok(ran.status == Status::Done)
+}
+
+/// The most calls of a device that are made to fail in turn.
+const MOST_OF_CALLS: u64 = 100;
+
+/// Runs the words, and each call of the shelf fails in turn, up to the first run without a fault.
+pub fn run_shelf_faults(
+    alloc: Global,
+    bench: &mut Bench,
+    line: &str,
+    page: &mut String,
+) -> Result<(), AllocError> {
     writeln!(page, "> {line}")?;
     for call in 1..=MOST_OF_CALLS {
-        let ran = command(alloc, bench, line, call)?;
-        put_fault(page, call, &ran)?;
-        if ran.status == Status::Done {
+        bench.fail_at(Vec::from_slice(alloc, &[call])?);
+        if ends_well(alloc, bench, line, call, page)? {
+            break;
+        }
+    }
+    Ok(())
+}
+
+/// Runs the words, and each call of a sink that takes one byte a call fails in turn, up to the first run without a
+/// fault.
+pub fn run_sink_faults(
+    alloc: Global,
+    bench: &mut Bench,
+    line: &str,
+    page: &mut String,
+) -> Result<(), AllocError> {
+    writeln!(page, "> {line}")?;
+    for call in 1..=MOST_OF_CALLS {
+        bench.out.set(alloc, &[1, 4096, call])?;
+        if ends_well(alloc, bench, line, call, page)? {
             break;
         }
     }

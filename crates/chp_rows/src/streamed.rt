@@ -16,7 +16,8 @@ const SIZES: [usize; 3] = [1, 7, 65_536];
 const MOST_PIECES: usize = 1 << 24;
 
 /// All that is left of the streamer's file, in pieces of this size.
-fn pieces(alloc: Global, left: &mut Streamer, size: usize) -> Result<Vec<u8>, AllocError> {
+fn pieces(alloc: Global, streamer: Streamer, size: usize) -> Result<Vec<u8>, AllocError> {
+    let mut left = streamer;
     let mut piece = vec![in alloc; 0_u8; size]?;
     let mut text = Vec::new(alloc);
     for _ in 0..MOST_PIECES {
@@ -27,7 +28,11 @@ fn pieces(alloc: Global, left: &mut Streamer, size: usize) -> Result<Vec<u8>, Al
         if count == 0 {
             break;
         }
-        text.extend_from_slice(piece.get(..count).unwrap_or(&[]))?;
+        for (place, byte) in piece.iter().enumerate() {
+            if place < count {
+                text.push(*byte)?;
+            }
+        }
     }
     Ok(text)
 }
@@ -39,7 +44,10 @@ fn printed(alloc: Global, program: &Disjoint, reset: bool) -> Result<Option<Vec<
         Err(NetError::TooManyNodes(_)) => return Ok(None),
         Err(NetError::NoMemory(error)) => return Err(error),
     };
-    let net = if reset { with_reset(alloc, net)? } else { net };
+    if reset {
+        let net = with_reset(alloc, net)?;
+        return Ok(Some(print_net(alloc, &net)?));
+    }
     Ok(Some(print_net(alloc, &net)?))
 }
 
@@ -56,7 +64,7 @@ fn streamed(
         Streamer::new(alloc, program)
     };
     match made {
-        Ok(mut streamer) => Ok(Some(pieces(alloc, &mut streamer, size)?)),
+        Ok(streamer) => Ok(Some(pieces(alloc, streamer, size)?)),
         Err(NetError::TooManyNodes(_)) => Ok(None),
         Err(NetError::NoMemory(error)) => Err(error),
     }
@@ -89,16 +97,11 @@ fn compare(
     Ok(())
 }
 
-/// The same without a reset node, and then with one.
-fn compare_both(alloc: Global, program: &Disjoint, page: &mut String) -> Result<(), AllocError> {
-    compare(alloc, program, false, page)?;
-    compare(alloc, program, true, page)
-}
-
 /// The rule files of the program that the text is, without a reset node and with one, as they come in pieces.
 pub fn stream(alloc: Global, text: &[u8], page: &mut String) -> Result<(), AllocError> {
-    match accepted(alloc, text) {
-        Some(program) => compare_both(alloc, &program, page),
-        None => page.push_str("no program\n"),
-    }
+    let Some(program) = accepted(alloc, text) else {
+        return page.push_str("no program\n");
+    };
+    compare(alloc, &program, false, page)?;
+    compare(alloc, &program, true, page)
 }
