@@ -89,7 +89,7 @@ def store() -> tuple[dict[str, str], dict[str, str]]:
 
 
 def found_in(name: str, key: str) -> str | None:
-    """What stands behind a key in one of the two files, whose lines begin with their keys, without reading all of it."""
+    """What stands behind a key in one of the two files, whose lines begin with keys; the rest isn't read."""
     path = os.path.join(RECORDED, name)
     with open(path, "rb") as file, mmap.mmap(file.fileno(), 0, access=mmap.ACCESS_READ) as lines:
         at = 0 if lines[: len(key)] == key.encode() else lines.find(f"\n{key} ".encode()) + 1

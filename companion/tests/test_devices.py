@@ -111,8 +111,8 @@ class Devices(Case):
             ("x = (\n", "it.py:1: the device can't be loaded: SyntaxError"),
             ("class It:\n    pass\n", "it.py: its last class has to extend Device"),
             ("import nowhere\n", "it.py:1: the device can't be loaded: ModuleNotFoundError"),
-            (FRONT + "    def offer(self, channel):\n        return 256\n", "it.py offers 256 on L, which takes 0 to"),
-            (FRONT + "    def offer(self, channel):\n        return 'a'\n", "it.py offers 'a' on L"),
+            (FRONT + "    def offer(self, channel):\n        return 256\n", "it.py: it offers 256 on L, which takes"),
+            (FRONT + "    def offer(self, channel):\n        return 'a'\n", "it.py: it offers 'a' on L"),
             (FRONT + "    def start(self):\n        self.x = 1 / 0\n", "it.py:6: `start` failed: ZeroDivisionError"),
         ):
             with self.subTest(why):

@@ -54,8 +54,8 @@ class Events(Case):
     def test_wrong_until(self) -> None:
         for asked, said in (
             ("R:4", "3 values passed on R in this run of 1022 moves, so there is no value 4"),
-            ("R:0", "--until wants a channel and a number, as R:3"),
-            ("R", "--until wants a channel and a number, as R:3"),
+            ("R:0", "--until wants a channel and a number from 1 on, as R:3"),
+            ("R", "--until wants a channel and a number from 1 on, as R:3"),
             ("Q:1", "there is no channel Q; the channels are L, M, R"),
         ):
             ran = self.chpx("events", "pipeline.prs", "pipeline.script", "--until", asked)

@@ -99,7 +99,7 @@ class Profile(Case):
             " 156    24%    156  gcd.chp:9:26: a := a - b\n",
             "slack  statement off the chain\n",
             "    0  gcd.chp:9:5: A?a\n",
-            "turns of loops on the chain\n4 turns, 3..319, mean 159.0: gcd.chp:9:3: *[A?a",
+            "turns of loops on the chain\n3 turns and a last one of 3, 76..319, mean 211.0: gcd.chp:9:3: *[A?a",
             "  turn 2: 319, 50%, from 242 to 563\n",
             "channel  values  least         mean   most          slack\n",
             "A        3       240 (1 to 2)  280.5  321 (2 to 3)  0\n",

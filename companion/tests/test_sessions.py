@@ -9,15 +9,38 @@ from companion.program import TOP
 from companion.tests import recorded, sessions
 from companion.tests.base import Case
 
+PAGES = ("COMPANION.md", "TUTORIAL.md", "EVENTS.md", "DESIGN-TESTS.md", "DEVICES.md", "LINKING.md")
+
 
 class Sessions(Case):
     """What the pages show is what comes."""
 
-    def test_sessions(self) -> None:
-        for page in sessions.PAGES:
-            with self.subTest(page):
-                differing = sessions.compare(recorded.stand_in("."), pages=[page])
-                self.assertEqual("\n".join(differing), "")
+    def compared(self, page: str) -> None:
+        """The sessions of a page come out as it shows."""
+        differing = sessions.compare(recorded.stand_in("."), pages=[page])
+        self.assertEqual("\n".join(differing), "")
+
+    def test_pages(self) -> None:
+        """Each page with sessions has a test of its own here, so that they run side by side."""
+        self.assertEqual(sorted(sessions.PAGES), sorted(PAGES))
+
+    def test_sessions_of_companion(self) -> None:
+        self.compared("COMPANION.md")
+
+    def test_sessions_of_tutorial(self) -> None:
+        self.compared("TUTORIAL.md")
+
+    def test_sessions_of_events(self) -> None:
+        self.compared("EVENTS.md")
+
+    def test_sessions_of_design_tests(self) -> None:
+        self.compared("DESIGN-TESTS.md")
+
+    def test_sessions_of_devices(self) -> None:
+        self.compared("DEVICES.md")
+
+    def test_sessions_of_linking(self) -> None:
+        self.compared("LINKING.md")
 
     def test_page(self) -> None:
         """The page is short, and shows each of the commands."""

@@ -14,6 +14,7 @@ SAID = {
     11: "this can't stand here",
     24: "4 bits wanted here, and `y` has 8",
     25: "1 bit wanted here, and 2 needs 2 bits",
+    27: "x has the bits 3 to 0",
 }
 
 
