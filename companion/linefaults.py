@@ -80,6 +80,13 @@ def hint(line: bytes, number: int, rules: Text | None) -> str:
     found = re.match(r"([A-Za-z]\w*)\s+[\d]", text)
     if text.startswith(("#", ";", "--", "/*")):
         return "`// ..`: a comment begins with `//`"
+    if re.match(r"[A-Za-z]\w*\s*:=", text):
+        return f"`{name.strip()}: {rest.lstrip('=').strip()}`: values stand behind a colon"
+    if re.search(r"[\[\](){}]", rest):
+        values = " ".join(re.findall(r"0x[0-9A-Fa-f]+|[0-9]+", rest))
+        return f"`{name.strip()}: {values}`: values stand between blanks, without brackets"
+    if re.search(r"\w\s*:", rest):
+        return "one line for each channel"
     if not colon and found:
         return f"`{found[1]}: {text[len(found[1]):].strip()}`: a colon stands right behind the channel's name"
     if name != name.rstrip():
@@ -89,6 +96,8 @@ def hint(line: bytes, number: int, rules: Text | None) -> str:
     if "," in rest:
         return f"`{name}: {' '.join(rest.replace(',', ' ').split())}`: blanks stand between values, and no commas"
     words = rest.split()
+    if "all" in words and len(words) > 1:
+        return f"`{name}: all`, or one number: how many values are received"
     if rules and re.search(rb"^out " + re.escape(name.encode()) + rb" \d+$", rules.data, re.M) and len(words) != 1:
         return (f"`{name}: {len(words)}`: of an `out` channel a script says how many values are received; "
                 "which ones are expected belongs into a file for `chpx test`")

@@ -5,6 +5,7 @@ from __future__ import annotations
 import os
 import re
 import shlex
+import sys
 from collections.abc import Sequence
 
 from companion import options, program
@@ -38,6 +39,15 @@ def marked(data: bytes) -> bytes:
     return b"\n".join(lines)
 
 
+def put(data: bytes) -> None:
+    """Writes bytes as they are to standard output."""
+    stream = getattr(sys.stdout, "buffer", None)
+    if stream is None:
+        sys.stdout.write(data.decode("utf-8", "replace"))
+    else:
+        stream.write(data)
+
+
 def main(words: Sequence[str]) -> int:
     """Runs the command."""
     made = Parser("link", ABOUT)
@@ -47,16 +57,16 @@ def main(words: Sequence[str]) -> int:
     if given.line and len(given.files) > 1:
         raise Refusal("--line takes one text", 2)
     if given.line:
-        print(marked(options.read(given.files[0])).decode("latin-1"), end="")
+        put(marked(options.read(given.files[0])))
         return 0
     with Progress("link"):
         for name in given.files:
             program.wanted(["check", name])
         members = [member(name, options.read(name)) for name in given.files]
-        names = [shlex.quote(called(name)) for name in given.files]
-        text = linked(members, f"// made by chpx link {' '.join(os.path.basename(name) for name in names)}")
+        names = [shlex.quote(os.path.basename(called(name))) for name in given.files]
+        text = linked(members, f"// made by chpx link {' '.join(names)}")
         name = os.path.join(options.room(), "linked.chp")
         options.write(name, text.encode("latin-1"))
         program.wanted(["check", name])
-    print(text, end="")
+    put(text.encode("latin-1"))
     return 0

@@ -31,7 +31,7 @@ class Player:
             return getattr(self.device, what)(*given)
         except Refusal:
             raise
-        except Exception as error:  # pylint: disable=broad-except
+        except (Exception, SystemExit) as error:  # pylint: disable=broad-except
             raise Refusal(f"{where(self.name, error)}: `{what}` failed: {type(error).__name__}: {error}") from error
 
 
@@ -53,7 +53,7 @@ def class_in(name: str) -> type:
     written, sys.dont_write_bytecode = sys.dont_write_bytecode, True
     try:
         spec.loader.exec_module(module)
-    except Exception as error:  # pylint: disable=broad-except
+    except (Exception, SystemExit) as error:  # pylint: disable=broad-except
         raise Refusal(f"{where(name, error)}: the device can't be loaded: {type(error).__name__}: {error}") from error
     finally:
         sys.dont_write_bytecode = written
@@ -61,6 +61,14 @@ def class_in(name: str) -> type:
     if not own or not issubclass(own[-1], Device):
         raise Refusal(f"{name}: its last class has to extend Device, from companion.devices")
     return own[-1]
+
+
+def made_of(name: str) -> Device:
+    """A device of a file's last class."""
+    try:
+        return class_in(name)()
+    except TypeError as error:
+        raise Refusal(f"{where(name, error)}: its class has to be made without arguments: {error}") from error
 
 
 def image_in(name: str) -> dict[int, int]:
@@ -105,7 +113,7 @@ def players(words: Sequence[str], image: str | None, channels: Sequence[Channel]
     for word, (name, names) in zip(words, told):
         if name not in KNOWN and not name.endswith(".py"):
             raise Refusal(f"there is no device {name}; there are {', '.join(KNOWN)}, and files FILE.py", 2)
-        device = KNOWN[name]() if name in KNOWN else class_in(name)()
+        device = KNOWN[name]() if name in KNOWN else made_of(name)
         own = channels_for(word, names, outside, taken)
         taken |= {it.name for it in own}
         device.channels, device.image = {it.name: it for it in own}, dict(content)

@@ -4,6 +4,7 @@ from __future__ import annotations
 
 import importlib
 import os
+import signal
 import sys
 from collections.abc import Sequence
 
@@ -93,10 +94,15 @@ def dispatch(words: Sequence[str]) -> int:
     return call(named)
 
 
-def without_proof() -> None:
-    """Has all answers come from the program of which nothing is proved, and compiles it where it isn't there."""
+def without_proof(words: Sequence[str]) -> None:
+    """Has all answers come from the program of which nothing is proved, and compiles it where it isn't there, unless
+    the words are plainly wrong."""
     from wrapper import unproved
+    from wrapper.words import fault
 
+    wrong = fault(words) if words[0] not in OWN and not bench.is_asked(words) else None
+    if wrong:
+        raise Refusal(f"{wrong[1]}; nothing was built", wrong[0])
     status = unproved.ready()
     if status:
         raise Refusal("without that program there is no answer", status)
@@ -106,11 +112,15 @@ def without_proof() -> None:
 def main(words: Sequence[str]) -> int:
     """The same, with what stops it told on standard error."""
     sys.setrecursionlimit(20_000)
+    if sys.stdout is None:
+        print("chpx: the output couldn't be written: standard output is closed", file=sys.stderr)
+        return 4
+    signal.signal(signal.SIGTERM, signal.default_int_handler)  # so that folders of its own go with it
     try:
         if words[:1] == ["--unproved"]:
             words = words[1:]
             if words and not {"--help", "-h", "help", "--version"} & {*words}:
-                without_proof()
+                without_proof(words)
         status = dispatch(words)
         sys.stdout.flush()
         return status

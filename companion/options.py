@@ -21,6 +21,9 @@ def natural(word: str) -> int:
     return int(word)
 
 
+READ = ("PRS", "SCRIPT", "F", "file.chp")  # what stands for a file that is read, before the program may be built for it
+
+
 class Parser(argparse.ArgumentParser):
     """A parser that ends with 2 for wrong words, as chpc does, and says which word is wrong."""
 
@@ -39,6 +42,11 @@ class Parser(argparse.ArgumentParser):
         for name, word in vars(given).items():
             if isinstance(word, str) and word.startswith("-") and os.path.exists(word):
                 setattr(given, name, f"./{word}")
+        for action in self._actions:
+            named = getattr(given, action.dest, None) if action.metavar in READ else None
+            for word in named if isinstance(named, list) else [named]:
+                if word is not None and not os.path.exists(word):
+                    raise Refusal(f"{called(word)}: there is no such file", 3)
         return given
 
     def error(self, message: str) -> NoReturn:

@@ -8,6 +8,7 @@ a build takes what a gate has proved here, and a gate what a build has.
 from __future__ import annotations
 
 import contextlib
+import fcntl
 import os
 import re
 import shutil
@@ -104,13 +105,19 @@ def prove_and_link(below: dict[str, list[str]], log: TextIO) -> int:
                 why = f"{wrong} wasn't proved" if wrong else "the program wasn't built"
                 return failed(why, parts.get(wrong or part, []))
             made = os.path.join(room, "crates", "chpc", "out", "chpc")
-            shutil.copy(made, f"{PROGRAM}.new")
-            os.replace(f"{PROGRAM}.new", PROGRAM)
+            put_in_place(made, PROGRAM)
     finally:
         watch.ended.set()
     os.utime(PROGRAM, (began, began))  # so that a file which changed meanwhile is newer
     say(f"built, in {in_words((time.time() - began) / 60)}")
     return 0
+
+
+def put_in_place(made: str, program: str) -> None:
+    """Puts a program where it is called, at once, whatever else is put there meanwhile."""
+    own = f"{program}.{os.getpid()}"
+    shutil.copy(made, own)
+    os.replace(own, program)
 
 
 def break_off(*_: object) -> None:
@@ -122,10 +129,17 @@ def build(below: dict[str, list[str]]) -> int:
     """Proves and builds what is to be: 0, 70 or 130."""
     for number in (signal.SIGINT, signal.SIGTERM, signal.SIGHUP):
         signal.signal(number, break_off)
-    os.makedirs(os.path.dirname(LOG), exist_ok=True)
     try:
-        with open(LOG, "w", encoding="utf-8", errors="replace") as log:
-            return prove_and_link(below, log)
+        os.makedirs(os.path.dirname(LOG), exist_ok=True)
+        with open(f"{LOG}.lock", "w", encoding="utf-8") as lock:
+            fcntl.flock(lock, fcntl.LOCK_EX)  # a second call waits for the first one, and takes what that has built
+            if is_current(below):
+                return 0
+            with open(LOG, "w", encoding="utf-8", errors="replace") as log:
+                return prove_and_link(below, log)
     except KeyboardInterrupt:
         say("broken off; what was proved is kept")
         return 130
+    except OSError as error:
+        say(f"the program can't be built: {error}")
+        return 70

@@ -38,7 +38,7 @@ def files_of(crate: str, *parts: str) -> Iterator[str]:
     """The files in some folders of a crate."""
     for part in parts:
         for folder, _, names in os.walk(os.path.join(CRATES, crate, part)):
-            yield from (os.path.join(folder, name) for name in names)
+            yield from (path for name in names if os.path.isfile(path := os.path.join(folder, name)))
 
 
 def minutes(below: dict[str, list[str]]) -> dict[str, float]:

@@ -27,7 +27,7 @@ def processors() -> int:
 def pace() -> float:
     """How many times as long a processor takes here, with all others at work, as on the machine of the minutes."""
     began = time.time()
-    runs = [subprocess.Popen([sys.executable, "-c", LOOP]) for _ in range(processors())]
+    runs = [subprocess.Popen([sys.executable, "-c", LOOP], stderr=subprocess.DEVNULL) for _ in range(processors())]
     for run in runs:
         run.wait()
     return (time.time() - began) / LOOP_TOOK
@@ -71,14 +71,16 @@ class Watch:
     def __init__(self, below: dict[str, list[str]]) -> None:
         self.below, self.costs, self.left = below, minutes(below), set(below)
         self.began, self.slow, self.ended = time.time(), pace(), threading.Event()
+        self.turn = threading.Lock()  # of what is left, which one thread changes and another one tells
         self.whole = planned(below, self.costs, self.left)
 
     def proved(self, crate: str, is_kept: bool) -> None:
         """Notes that a crate is proved, or was by an earlier run."""
-        before = planned(self.below, self.costs, self.left)
-        self.left.discard(crate)
-        if is_kept:  # which took no time, so the time that is spent says nothing of it
-            self.whole -= before - planned(self.below, self.costs, self.left)
+        with self.turn:
+            before = planned(self.below, self.costs, self.left)
+            self.left.discard(crate)
+            if is_kept:  # which took no time, so the time that is spent says nothing of it
+                self.whole -= before - planned(self.below, self.costs, self.left)
 
     def rest(self) -> float:
         """The minutes that are left, by what was told of the crates and by how long those took that are done."""
@@ -99,7 +101,9 @@ class Watch:
     def run(self) -> None:
         """Says it, until the build has ended."""
         while not self.ended.wait(OFTEN):
-            say(self.line())
+            with self.turn:
+                line = self.line()
+            say(line)
 
 
 def under_way_here() -> set[str]:

@@ -30,6 +30,7 @@ PROGRAMS: list[tuple[str, list[str]]] = [
     ("var x : 16; out R : 1; begin R!x[16] end", ["x has the bits 15 to 0"]),
     ("var x : 8; begin x <= x + 1 end", ["`x := x + 1`"]),
     ("begin S!0 end", ["`out S : 8;`"]),
+    ("in L : 8; out R : 8; var x : 8; begin *[L?x]\n*[R!x] end", ["write instead: a `;` between them"]),
     ("var count : 8; begin cuont := 0 end", ["`var cuont : 8;`, or `count`"]),
     ("var a : 1; begin [a → skip] end", ["`->`, `!=`, `&`"]),
     ("begin skip; -- done\nskip end", ["`// ..`"]),
@@ -59,6 +60,10 @@ NET = "prs 1\nnode go 0\nnode done 0\nnode X.0.t 0\nnode X.0.f 0\nnode X.a 0\nno
 NET += "in X 1\nout R 1\nrule go -> done+\n"
 # scripts that are refused
 SCRIPTS: list[tuple[str, list[str]]] = [
+    ("X := 1\n", ["`X: 1`"]),
+    ("X: [0,1]\n", ["`X: 0 1`", "without brackets"]),
+    ("R: all 3\n", ["`R: all`"]),
+    ("X: 1 R: 2\n", ["one line for each channel"]),
     ("X 1 0\n", ["`X: 1 0`", "a colon stands right behind"]),
     ("X: 1, 0\n", ["`X: 1 0`", "no commas"]),
     ("# c\nX: 1\n", ["a comment begins with `//`"]),
@@ -79,6 +84,19 @@ class Mistakes(Case):
                 ran = self.chpx("check", self.write("f.chp", text))
                 self.assertEqual((ran.status, ran.out), (1, ""))
                 self.has(ran.err, parts)
+
+    def test_no_false_hints(self) -> None:
+        """Where something else is wrong nothing is said of what to write instead."""
+        for text in (
+            "var x : 8; begin x := (x + 1] end",
+            "var x : 2; begin [x = 1 | x = 2] -> skip end",
+            "var x : 2; begin (skip [] x = 1 -> skip) end",
+            "var x : 2; begin [x = 3 | -> skip] end",
+        ):
+            with self.subTest(text):
+                ran = self.chpx("check", self.write("f.chp", text))
+                self.has(ran.err, ["expected here: "])
+                self.assertNotIn("write instead", ran.err)
 
     def test_scripts(self) -> None:
         self.write("net.prs", NET)

@@ -3,7 +3,7 @@ _chpx() {
   local word="${COMP_WORDS[COMP_CWORD]}" before="${COMP_WORDS[COMP_CWORD-1]}" options=""
   COMPREPLY=()
   if [ "$COMP_CWORD" -eq 1 ]; then
-    COMPREPLY=($(compgen -W "check compile expand run simulate bench waves unwave migrate grow why hunt view events cover profile buffered stat tree lint sort test link --help --version" -- "$word"))
+    COMPREPLY=($(compgen -W "check compile expand run simulate bench waves unwave migrate grow why hunt view events cover profile buffered stat tree lint sort test link --unproved --help --version" -- "$word"))
     return
   fi
   case "$before" in
@@ -12,12 +12,12 @@ _chpx() {
     --peer) COMPREPLY=($(compgen -W "ramp echo" -- "$word")); return ;;
   esac
   case "${COMP_WORDS[1]}" in
-    check) options="" ;;
+    check) options="--json" ;;
     compile) options="--reset --buffer" ;;
     expand) options="" ;;
     run) options="--rounds --buffer" ;;
     simulate) options="--order --seed --steps --power --against --delays" ;;
-    bench) options="--peer --order --seed --steps" ;;
+    bench) options="--peer --order --seed --steps --device --image --keep-script" ;;
     waves) options="--steps --delays --causes" ;;
     unwave) options="" ;;
     migrate) options="" ;;

@@ -1,5 +1,6 @@
 # Completion of chpc and chpx for fish: put it into ~/.config/fish/completions. Made by bench/shells.
 complete -c chpc -n __fish_use_subcommand -a check -d 'whether the program is accepted, and how many nodes its circuit has'
+complete -c chpc -n '__fish_seen_subcommand_from check' -l json
 complete -c chpc -n __fish_use_subcommand -a compile -d 'the rule file of the program'
 complete -c chpc -n '__fish_seen_subcommand_from compile' -l reset
 complete -c chpc -n '__fish_seen_subcommand_from compile' -l buffer -r
@@ -19,6 +20,9 @@ complete -c chpc -n '__fish_seen_subcommand_from bench' -l peer -x -a 'ramp echo
 complete -c chpc -n '__fish_seen_subcommand_from bench' -l order -x -a 'lowest oldest newest random'
 complete -c chpc -n '__fish_seen_subcommand_from bench' -l seed -r
 complete -c chpc -n '__fish_seen_subcommand_from bench' -l steps -r
+complete -c chpc -n '__fish_seen_subcommand_from bench' -l device -r
+complete -c chpc -n '__fish_seen_subcommand_from bench' -l image -r
+complete -c chpc -n '__fish_seen_subcommand_from bench' -l keep-script -r
 complete -c chpc -n __fish_use_subcommand -a waves -d 'the wave of a timed run, or why its last move came; with 5 too'
 complete -c chpc -n '__fish_seen_subcommand_from waves' -l steps -r
 complete -c chpc -n '__fish_seen_subcommand_from waves' -l delays -r
@@ -28,6 +32,7 @@ complete -c chpc -n __fish_use_subcommand -a migrate -d 'this rule file with a r
 complete -c chpc -n __fish_use_subcommand -a grow -d 'the text of a generated program, or a summary of it'
 complete -c chpc -n '__fish_seen_subcommand_from grow' -l sum
 complete -c chpx -n __fish_use_subcommand -a check -d 'whether the program is accepted, and how many nodes its circuit has'
+complete -c chpx -n '__fish_seen_subcommand_from check' -l json
 complete -c chpx -n __fish_use_subcommand -a compile -d 'the rule file of the program'
 complete -c chpx -n '__fish_seen_subcommand_from compile' -l reset
 complete -c chpx -n '__fish_seen_subcommand_from compile' -l buffer -r
@@ -47,6 +52,9 @@ complete -c chpx -n '__fish_seen_subcommand_from bench' -l peer -x -a 'ramp echo
 complete -c chpx -n '__fish_seen_subcommand_from bench' -l order -x -a 'lowest oldest newest random'
 complete -c chpx -n '__fish_seen_subcommand_from bench' -l seed -r
 complete -c chpx -n '__fish_seen_subcommand_from bench' -l steps -r
+complete -c chpx -n '__fish_seen_subcommand_from bench' -l device -r
+complete -c chpx -n '__fish_seen_subcommand_from bench' -l image -r
+complete -c chpx -n '__fish_seen_subcommand_from bench' -l keep-script -r
 complete -c chpx -n __fish_use_subcommand -a waves -d 'the wave of a timed run, or why its last move came; with 5 too'
 complete -c chpx -n '__fish_seen_subcommand_from waves' -l steps -r
 complete -c chpx -n '__fish_seen_subcommand_from waves' -l delays -r
