@@ -38,7 +38,8 @@ def of(data: bytes, number: int, start: int, end: int) -> Found:
         return Found()
     if number in (WIDTH, TOO_WIDE):
         told = widths.told(it, number, start, end, data)
-        return Found(what=told[0], instead=told[1]) if told else Found()
+        tighter = before_compared(it, data, start, end) if number == WIDTH else ""
+        return Found(what=told[0], instead=tighter or told[1]) if told else Found()
     if number == SLICE:
         return of_slice(it, data[start:end].decode("latin-1"))
     if number == UNDECLARED:
@@ -72,6 +73,15 @@ def declared(it: Program, start: int, name: str) -> str:
         if stmt.kind == "call" and stmt.name == name:
             return f"a procedure is declared, as by `proc {name} = skip;`{also}"
     return f"a variable is declared, as by `var {name} : 8;`{also}"
+
+
+def before_compared(it: Program, data: bytes, start: int, end: int) -> str:
+    """For `a` in `a & b = c`, which is wanted to have one bit since `b = c` has: that `=` binds tighter."""
+    found = widths.parent_of(it, start, end)
+    if not found or found[1] + 1 == len(found[0].parts) or found[0].parts[found[1] + 1].kind != "compare":
+        return ""
+    compare = found[0].parts[found[1] + 1]
+    return bound_tighter(it, data, compare.start, compare.end)
 
 
 def bound_tighter(it: Program, data: bytes, start: int, end: int) -> str:
