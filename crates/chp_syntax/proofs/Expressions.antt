@@ -1,5 +1,5 @@
 -- Expressions: what is to come after each of their parts.
-use Rattle.std.proofs.Common.{◌≡◌, ℕ, suc, ◌<◌, List, [], ◌∷◌, ◌++◌, map, Option, Some, None, refl, sym, ap, ◌∙◌, subst, arith}
+use Rattle.std.proofs.Common.{◌≡◌, ℕ, suc, ◌<◌, List, [], ◌∷◌, ◌++◌, map, Option, Some, None, Result, Ok, Err, IfOk, IsOkAnd, refl, sym, ap, ◌∙◌, subst, arith}
 use Rattle.std.proofs.lemmas.List.{map-append}
 use Rattle.chp_base.specs.declared.span.Span.{Span}
 use Rattle.chp_syntax.specs.declared.token.Token.{Token}
@@ -12,132 +12,16 @@ use Rattle.chp_syntax.specs.declared.tree.Op.{Op}
 use Rattle.chp_syntax.specs.declared.tree.Op.TheVariants as op
 use Rattle.chp_syntax.specs.declared.parser.sight.Numeral.{Numeral}
 use Rattle.chp_syntax.specs.declared.parser.sight.PrimaryFront.TheVariants as primary
+use Rattle.chp_syntax.specs.declared.parser.sight.Level.{Level}
+use Rattle.chp_syntax.specs.declared.parser.sight.Level.TheVariants as level
 use Rattle.chp_syntax.specs.Trees.{Expression, number, whole, slice, bit, join, negation, Expressions, no_parts, and_part, Links, no_links, and_link}
-use Rattle.chp_syntax.specs.Grammar.{named, numeral, from_to, or_operator, xor_of, and_of, sum_of, comparison_of, Covered, cover, Tail, no_tail, end_of, longer, chained, chain_of, Primary, a_number, a_name, a_bit, a_slice, a_join, in_brackets, Parts, the_parts, MoreParts, no_more_parts, one_more_part, Negated, plain, negated, Sum, the_sum, MoreSum, no_more_sum, one_more_sum, Comparison, not_compared, compared, Conjunction, the_conjunction, MoreConjunction, no_more_conjunction, one_more_conjunction, Exclusive, the_exclusive, MoreExclusive, no_more_exclusive, one_more_exclusive, Disjunction, the_disjunction, MoreDisjunction, no_more_disjunction, one_more_disjunction}
-use Rattle.chp_syntax.specs.Parts.{GrammarPart, sees, IsKind, kind_read, rank, StopsAt, Anything, Exactly, exactly, Operator, operator, AName, the_name, ANumber, the_number, Good, Bad, primary_front}
-use Rattle.chp_syntax.specs.View.{onto, and_pair, chained_to}
+use Rattle.chp_syntax.specs.Grammar.{named, numeral, from_to, or_operator, xor_of, and_of, sum_of, comparison_of, Covered, cover, Tail, no_tail, end_of, longer, chain_of, Primary, a_number, a_name, a_bit, a_slice, a_join, in_brackets, Parts, the_parts, MoreParts, no_more_parts, one_more_part, Negated, plain, negated, Sum, the_sum, MoreSum, no_more_sum, one_more_sum, Comparison, not_compared, compared, Conjunction, the_conjunction, MoreConjunction, no_more_conjunction, one_more_conjunction, Exclusive, the_exclusive, MoreExclusive, no_more_exclusive, one_more_exclusive, Disjunction, the_disjunction, MoreDisjunction, no_more_disjunction, one_more_disjunction}
+use Rattle.chp_syntax.specs.Parts.{GrammarPart, sees, IsKind, kind_read, rank, StopsAt, Anything, Exactly, exactly, Operator, operator, AName, the_name, ANumber, the_number, Good, Bad, primary_front, level_part, operand_part, links_part, level_operator, level_rank}
+use Rattle.chp_syntax.specs.declared.parser.expression.Covered as C
+use Rattle.chp_syntax.specs.declared.parser.sight.Stop.{Stop}
+use Rattle.chp_syntax.specs.View.{onto, and_pair, expression_of, covered_of}
 use Rattle.chp_syntax.proofs.Steps.{zero_span, SoFar, Ends, Seam, Then, and_then, Done, all_done, Either, one, other, start, instead, bad_here, not_one, not_other, exactly_seen, operator_seen, ends_exactly, ends_number, ends_done, ends_then, ends_one, any_seam, kind_seam, last_seam, last_any, stops_more, stops_done, then_kind}
-use Rattle.chp_syntax.proofs.Group.{Further, no_further, a_further, Grouping, SoMany, group_first, group_more, group_bad, group_end, group_ends}
-
--- one level of operators that are applied from the left: members R, with the operators op, of rank k, between them
-pub record Level : Type 1 where
-  pub W : List Token → List Token → Covered → Type 0
-  pub R : List Token → List Token → Covered → Type 0
-  pub M : List Token → List Token → Tail → Type 0
-  pub op : TokenKind → Option Op
-  pub k : ℕ
-  pub w_in : (l mid rest : List Token) (c : Covered) (us : Tail) → R l mid c → M mid rest us → W l rest (chain_of c us)
-  pub w_out : (l rest : List Token) (a : Covered) → W l rest a → (mid : List Token) × (c : Covered) × (us : Tail) × R l mid c × M mid rest us
-      × (a ≡ chain_of c us)
-  pub m_none : (l : List Token) → M l l no_tail
-  pub m_more : (l x mid rest : List Token) (o : Op) (c : Covered) (us : Tail) → Operator op l x o → R x mid c → M mid rest us → M l rest (longer o c us)
-  pub m_out : (l rest : List Token) (us : Tail) → M l rest us →
-      Further R M (Operator op) (λ o c. let p : Op × Covered = (o, c) in p) no_tail (λ x us. longer x.0 x.1 us) l rest us
-  pub ranked : (j : TokenKind) (o : Op) → op j ≡ Some o → rank j ≡ k
-  pub ends : Ends R
-  pub ends_sign : Ends (Operator op)
-
-abbrev pub Stands : Level → Option Token → Type 0
-Stands v t = (o : Op) × (kind_read v.op t ≡ Some o)
-
-pub level_marked : (v : Level) (t : Option Token) → Stands v t → StopsAt (suc v.k) t
-level_marked v None h = tt
-level_marked v (Some t) h = omega (arith, v.ranked t.kind h.0 h.1)
-
-pub level_apart : (v : Level) (t : Option Token) → Stands v t → StopsAt v.k t → ⊥
-level_apart v None h f = let e : ◌≡◌ {A = Option Op} None (Some h.0) = h.1 in cc e
-level_apart v (Some t) h f = let lt : rank t.kind < v.k = f in omega (arith, lt, v.ranked t.kind h.0 h.1)
-
-abbrev pub grouping_of : Level → Grouping
-grouping_of v = record {
-  A = Covered;
-  B = Covered;
-  U = Tail;
-  O = Op;
-  I = Op × Covered;
-  W = v.W;
-  F = StopsAt v.k;
-  R = v.R;
-  G = StopsAt (suc v.k);
-  M = v.M;
-  S = Operator v.op;
-  H = Stands v;
-  item = λ o c. (o, c);
-  none = no_tail;
-  more = λ x us. longer x.0 x.1 us;
-  build = chain_of;
-  w_in = v.w_in;
-  w_out = v.w_out;
-  m_none = v.m_none;
-  m_more = v.m_more;
-  m_out = v.m_out;
-  seen = λ l rest o s. (o, operator_seen s);
-  marked = level_marked v;
-  apart = level_apart v;
-  weaker = λ t f. stops_more v.k (suc v.k) t (omega arith) f;
-  ends = v.ends;
-  ends_sign = v.ends_sign;
-}
-
--- the links of some members, and where the last of them ends
-abbrev pub link_plain : Op × Covered → Op × Expression
-link_plain x = (x.0, x.1.expression)
-
-abbrev pub last_of : Covered → List (Op × Covered) → Span
-last_of c [] = c.at
-last_of c (x ∷ got) = last_of x.1 got
-
-abbrev tail_of : List (Op × Covered) → Tail
-tail_of got = onto (λ x us. longer x.0 x.1 us) got no_tail
-
-links_are : (got : List (Op × Covered)) → (tail_of got).links ≡ onto and_pair (map link_plain got) no_links
-links_are [] = refl
-links_are (x ∷ got) = ap (λ us. and_link x.0 x.1.expression us) (links_are got)
-
-last_is : (c : Covered) (got : List (Op × Covered)) → end_of c.at (tail_of got).last ≡ last_of c got
-last_is c [] = refl
-last_is c (x ∷ got) = last_is x.1 got
-
-last_more : (c : Covered) (got : List (Op × Covered)) (o : Op) (n : Covered) → last_of c (got ++ ((o, n) ∷ [])) ≡ n.at
-last_more c [] o n = refl
-last_more c (x ∷ got) o n = last_more x.1 got o n
-
-chain_is : (c : Covered) (got : List (Op × Covered)) → chain_of c (tail_of got) ≡ chained_to c (map link_plain got) (last_of c got)
-chain_is c got =
-    ap (λ (e : Span). let s : Span = from_to c.at e in cover (chained c.expression (tail_of got).links s) s) (last_is c got)
-    ∙ ap (λ (ls : Links). let s : Span = from_to c.at (last_of c got) in cover (chained c.expression ls s) s) (links_are got)
-
--- what holds at each round of the loop over a level's members
-pub record Chained (v : Level) (xs left : List Token) (c : Covered) (links : List (Op × Expression)) (last : Span) : Type 0 where
-  pub got : List (Op × Covered)
-  pub so : SoMany (grouping_of v) xs left c got
-  pub same : map link_plain got ≡ links
-  pub ends : last_of c got ≡ last
-
-pub chained_first : (v : Level) {xs left : List Token} {c : Covered} → Good v.R (StopsAt (suc v.k)) xs left c → Chained v xs left c [] c.at
-chained_first v good = record { got = []; so = group_first (grouping_of v) good; same = refl; ends = refl }
-
-pub chained_more : (v : Level) {xs left mid to : List Token} {c n : Covered} {links : List (Op × Expression)} {last : Span} {o : Op} →
-    Chained v xs left c links last → Good (Operator v.op) Anything left mid o → Good v.R (StopsAt (suc v.k)) mid to n →
-    Chained v xs to c (links ++ ((o, n.expression) ∷ [])) n.at
-chained_more v {c = c} {n = n} {o = o} s sign good = record {
-  got = s.got ++ ((o, n) ∷ []);
-  so = group_more (grouping_of v) s.so sign good;
-  same = map-append link_plain s.got ((o, n) ∷ []) ∙ ap (λ (ls : List (Op × Expression)). ls ++ ((o, n.expression) ∷ [])) s.same;
-  ends = last_more c s.got o n;
-}
-
-pub chained_bad : (v : Level) {xs left mid to : List Token} {c : Covered} {links : List (Op × Expression)} {last : Span} {o : Op} →
-    Chained v xs left c links last → Good (Operator v.op) Anything left mid o → Bad v.R (StopsAt (suc v.k)) mid to → Bad v.W (StopsAt v.k) xs to
-chained_bad v s sign bad = group_bad (grouping_of v) s.so sign bad
-
-pub chained_end : (v : Level) {xs left : List Token} {c a : Covered} {links : List (Op × Expression)} {last : Span} → Chained v xs left c links last →
-    kind_read v.op (sees left) ≡ None → a ≡ chained_to c links last → Good v.W (StopsAt v.k) xs left a
-chained_end v {xs} {left} {c} {a} {links} {last} s none e =
-    subst (λ (b : Covered). Good v.W (StopsAt v.k) xs left b)
-    (chain_is c s.got ∙ (ap (λ (ls : List (Op × Expression)). chained_to c ls (last_of c s.got)) s.same
-    ∙ (ap (λ (p : Span). chained_to c links p) s.ends ∙ sym e)))
-    (group_end (grouping_of v) s.so (λ h. let x : ◌≡◌ {A = Option Op} None (Some h.0) = sym none ∙ h.1 in cc x))
+use Rattle.chp_syntax.proofs.Group.{Further, no_further, a_further, Grouping, SoMany, links_first, group_more, group_bad, group_end, group_ends}
 
 pub ends_primary : Ends Primary
 ends_primary = (numeral 0 zero_span ∷ [], cover (number 0 zero_span) zero_span, λ rest. a_number)
@@ -169,29 +53,6 @@ pub sum_in : {l x mid rest : List Token} {o : Op} {c : Covered} {us : Tail} → 
     MoreSum l rest (longer o c us)
 sum_in (operator e) a n = one_more_sum e a n
 
-abbrev pub sum_level : Level
-sum_level = record {
-  W = Sum;
-  R = Negated;
-  M = MoreSum;
-  op = sum_of;
-  k = 9;
-  w_in = λ l mid rest c us a n. the_sum a n;
-  w_out = λ l rest a w. sum_out w;
-  m_none = λ l. no_more_sum;
-  m_more = λ l x mid rest o c us s a n. sum_in s a n;
-  m_out = λ l rest us n. sum_more n;
-  ranked = sum_ranked;
-  ends = ends_negated;
-  ends_sign = (some_sign mark.Plus ∷ [], op.Add, λ rest. operator refl);
-}
-
-pub ends_sum : Ends Sum
-ends_sum = group_ends (grouping_of sum_level)
-
-pub ends_comparison : Ends Comparison
-ends_comparison = (ends_sum.0, ends_sum.1, λ rest. not_compared (ends_sum.2 rest))
-
 pub conjunction_ranked : (j : TokenKind) (o : Op) → and_of j ≡ Some o → rank j ≡ 7
 conjunction_ranked (Sign mark.Amp) o e = refl
 conjunction_ranked (Sign _) o e = absurd (cc e)
@@ -212,26 +73,6 @@ pub conjunction_in : {l x mid rest : List Token} {o : Op} {c : Covered} {us : Ta
     MoreConjunction l rest (longer o c us)
 conjunction_in (operator e) a n = one_more_conjunction e a n
 
-abbrev pub conjunction_level : Level
-conjunction_level = record {
-  W = Conjunction;
-  R = Comparison;
-  M = MoreConjunction;
-  op = and_of;
-  k = 7;
-  w_in = λ l mid rest c us a n. the_conjunction a n;
-  w_out = λ l rest a w. conjunction_out w;
-  m_none = λ l. no_more_conjunction;
-  m_more = λ l x mid rest o c us s a n. conjunction_in s a n;
-  m_out = λ l rest us n. conjunction_more n;
-  ranked = conjunction_ranked;
-  ends = ends_comparison;
-  ends_sign = (some_sign mark.Amp ∷ [], op.And, λ rest. operator refl);
-}
-
-pub ends_conjunction : Ends Conjunction
-ends_conjunction = group_ends (grouping_of conjunction_level)
-
 pub exclusive_ranked : (j : TokenKind) (o : Op) → xor_of j ≡ Some o → rank j ≡ 6
 exclusive_ranked (Sign mark.Caret) o e = refl
 exclusive_ranked (Sign _) o e = absurd (cc e)
@@ -251,26 +92,6 @@ exclusive_more (one_more_exclusive e a n) = a_further (operator e) a n
 pub exclusive_in : {l x mid rest : List Token} {o : Op} {c : Covered} {us : Tail} → Operator xor_of l x o → Conjunction x mid c → MoreExclusive mid rest us →
     MoreExclusive l rest (longer o c us)
 exclusive_in (operator e) a n = one_more_exclusive e a n
-
-abbrev pub exclusive_level : Level
-exclusive_level = record {
-  W = Exclusive;
-  R = Conjunction;
-  M = MoreExclusive;
-  op = xor_of;
-  k = 6;
-  w_in = λ l mid rest c us a n. the_exclusive a n;
-  w_out = λ l rest a w. exclusive_out w;
-  m_none = λ l. no_more_exclusive;
-  m_more = λ l x mid rest o c us s a n. exclusive_in s a n;
-  m_out = λ l rest us n. exclusive_more n;
-  ranked = exclusive_ranked;
-  ends = ends_conjunction;
-  ends_sign = (some_sign mark.Caret ∷ [], op.Xor, λ rest. operator refl);
-}
-
-pub ends_exclusive : Ends Exclusive
-ends_exclusive = group_ends (grouping_of exclusive_level)
 
 pub disjunction_ranked : (j : TokenKind) (o : Op) → or_operator j ≡ Some o → rank j ≡ 5
 disjunction_ranked (Sign mark.Bar) o e = refl
@@ -293,25 +114,203 @@ pub disjunction_in : {l x mid rest : List Token} {o : Op} {c : Covered} {us : Ta
     MoreDisjunction l rest (longer o c us)
 disjunction_in (operator e) a n = one_more_disjunction e a n
 
-abbrev pub disjunction_level : Level
-disjunction_level = record {
-  W = Disjunction;
-  R = Exclusive;
-  M = MoreDisjunction;
-  op = or_operator;
-  k = 5;
-  w_in = λ l mid rest c us a n. the_disjunction a n;
-  w_out = λ l rest a w. disjunction_out w;
-  m_none = λ l. no_more_disjunction;
-  m_more = λ l x mid rest o c us s a n. disjunction_in s a n;
-  m_out = λ l rest us n. disjunction_more n;
-  ranked = disjunction_ranked;
-  ends = ends_exclusive;
-  ends_sign = (some_sign mark.Bar ∷ [], op.Or, λ rest. operator refl);
-}
+pub ends_sum : Ends Sum
+ends_sum = (ends_negated.0, chain_of ends_negated.1 no_tail, λ rest. the_sum (ends_negated.2 rest) no_more_sum)
+
+pub ends_comparison : Ends Comparison
+ends_comparison = (ends_sum.0, ends_sum.1, λ rest. not_compared (ends_sum.2 rest))
+
+pub ends_conjunction : Ends Conjunction
+ends_conjunction = (ends_comparison.0, chain_of ends_comparison.1 no_tail, λ rest. the_conjunction (ends_comparison.2 rest) no_more_conjunction)
+
+pub ends_exclusive : Ends Exclusive
+ends_exclusive = (ends_conjunction.0, chain_of ends_conjunction.1 no_tail, λ rest. the_exclusive (ends_conjunction.2 rest) no_more_exclusive)
 
 pub ends_disjunction : Ends Disjunction
-ends_disjunction = group_ends (grouping_of disjunction_level)
+ends_disjunction = (ends_exclusive.0, chain_of ends_exclusive.1 no_tail, λ rest. the_disjunction (ends_exclusive.2 rest) no_more_disjunction)
+
+-- the levels of operators, each as a group
+pub level_in : (v : Level) (l mid rest : List Token) (c : Covered) (us : Tail) → operand_part v l mid c → links_part v mid rest us →
+    level_part v l rest (chain_of c us)
+level_in level.Sum l mid rest c us a n = the_sum a n
+level_in level.Conjunction l mid rest c us a n = the_conjunction a n
+level_in level.Exclusive l mid rest c us a n = the_exclusive a n
+level_in level.Disjunction l mid rest c us a n = the_disjunction a n
+
+pub level_out : (v : Level) (l rest : List Token) (a : Covered) → level_part v l rest a → (mid : List Token) × (c : Covered) × (us : Tail)
+    × operand_part v l mid c × links_part v mid rest us × (a ≡ chain_of c us)
+level_out level.Sum l rest a w = sum_out w
+level_out level.Conjunction l rest a w = conjunction_out w
+level_out level.Exclusive l rest a w = exclusive_out w
+level_out level.Disjunction l rest a w = disjunction_out w
+
+pub no_links_in : (v : Level) (l : List Token) → links_part v l l no_tail
+no_links_in level.Sum l = no_more_sum
+no_links_in level.Conjunction l = no_more_conjunction
+no_links_in level.Exclusive l = no_more_exclusive
+no_links_in level.Disjunction l = no_more_disjunction
+
+pub links_in : (v : Level) (l x mid rest : List Token) (o : Op) (c : Covered) (us : Tail) → Operator (level_operator v) l x o → operand_part v x mid c →
+    links_part v mid rest us → links_part v l rest (longer o c us)
+links_in level.Sum l x mid rest o c us s a n = sum_in s a n
+links_in level.Conjunction l x mid rest o c us s a n = conjunction_in s a n
+links_in level.Exclusive l x mid rest o c us s a n = exclusive_in s a n
+links_in level.Disjunction l x mid rest o c us s a n = disjunction_in s a n
+
+pub links_out : (v : Level) (l rest : List Token) (us : Tail) → links_part v l rest us →
+    Further (operand_part v) (links_part v) (Operator (level_operator v)) (λ o c. let p : Op × Covered = (o, c) in p) no_tail (λ x us. longer x.0 x.1 us) l rest
+    us
+links_out level.Sum l rest us n = sum_more n
+links_out level.Conjunction l rest us n = conjunction_more n
+links_out level.Exclusive l rest us n = exclusive_more n
+links_out level.Disjunction l rest us n = disjunction_more n
+
+pub level_ranked : (v : Level) (j : TokenKind) (o : Op) → level_operator v j ≡ Some o → rank j ≡ level_rank v
+level_ranked level.Sum j o e = sum_ranked j o e
+level_ranked level.Conjunction j o e = conjunction_ranked j o e
+level_ranked level.Exclusive j o e = exclusive_ranked j o e
+level_ranked level.Disjunction j o e = disjunction_ranked j o e
+
+pub operand_ends : (v : Level) → Ends (operand_part v)
+operand_ends level.Sum = ends_negated
+operand_ends level.Conjunction = ends_comparison
+operand_ends level.Exclusive = ends_conjunction
+operand_ends level.Disjunction = ends_exclusive
+
+pub sign_ends : (v : Level) → Ends (Operator (level_operator v))
+sign_ends level.Sum = (some_sign mark.Plus ∷ [], op.Add, λ rest. operator refl)
+sign_ends level.Conjunction = (some_sign mark.Amp ∷ [], op.And, λ rest. operator refl)
+sign_ends level.Exclusive = (some_sign mark.Caret ∷ [], op.Xor, λ rest. operator refl)
+sign_ends level.Disjunction = (some_sign mark.Bar ∷ [], op.Or, λ rest. operator refl)
+
+abbrev pub Stands : Level → Option Token → Type 0
+Stands v t = (o : Op) × (kind_read (level_operator v) t ≡ Some o)
+
+pub level_marked : (v : Level) (t : Option Token) → Stands v t → StopsAt (suc (level_rank v)) t
+level_marked v None h = tt
+level_marked v (Some t) h = omega (arith, level_ranked v t.kind h.0 h.1)
+
+pub level_apart : (v : Level) (t : Option Token) → Stands v t → StopsAt (level_rank v) t → ⊥
+level_apart v None h f = let e : ◌≡◌ {A = Option Op} None (Some h.0) = h.1 in cc e
+level_apart v (Some t) h f = let lt : rank t.kind < level_rank v = f in omega (arith, lt, level_ranked v t.kind h.0 h.1)
+
+abbrev pub grouping_of : Level → Grouping
+grouping_of v = record {
+  A = Covered;
+  B = Covered;
+  U = Tail;
+  O = Op;
+  I = Op × Covered;
+  W = level_part v;
+  F = StopsAt (level_rank v);
+  R = operand_part v;
+  G = StopsAt (suc (level_rank v));
+  M = links_part v;
+  S = Operator (level_operator v);
+  H = Stands v;
+  item = λ o c. (o, c);
+  none = no_tail;
+  more = λ x us. longer x.0 x.1 us;
+  build = chain_of;
+  w_in = level_in v;
+  w_out = level_out v;
+  m_none = no_links_in v;
+  m_more = links_in v;
+  m_out = links_out v;
+  seen = λ l rest o s. (o, operator_seen s);
+  marked = level_marked v;
+  apart = level_apart v;
+  weaker = λ t f. stops_more (level_rank v) (suc (level_rank v)) t (omega arith) f;
+  ends = operand_ends v;
+  ends_sign = sign_ends v;
+}
+
+-- how many calls of the recursion are below an operand of the level, at least
+abbrev pub height : Level → ℕ
+height level.Sum = 2
+height level.Conjunction = 5
+height level.Exclusive = 7
+height level.Disjunction = 9
+
+-- the links of some members, and where the last of them ends
+abbrev pub link_plain : Op × Covered → Op × Expression
+link_plain x = (x.0, x.1.expression)
+
+abbrev pub last_of : Covered → List (Op × Covered) → Span
+last_of c [] = c.at
+last_of c (x ∷ got) = last_of x.1 got
+
+abbrev pub last_in : List (Op × Covered) → Option Span
+last_in [] = None
+last_in (x ∷ got) = Some (last_of x.1 got)
+
+abbrev all_links : List (Op × Covered) → Tail
+all_links got = onto (λ x us. longer x.0 x.1 us) got no_tail
+
+links_are : (got : List (Op × Covered)) → (all_links got).links ≡ onto and_pair (map link_plain got) no_links
+links_are [] = refl
+links_are (x ∷ got) = ap (λ us. and_link x.0 x.1.expression us) (links_are got)
+
+end_is : (c : Covered) (got : List (Op × Covered)) → end_of c.at (all_links got).last ≡ last_of c got
+end_is c [] = refl
+end_is c (x ∷ got) = end_is x.1 got
+
+last_is : (got : List (Op × Covered)) → (all_links got).last ≡ last_in got
+last_is [] = refl
+last_is (x ∷ got) = ap (λ (s : Span). Some s) (end_is x.1 got)
+
+last_more : (c : Covered) (got : List (Op × Covered)) (o : Op) (n : Covered) → last_of c (got ++ ((o, n) ∷ [])) ≡ n.at
+last_more c [] o n = refl
+last_more c (x ∷ got) o n = last_more x.1 got o n
+
+last_then : (got : List (Op × Covered)) (o : Op) (n : Covered) → last_in (got ++ ((o, n) ∷ [])) ≡ Some n.at
+last_then [] o n = refl
+last_then (x ∷ got) o n = ap (λ (s : Span). Some s) (last_more x.1 got o n)
+
+-- what holds at each round of the loop over a level's links
+pub record Linked (v : Level) (xs left : List Token) (links : List (Op × Expression)) (last : Option Span) : Type 0 where
+  pub got : List (Op × Covered)
+  pub so : SoMany (grouping_of v) (links_part v) (λ us. us) xs left got
+  pub same : map link_plain got ≡ links
+  pub ends : last_in got ≡ last
+
+pub linked_none : (v : Level) (xs : List Token) → Linked v xs xs [] None
+linked_none v xs = record { got = []; so = links_first (grouping_of v) xs; same = refl; ends = refl }
+
+pub linked_more : (v : Level) {xs left mid to : List Token} {n : Covered} {links : List (Op × Expression)} {last : Option Span} {o : Op} →
+    Linked v xs left links last → Good (Operator (level_operator v)) Anything left mid o → Good (operand_part v) (StopsAt (suc (level_rank v))) mid to n →
+    Linked v xs to (links ++ ((o, n.expression) ∷ [])) (Some n.at)
+linked_more v {n = n} {o = o} s sign good = record {
+  got = s.got ++ ((o, n) ∷ []);
+  so = group_more (grouping_of v) s.so sign good;
+  same = map-append link_plain s.got ((o, n) ∷ []) ∙ ap (λ (ls : List (Op × Expression)). ls ++ ((o, n.expression) ∷ [])) s.same;
+  ends = last_then s.got o n;
+}
+
+-- an operand is added as it was read
+pub linked_added : (v : Level) {xs left mid to : List Token} {links more : List (Op × Expression)} {last end : Option Span} {o : Op}
+    (right : Result C.Covered Stop) → Linked v xs left links last → Good (Operator (level_operator v)) Anything left mid o →
+    IsOkAnd right (λ c. more ≡ links ++ ((o, expression_of c.value) ∷ [])) → IsOkAnd right (λ c. end ≡ Some c.at) →
+    IfOk right (λ c. Good (operand_part v) (StopsAt (suc (level_rank v))) mid to (covered_of c)) → Linked v xs to more end
+linked_added v {xs} {to = to} {links = links} {end = end} {o = o} (Ok c) s sign e f good =
+    subst (λ (ls : List (Op × Expression)). Linked v xs to ls end) (sym e)
+    (subst (λ (p : Option Span). Linked v xs to (links ++ ((o, expression_of c.value) ∷ [])) p) (sym f) (linked_more v s sign good))
+linked_added v (Err y) s sign e f good = absurd e
+
+pub linked_bad : (v : Level) {xs left mid to : List Token} {links : List (Op × Expression)} {last : Option Span} {o : Op} → Linked v xs left links last →
+    Good (Operator (level_operator v)) Anything left mid o → Bad (operand_part v) (StopsAt (suc (level_rank v))) mid to →
+    Bad (links_part v) (StopsAt (level_rank v)) xs to
+linked_bad v s sign bad = group_bad (grouping_of v) s.so sign bad
+
+pub linked_end : (v : Level) {xs left : List Token} {links : List (Op × Expression)} {last : Option Span} → Linked v xs left links last →
+    kind_read (level_operator v) (sees left) ≡ None →
+    Good (links_part v) (StopsAt (level_rank v)) xs left (record { links = onto and_pair links no_links; last = last })
+linked_end v {xs} {left} {links} {last} s none =
+    subst (λ (us : Tail). Good (links_part v) (StopsAt (level_rank v)) xs left us)
+    (ap (λ (ls : Links). let us : Tail = record { links = ls; last = (all_links s.got).last } in us) (links_are s.got)
+    ∙ (ap (λ (e : Option Span). let us : Tail = record { links = onto and_pair (map link_plain s.got) no_links; last = e } in us) (last_is s.got ∙ s.ends)
+    ∙ ap (λ (ls : List (Op × Expression)). let us : Tail = record { links = onto and_pair ls no_links; last = last } in us) s.same))
+    (group_end (grouping_of v) s.so (λ h. let x : ◌≡◌ {A = Option Op} None (Some h.0) = sym none ∙ h.1 in cc x))
 
 -- the comparison
 abbrev pub Compared : Covered → GrammarPart Covered
@@ -379,12 +378,6 @@ pub with_comparison : {xs left : List Token} {c : Covered} (o : Op) → SoFar Co
     kind_read comparison_of (sees left) ≡ Some o → SoFar Comparison (StopsAt 8) xs left (Compared c)
 with_comparison {xs} {left} {c} o so h = not_one so (λ l rest a s f q. compared_8 (sees l) o (ap (λ (t : Option Token). kind_read comparison_of t) s ∙ h)
     (stops_done (StopsAt 8) l rest f q))
-
-pub compared_is : {xs left : List Token} (c d : Covered) (o : Op) {x : Covered} {links : List (Op × Expression)} →
-    Good Comparison (StopsAt 8) xs left (chain_of c (longer o d no_tail)) → x ≡ chained_to c links d.at → links ≡ (o, d.expression) ∷ [] →
-    Good Comparison (StopsAt 8) xs left x
-compared_is {xs} {left} c d o {x} {links} good e is =
-    subst (λ (b : Covered). Good Comparison (StopsAt 8) xs left b) (sym (e ∙ ap (λ (ls : List (Op × Expression)). chained_to c ls d.at) is)) good
 
 -- the negation
 abbrev pub Plain : GrammarPart Covered

@@ -1,5 +1,5 @@
 -- Statements: what is to come after each of their parts.
-use Rattle.std.proofs.Common.{◌≡◌, ◌<◌, List, [], ◌∷◌, length, false, Option, Some, None, refl, sym, ap, ◌∙◌, arith}
+use Rattle.std.proofs.Common.{◌≡◌, ℕ, suc, ◌+◌, ◌<◌, List, [], ◌∷◌, ◌++◌, length, length-append, false, Option, Some, None, Result, Ok, Err, IfOk, IfErr, IsOkAnd, subst, refl, sym, ap, ◌∙◌, arith}
 use Rattle.chp_base.specs.declared.span.Span.{Span}
 use Rattle.chp_syntax.specs.declared.token.Token.{Token}
 use Rattle.chp_syntax.specs.declared.token.TokenKind.{TokenKind}
@@ -9,12 +9,16 @@ use Rattle.chp_syntax.specs.declared.token.Mark.TheVariants as mark
 use Rattle.chp_syntax.specs.declared.tree.Ident.{Ident as Named}
 use Rattle.chp_syntax.specs.declared.parser.sight.AtomFront.TheVariants as atom
 use Rattle.chp_syntax.specs.declared.parser.sight.ActionFront.TheVariants as action
-use Rattle.chp_syntax.specs.Trees.{Statement, skips, assigns, sends, receives, selects, repeats, calls, Statements, no_members, and_member, Arms, no_arms}
+use Rattle.chp_syntax.specs.declared.parser.sight.Group.{Group}
+use Rattle.chp_syntax.specs.declared.parser.sight.Group.TheVariants as group
+use Rattle.chp_syntax.specs.Trees.{Expression, Statement, skips, assigns, sends, receives, selects, repeats, calls, Statements, no_members, and_member, Arms, no_arms}
 use Rattle.chp_syntax.specs.Grammar.{named, word, Covered, Guarded, guarded, sequence_of, parallel_of, Disjunction, Atom, a_skip, an_assignment, a_send, a_receive, a_call, in_round, a_loop, a_guarded_loop, a_selection, GuardedCommand, the_branch, GuardedCommands, the_choices, MoreChoices, no_more_choices, one_more_choice, Both, the_both, MoreBoth, no_more_both, one_more_both, Seq, the_seq, MoreSeq, no_more_seq, one_more_seq, Par, the_par, MorePar, no_more_par, one_more_par}
-use Rattle.chp_syntax.specs.Parts.{GrammarPart, sees, IsKind, rank, StopsAt, Anything, Exactly, exactly, AName, the_name, Inside, a_body, some_arms, Bad, atom_front, action_kind, action_front}
-use Rattle.chp_syntax.specs.View.{onto, and_guarded}
-use Rattle.chp_syntax.proofs.Steps.{zero_span, SoFar, Ends, Seam, Then, and_then, Done, all_done, Either, one, other, start, instead, bad_here, exactly_seen, ends_exactly, ends_name, ends_done, ends_then, ends_one, any_seam, kind_seam, last_seam, last_any, stops_more, then_kind}
-use Rattle.chp_syntax.proofs.Group.{Further, no_further, a_further, Grouping, group_ends}
+use Rattle.chp_syntax.specs.Parts.{GrammarPart, sees, IsKind, rank, StopsAt, Anything, Exactly, exactly, AName, the_name, Inside, a_body, some_arms, Guard, a_guard, Good, Bad, WhenFault, atom_front, action_kind, action_front, group_part, member_part, group_mark, group_rank, several_of}
+use Rattle.chp_syntax.specs.declared.tree.Stmt.{Stmt}
+use Rattle.chp_syntax.specs.declared.parser.sight.Stop.{Stop}
+use Rattle.chp_syntax.specs.View.{onto, and_guarded, statement_of}
+use Rattle.chp_syntax.proofs.Steps.{zero_span, fault_by, SoFar, Ends, Seam, Then, and_then, Done, all_done, Either, one, other, start, instead, bad_here, exactly_seen, ends_exactly, ends_name, ends_done, ends_then, ends_one, any_seam, kind_seam, last_seam, last_any, stops_more, then_kind}
+use Rattle.chp_syntax.proofs.Group.{Further, no_further, a_further, Grouping, group_ends, group_bad_first, Members, group_first, group_end, members_first, members_added, members_bad, members_end}
 use Rattle.chp_syntax.proofs.Expressions.{ends_disjunction}
 
 abbrev F5 : Option Token → Type 0
@@ -39,48 +43,6 @@ pub both_in : {l x mid rest : List Token} {o : Span} {b : Statement} {us : State
     MoreBoth l rest (and_member b us)
 both_in exactly a n = one_more_both a n
 
-pub both_marked : (t : Option Token) → IsKind (Sign mark.Comma) t → StopsAt 5 t
-both_marked None h = tt
-both_marked (Some t) h = let e : rank t.kind ≡ 4 = ap rank h in omega (arith, e)
-
-pub both_apart : (t : Option Token) → IsKind (Sign mark.Comma) t → StopsAt 4 t → ⊥
-both_apart None h f = h
-both_apart (Some t) h f = let e : rank t.kind ≡ 4 = ap rank h in let lt : rank t.kind < 4 = f in omega (arith, e, lt)
-
-abbrev pub both_group : Grouping
-both_group = record {
-  A = Statement;
-  B = Statement;
-  U = Statements;
-  O = Span;
-  I = Statement;
-  W = Both;
-  F = StopsAt 4;
-  R = Atom;
-  G = StopsAt 5;
-  M = MoreBoth;
-  S = Exactly (Sign mark.Comma);
-  H = IsKind (Sign mark.Comma);
-  item = λ p b. b;
-  none = no_members;
-  more = and_member;
-  build = parallel_of;
-  w_in = λ l mid rest b us a n. the_both a n;
-  w_out = λ l rest a w. both_out w;
-  m_none = λ l. no_more_both;
-  m_more = λ l x mid rest o b us s a n. both_in s a n;
-  m_out = λ l rest us n. both_more n;
-  seen = λ l rest o s. exactly_seen s;
-  marked = both_marked;
-  apart = both_apart;
-  weaker = λ t f. stops_more 4 5 t (omega arith) f;
-  ends = ends_atom;
-  ends_sign = ends_exactly (Sign mark.Comma);
-}
-
-pub ends_both : Ends Both
-ends_both = group_ends both_group
-
 pub seq_out : {l rest : List Token} {a : Statement} → Seq l rest a → (mid : List Token) × (b : Statement) × (us : Statements) × Both l mid b
     × MoreSeq mid rest us × (a ≡ sequence_of b us)
 seq_out (the_seq {mid = mid} {t = t} {us = us} a n) = (mid, t, us, a, n, refl)
@@ -93,48 +55,6 @@ seq_more (one_more_seq a n) = a_further exactly a n
 pub seq_in : {l x mid rest : List Token} {o : Span} {b : Statement} {us : Statements} → Exactly (Sign mark.Semicolon) l x o → Both x mid b →
     MoreSeq mid rest us → MoreSeq l rest (and_member b us)
 seq_in exactly a n = one_more_seq a n
-
-pub seq_marked : (t : Option Token) → IsKind (Sign mark.Semicolon) t → StopsAt 4 t
-seq_marked None h = tt
-seq_marked (Some t) h = let e : rank t.kind ≡ 3 = ap rank h in omega (arith, e)
-
-pub seq_apart : (t : Option Token) → IsKind (Sign mark.Semicolon) t → StopsAt 3 t → ⊥
-seq_apart None h f = h
-seq_apart (Some t) h f = let e : rank t.kind ≡ 3 = ap rank h in let lt : rank t.kind < 3 = f in omega (arith, e, lt)
-
-abbrev pub seq_group : Grouping
-seq_group = record {
-  A = Statement;
-  B = Statement;
-  U = Statements;
-  O = Span;
-  I = Statement;
-  W = Seq;
-  F = StopsAt 3;
-  R = Both;
-  G = StopsAt 4;
-  M = MoreSeq;
-  S = Exactly (Sign mark.Semicolon);
-  H = IsKind (Sign mark.Semicolon);
-  item = λ p b. b;
-  none = no_members;
-  more = and_member;
-  build = sequence_of;
-  w_in = λ l mid rest b us a n. the_seq a n;
-  w_out = λ l rest a w. seq_out w;
-  m_none = λ l. no_more_seq;
-  m_more = λ l x mid rest o b us s a n. seq_in s a n;
-  m_out = λ l rest us n. seq_more n;
-  seen = λ l rest o s. exactly_seen s;
-  marked = seq_marked;
-  apart = seq_apart;
-  weaker = λ t f. stops_more 3 4 t (omega arith) f;
-  ends = ends_both;
-  ends_sign = ends_exactly (Sign mark.Semicolon);
-}
-
-pub ends_seq : Ends Seq
-ends_seq = group_ends seq_group
 
 pub par_out : {l rest : List Token} {a : Statement} → Par l rest a → (mid : List Token) × (b : Statement) × (us : Statements) × Seq l mid b
     × MorePar mid rest us × (a ≡ parallel_of b us)
@@ -149,89 +69,232 @@ pub par_in : {l x mid rest : List Token} {o : Span} {b : Statement} {us : Statem
     MorePar l rest (and_member b us)
 par_in exactly a n = one_more_par a n
 
-pub par_marked : (t : Option Token) → IsKind (Sign mark.BarBar) t → StopsAt 3 t
-par_marked None h = tt
-par_marked (Some t) h = let e : rank t.kind ≡ 2 = ap rank h in omega (arith, e)
+pub ends_both : Ends Both
+ends_both = (ends_atom.0, parallel_of ends_atom.1 no_members, λ rest. the_both (ends_atom.2 rest) no_more_both)
 
-pub par_apart : (t : Option Token) → IsKind (Sign mark.BarBar) t → StopsAt 2 t → ⊥
-par_apart None h f = h
-par_apart (Some t) h f = let e : rank t.kind ≡ 2 = ap rank h in let lt : rank t.kind < 2 = f in omega (arith, e, lt)
+pub ends_seq : Ends Seq
+ends_seq = (ends_both.0, sequence_of ends_both.1 no_members, λ rest. the_seq (ends_both.2 rest) no_more_seq)
 
-abbrev pub par_group : Grouping
-par_group = record {
+pub ends_par : Ends Par
+ends_par = (ends_seq.0, parallel_of ends_seq.1 no_members, λ rest. the_par (ends_seq.2 rest) no_more_par)
+
+-- the levels of groups: what is between the members and after the first one, and the statement of all
+abbrev pub members_part : Group → GrammarPart Statements
+members_part group.Both = MoreBoth
+members_part group.Seq = MoreSeq
+members_part group.Par = MorePar
+
+abbrev pub joined_of : Group → Statement → Statements → Statement
+joined_of group.Both t us = parallel_of t us
+joined_of group.Seq t us = sequence_of t us
+joined_of group.Par t us = parallel_of t us
+
+pub members_in : (v : Group) (l mid rest : List Token) (b : Statement) (us : Statements) → member_part v l mid b → members_part v mid rest us →
+    group_part v l rest (joined_of v b us)
+members_in group.Both l mid rest b us a n = the_both a n
+members_in group.Seq l mid rest b us a n = the_seq a n
+members_in group.Par l mid rest b us a n = the_par a n
+
+pub members_out : (v : Group) (l rest : List Token) (a : Statement) → group_part v l rest a → (mid : List Token) × (b : Statement) × (us : Statements)
+    × member_part v l mid b × members_part v mid rest us × (a ≡ joined_of v b us)
+members_out group.Both l rest a w = both_out w
+members_out group.Seq l rest a w = seq_out w
+members_out group.Par l rest a w = par_out w
+
+pub no_more_in : (v : Group) (l : List Token) → members_part v l l no_members
+no_more_in group.Both l = no_more_both
+no_more_in group.Seq l = no_more_seq
+no_more_in group.Par l = no_more_par
+
+pub one_more_in : (v : Group) (l x mid rest : List Token) (o : Span) (b : Statement) (us : Statements) → Exactly (Sign (group_mark v)) l x o →
+    member_part v x mid b → members_part v mid rest us → members_part v l rest (and_member b us)
+one_more_in group.Both l x mid rest o b us s a n = both_in s a n
+one_more_in group.Seq l x mid rest o b us s a n = seq_in s a n
+one_more_in group.Par l x mid rest o b us s a n = par_in s a n
+
+pub more_out : (v : Group) (l rest : List Token) (us : Statements) → members_part v l rest us →
+    Further (member_part v) (members_part v) (Exactly (Sign (group_mark v))) (λ p b. b) no_members and_member l rest us
+more_out group.Both l rest us n = both_more n
+more_out group.Seq l rest us n = seq_more n
+more_out group.Par l rest us n = par_more n
+
+mark_ranked : (v : Group) → rank (Sign (group_mark v)) ≡ group_rank v
+mark_ranked group.Both = refl
+mark_ranked group.Seq = refl
+mark_ranked group.Par = refl
+
+pub group_marked : (v : Group) (t : Option Token) → IsKind (Sign (group_mark v)) t → StopsAt (suc (group_rank v)) t
+group_marked v None h = tt
+group_marked v (Some t) h = let e : rank t.kind ≡ group_rank v = ap rank h ∙ mark_ranked v in omega (arith, e)
+
+pub group_apart : (v : Group) (t : Option Token) → IsKind (Sign (group_mark v)) t → StopsAt (group_rank v) t → ⊥
+group_apart v None h f = h
+group_apart v (Some t) h f =
+    let e : rank t.kind ≡ group_rank v = ap rank h ∙ mark_ranked v in
+    let lt : rank t.kind < group_rank v = f in
+    omega (arith, e, lt)
+
+pub member_ends : (v : Group) → Ends (member_part v)
+member_ends group.Both = ends_atom
+member_ends group.Seq = ends_both
+member_ends group.Par = ends_seq
+
+abbrev pub group_at : Group → Grouping
+group_at v = record {
   A = Statement;
   B = Statement;
   U = Statements;
   O = Span;
   I = Statement;
-  W = Par;
-  F = StopsAt 2;
-  R = Seq;
-  G = StopsAt 3;
-  M = MorePar;
-  S = Exactly (Sign mark.BarBar);
-  H = IsKind (Sign mark.BarBar);
+  W = group_part v;
+  F = StopsAt (group_rank v);
+  R = member_part v;
+  G = StopsAt (suc (group_rank v));
+  M = members_part v;
+  S = Exactly (Sign (group_mark v));
+  H = IsKind (Sign (group_mark v));
   item = λ p b. b;
   none = no_members;
   more = and_member;
-  build = parallel_of;
-  w_in = λ l mid rest b us a n. the_par a n;
-  w_out = λ l rest a w. par_out w;
-  m_none = λ l. no_more_par;
-  m_more = λ l x mid rest o b us s a n. par_in s a n;
-  m_out = λ l rest us n. par_more n;
+  build = joined_of v;
+  w_in = members_in v;
+  w_out = members_out v;
+  m_none = no_more_in v;
+  m_more = one_more_in v;
+  m_out = more_out v;
   seen = λ l rest o s. exactly_seen s;
-  marked = par_marked;
-  apart = par_apart;
-  weaker = λ t f. stops_more 2 3 t (omega arith) f;
-  ends = ends_seq;
-  ends_sign = ends_exactly (Sign mark.BarBar);
+  marked = group_marked v;
+  apart = group_apart v;
+  weaker = λ t f. stops_more (group_rank v) (suc (group_rank v)) t (omega arith) f;
+  ends = member_ends v;
+  ends_sign = ends_exactly (Sign (group_mark v));
 }
 
-pub ends_par : Ends Par
-ends_par = group_ends par_group
+-- how many calls of the recursion are below a member of the group, at least
+abbrev pub height : Group → ℕ
+height group.Both = 2
+height group.Seq = 4
+height group.Par = 6
+
+joined_is : (v : Group) (t u : Statement) (us : Statements) → joined_of v t (and_member u us) ≡ several_of v (and_member t (and_member u us))
+joined_is group.Both t u us = refl
+joined_is group.Seq t u us = refl
+joined_is group.Par t u us = refl
 
 -- several members
-pub several : (V : Statements → Statement) (build : Statement → Statements → Statement) →
-    ((t u : Statement) (us : Statements) → build t (and_member u us) ≡ V (and_member t (and_member u us))) → (t : Statement) (bs : List Statement) →
-    t ≡ V (onto and_member bs no_members) → (length bs ≡ 1 → ⊥) → (b : Statement) (got : List Statement) → b ∷ got ≡ bs →
-    t ≡ build b (onto and_member got no_members)
-several V build is t bs e n b [] h = absurd (n (ap length (sym h)))
-several V build is t bs e n b (x ∷ got) h =
-    e ∙ (ap (λ (ys : List Statement). V (onto and_member ys no_members)) (sym h) ∙ sym (is b x (onto and_member got no_members)))
+pub several : (v : Group) (t : Statement) (bs : List Statement) → t ≡ several_of v (onto and_member bs no_members) → (length bs ≡ 1 → ⊥) → (b : Statement)
+    (got : List Statement) → b ∷ got ≡ bs → t ≡ joined_of v b (onto and_member got no_members)
+several v t bs e n b [] h = absurd (n (ap length (sym h)))
+several v t bs e n b (x ∷ got) h =
+    e ∙ (ap (λ (ys : List Statement). several_of v (onto and_member ys no_members)) (sym h) ∙ sym (joined_is v b x (onto and_member got no_members)))
+
+-- what holds at each round of the loop over a group of two members or more
+pub record Grouped (v : Group) (xs left : List Token) (ts : List Statement) : Type 0 where
+  pub some : 0 < length ts
+  pub two : length ts ≡ 1 → IsKind (Sign (group_mark v)) (sees left)
+  pub read : Members (group_at v) (λ t. t) xs left ts
+
+pub grouped_first : (v : Group) {xs left : List Token} {olds ts : List Statement} (part : Result Stmt Stop) → IsKind (Sign (group_mark v)) (sees left) →
+    olds ≡ [] → IsOkAnd part (λ s. ts ≡ olds ++ (statement_of s ∷ [])) →
+    IfOk part (λ s. Good (member_part v) (StopsAt (suc (group_rank v))) xs left (statement_of s)) → Grouped v xs left ts
+grouped_first v {xs} {left} (Ok s) here none e good =
+    subst (λ (us : List Statement). Grouped v xs left us) (sym (e ∙ ap (λ (us : List Statement). us ++ (statement_of s ∷ [])) none))
+    (record { some = omega arith; two = λ h. here; read = members_first (group_at v) (λ t. t) good })
+grouped_first v (Err y) here none e good = absurd e
+
+joined_none : (v : Group) (t : Statement) → joined_of v t no_members ≡ t
+joined_none group.Both t = refl
+joined_none group.Seq t = refl
+joined_none group.Par t = refl
+
+grouped_alone : (v : Group) {xs left : List Token} {t : Statement} → Good (member_part v) (StopsAt (suc (group_rank v))) xs left t →
+    (IsKind (Sign (group_mark v)) (sees left) → ⊥) → Good (group_part v) (StopsAt (group_rank v)) xs left t
+grouped_alone v {xs} {left} {t} good never = subst (λ (a : Statement). Good (group_part v) (StopsAt (group_rank v)) xs left a) (joined_none v t)
+    (group_end (group_at v) (group_first (group_at v) good) never)
+
+pub grouped_only : (v : Group) (xs left : List Token) (part : Result Stmt Stop) → (IsKind (Sign (group_mark v)) (sees left) → ⊥) →
+    IfOk part (λ s. Good (member_part v) (StopsAt (suc (group_rank v))) xs left (statement_of s)) →
+    IfOk part (λ s. Good (group_part v) (StopsAt (group_rank v)) xs left (statement_of s))
+grouped_only v xs left (Ok s) never good = grouped_alone v good never
+grouped_only v xs left (Err y) never good = tt
+
+pub grouped_only_bad : (v : Group) (xs left : List Token) (part : Result Stmt Stop) →
+    IfErr part (λ e. WhenFault e (Bad (member_part v) (StopsAt (suc (group_rank v))) xs left)) →
+    IfErr part (λ e. WhenFault e (Bad (group_part v) (StopsAt (group_rank v)) xs left))
+grouped_only_bad v xs left (Ok s) bad = tt
+grouped_only_bad v xs left (Err e) bad = fault_by e (group_bad_first (group_at v)) bad
+
+pub grouped_more : (v : Group) {xs left mid to : List Token} {ts more : List Statement} {o : Span} (part : Result Stmt Stop) → Grouped v xs left ts →
+    Good (Exactly (Sign (group_mark v))) Anything left mid o → IsOkAnd part (λ s. more ≡ ts ++ (statement_of s ∷ [])) →
+    IfOk part (λ s. Good (member_part v) (StopsAt (suc (group_rank v))) mid to (statement_of s)) → Grouped v xs to more
+grouped_more v {ts = ts} {more = more} (Ok s) g mark e good =
+    let longer : length more ≡ length ts + 1 = ap length e ∙ length-append ts (statement_of s ∷ []) in
+    let some : 0 < length ts = g.some in
+    record {
+      some = omega (arith, longer);
+      two = λ h. absurd (omega (arith, h, longer, some));
+      read = members_added (group_at v) (λ t. t) statement_of (Ok s) g.read mark e good;
+    }
+grouped_more v (Err y) g mark e good = absurd e
+
+pub grouped_bad : (v : Group) {xs left mid to : List Token} {ts : List Statement} {o : Span} → Grouped v xs left ts →
+    Good (Exactly (Sign (group_mark v))) Anything left mid o → Bad (member_part v) (StopsAt (suc (group_rank v))) mid to →
+    Bad (group_part v) (StopsAt (group_rank v)) xs to
+grouped_bad v g mark bad = members_bad (group_at v) g.read mark bad
+
+pub grouped_end : (v : Group) {xs left : List Token} {ts : List Statement} (a : Statement) → Grouped v xs left ts →
+    (IsKind (Sign (group_mark v)) (sees left) → ⊥) → a ≡ several_of v (onto and_member ts no_members) →
+    Good (group_part v) (StopsAt (group_rank v)) xs left a
+grouped_end v {ts = ts} a g never e = members_end (group_at v) a g.read never (several v a ts e (λ h. never (g.two h)))
+
+-- a guard: expr "->"
+abbrev pub Arrowed : Covered → GrammarPart Expression
+Arrowed e = Then (Exactly (Sign mark.Arrow)) (λ p. Done e.expression)
+
+guard_in : {l rest : List Token} {a : Expression} → Then Disjunction Arrowed l rest a → Guard l rest a
+guard_in (and_then d (and_then exactly all_done)) = a_guard d
+
+guard_out : {l rest : List Token} {a : Expression} → Guard l rest a → Then Disjunction Arrowed l rest a
+guard_out (a_guard d) = and_then d (and_then exactly all_done)
+
+pub guard_start : (xs : List Token) → SoFar Guard Anything xs xs (Then Disjunction Arrowed)
+guard_start xs = instead (Then Disjunction Arrowed) (start Guard Anything xs) (λ l rest a q. guard_in q) (λ l rest a s f w. guard_out w)
+
+pub guard_seam : Seam Disjunction (StopsAt 5) Anything Arrowed
+guard_seam = kind_seam (Sign mark.Arrow) 5 (omega arith) (λ e p. ends_done e.expression)
+
+pub arrow_seam : (e : Covered) → Seam (Exactly (Sign mark.Arrow)) Anything Anything (λ p. Done e.expression)
+arrow_seam e = last_any (λ p. e.expression)
+
+ends_guard : Ends Guard
+ends_guard =
+    let e = ends_then ends_disjunction (λ e. ends_then (ends_exactly (Sign mark.Arrow)) (λ p. ends_done e.expression)) in
+    (e.0, e.1, λ rest. guard_in (e.2 rest))
 
 -- expr "->" par
-abbrev pub Body : Covered → GrammarPart Guarded
-Body e = Then Par (λ t. Done (guarded e.expression t))
+abbrev pub Body : Expression → GrammarPart Guarded
+Body e = Then Par (λ t. Done (guarded e t))
 
-abbrev pub Arrowed : Covered → GrammarPart Guarded
-Arrowed e = Then (Exactly (Sign mark.Arrow)) (λ p. Body e)
+branch_in : {l rest : List Token} {a : Guarded} → Then Guard Body l rest a → GuardedCommand l rest a
+branch_in (and_then (a_guard d) (and_then p all_done)) = the_branch d p
 
-branch_in : {l rest : List Token} {a : Guarded} → Then Disjunction Arrowed l rest a → GuardedCommand l rest a
-branch_in (and_then d (and_then exactly (and_then p all_done))) = the_branch d p
+branch_out : {l rest : List Token} {a : Guarded} → GuardedCommand l rest a → Then Guard Body l rest a
+branch_out (the_branch d p) = and_then (a_guard d) (and_then p all_done)
 
-branch_out : {l rest : List Token} {a : Guarded} → GuardedCommand l rest a → Then Disjunction Arrowed l rest a
-branch_out (the_branch d p) = and_then d (and_then exactly (and_then p all_done))
+pub branch_start : (xs : List Token) → SoFar GuardedCommand (StopsAt 2) xs xs (Then Guard Body)
+branch_start xs = instead (Then Guard Body) (start GuardedCommand (StopsAt 2) xs) (λ l rest a q. branch_in q) (λ l rest a s f w. branch_out w)
 
-pub branch_start : (xs : List Token) → SoFar GuardedCommand (StopsAt 2) xs xs (Then Disjunction Arrowed)
-branch_start xs = instead (Then Disjunction Arrowed) (start GuardedCommand (StopsAt 2) xs) (λ l rest a q. branch_in q) (λ l rest a s f w. branch_out w)
+body_ends : (e : Expression) → Ends (Body e)
+body_ends e = ends_then ends_par (λ t. ends_done (guarded e t))
 
-body_ends : (e : Covered) → Ends (Body e)
-body_ends e = ends_then ends_par (λ t. ends_done (guarded e.expression t))
+pub branch_seam : Seam Guard Anything (StopsAt 2) Body
+branch_seam = any_seam body_ends
 
-pub guard_seam : Seam Disjunction (StopsAt 5) (StopsAt 2) Arrowed
-guard_seam = kind_seam (Sign mark.Arrow) 5 (omega arith) (λ e p. body_ends e)
-
-pub arrow_seam : (e : Covered) → Seam (Exactly (Sign mark.Arrow)) Anything (StopsAt 2) (λ p. Body e)
-arrow_seam e = any_seam (λ p. body_ends e)
-
-pub body_seam : (e : Covered) → Seam Par (StopsAt 2) (StopsAt 2) (λ t. Done (guarded e.expression t))
-body_seam e = last_seam (λ t. guarded e.expression t)
+pub body_seam : (e : Expression) → Seam Par (StopsAt 2) (StopsAt 2) (λ t. Done (guarded e t))
+body_seam e = last_seam (λ t. guarded e t)
 
 pub ends_branch : Ends GuardedCommand
-ends_branch =
-    let e = ends_then ends_disjunction (λ e. ends_then (ends_exactly (Sign mark.Arrow)) (λ p. body_ends e)) in
-    (e.0, e.1, λ rest. branch_in (e.2 rest))
+ends_branch = let e = ends_then ends_guard body_ends in (e.0, e.1, λ rest. branch_in (e.2 rest))
 
 pub choices_out : {l rest : List Token} {a : Arms} → GuardedCommands l rest a → (mid : List Token) × (b : Guarded) × (us : Arms) × GuardedCommand l mid b
     × MoreChoices mid rest us × (a ≡ and_guarded b us)

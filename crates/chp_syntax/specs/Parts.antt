@@ -5,6 +5,7 @@ use Rattle.chp_syntax.specs.declared.token.Token.{Token}
 use Rattle.chp_syntax.specs.declared.token.TokenKind.{TokenKind}
 use Rattle.chp_syntax.specs.declared.token.TokenKind.TheVariants.{Word, Ident, Number, Sign}
 use Rattle.chp_syntax.specs.declared.token.Key.TheVariants as key
+use Rattle.chp_syntax.specs.declared.token.Mark.{Mark}
 use Rattle.chp_syntax.specs.declared.token.Mark.TheVariants as mark
 use Rattle.chp_syntax.specs.declared.tree.Ident.{Ident as Named}
 use Rattle.chp_syntax.specs.declared.parser.sight.Stop.{Stop}
@@ -18,9 +19,14 @@ use Rattle.chp_syntax.specs.declared.parser.sight.ActionFront.{ActionFront}
 use Rattle.chp_syntax.specs.declared.parser.sight.ActionFront.TheVariants as action
 use Rattle.chp_syntax.specs.declared.parser.sight.DeclFront.{DeclFront}
 use Rattle.chp_syntax.specs.declared.parser.sight.DeclFront.TheVariants as decl
+use Rattle.chp_syntax.specs.declared.parser.sight.Level.{Level}
+use Rattle.chp_syntax.specs.declared.parser.sight.Level.TheVariants as level
+use Rattle.chp_syntax.specs.declared.parser.sight.Group.{Group}
+use Rattle.chp_syntax.specs.declared.parser.sight.Group.TheVariants as group
 use Rattle.chp_syntax.specs.declared.tree.DeclKind.TheVariants as declares
-use Rattle.chp_syntax.specs.Trees.{Statement, selects, repeats, Arms}
-use Rattle.chp_syntax.specs.Grammar.{Par, GuardedCommands, name, numeral}
+use Rattle.chp_syntax.specs.declared.tree.Op.{Op}
+use Rattle.chp_syntax.specs.Trees.{Expression, Statement, Statements, follows, besides, selects, repeats, Arms}
+use Rattle.chp_syntax.specs.Grammar.{sign, Covered, cover, Tail, Negated, Sum, MoreSum, sum_of, Comparison, Conjunction, MoreConjunction, and_of, Exclusive, MoreExclusive, xor_of, Disjunction, MoreDisjunction, or_operator, Atom, Both, Seq, Par, GuardedCommands, name, numeral}
 
 -- a part of the grammar: the tokens from a position on, those that are left, and what was read
 abbrev pub GrammarPart : Type 0 → Type 1
@@ -98,10 +104,74 @@ pub data AName : List Token → List Token → Named → Type 0 where
 pub data ANumber : List Token → List Token → Numeral → Type 0 where
   the_number : {rest : List Token} {n : Numeral} → ANumber (numeral n.value n.at ∷ rest) rest n
 
+-- a guard, up to the arrow after it
+pub data Guard : List Token → List Token → Expression → Type 0 where
+  a_guard : {ts rest : List Token} {e : Expression} {r p : Span} → Disjunction ts (sign mark.Arrow p ∷ rest) (cover e r) →
+      Guard ts rest e
+
 -- what is between the brackets of a repetition
 pub data Inside : List Token → List Token → Statement → Type 0 where
   a_body : {ts rest : List Token} {t : Statement} → Par ts rest t → Inside ts rest (repeats t)
   some_arms : {ts rest : List Token} {bs : Arms} → GuardedCommands ts rest bs → Inside ts rest (selects true bs)
+
+-- the levels of operators: what each reads, its operands, the operators with the operands after them, which signs
+-- these are, and how tightly they bind
+abbrev pub level_part : Level → GrammarPart Covered
+level_part level.Sum = Sum
+level_part level.Conjunction = Conjunction
+level_part level.Exclusive = Exclusive
+level_part level.Disjunction = Disjunction
+
+abbrev pub operand_part : Level → GrammarPart Covered
+operand_part level.Sum = Negated
+operand_part level.Conjunction = Comparison
+operand_part level.Exclusive = Conjunction
+operand_part level.Disjunction = Exclusive
+
+abbrev pub links_part : Level → GrammarPart Tail
+links_part level.Sum = MoreSum
+links_part level.Conjunction = MoreConjunction
+links_part level.Exclusive = MoreExclusive
+links_part level.Disjunction = MoreDisjunction
+
+abbrev pub level_operator : Level → TokenKind → Option Op
+level_operator level.Sum = sum_of
+level_operator level.Conjunction = and_of
+level_operator level.Exclusive = xor_of
+level_operator level.Disjunction = or_operator
+
+abbrev pub level_rank : Level → ℕ
+level_rank level.Sum = 9
+level_rank level.Conjunction = 7
+level_rank level.Exclusive = 6
+level_rank level.Disjunction = 5
+
+-- the levels of groups of statements: what each reads, its members, the sign between these, how tightly it binds, and
+-- the statement of several members
+abbrev pub group_part : Group → GrammarPart Statement
+group_part group.Both = Both
+group_part group.Seq = Seq
+group_part group.Par = Par
+
+abbrev pub member_part : Group → GrammarPart Statement
+member_part group.Both = Atom
+member_part group.Seq = Both
+member_part group.Par = Seq
+
+abbrev pub group_mark : Group → Mark
+group_mark group.Both = mark.Comma
+group_mark group.Seq = mark.Semicolon
+group_mark group.Par = mark.BarBar
+
+abbrev pub group_rank : Group → ℕ
+group_rank group.Both = 4
+group_rank group.Seq = 3
+group_rank group.Par = 2
+
+abbrev pub several_of : Group → Statements → Statement
+several_of group.Both us = besides us
+several_of group.Seq us = follows us
+several_of group.Par us = besides us
 
 -- R reads the tokens ts up to `left` as a, and as nothing else so long as what follows has the same first token
 pub record Good {A : Type 0} (R : List Token → List Token → A → Type 0) (F : Option Token →

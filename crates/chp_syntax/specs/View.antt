@@ -2,7 +2,6 @@
 use Rattle.std.specs.Prelude.{List, [], ◌∷◌, ◌++◌, map}
 use Rattle.std.specs.declared.alloc.Global.{Global}
 use Rattle.std.specs.declared.vec.Vec.{Vec}
-use Rattle.chp_base.specs.declared.span.Span.{Span}
 use Rattle.chp_syntax.specs.declared.tree.Expr.{Expr, Number, Whole, Slice, Bit, Join', Not', Chain', Row_of-Expr, end_of-Expr, more_of-Expr, Row_of-Link, end_of-Link, more_of-Link}
 use Rattle.chp_syntax.specs.declared.tree.Link.{Link}
 use Rattle.chp_syntax.specs.declared.tree.Arm.{Arm}
@@ -11,8 +10,9 @@ use Rattle.chp_syntax.specs.declared.tree.Proc.{Proc}
 use Rattle.chp_syntax.specs.declared.tree.Program.{Program}
 use Rattle.chp_syntax.specs.declared.tree.Op.{Op}
 use Rattle.chp_syntax.specs.declared.parser.expression.Covered as C
+use Rattle.chp_syntax.specs.declared.parser.expression.Tail as T
 use Rattle.chp_syntax.specs.Trees.{Expression, number, whole, slice, bit, join, negation, chain, Expressions, no_parts, and_part, Links, no_links, and_link, Statement, skips, assigns, sends, receives, follows, besides, selects, repeats, calls, Statements, no_members, and_member, Arms, no_arms, and_arm, Procedure, ProgramTree}
-use Rattle.chp_syntax.specs.Grammar.{Covered, cover, chained, from_to, Guarded, guarded, Item, valued, defined}
+use Rattle.chp_syntax.specs.Grammar.{Covered, cover, Tail, Guarded, guarded, Item, valued, defined}
 use Rattle.chp_syntax.specs.Grammar.{Declared as Declarations_of}
 use Rattle.chp_syntax.specs.declared.parser.program.Declared.{Declared}
 use Rattle.chp_syntax.specs.declared.parser.program.Item as I
@@ -77,9 +77,9 @@ link_of l = (l.op, expression_of l.right)
 abbrev pub and_pair : Op × Expression → Links → Links
 and_pair x us = and_link x.0 x.1 us
 
--- a first member with these links, up to the end of the last one
-abbrev pub chained_to : Covered → List (Op × Expression) → Span → Covered
-chained_to c ls last = let s : Span = from_to c.at last in cover (chained c.expression (onto and_pair ls no_links) s) s
+-- operators with their right sides
+abbrev pub tail_of : T.Tail → Tail
+tail_of t = record { links = onto and_pair (map link_of t.links.items) no_links; last = t.last }
 
 abbrev pub parts_of : Vec Expr Global → Expressions
 parts_of v = onto and_part (map expression_of v.items) no_parts

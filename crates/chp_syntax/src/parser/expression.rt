@@ -1,18 +1,20 @@
-//! Expressions. Functions for levels of the grammar are put into their callers, since a bracket then takes less of the
-//! stack than frames of their own would; one that few brackets need keeps a frame of its own.
+//! Expressions. What makes a tree of parts takes these as results, outside of the recursion, so that a function of this
+//! owns at most the list that it adds to where it may be left, and its frame on the stack holds little for a bracket.
 
-ghost use Rattle.std.specs.Prelude.{◌≡◌, ℕ, ◌≤◌, ◌<◌, List, length, drop, map, IfOk, IfErr, OnOk};
-ghost use Rattle.chp_syntax.specs.Parts.{Good, Bad, StopsAt, WhenFault, sees, primary_front};
+ghost use Rattle.std.specs.Prelude.{◌≡◌, ℕ, suc, ◌≤◌, ◌<◌, ◌++◌, ◌∷◌, [], List, length, drop, map, Some, Err, IfOk, IfErr, OnOk, IsOkAnd};
+ghost use Rattle.chp_syntax.specs.Parts.{Good, Bad, StopsAt, WhenFault, sees, primary_front, level_part, operand_part, links_part, level_rank};
 ghost use Rattle.chp_syntax.specs.declared.parser.sight.PrimaryFront.TheVariants as primary;
-ghost use Rattle.chp_syntax.specs.Grammar.{Primary, Parts, Negated, Sum, Comparison, Conjunction, Exclusive, Disjunction};
-ghost use Rattle.chp_syntax.specs.View.{covered_of, parts_of, link_of, chained_to};
+ghost use Rattle.chp_syntax.specs.declared.parser.sight.Stop.TheVariants.{Fault};
+ghost use Rattle.chp_syntax.specs.Trees.{negation, join};
+ghost use Rattle.chp_syntax.specs.Grammar.{Primary, Parts, Negated, Comparison, Disjunction, cover, from_to, end_of, longer, no_tail, chain_of};
+ghost use Rattle.chp_syntax.specs.View.{covered_of, expression_of, parts_of, link_of, tail_of};
 
 use super::sight::{
-    PrimaryFront, Stop, and_at, comparison_at, mark_at, or_at, primary_at, sum_at, take_mark,
-    take_name, take_number, xor_at,
+    Level, PrimaryFront, Stop, comparison_at, mark_at, operator_at, primary_at, span_at, take_mark,
+    take_name, take_number,
 };
 use crate::token::{Mark, Token};
-use crate::tree::{Expr, Link};
+use crate::tree::{Expr, Link, Op};
 use chp_base::Span;
 use std::alloc::Global;
 
@@ -21,6 +23,13 @@ use std::alloc::Global;
 pub struct Covered {
     pub value: Expr,
     pub at: Span,
+}
+
+/// Operators with their right sides, and the span of the last one's tokens.
+#[derive(Drop)]
+pub struct Tail {
+    pub links: Vec<Link>,
+    pub last: Option<Span>,
 }
 
 fn from_to(first: Span, last: Span) -> Span
@@ -32,13 +41,25 @@ fn from_to(first: Span, last: Span) -> Span
     }
 }
 
-/// The chain of a first member and these links, up to the end of the last one.
-fn chain(alloc: Global, first: Covered, links: Vec<Link>, last: Span) -> Result<Covered, Stop>
-    ensures done { IfOk result (λ c. covered_of c ≡ chained_to (covered_of first) (map link_of links.items) last) }
-    ensures no_fault { IfErr result (λ e. WhenFault e ⊥) }
+/// Up to the end of the last one, if there is one.
+fn up_to(first: Span, last: Option<Span>) -> Span
+    ensures { result ≡ from_to first (end_of first last) }
 {
-    let at = from_to(first.at, last);
-    if links.len() == 0 {
+    match last {
+        Some(last) => from_to(first, last),
+        None => first,
+    }
+}
+
+/// The chain of a first member and what follows it.
+#[inline(never)]
+fn chain(alloc: Global, first: Covered, rest: Result<Tail, Stop>) -> Result<Covered, Stop>
+    ensures done { IfOk result (λ c. IsOkAnd rest (λ r. covered_of c ≡ chain_of (covered_of first) (tail_of r))) }
+    ensures fault { IfErr result (λ e. WhenFault e (rest ≡ Err Fault)) }
+{
+    let rest = rest?;
+    let at = up_to(first.at, rest.last);
+    if rest.links.len() == 0 {
         return Ok(Covered {
             value: first.value,
             at,
@@ -48,11 +69,107 @@ fn chain(alloc: Global, first: Covered, links: Vec<Link>, last: Span) -> Result<
     Ok(Covered {
         value: Expr::Chain {
             first,
-            rest: links,
+            rest: rest.links,
             at,
         },
         at,
     })
+}
+
+/// Adds an operator with its right side.
+#[inline(never)]
+fn add_link(tail: &mut Tail, op: Op, right: Result<Covered, Stop>) -> Result<(), Stop>
+    ensures links { OnOk result (IsOkAnd right (λ c.
+        map link_of tail.new.links.items ≡ map link_of tail.old.links.items ++ (op, expression_of c.value) ∷ [])) }
+    ensures last { OnOk result (IsOkAnd right (λ c. tail.new.last ≡ Some c.at)) }
+    ensures fault { IfErr result (λ e. WhenFault e (right ≡ Err Fault)) }
+{
+    let right = right?;
+    tail.last = Some(right.at);
+    tail.links.push(Link {
+        op,
+        right: right.value,
+    })?;
+    Ok(())
+}
+
+/// The comparison of two sides.
+#[inline(never)]
+fn compare(
+    alloc: Global,
+    first: Covered,
+    op: Op,
+    right: Result<Covered, Stop>,
+) -> Result<Covered, Stop>
+    ensures done { IfOk result (λ c. IsOkAnd right (λ d.
+        covered_of c ≡ chain_of (covered_of first) (longer op (covered_of d) no_tail))) }
+    ensures fault { IfErr result (λ e. WhenFault e (right ≡ Err Fault)) }
+{
+    let mut tail = Tail {
+        links: Vec::new(alloc),
+        last: None,
+    };
+    let added = add_link(&mut tail, op, right);
+    chain(alloc, first, added.and(Ok(tail)))
+}
+
+/// The negation behind this `~`.
+#[inline(never)]
+fn negation(alloc: Global, tilde: Span, inner: Result<Covered, Stop>) -> Result<Covered, Stop>
+    ensures done { IfOk result (λ c. IsOkAnd inner (λ d. let s = from_to tilde d.at in
+        covered_of c ≡ cover (negation (expression_of d.value) s) s)) }
+    ensures fault { IfErr result (λ e. WhenFault e (inner ≡ Err Fault)) }
+{
+    let inner = inner?;
+    let at = from_to(tilde, inner.at);
+    let inner = Box::new(alloc, inner.value)?;
+    Ok(Covered {
+        value: Expr::Not { inner, at },
+        at,
+    })
+}
+
+/// What is in these parentheses.
+#[inline(never)]
+fn in_round(first: Span, inner: Covered, close: Result<Span, Stop>) -> Result<Covered, Stop>
+    ensures done { IfOk result (λ c. IsOkAnd close (λ s.
+        covered_of c ≡ cover (expression_of inner.value) (from_to first s))) }
+    ensures fault { IfErr result (λ e. WhenFault e (close ≡ Err Fault)) }
+{
+    match close {
+        Ok(close) => Ok(Covered {
+            value: inner.value,
+            at: from_to(first, close),
+        }),
+        Err(stop) => Err(stop),
+    }
+}
+
+/// The join of the parts in these braces.
+#[inline(never)]
+fn in_braces(first: Span, parts: Vec<Expr>, close: Result<Span, Stop>) -> Result<Covered, Stop>
+    ensures done { IfOk result (λ c. IsOkAnd close (λ s. let t = from_to first s in
+        covered_of c ≡ cover (join (parts_of parts) t) t)) }
+    ensures fault { IfErr result (λ e. WhenFault e (close ≡ Err Fault)) }
+{
+    let close = close?;
+    let at = from_to(first, close);
+    Ok(Covered {
+        value: Expr::Join { parts, at },
+        at,
+    })
+}
+
+/// Adds a part of a join.
+#[inline(never)]
+fn add_part(parts: &mut Vec<Expr>, part: Result<Covered, Stop>) -> Result<(), Stop>
+    ensures done { OnOk result (IsOkAnd part (λ c.
+        map expression_of parts.new.items ≡ map expression_of parts.old.items ++ expression_of c.value ∷ [])) }
+    ensures fault { IfErr result (λ e. WhenFault e (part ≡ Err Fault)) }
+{
+    let part = part?;
+    parts.push(part.value)?;
+    Ok(())
 }
 
 /// NAME | NAME "[" NUMBER "]" | NAME "[" NUMBER ":" NUMBER "]"
@@ -129,24 +246,14 @@ fn primary(alloc: Global, tokens: &[Token], at: &mut usize) -> Result<Covered, S
         PrimaryFront::Curly => {
             let open = take_mark(tokens, at, Mark::OpenCurly)?;
             let members = parts(alloc, tokens, at)?;
-            let close = take_mark(tokens, at, Mark::CloseCurly)?;
-            let span = from_to(open, close);
-            Ok(Covered {
-                value: Expr::Join {
-                    parts: members,
-                    at: span,
-                },
-                at: span,
-            })
+            let close = take_mark(tokens, at, Mark::CloseCurly);
+            in_braces(open, members, close)
         }
         PrimaryFront::Round => {
             let open = take_mark(tokens, at, Mark::OpenRound)?;
-            let inner = disjunction(alloc, tokens, at)?;
-            let close = take_mark(tokens, at, Mark::CloseRound)?;
-            Ok(Covered {
-                value: inner.value,
-                at: from_to(open, close),
-            })
+            let inner = chained(alloc, tokens, at, Level::Disjunction)?;
+            let close = take_mark(tokens, at, Mark::CloseRound);
+            in_round(open, inner, close)
         }
         PrimaryFront::Other => Err(Stop::Fault),
     }
@@ -164,20 +271,20 @@ fn parts(alloc: Global, tokens: &[Token], at: &mut usize) -> Result<Vec<Expr>, S
     ensures bad { IfErr result (λ e.
         WhenFault e (Bad Parts (StopsAt 4) (drop at.old tokens.now) (drop at.new tokens.now))) }
 {
-    let first = disjunction(alloc, tokens, at)?;
     let mut members: Vec<Expr> = Vec::new(alloc);
-    members.push(first.value)?;
+    let first = chained(alloc, tokens, at, Level::Disjunction);
+    add_part(&mut members, first)?;
     while mark_at(tokens, *at, Mark::Comma) {
         *at += 1;
-        let next = disjunction(alloc, tokens, at)?;
-        members.push(next.value)?;
+        let next = chained(alloc, tokens, at, Level::Disjunction);
+        add_part(&mut members, next)?;
     }
     Ok(members)
 }
 
 /// [ "~" ] e6
 #[cycle(expression_parts)]
-#[inline(always)]
+#[inline(never)]
 fn negated(alloc: Global, tokens: &[Token], at: &mut usize) -> Result<Covered, Stop>
     requires { at.old ≤ length tokens.now }
     ensures within { at.new ≤ length tokens.now }
@@ -190,21 +297,15 @@ fn negated(alloc: Global, tokens: &[Token], at: &mut usize) -> Result<Covered, S
     if !mark_at(tokens, *at, Mark::Tilde) {
         return primary(alloc, tokens, at);
     }
-    let tilde = take_mark(tokens, at, Mark::Tilde)?;
-    let inner = primary(alloc, tokens, at)?;
-    let span = from_to(tilde, inner.at);
-    let boxed = Box::new(alloc, inner.value)?;
-    Ok(Covered {
-        value: Expr::Not {
-            inner: boxed,
-            at: span,
-        },
-        at: span,
-    })
+    let tilde = span_at(tokens, *at);
+    *at += 1;
+    let inner = primary(alloc, tokens, at);
+    negation(alloc, tilde, inner)
 }
 
 /// e4 [ ( "=" | "!=" | "<" | "<=" | ">" | ">=" ) e4 ]
 #[cycle(expression_parts)]
+#[inline(never)]
 fn comparison(alloc: Global, tokens: &[Token], at: &mut usize) -> Result<Covered, Stop>
     requires { at.old ≤ length tokens.now }
     ensures within { at.new ≤ length tokens.now }
@@ -214,104 +315,78 @@ fn comparison(alloc: Global, tokens: &[Token], at: &mut usize) -> Result<Covered
     ensures bad { IfErr result (λ e.
         WhenFault e (Bad Comparison (StopsAt 8) (drop at.old tokens.now) (drop at.new tokens.now))) }
 {
-    let first = sum(alloc, tokens, at)?;
+    let first = chained(alloc, tokens, at, Level::Sum)?;
     let Some(op) = comparison_at(tokens, *at) else {
         return Ok(first);
     };
     *at += 1;
-    let right = sum(alloc, tokens, at)?;
-    let last = right.at;
-    let mut links: Vec<Link> = Vec::new(alloc);
-    links.push(Link {
-        op,
-        right: right.value,
-    })?;
-    chain(alloc, first, links, last)
+    let right = chained(alloc, tokens, at, Level::Sum);
+    compare(alloc, first, op, right)
 }
 
+/// What the operators of this level stand between: e1, e2, e3 or e5.
+#[cycle(expression_parts)]
+fn operand(alloc: Global, tokens: &[Token], at: &mut usize, level: Level) -> Result<Covered, Stop>
+    requires { at.old ≤ length tokens.now }
+    ensures within { at.new ≤ length tokens.now }
+    ensures moved { OnOk result (at.old < at.new) }
+    ensures good { IfOk result (λ c. Good (operand_part level) (StopsAt (suc (level_rank level)))
+        (drop at.old tokens.now) (drop at.new tokens.now) (covered_of c)) }
+    ensures bad { IfErr result (λ e.
+        WhenFault e (Bad (operand_part level) (StopsAt (suc (level_rank level)))
+        (drop at.old tokens.now) (drop at.new tokens.now))) }
+{
+    match level {
+        Level::Sum => negated(alloc, tokens, at),
+        Level::Conjunction => comparison(alloc, tokens, at),
+        Level::Exclusive => chained(alloc, tokens, at, Level::Conjunction),
+        Level::Disjunction => chained(alloc, tokens, at, Level::Exclusive),
+    }
+}
+
+/// Operators of this level, each with an operand behind it.
+#[cycle(expression_parts)]
+#[inline(never)]
+fn links(alloc: Global, tokens: &[Token], at: &mut usize, level: Level) -> Result<Tail, Stop>
+    requires { at.old ≤ length tokens.now }
+    ensures within { at.new ≤ length tokens.now }
+    ensures kept { OnOk result (at.old ≤ at.new) }
+    ensures good { IfOk result (λ r. Good (links_part level) (StopsAt (level_rank level)) (drop at.old tokens.now)
+        (drop at.new tokens.now) (tail_of r)) }
+    ensures bad { IfErr result (λ e. WhenFault e
+        (Bad (links_part level) (StopsAt (level_rank level)) (drop at.old tokens.now) (drop at.new tokens.now))) }
+{
+    let mut tail = Tail {
+        links: Vec::new(alloc),
+        last: None,
+    };
+    while let Some(op) = operator_at(tokens, *at, level) {
+        *at += 1;
+        let right = operand(alloc, tokens, at, level);
+        add_link(&mut tail, op, right)?;
+    }
+    Ok(tail)
+}
+
+/// An operand, and further ones behind operators of this level: e1 { "|" e1 }, e2 { "^" e2 }, e3 { "&" e3 } or
 /// e5 { ( "+" | "-" ) e5 }
 #[cycle(expression_parts)]
-#[inline(always)]
-fn sum(alloc: Global, tokens: &[Token], at: &mut usize) -> Result<Covered, Stop>
+fn chained(alloc: Global, tokens: &[Token], at: &mut usize, level: Level) -> Result<Covered, Stop>
     requires { at.old ≤ length tokens.now }
     ensures within { at.new ≤ length tokens.now }
     ensures moved { OnOk result (at.old < at.new) }
-    ensures good { IfOk result (λ c. Good Sum (StopsAt 9) (drop at.old tokens.now) (drop at.new tokens.now)
-        (covered_of c)) }
+    ensures good { IfOk result (λ c. Good (level_part level) (StopsAt (level_rank level))
+        (drop at.old tokens.now) (drop at.new tokens.now) (covered_of c)) }
     ensures bad { IfErr result (λ e.
-        WhenFault e (Bad Sum (StopsAt 9) (drop at.old tokens.now) (drop at.new tokens.now))) }
+        WhenFault e (Bad (level_part level) (StopsAt (level_rank level))
+        (drop at.old tokens.now) (drop at.new tokens.now))) }
 {
-    let first = negated(alloc, tokens, at)?;
-    let mut last = first.at;
-    let mut links: Vec<Link> = Vec::new(alloc);
-    while let Some(op) = sum_at(tokens, *at) {
-        *at += 1;
-        let next = negated(alloc, tokens, at)?;
-        last = next.at;
-        links.push(Link {
-            op,
-            right: next.value,
-        })?;
-    }
-    chain(alloc, first, links, last)
+    let first = operand(alloc, tokens, at, level)?;
+    let rest = links(alloc, tokens, at, level);
+    chain(alloc, first, rest)
 }
 
-/// e3 { "&" e3 }
-#[cycle(expression_parts)]
-#[inline(always)]
-fn conjunction(alloc: Global, tokens: &[Token], at: &mut usize) -> Result<Covered, Stop>
-    requires { at.old ≤ length tokens.now }
-    ensures within { at.new ≤ length tokens.now }
-    ensures moved { OnOk result (at.old < at.new) }
-    ensures good { IfOk result (λ c. Good Conjunction (StopsAt 7) (drop at.old tokens.now) (drop at.new tokens.now)
-        (covered_of c)) }
-    ensures bad { IfErr result (λ e.
-        WhenFault e (Bad Conjunction (StopsAt 7) (drop at.old tokens.now) (drop at.new tokens.now))) }
-{
-    let first = comparison(alloc, tokens, at)?;
-    let mut last = first.at;
-    let mut links: Vec<Link> = Vec::new(alloc);
-    while let Some(op) = and_at(tokens, *at) {
-        *at += 1;
-        let next = comparison(alloc, tokens, at)?;
-        last = next.at;
-        links.push(Link {
-            op,
-            right: next.value,
-        })?;
-    }
-    chain(alloc, first, links, last)
-}
-
-/// e2 { "^" e2 }
-#[cycle(expression_parts)]
-#[inline(always)]
-fn exclusive(alloc: Global, tokens: &[Token], at: &mut usize) -> Result<Covered, Stop>
-    requires { at.old ≤ length tokens.now }
-    ensures within { at.new ≤ length tokens.now }
-    ensures moved { OnOk result (at.old < at.new) }
-    ensures good { IfOk result (λ c. Good Exclusive (StopsAt 6) (drop at.old tokens.now) (drop at.new tokens.now)
-        (covered_of c)) }
-    ensures bad { IfErr result (λ e.
-        WhenFault e (Bad Exclusive (StopsAt 6) (drop at.old tokens.now) (drop at.new tokens.now))) }
-{
-    let first = conjunction(alloc, tokens, at)?;
-    let mut last = first.at;
-    let mut links: Vec<Link> = Vec::new(alloc);
-    while let Some(op) = xor_at(tokens, *at) {
-        *at += 1;
-        let next = conjunction(alloc, tokens, at)?;
-        last = next.at;
-        links.push(Link {
-            op,
-            right: next.value,
-        })?;
-    }
-    chain(alloc, first, links, last)
-}
-
-/// e1 { "|" e1 }
-#[cycle(expression_parts)]
+/// expr
 pub fn disjunction(alloc: Global, tokens: &[Token], at: &mut usize) -> Result<Covered, Stop>
     requires { at.old ≤ length tokens.now }
     ensures within { at.new ≤ length tokens.now }
@@ -321,17 +396,5 @@ pub fn disjunction(alloc: Global, tokens: &[Token], at: &mut usize) -> Result<Co
     ensures bad { IfErr result (λ e.
         WhenFault e (Bad Disjunction (StopsAt 5) (drop at.old tokens.now) (drop at.new tokens.now))) }
 {
-    let first = exclusive(alloc, tokens, at)?;
-    let mut last = first.at;
-    let mut links: Vec<Link> = Vec::new(alloc);
-    while let Some(op) = or_at(tokens, *at) {
-        *at += 1;
-        let next = exclusive(alloc, tokens, at)?;
-        last = next.at;
-        links.push(Link {
-            op,
-            right: next.value,
-        })?;
-    }
-    chain(alloc, first, links, last)
+    chained(alloc, tokens, at, Level::Disjunction)
 }

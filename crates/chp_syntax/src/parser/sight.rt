@@ -1,8 +1,8 @@
 //! Which token is at an index of the list, and the reading of single tokens.
 
 ghost use Rattle.std.specs.Prelude.{◌≡◌, ℕ, ◌≤◌, ◌<◌, ◌+◌, List, length, drop, IfOk, IfErr, OnOk, IsTrue, ◌↔◌, Some, None};
-ghost use Rattle.chp_syntax.specs.Parts.{sees, here, IsKind, kind_read, name_of, numeral_value, WhenFault, primary_front, atom_front, action_front, decl_front, acts, begins_par, Good, Bad, Exactly, AName, ANumber, Anything};
-ghost use Rattle.chp_syntax.specs.Grammar.{or_operator, xor_of, and_of, sum_of, comparison_of, name};
+ghost use Rattle.chp_syntax.specs.Parts.{sees, here, IsKind, kind_read, name_of, numeral_value, WhenFault, primary_front, atom_front, action_front, decl_front, acts, begins_par, Good, Bad, Exactly, AName, ANumber, Anything, level_operator, group_mark};
+ghost use Rattle.chp_syntax.specs.Grammar.{comparison_of, name};
 ghost use Rattle.chp_syntax.specs.declared.token.TokenKind.TheVariants.{Sign, Word};
 
 use crate::token::{Key, Mark, Token, TokenKind};
@@ -53,6 +53,23 @@ pub enum PrimaryFront {
     Curly,
     Round,
     Other,
+}
+
+/// The levels of operators that are applied from the left, the tightest first.
+#[derive(Clone, Copy)]
+pub enum Level {
+    Sum,
+    Conjunction,
+    Exclusive,
+    Disjunction,
+}
+
+/// The levels of groups of statements, the tightest first.
+#[derive(Clone, Copy)]
+pub enum Group {
+    Both,
+    Seq,
+    Par,
 }
 
 /// What a statement begins with.
@@ -114,6 +131,19 @@ pub fn mark_at(tokens: &[Token], at: usize, mark: Mark) -> bool
     front_mark(behind(tokens, at), mark)
 }
 
+/// Whether the sign between the members of such a group is here.
+pub fn continues(tokens: &[Token], at: usize, group: Group) -> bool
+    requires { at ≤ length tokens.now }
+    ensures { IsTrue result ↔ IsKind (Sign (group_mark group)) (sees (drop at tokens.now)) }
+{
+    let sign = match group {
+        Group::Both => Mark::Comma,
+        Group::Seq => Mark::Semicolon,
+        Group::Par => Mark::BarBar,
+    };
+    mark_at(tokens, at, sign)
+}
+
 fn front_word(tokens: &[Token], key: Key) -> bool
     ensures { IsTrue result ↔ IsKind (Word key) (sees tokens.now) }
 {
@@ -135,16 +165,38 @@ pub fn word_at(tokens: &[Token], at: usize, key: Key) -> bool
     front_word(behind(tokens, at), key)
 }
 
-fn front_or(tokens: &[Token]) -> Option<Op>
-    ensures { result ≡ kind_read or_operator (sees tokens.now) }
+/// The sign as an operator of this level.
+fn operator(mark: Mark, level: Level) -> Option<Op>
+    ensures { result ≡ level_operator level (Sign mark) }
+{
+    match level {
+        Level::Sum => match mark {
+            Mark::Plus => Some(Op::Add),
+            Mark::Minus => Some(Op::Sub),
+            _ => None,
+        },
+        Level::Conjunction => match mark {
+            Mark::Amp => Some(Op::And),
+            _ => None,
+        },
+        Level::Exclusive => match mark {
+            Mark::Caret => Some(Op::Xor),
+            _ => None,
+        },
+        Level::Disjunction => match mark {
+            Mark::Bar => Some(Op::Or),
+            _ => None,
+        },
+    }
+}
+
+fn front_operator(tokens: &[Token], level: Level) -> Option<Op>
+    ensures { result ≡ kind_read (level_operator level) (sees tokens.now) }
 {
     match tokens {
         [] => None,
         [first, ..] => match first.kind {
-            TokenKind::Sign(mark) => match mark {
-                Mark::Bar => Some(Op::Or),
-                _ => None,
-            },
+            TokenKind::Sign(mark) => operator(mark, level),
             TokenKind::Word(_) => None,
             TokenKind::Ident(_) => None,
             TokenKind::Number(_) => None,
@@ -152,84 +204,12 @@ fn front_or(tokens: &[Token]) -> Option<Op>
     }
 }
 
-pub fn or_at(tokens: &[Token], at: usize) -> Option<Op>
+/// The operator of this level, if there is one here.
+pub fn operator_at(tokens: &[Token], at: usize, level: Level) -> Option<Op>
     requires { at ≤ length tokens.now }
-    ensures { result ≡ kind_read or_operator (sees (drop at tokens.now)) }
+    ensures { result ≡ kind_read (level_operator level) (sees (drop at tokens.now)) }
 {
-    front_or(behind(tokens, at))
-}
-
-fn front_xor(tokens: &[Token]) -> Option<Op>
-    ensures { result ≡ kind_read xor_of (sees tokens.now) }
-{
-    match tokens {
-        [] => None,
-        [first, ..] => match first.kind {
-            TokenKind::Sign(mark) => match mark {
-                Mark::Caret => Some(Op::Xor),
-                _ => None,
-            },
-            TokenKind::Word(_) => None,
-            TokenKind::Ident(_) => None,
-            TokenKind::Number(_) => None,
-        },
-    }
-}
-
-pub fn xor_at(tokens: &[Token], at: usize) -> Option<Op>
-    requires { at ≤ length tokens.now }
-    ensures { result ≡ kind_read xor_of (sees (drop at tokens.now)) }
-{
-    front_xor(behind(tokens, at))
-}
-
-fn front_and(tokens: &[Token]) -> Option<Op>
-    ensures { result ≡ kind_read and_of (sees tokens.now) }
-{
-    match tokens {
-        [] => None,
-        [first, ..] => match first.kind {
-            TokenKind::Sign(mark) => match mark {
-                Mark::Amp => Some(Op::And),
-                _ => None,
-            },
-            TokenKind::Word(_) => None,
-            TokenKind::Ident(_) => None,
-            TokenKind::Number(_) => None,
-        },
-    }
-}
-
-pub fn and_at(tokens: &[Token], at: usize) -> Option<Op>
-    requires { at ≤ length tokens.now }
-    ensures { result ≡ kind_read and_of (sees (drop at tokens.now)) }
-{
-    front_and(behind(tokens, at))
-}
-
-fn front_sum(tokens: &[Token]) -> Option<Op>
-    ensures { result ≡ kind_read sum_of (sees tokens.now) }
-{
-    match tokens {
-        [] => None,
-        [first, ..] => match first.kind {
-            TokenKind::Sign(mark) => match mark {
-                Mark::Plus => Some(Op::Add),
-                Mark::Minus => Some(Op::Sub),
-                _ => None,
-            },
-            TokenKind::Word(_) => None,
-            TokenKind::Ident(_) => None,
-            TokenKind::Number(_) => None,
-        },
-    }
-}
-
-pub fn sum_at(tokens: &[Token], at: usize) -> Option<Op>
-    requires { at ≤ length tokens.now }
-    ensures { result ≡ kind_read sum_of (sees (drop at tokens.now)) }
-{
-    front_sum(behind(tokens, at))
+    front_operator(behind(tokens, at), level)
 }
 
 fn front_comparison(tokens: &[Token]) -> Option<Op>
