@@ -1,11 +1,14 @@
 -- Members, arms, parts and links up to a place, and one more.
 use Rattle.std.proofs.Common.{◌≡◌, ℕ, ◌+◌, ◌<◌, ◌≤◌, Bool, true, List, [], ◌∷◌, ◌++◌, length, get_or, take, refl, sym, ap, ◌∙◌, subst, append-nil, append_assoc, Option, None}
 use Rattle.std.proofs.lemmas.List.{take_more, take_all}
+use Rattle.std.specs.Prelude.{Result, Ok, Err, IfOk, IsOkAnd, OnOk}
+use Rattle.std.specs.Result.{result_and}
 use Rattle.std.specs.declared.alloc.Global.{Global}
 use Rattle.std.specs.declared.boxed.Box.{Box}
 use Rattle.std.specs.declared.vec.Vec.{Vec}
 use Rattle.chp_base.specs.declared.fault.FaultCode.{FaultCode}
-use Rattle.width_check.specs.declared.typed.TExpr.{TExpr, Join, Chain}
+use Rattle.chp_syntax.specs.declared.tree.Op.{Op}
+use Rattle.width_check.specs.declared.typed.TExpr.{TExpr, Join, Chain, Compare}
 use Rattle.width_check.specs.declared.typed.TLink.{TLink}
 use Rattle.width_check.specs.declared.typed.TArm.{TArm}
 use Rattle.width_check.specs.declared.typed.TStmt.{TStmt, Then, Beside, Select, Repeat}
@@ -75,6 +78,48 @@ chain_read cause e first v ls n a b d is items all l k =
     ∙ ap (λ (xs : List TLink). reads_of (formula_of first.value) ++ reads_of_operations (links_of xs)) (sym items ∙ sym (take_all n ls all)) in
     subst (λ (os : List Occurrence). Adds cause os a d) (sym same) (adds_more cause _ _ a b d l k)
 
+-- the same of what may have failed
+
+pub parts_noted : {T E : Type 0} (cause : FaultCode) (es : List TExpr) (i : ℕ) (e : TExpr) (a b d : Deeds) (so_far one all : Result T E) → i < length es
+    → e ≡ get_or es i e → OnOk so_far (Adds cause (reads_of_parts (parts_of (take i es))) a b)
+    → OnOk one (Adds cause (reads_of (formula_of e)) b d) → all ≡ result_and so_far one →
+    OnOk all (Adds cause (reads_of_parts (parts_of (take (i + 1) es))) a d)
+parts_noted cause es i e a b d (Ok x) (Ok y) all within is l k both = rw both (part_more cause es i e a b d within is l k)
+parts_noted cause es i e a b d (Ok x) (Err y) all within is l k both = rw both tt
+parts_noted cause es i e a b d (Err x) one all within is l k both = rw both tt
+
+pub links_begun : {T E : Type 0} (first : Result T E) (P : Type 0) → P → OnOk first (IsOkAnd first (λ (x : T). P))
+links_begun (Ok x) P p = p
+links_begun (Err x) P p = tt
+
+pub links_noted : {T E : Type 0} (cause : FaultCode) (ls : List TLink) (i : ℕ) (l : TLink) (a b d : Deeds) (first so_far one all : Result T E) →
+    i < length ls → l ≡ get_or ls i l → OnOk so_far (IsOkAnd first (λ (x : T). Adds cause (reads_of_operations (links_of (take i ls))) a b))
+    → OnOk one (Adds cause (reads_of (formula_of l.right)) b d) → all ≡ result_and so_far one →
+    OnOk all (IsOkAnd first (λ (x : T). Adds cause (reads_of_operations (links_of (take (i + 1) ls))) a d))
+links_noted cause ls i l a b d (Ok f) (Ok x) (Ok y) all within is m k both = rw both (link_more cause ls i l a b d within is m k)
+links_noted cause ls i l a b d (Err f) (Ok x) (Ok y) all within is m k both = absurd m
+links_noted cause ls i l a b d first (Ok x) (Err y) all within is m k both = rw both tt
+links_noted cause ls i l a b d first (Err x) one all within is m k both = rw both tt
+
+pub chain_noted : {T E : Type 0} (cause : FaultCode) (e : TExpr) (first : Box TExpr Global) (v : Vec TLink Global) (f : TExpr) (ls : List TLink) (n : ℕ)
+    (a b d : Deeds) (one all : Result T E) → e ≡ Chain first v → f ≡ first.value → ls ≡ v.items → length ls ≤ n
+    → OnOk one (Adds cause (reads_of (formula_of f)) a b)
+    → OnOk all (IsOkAnd one (λ (x : T). Adds cause (reads_of_operations (links_of (take n ls))) b d)) →
+    OnOk all (Adds cause (reads_of (formula_of e)) a d)
+chain_noted cause e first v f ls n a b d (Ok x) (Ok y) is here items over l k =
+    chain_read cause e first v ls n a b d is items over (subst (λ (t : TExpr). Adds cause (reads_of (formula_of t)) a b) here l) k
+chain_noted cause e first v f ls n a b d (Err x) (Ok y) is here items over l k = absurd k
+chain_noted cause e first v f ls n a b d one (Err y) is here items over l k = tt
+
+pub sides_noted : {T E : Type 0} (cause : FaultCode) (e : TExpr) (op : Op) (left right : Box TExpr Global) (f g : TExpr) (a b d : Deeds)
+    (one other all : Result T E) → e ≡ Compare op left right → f ≡ left.value → g ≡ right.value → OnOk one (Adds cause (reads_of (formula_of f)) a b)
+    → OnOk other (Adds cause (reads_of (formula_of g)) b d) → all ≡ result_and one other → OnOk all (Adds cause (reads_of (formula_of e)) a d)
+sides_noted cause e op left right f g a b d (Ok x) (Ok y) all is here there l k both =
+    rw both (subst (λ (t : TExpr). Adds cause (reads_of (formula_of t)) a d) (sym is) (adds_more cause _ _ a b d
+    (subst (λ (t : TExpr). Adds cause (reads_of (formula_of t)) a b) here l) (subst (λ (t : TExpr). Adds cause (reads_of (formula_of t)) b d) there k)))
+sides_noted cause e op left right f g a b d (Ok x) (Err y) all is here there l k both = rw both tt
+sides_noted cause e op left right f g a b d (Err x) other all is here there l k both = rw both tt
+
 -- ---- what the members of a statement do
 
 pub turn_next : (cause : FaultCode) (ss : List TStmt) (i : ℕ) (s : TStmt) (a b d : Deeds) → i < length ss → s ≡ get_or ss i s
@@ -99,6 +144,45 @@ pub choice_next : (cause : FaultCode) (arms : List TArm) (i : ℕ) (arm : TArm) 
 choice_next cause arms i arm a b d e within is tells own adds merges =
     let same = ap (λ (xs : List TArm). choosing true (arms_of xs)) (one_more arms i arm within is) ∙ ap (choosing true) (arm_last (take i arms) arm) in
     subst (λ (p : Process). Tells cause p e) (sym same) (choice_told cause true _ _ _ a b d e tells own adds merges)
+
+-- the same of what was collected
+
+pub turn_collected : {E : Type 0} (cause : FaultCode) (ss : List TStmt) (i : ℕ) (s : TStmt) (all own new : Result (Box Deeds Global) E) → i < length ss
+    → s ≡ get_or ss i s → IfOk all (λ (a : Box Deeds Global). Tells cause (in_turn (members_of (take i ss))) a.value)
+    → IfOk own (λ (b : Box Deeds Global). Tells cause (process_of s) b.value)
+    → IfOk new (λ (n : Box Deeds Global). IsOkAnd all (λ (a : Box Deeds Global). IsOkAnd own (λ (b : Box Deeds Global).
+    Merges a.value b.value None n.value))) →
+    IfOk new (λ (n : Box Deeds Global). Tells cause (in_turn (members_of (take (i + 1) ss))) n.value)
+turn_collected cause ss i s (Ok a) (Ok b) (Ok n) within is tells own merges = turn_next cause ss i s a.value b.value n.value within is tells own merges
+turn_collected cause ss i s (Ok a) (Err e) (Ok n) within is tells own merges = absurd merges
+turn_collected cause ss i s (Err e) own (Ok n) within is tells one merges = absurd merges
+turn_collected cause ss i s all own (Err e) within is tells one merges = tt
+
+pub branch_collected : {E : Type 0} (cause : FaultCode) (ss : List TStmt) (i : ℕ) (s : TStmt) (all own new : Result (Box Deeds Global) E) → i < length ss
+    → s ≡ get_or ss i s → IfOk all (λ (a : Box Deeds Global). Tells cause (side_by_side (members_of (take i ss))) a.value)
+    → IfOk own (λ (b : Box Deeds Global). Tells cause (process_of s) b.value)
+    → IfOk new (λ (n : Box Deeds Global). IsOkAnd all (λ (a : Box Deeds Global). IsOkAnd own (λ (b : Box Deeds Global).
+    (across : Option Clash) × IsLeast IsNoLaterPair (Crosses a.value b.value) across × Merges a.value b.value across n.value))) →
+    IfOk new (λ (n : Box Deeds Global). Tells cause (side_by_side (members_of (take (i + 1) ss))) n.value)
+branch_collected cause ss i s (Ok a) (Ok b) (Ok n) within is tells own merges =
+    branch_next cause ss i s a.value b.value n.value merges.0 within is tells own merges.1 merges.2
+branch_collected cause ss i s (Ok a) (Err e) (Ok n) within is tells own merges = absurd merges
+branch_collected cause ss i s (Err e) own (Ok n) within is tells one merges = absurd merges
+branch_collected cause ss i s all own (Err e) within is tells one merges = tt
+
+pub choice_collected : {E : Type 0} (cause : FaultCode) (arms : List TArm) (i : ℕ) (arm : TArm) (all body own new : Result (Box Deeds Global) E) →
+    i < length arms → arm ≡ get_or arms i arm → IfOk all (λ (a : Box Deeds Global). Tells cause (choosing true (arms_of (take i arms))) a.value)
+    → IfOk body (λ (b : Box Deeds Global). Tells cause (process_of arm.body) b.value)
+    → IfOk own (λ (d : Box Deeds Global). IsOkAnd body (λ (b : Box Deeds Global). Adds cause (reads_of (formula_of arm.guard)) b.value d.value))
+    → IfOk new (λ (n : Box Deeds Global). IsOkAnd all (λ (a : Box Deeds Global). IsOkAnd own (λ (d : Box Deeds Global).
+    Merges a.value d.value None n.value))) →
+    IfOk new (λ (n : Box Deeds Global). Tells cause (choosing true (arms_of (take (i + 1) arms))) n.value)
+choice_collected cause arms i arm (Ok a) (Ok b) (Ok d) (Ok n) within is tells own adds merges =
+    choice_next cause arms i arm a.value b.value d.value n.value within is tells own adds merges
+choice_collected cause arms i arm (Ok a) (Err e) (Ok d) (Ok n) within is tells own adds merges = absurd adds
+choice_collected cause arms i arm (Ok a) body (Err e) (Ok n) within is tells own adds merges = absurd merges
+choice_collected cause arms i arm (Err e) body own (Ok n) within is tells one adds merges = absurd merges
+choice_collected cause arms i arm all body own (Err e) within is tells one adds merges = tt
 
 pub then_told : (cause : FaultCode) (s : TStmt) (v : Vec TStmt Global) (ss : List TStmt) (n : ℕ) (d : Deeds) → s ≡ Then v → ss ≡ v.items
     → length ss ≤ n → Tells cause (in_turn (members_of (take n ss))) d

@@ -103,6 +103,13 @@ adds_more cause os ps a b d l k = record {
   clash = k.clash ∙ l.clash;
 }
 
+pub adds_none : (cause : FaultCode) (a : Deeds) → Adds cause [] a a
+adds_none cause a = record {
+  exclusive = none_in (IsExclusive cause) [] (get nat_eq a.exclusive) (place_none (IsExclusive cause));
+  common = none_in (IsCommon cause) [] (get nat_eq a.common) (place_none (IsCommon cause));
+  clash = refl;
+}
+
 -- ---- statements without parts
 
 -- no two occurrences in the process are parallel

@@ -1,10 +1,11 @@
 //! The deeds of statements that one cause of refusal concerns, collected bottom-up.
 
-ghost use Rattle.std.specs.Prelude.{◌≡◌, [], ◌∷◌, IfOk, OnOk};
+ghost use Rattle.std.specs.Prelude.{◌≡◌, [], ◌∷◌, None, Option as option, IfOk, IsOkAnd, OnOk};
 ghost use Rattle.chp_base.specs.declared.fault.FaultCode.{FaultCode};
 ghost use Rattle.width_check.specs.Processes.{skipping, assigning, sending, receiving};
 ghost use Rattle.width_check.specs.Sharing.{reads_var, writes_var, sends_on, receives_on, done_at, reads_of, SharedAt};
 ghost use Rattle.width_check.specs.View.{formula_of, process_of};
+ghost use Rattle.sharing_check.specs.declared.clash.Clash.{Clash as pair};
 ghost use Rattle.sharing_check.specs.Leasts.{IsLeast, IsNoLaterPair};
 ghost use Rattle.sharing_check.specs.Tells.{Tells, Adds, Crosses, Merges};
 
@@ -23,6 +24,10 @@ struct Deeds {
     common: Table,
     clash: Option<Clash>,
 }
+
+/// The deeds of a statement as they were collected. What goes down a statement hands them on as a result, and so owns
+/// none where it may be left.
+type Collected = Result<Box<Deeds>, AllocError>;
 
 fn no_deeds(alloc: Global) -> Deeds
     ensures { (cause : FaultCode) → Tells cause skipping result }
@@ -77,33 +82,28 @@ fn note_reads(deeds: &mut Deeds, cause: FaultCode, e: &TExpr) -> Result<(), Allo
         TExpr::Number { .. } => Ok(()),
         TExpr::Read { var, at, .. } => note_read(deeds, cause, *var, *at),
         TExpr::Join { parts } => {
+            let mut noted = Ok(());
             for part in parts {
-                note_reads(deeds, cause, part)?;
+                noted = noted.and(note_reads(deeds, cause, part));
             }
-            Ok(())
+            noted
         }
         TExpr::Not { inner } => note_reads(deeds, cause, inner),
         TExpr::Chain { first, rest } => {
-            note_reads(deeds, cause, first)?;
+            let mut noted = note_reads(deeds, cause, first);
             for link in rest {
-                note_reads(deeds, cause, &link.right)?;
+                noted = noted.and(note_reads(deeds, cause, &link.right));
             }
-            Ok(())
+            noted
         }
         TExpr::Compare { left, right, .. } => {
-            note_reads(deeds, cause, left)?;
-            note_reads(deeds, cause, right)
+            let noted = note_reads(deeds, cause, left);
+            noted.and(note_reads(deeds, cause, right))
         }
     }
 }
 
-fn assigned(
-    alloc: Global,
-    cause: FaultCode,
-    var: u32,
-    at: Span,
-    value: &TExpr,
-) -> Result<Box<Deeds>, AllocError>
+fn assigned(alloc: Global, cause: FaultCode, var: u32, at: Span, value: &TExpr) -> Collected
     ensures { IfOk result (λ deeds. Tells cause (assigning var at (formula_of value.now)) deeds.value) }
 {
     let mut deeds = no_deeds(alloc);
@@ -112,13 +112,7 @@ fn assigned(
     Ok(Box::new(alloc, deeds)?)
 }
 
-fn sent(
-    alloc: Global,
-    cause: FaultCode,
-    chan: u32,
-    at: Span,
-    value: &TExpr,
-) -> Result<Box<Deeds>, AllocError>
+fn sent(alloc: Global, cause: FaultCode, chan: u32, at: Span, value: &TExpr) -> Collected
     ensures { IfOk result (λ deeds. Tells cause (sending chan at (formula_of value.now)) deeds.value) }
 {
     let mut deeds = no_deeds(alloc);
@@ -134,7 +128,7 @@ fn received(
     chan_at: Span,
     var: u32,
     var_at: Span,
-) -> Result<Box<Deeds>, AllocError>
+) -> Collected
     ensures { IfOk result (λ deeds. Tells cause (receiving chan chan_at var var_at) deeds.value) }
 {
     let mut deeds = no_deeds(alloc);
@@ -152,12 +146,7 @@ fn first_crossing(one: &Deeds, other: &Deeds) -> Option<Clash>
     sooner(exclusive, sooner(left, right))
 }
 
-fn merged(
-    alloc: Global,
-    one: Box<Deeds>,
-    other: Box<Deeds>,
-    across: Option<Clash>,
-) -> Result<Box<Deeds>, AllocError>
+fn merged(alloc: Global, one: Box<Deeds>, other: Box<Deeds>, across: Option<Clash>) -> Collected
     ensures { IfOk result (λ new. Merges one.value other.value across new.value) }
 {
     let one = Box::into_inner(one);
@@ -173,13 +162,30 @@ fn merged(
     Ok(Box::new(alloc, both)?)
 }
 
+/// The deeds of both, which don't run beside each other.
+#[inline(never)]
+fn apart(alloc: Global, one: Collected, other: Collected) -> Collected
+    ensures { IfOk result (λ new. IsOkAnd one (λ a. IsOkAnd other (λ b. Merges a.value b.value None new.value))) }
+{
+    let one = one?;
+    merged(alloc, one, other?, None)
+}
+
+/// The deeds of both, which run beside each other.
+#[inline(never)]
+fn beside(alloc: Global, one: Collected, other: Collected) -> Collected
+    ensures { IfOk result (λ new. IsOkAnd one (λ a. IsOkAnd other (λ b.
+        (across : option pair) × IsLeast IsNoLaterPair (Crosses a.value b.value) across
+        × Merges a.value b.value across new.value))) }
+{
+    let one = one?;
+    let other = other?;
+    let across = first_crossing(&one, &other);
+    merged(alloc, one, other, across)
+}
+
 /// These deeds and what the guard reads.
-fn with_guard(
-    alloc: Global,
-    cause: FaultCode,
-    guard: &TExpr,
-    deeds: Box<Deeds>,
-) -> Result<Box<Deeds>, AllocError>
+fn with_guard(alloc: Global, cause: FaultCode, guard: &TExpr, deeds: Box<Deeds>) -> Collected
     ensures { IfOk result (λ new. Adds cause (reads_of (formula_of guard.now)) deeds.value new.value) }
 {
     let mut noted = Box::into_inner(deeds);
@@ -187,8 +193,17 @@ fn with_guard(
     Ok(Box::new(alloc, noted)?)
 }
 
+/// The same of deeds as they were collected.
+#[inline(never)]
+fn guarded(alloc: Global, cause: FaultCode, guard: &TExpr, deeds: Collected) -> Collected
+    ensures { IfOk result (λ new. IsOkAnd deeds (λ d.
+        Adds cause (reads_of (formula_of guard.now)) d.value new.value)) }
+{
+    with_guard(alloc, cause, guard, deeds?)
+}
+
 /// The deeds of a statement that has none.
-fn nothing_done(alloc: Global) -> Result<Box<Deeds>, AllocError>
+fn nothing_done(alloc: Global) -> Collected
     ensures { IfOk result (λ deeds. (cause : FaultCode) → Tells cause skipping deeds.value) }
 {
     Ok(Box::new(alloc, no_deeds(alloc))?)
@@ -196,7 +211,7 @@ fn nothing_done(alloc: Global) -> Result<Box<Deeds>, AllocError>
 
 /// The deeds of a statement. They are boxed so that little of the stack is taken for each statement that is within
 /// others.
-fn deeds_of(alloc: Global, cause: FaultCode, s: &TStmt) -> Result<Box<Deeds>, AllocError>
+fn deeds_of(alloc: Global, cause: FaultCode, s: &TStmt) -> Collected
     ensures { IfOk result (λ deeds. Tells cause (process_of s.now) deeds.value) }
 {
     match s {
@@ -210,30 +225,26 @@ fn deeds_of(alloc: Global, cause: FaultCode, s: &TStmt) -> Result<Box<Deeds>, Al
             var_at,
         } => received(alloc, cause, *chan, *chan_at, *var, *var_at),
         TStmt::Then { parts } => {
-            let mut all = nothing_done(alloc)?;
+            let mut all = nothing_done(alloc);
             for part in parts {
-                let own = deeds_of(alloc, cause, part)?;
-                all = merged(alloc, all, own, None)?;
+                all = apart(alloc, all, deeds_of(alloc, cause, part));
             }
-            Ok(all)
+            all
         }
         TStmt::Beside { parts } => {
-            let mut all = nothing_done(alloc)?;
+            let mut all = nothing_done(alloc);
             for branch in parts {
-                let own = deeds_of(alloc, cause, branch)?;
-                let across = first_crossing(&all, &own);
-                all = merged(alloc, all, own, across)?;
+                all = beside(alloc, all, deeds_of(alloc, cause, branch));
             }
-            Ok(all)
+            all
         }
         TStmt::Select { arms, .. } => {
-            let mut all = nothing_done(alloc)?;
+            let mut all = nothing_done(alloc);
             for arm in arms {
-                let body = deeds_of(alloc, cause, &arm.body)?;
-                let own = with_guard(alloc, cause, &arm.guard, body)?;
-                all = merged(alloc, all, own, None)?;
+                let body = deeds_of(alloc, cause, &arm.body);
+                all = apart(alloc, all, guarded(alloc, cause, &arm.guard, body));
             }
-            Ok(all)
+            all
         }
         TStmt::Repeat { body } => deeds_of(alloc, cause, body),
     }

@@ -87,6 +87,12 @@ pub fn share(alloc: Global, typed: Typed) -> Result<Disjoint, TextError>
         IsFirstSharedFault (process_of typed.body) sharing_faults f.code f.at f.other)) }
     ensures refused { IfErr result (IfRefused (λ _. ¬ MeetsSharing (process_of typed.body))) }
 {
-    let typed = refuse_all(alloc, typed.body()).and(Ok(typed))?;
-    Ok(Disjoint { typed })
+    match refuse_all(alloc, typed.body()) {
+        Ok(()) => Ok(Disjoint { typed }),
+        Err(error) => {
+            // One call, where the end of the block would let go of it variant by variant.
+            drop(typed);
+            Err(error)
+        }
+    }
 }

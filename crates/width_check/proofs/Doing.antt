@@ -79,16 +79,6 @@ pub group_left : (ds : List Decl) (s : Stmt) (v : Vec Stmt Global) (ss : List St
 group_left ds s v ss (inl is) = then_left ds s v ss is
 group_left ds s v ss (inr is) = beside_left ds s v ss is
 
--- which group it is, once one of the two is known
-
-pub is_then : (s : Stmt) (v w : Vec Stmt Global) → (s ≡ Then v) ⊎ (s ≡ Beside v) → s ≡ Then w → s ≡ Then v
-is_then s v w (inl is) so = is
-is_then s v w (inr is) so = absurd (cc (is, so))
-
-pub is_beside : (s : Stmt) (v : Vec Stmt Global) → (s ≡ Then v) ⊎ (s ≡ Beside v) → ((w : Vec Stmt Global) → ¬ (s ≡ Then w)) → s ≡ Beside v
-is_beside s v (inl is) not = absurd (not v is)
-is_beside s v (inr is) not = is
-
 pub record IsStatementReady (ds : List Decl) (s : Statement) : Type 0 where
   pub shaped : IsShapedStatement s
   pub free : has_call s ≡ false
@@ -144,12 +134,16 @@ member_made ds ss i s made new t total within is is_made pushed so_far =
     ap (λ (ts : List TStmt). before_members ts rest) pushed ∙ one_member made t rest
     ∙ ap (λ (p : Process). before_members made (typed.and_member p rest)) is_made ∙ begun
 
-pub member_pushed : {E : Type 0} (ds : List Decl) (ss : List Stmt) (i : ℕ) (s : Stmt) (made new : List TStmt) (r : Result TStmt E) (total : Processes) →
-    i < length ss → s ≡ get_or ss i s → IfOk r (λ (t : TStmt). process_of t ≡ process_form ds (statement_of s)) →
-    IsOkAnd r (λ (t : TStmt). new ≡ made ++ t ∷ []) → before_members made (processes_form ds (statements_in (drop i ss))) ≡ total →
-    before_members new (processes_form ds (statements_in (drop (i + 1) ss))) ≡ total
-member_pushed ds ss i s made new (Ok t) total within is is_made pushed so_far = member_made ds ss i s made new t total within is is_made pushed so_far
-member_pushed ds ss i s made new (Err e) total within is is_made pushed so_far = absurd pushed
+pub member_added : {E : Type 0} (ds : List Decl) (ss : List Stmt) (i : ℕ) (s : Stmt) (list new : Result (Vec TStmt Global) E) (r : Result TStmt E)
+    (total : Processes) → i < length ss → s ≡ get_or ss i s → IfOk r (λ (t : TStmt). process_of t ≡ process_form ds (statement_of s))
+    → IfOk new (λ (n : Vec TStmt Global). IsOkAnd list (λ (m : Vec TStmt Global). IsOkAnd r (λ (t : TStmt). n.items ≡ m.items ++ t ∷ [])))
+    → IfOk list (λ (m : Vec TStmt Global). before_members m.items (processes_form ds (statements_in (drop i ss))) ≡ total) →
+    IfOk new (λ (n : Vec TStmt Global). before_members n.items (processes_form ds (statements_in (drop (i + 1) ss))) ≡ total)
+member_added ds ss i s (Ok m) (Ok n) (Ok t) total within is is_made pushed so_far =
+    member_made ds ss i s m.items n.items t total within is is_made pushed so_far
+member_added ds ss i s (Ok m) (Ok n) (Err b) total within is is_made pushed so_far = absurd pushed
+member_added ds ss i s (Err a) (Ok n) r total within is is_made pushed so_far = absurd pushed
+member_added ds ss i s list (Err a) r total within is is_made pushed so_far = tt
 
 pub then_made : (ds : List Decl) (s : Stmt) (v : Vec Stmt Global) (ss : List Stmt) (i : ℕ) (t : Vec TStmt Global) → s ≡ Then v → ss ≡ v.items → length ss ≤ i →
     before_members t.items (processes_form ds (statements_in (drop i ss))) ≡ processes_form ds (statements_in ss) →
@@ -166,6 +160,25 @@ beside_made ds s v ss i t is same over so_far =
     let done = ap (λ (us : Statements). before_members t.items (processes_form ds us)) (sym (members_end ss i over)) ∙ so_far in
     let tree : statement_of s ≡ besides (statements_in ss) = beside_is s v is ∙ ap (λ (xs : List Stmt). besides (statements_in xs)) (sym same) in
     rows.beside_is (made.Beside t) t refl ∙ ap side_by_side (sym (members_all t.items) ∙ done) ∙ ap (process_form ds) (sym tree)
+
+group_of : {E : Type 0} (s : Stmt) (v : Vec Stmt Global) (f : Vec TStmt Global → TStmt) (target : Process) (list : Result (Vec TStmt Global) E)
+    (r : Result TStmt E) (Done : Vec TStmt Global → Type 0) → ((m : Vec TStmt Global) → Done m → process_of (f m) ≡ target) → IfOk list Done →
+    IfOk r (λ (t : TStmt). IsOkAnd list (λ (m : Vec TStmt Global). t ≡ f m)) → IfOk r (λ (t : TStmt). process_of t ≡ target)
+group_of s v f target (Ok m) (Ok t) Done so done is = ap process_of is ∙ so m done
+group_of s v f target (Err a) (Ok t) Done so done is = absurd is
+group_of s v f target list (Err a) Done so done is = tt
+
+pub group_made : {E : Type 0} (ds : List Decl) (s : Stmt) (v : Vec Stmt Global) (ss : List Stmt) (i : ℕ) (list : Result (Vec TStmt Global) E)
+    (r : Result TStmt E) → (s ≡ Then v) ⊎ (s ≡ Beside v) → ss ≡ v.items → length ss ≤ i
+    → IfOk list (λ (m : Vec TStmt Global). before_members m.items (processes_form ds (statements_in (drop i ss))) ≡ processes_form ds (statements_in ss))
+    → ((w : Vec Stmt Global) → s ≡ Then w → IfOk r (λ (t : TStmt). IsOkAnd list (λ (m : Vec TStmt Global). t ≡ made.Then m)))
+    → (((w : Vec Stmt Global) → ¬ (s ≡ Then w)) → IfOk r (λ (t : TStmt). IsOkAnd list (λ (m : Vec TStmt Global). t ≡ made.Beside m))) →
+    IfOk r (λ (t : TStmt). process_of t ≡ process_form ds (statement_of s))
+group_made ds s v ss i list r (inl is) same over so_far turns sides =
+    group_of s v made.Then (process_form ds (statement_of s)) list r _ (λ m done. then_made ds s v ss i m is same over done) so_far (turns v is)
+group_made ds s v ss i list r (inr is) same over so_far turns sides =
+    group_of s v made.Beside (process_form ds (statement_of s)) list r _ (λ m done. beside_made ds s v ss i m is same over done) so_far
+    (sides (λ w so. absurd (cc (is, so))))
 
 -- arms
 
@@ -236,14 +249,21 @@ arm_made ds xs i a made new f t total within is is_guard is_body pushed so_far =
     ∙ ap (λ (g : Formula). before_arms made (typed.and_choice g (process_of t) rest)) is_guard
     ∙ ap (λ (p : Process). before_arms made (typed.and_choice (formula_form ds 1 (expression_of a.guard)) p rest)) is_body ∙ begun
 
-pub arm_pushed : {E : Type 0} (ds : List Decl) (xs : List Arm) (i : ℕ) (a : Arm) (made new : List TArm) (f : TExpr) (b : Result TStmt E) (total : Choices) →
-    i < length xs → a ≡ get_or xs i a → formula_of f ≡ formula_form ds 1 (expression_of a.guard) →
-    IfOk b (λ (t : TStmt). process_of t ≡ process_form ds (statement_of a.body)) →
-    IsOkAnd b (λ (t : TStmt). new ≡ made ++ (record { guard = f; body = t }) ∷ [])
-    → before_arms made (choices_form ds (arms_in (drop i xs))) ≡ total → before_arms new (choices_form ds (arms_in (drop (i + 1) xs))) ≡ total
-arm_pushed ds xs i a made new f (Ok t) total within is is_guard is_body pushed so_far =
-    arm_made ds xs i a made new f t total within is is_guard is_body pushed so_far
-arm_pushed ds xs i a made new f (Err e) total within is is_guard is_body pushed so_far = absurd pushed
+pub arm_added : {E : Type 0} (ds : List Decl) (xs : List Arm) (i : ℕ) (a : Arm) (list new : Result (Vec TArm Global) E) (k : Result TArm E)
+    (g : Result TExpr E) (b : Result TStmt E) (total : Choices) → i < length xs → a ≡ get_or xs i a →
+    IfOk g (λ (t : TExpr). formula_of t ≡ formula_form ds 1 (expression_of a.guard)) →
+    IfOk b (λ (t : TStmt). process_of t ≡ process_form ds (statement_of a.body))
+    → IfOk k (λ (x : TArm). IsOkAnd g (λ (f : TExpr). IsOkAnd b (λ (t : TStmt). x ≡ (record { guard = f; body = t }))))
+    → IfOk new (λ (n : Vec TArm Global). IsOkAnd list (λ (m : Vec TArm Global). IsOkAnd k (λ (x : TArm). n.items ≡ m.items ++ x ∷ [])))
+    → IfOk list (λ (m : Vec TArm Global). before_arms m.items (choices_form ds (arms_in (drop i xs))) ≡ total) →
+    IfOk new (λ (n : Vec TArm Global). before_arms n.items (choices_form ds (arms_in (drop (i + 1) xs))) ≡ total)
+arm_added ds xs i a (Ok m) (Ok n) (Ok x) (Ok f) (Ok t) total within is is_guard is_body guards pushed so_far =
+    arm_made ds xs i a m.items n.items f t total within is is_guard is_body (pushed ∙ ap (λ (y : TArm). m.items ++ y ∷ []) guards) so_far
+arm_added ds xs i a (Ok m) (Ok n) (Ok x) (Ok f) (Err d) total within is is_guard is_body guards pushed so_far = absurd guards
+arm_added ds xs i a (Ok m) (Ok n) (Ok x) (Err d) b total within is is_guard is_body guards pushed so_far = absurd guards
+arm_added ds xs i a (Ok m) (Ok n) (Err d) g b total within is is_guard is_body guards pushed so_far = absurd pushed
+arm_added ds xs i a (Err d) (Ok n) k g b total within is is_guard is_body guards pushed so_far = absurd pushed
+arm_added ds xs i a list (Err d) k g b total within is is_guard is_body guards pushed so_far = tt
 
 pub repeat_made : {E : Type 0} (ds : List Decl) (s : Stmt) (body : Box Stmt Global) (f : Stmt) (b all : Result TStmt E) → s ≡ Repeat body → f ≡ body.value →
     IfOk b (λ (t : TStmt). process_of t ≡ process_form ds (statement_of f)) →
@@ -262,3 +282,12 @@ select_made ds s again v xs i t is same over so_far =
     let done = ap (λ (us : Arms). before_arms t.items (choices_form ds us)) (sym (arms_end xs i over)) ∙ so_far in
     let tree : statement_of s ≡ selects again (arms_in xs) = select_is s again v is ∙ ap (λ (ys : List Arm). selects again (arms_in ys)) (sym same) in
     rows.select_is (made.Select again t) again t refl ∙ ap (choosing again) (sym (arms_all t.items) ∙ done) ∙ ap (process_form ds) (sym tree)
+
+pub arms_selected : {E : Type 0} (ds : List Decl) (s : Stmt) (again : Bool) (v : Vec Arm Global) (xs : List Arm) (i : ℕ) (list : Result (Vec TArm Global) E)
+    (r : Result TStmt E) → s ≡ Select again v → xs ≡ v.items → length xs ≤ i
+    → IfOk list (λ (m : Vec TArm Global). before_arms m.items (choices_form ds (arms_in (drop i xs))) ≡ choices_form ds (arms_in xs))
+    → IfOk r (λ (t : TStmt). IsOkAnd list (λ (m : Vec TArm Global). t ≡ made.Select again m)) →
+    IfOk r (λ (t : TStmt). process_of t ≡ process_form ds (statement_of s))
+arms_selected ds s again v xs i (Ok m) (Ok t) is same over so_far is_select = ap process_of is_select ∙ select_made ds s again v xs i m is same over so_far
+arms_selected ds s again v xs i (Err a) (Ok t) is same over so_far is_select = absurd is_select
+arms_selected ds s again v xs i list (Err a) is same over so_far is_select = tt

@@ -1,6 +1,6 @@
 -- What is made of an expression, member by member.
 use Rattle.std.proofs.Common.{◌≡◌, ℕ, ◌+◌, ◌<◌, ◌≤◌, true, false, List, [], ◌∷◌, ◌++◌, length, get_or, drop, Option, Some, refl, sym, ap, ◌∙◌, subst, arith}
-use Rattle.std.specs.Prelude.{unwrap_or, option_map, Contains, Result, Ok, Err, IfOk, IsOkAnd, IsErr}
+use Rattle.std.specs.Prelude.{unwrap_or, option_map, Contains, Result, Ok, Err, IfOk, IsOkAnd}
 use Rattle.std.specs.declared.alloc.Global.{Global}
 use Rattle.std.specs.declared.boxed.Box.{Box}
 use Rattle.std.specs.declared.vec.Vec.{Vec}
@@ -35,25 +35,15 @@ pub record IsReady (ds : List Decl) (w : ℕ) (e : Expression) : Type 0 where
   pub shaped : IsShapedExpression e
   pub sound : IsSound ds (met_in ds w e)
 
--- what was made stays so where it is put
-pub made_so : {E : Type 0} (r : Result TExpr E) (t : TExpr) (f : Formula) → IfOk r (λ (m : TExpr). formula_of m ≡ f) → r ≡ Ok t → formula_of t ≡ f
-made_so {E = E} r t f made is = subst (λ (o : Result TExpr E). IfOk o (λ (m : TExpr). formula_of m ≡ f)) is made
-
--- what was made, and then put somewhere
-pub made_and_put : {E : Type 0} (r : Result TExpr E) (f : Formula) (Put : TExpr → Type 0) → IfOk r (λ (m : TExpr). formula_of m ≡ f) →
-    IsOkAnd r (λ (m : TExpr). Put m) → (t : TExpr) × (formula_of t ≡ f) × Put t
-made_and_put (Ok t) f Put made put = (t, made, put)
-made_and_put (Err e) f Put made put = absurd put
-
-pub if_err : {A E : Type 0} (r : Result A E) (P : A → Type 0) → IsErr r → IfOk r P
-if_err (Ok a) P wrong = absurd (cc wrong)
-if_err (Err e) P wrong = tt
-
-pub not_made : (ds : List Decl) (w : ℕ) (e : Expr) (inner : Box Expr Global) (at : Span) (f : Expr) (b : Box TExpr Global) → e ≡ Not inner at →
-    f ≡ inner.value → formula_of b.value ≡ formula_form ds w (expression_of f) → inverted (formula_of b.value) ≡ formula_form ds w (expression_of e)
-not_made ds w e inner at f b is here made =
-    ap inverted (made ∙ ap (λ (x : Expr). formula_form ds w (expression_of x)) here)
+pub not_made : {E : Type 0} (ds : List Decl) (w : ℕ) (e : Expr) (inner : Box Expr Global) (at : Span) (f : Expr) (made r : Result TExpr E) → e ≡ Not inner at →
+    f ≡ inner.value → IfOk made (λ (m : TExpr). formula_of m ≡ formula_form ds w (expression_of f)) →
+    IfOk r (λ (t : TExpr). IsOkAnd made (λ (m : TExpr). formula_of t ≡ inverted (formula_of m))) →
+    IfOk r (λ (t : TExpr). formula_of t ≡ formula_form ds w (expression_of e))
+not_made ds w e inner at f (Ok m) (Ok t) is here made whole =
+    whole ∙ ap inverted (made ∙ ap (λ (x : Expr). formula_form ds w (expression_of x)) here)
     ∙ sym (ap (λ (x : Expr). formula_form ds w (expression_of x)) is)
+not_made ds w e inner at f (Err a) (Ok t) is here made whole = absurd whole
+not_made ds w e inner at f made (Err a) is here is_made whole = tt
 
 -- some parts of a join
 pub record ArePartsLeft (ds : List Decl) (parts : Expressions) : Type 0 where
@@ -118,14 +108,18 @@ part_made ds ranged es i e o w made new t total within is left found wanted is_m
     ap (λ (ts : List TExpr). before_parts ts rest) pushed ∙ one_part made t rest
     ∙ ap (λ (f : Formula). before_parts made (typed.and_part f rest)) (is_made ∙ ap (λ (u : ℕ). formula_form ds u (expression_of e)) (sym zero)) ∙ begun
 
-pub part_pushed : {E : Type 0} (ds : List Decl) → AreRanged ds →
-    (es : List Expr) (i : ℕ) (e : Expr) (o : Option ℕ) (w : ℕ) (made new : List TExpr) (r : Result TExpr E) (total : Formulas) → i < length es →
-    e ≡ get_or es i e → ArePartsLeft ds (join_parts (drop i es)) → o ≡ option_map capped_width (own_width ds (expression_of e)) → w ≡ unwrap_or o 0
-    → IfOk r (λ (t : TExpr). formula_of t ≡ formula_form ds w (expression_of e)) → IsOkAnd r (λ (t : TExpr). new ≡ made ++ t ∷ []) →
-    before_parts made (parts_form ds (join_parts (drop i es))) ≡ total → before_parts new (parts_form ds (join_parts (drop (i + 1) es))) ≡ total
-part_pushed ds ranged es i e o w made new r total within is left found wanted is_made pushed so_far =
-    let t = made_and_put r (formula_form ds w (expression_of e)) (λ (t : TExpr). new ≡ made ++ t ∷ []) is_made pushed in
-    part_made ds ranged es i e o w made new t.0 total within is left found wanted t.1 t.2 so_far
+pub part_added : {E : Type 0} (ds : List Decl) → AreRanged ds → (es : List Expr) (i : ℕ) (e : Expr) (o : Option ℕ) (w : ℕ)
+    (made new : Result (Vec TExpr Global) E) (r : Result TExpr E) (total : Formulas) → i < length es → e ≡ get_or es i e →
+    ArePartsLeft ds (join_parts (drop i es)) → o ≡ option_map capped_width (own_width ds (expression_of e)) → w ≡ unwrap_or o 0
+    → IfOk r (λ (t : TExpr). formula_of t ≡ formula_form ds w (expression_of e))
+    → IfOk new (λ (n : Vec TExpr Global). IsOkAnd made (λ (m : Vec TExpr Global). IsOkAnd r (λ (t : TExpr). n.items ≡ m.items ++ t ∷ [])))
+    → IfOk made (λ (m : Vec TExpr Global). before_parts m.items (parts_form ds (join_parts (drop i es))) ≡ total) →
+    IfOk new (λ (n : Vec TExpr Global). before_parts n.items (parts_form ds (join_parts (drop (i + 1) es))) ≡ total)
+part_added ds ranged es i e o w (Ok m) (Ok n) (Ok t) total within is left found wanted is_made pushed so_far =
+    part_made ds ranged es i e o w m.items n.items t total within is left found wanted is_made pushed so_far
+part_added ds ranged es i e o w (Ok m) (Ok n) (Err b) total within is left found wanted is_made pushed so_far = absurd pushed
+part_added ds ranged es i e o w (Err a) (Ok n) r total within is left found wanted is_made pushed so_far = absurd pushed
+part_added ds ranged es i e o w made (Err a) r total within is left found wanted is_made pushed so_far = tt
 
 pub join_made : (ds : List Decl) (w : ℕ) (e : Expr) (v : Vec Expr Global) (at : Span) (es : List Expr) (i : ℕ) (t : Vec TExpr Global) → e ≡ Join v at →
     es ≡ v.items → length es ≤ i → before_parts t.items (parts_form ds (join_parts (drop i es))) ≡ parts_form ds (join_parts es) →
@@ -134,6 +128,15 @@ join_made ds w e v at es i t is same over so_far =
     let done = ap (λ (ps : Expressions). before_parts t.items (parts_form ds ps)) (sym (parts_end es i over)) ∙ so_far in
     let tree : expression_of e ≡ join (join_parts es) at = join_is e v at is ∙ ap (λ (xs : List Expr). join (join_parts xs) at) (sym same) in
     rows.join_is t ∙ ap joined (sym (parts_all t.items) ∙ done) ∙ ap (formula_form ds w) (sym tree)
+
+pub parts_joined : {E : Type 0} (ds : List Decl) (w : ℕ) (e : Expr) (v : Vec Expr Global) (at : Span) (es : List Expr) (i : ℕ)
+    (list : Result (Vec TExpr Global) E) (r : Result TExpr E) → e ≡ Join v at → es ≡ v.items → length es ≤ i
+    → IfOk list (λ (m : Vec TExpr Global). before_parts m.items (parts_form ds (join_parts (drop i es))) ≡ parts_form ds (join_parts es))
+    → IfOk r (λ (t : TExpr). IsOkAnd list (λ (m : Vec TExpr Global). t ≡ made.Join m)) →
+    IfOk r (λ (t : TExpr). formula_of t ≡ formula_form ds w (expression_of e))
+parts_joined ds w e v at es i (Ok m) (Ok t) is same over so_far joins = ap formula_of joins ∙ join_made ds w e v at es i m is same over so_far
+parts_joined ds w e v at es i (Err a) (Ok t) is same over so_far joins = absurd joins
+parts_joined ds w e v at es i list (Err a) is same over so_far joins = tt
 
 -- a chain
 
@@ -201,13 +204,19 @@ link_made ds w ls i l made new t total within is is_made pushed so_far =
     ap (λ (ts : List TLink). before_links ts rest) pushed ∙ one_link made (record { op = l.op; right = t }) rest
     ∙ ap (λ (f : Formula). before_links made (typed.and_operation l.op f rest)) is_made ∙ begun
 
-pub link_pushed : {E : Type 0} (ds : List Decl) (w : ℕ) (ls : List Link) (i : ℕ) (l : Link) (made new : List TLink) (r : Result TExpr E) (total : Operations) →
-    i < length ls → l ≡ get_or ls i l → IfOk r (λ (t : TExpr). formula_of t ≡ formula_form ds w (expression_of l.right)) →
-    IsOkAnd r (λ (t : TExpr). new ≡ made ++ (record { op = l.op; right = t }) ∷ [])
-    → before_links made (operations_form ds w (links_in (drop i ls))) ≡ total → before_links new (operations_form ds w (links_in (drop (i + 1) ls))) ≡ total
-link_pushed ds w ls i l made new r total within is is_made pushed so_far =
-    let t = made_and_put r (formula_form ds w (expression_of l.right)) (λ (t : TExpr). new ≡ made ++ (record { op = l.op; right = t }) ∷ []) is_made pushed in
-    link_made ds w ls i l made new t.0 total within is t.1 t.2 so_far
+pub link_added : {E : Type 0} (ds : List Decl) (w : ℕ) (ls : List Link) (i : ℕ) (l : Link) (made new : Result (Vec TLink Global) E) (k : Result TLink E)
+    (r : Result TExpr E) (total : Operations) → i < length ls → l ≡ get_or ls i l →
+    IfOk r (λ (t : TExpr). formula_of t ≡ formula_form ds w (expression_of l.right))
+    → IfOk k (λ (x : TLink). IsOkAnd r (λ (t : TExpr). x ≡ (record { op = l.op; right = t })))
+    → IfOk new (λ (n : Vec TLink Global). IsOkAnd made (λ (m : Vec TLink Global). IsOkAnd k (λ (x : TLink). n.items ≡ m.items ++ x ∷ [])))
+    → IfOk made (λ (m : Vec TLink Global). before_links m.items (operations_form ds w (links_in (drop i ls))) ≡ total) →
+    IfOk new (λ (n : Vec TLink Global). before_links n.items (operations_form ds w (links_in (drop (i + 1) ls))) ≡ total)
+link_added ds w ls i l (Ok m) (Ok n) (Ok x) (Ok t) total within is is_made linked pushed so_far =
+    link_made ds w ls i l m.items n.items t total within is is_made (pushed ∙ ap (λ (y : TLink). m.items ++ y ∷ []) linked) so_far
+link_added ds w ls i l (Ok m) (Ok n) (Ok x) (Err b) total within is is_made linked pushed so_far = absurd linked
+link_added ds w ls i l (Ok m) (Ok n) (Err b) r total within is is_made linked pushed so_far = absurd pushed
+link_added ds w ls i l (Err a) (Ok n) k r total within is is_made linked pushed so_far = absurd pushed
+link_added ds w ls i l made (Err a) k r total within is is_made linked pushed so_far = tt
 
 plain_form : (ds : List Decl) (w : ℕ) (e : Expression) (more : Links) (at : Span) → compares more ≡ false →
     formula_form ds w (chain e more at) ≡ chained (formula_form ds w e) (operations_form ds w more)
@@ -225,6 +234,21 @@ chain_made ds w e first v at all ls i f front t is whole same plain here is_fron
     rows.chain_is front t ∙ ap (λ (os : Operations). chained (formula_of front.value) os) (sym (links_all t.items) ∙ done)
     ∙ ap (λ (g : Formula). chained g (operations_form ds w (links_in ls))) (is_front ∙ ap (λ (x : Expr). formula_form ds w (expression_of x)) here)
     ∙ sym (plain_form ds w (expression_of first.value) (links_in ls) at not_compared) ∙ ap (formula_form ds w) (sym tree)
+
+pub links_chained : {E : Type 0} (ds : List Decl) (w : ℕ) (e : Expr) (first : Box Expr Global) (v : Vec Link Global) (at : Span) (all ls : List Link) (i : ℕ)
+    (f : Expr) (x : Result TExpr E) (front : Result (Box TExpr Global) E) (list : Result (Vec TLink Global) E) (r : Result TExpr E) → e ≡ Chain first v at →
+    all ≡ v.items → ls ≡ v.items → compares (links_in all) ≡ false → f ≡ first.value →
+    IfOk x (λ (t : TExpr). formula_of t ≡ formula_form ds w (expression_of f)) →
+    IfOk front (λ (b : Box TExpr Global). let same : Result TExpr E = Ok b.value in x ≡ same) → length ls ≤ i
+    → IfOk list (λ (m : Vec TLink Global). before_links m.items (operations_form ds w (links_in (drop i ls))) ≡ operations_form ds w (links_in ls))
+    → IfOk r (λ (t : TExpr). IsOkAnd front (λ (b : Box TExpr Global). IsOkAnd list (λ (m : Vec TLink Global). t ≡ made.Chain b m))) →
+    IfOk r (λ (t : TExpr). formula_of t ≡ formula_form ds w (expression_of e))
+links_chained {E} ds w e first v at all ls i f x (Ok b) (Ok m) (Ok t) is whole same plain here is_front boxed over so_far chains =
+    ap formula_of chains ∙ chain_made ds w e first v at all ls i f b m is whole same plain here
+    (subst (λ (o : Result TExpr E). IfOk o (λ (u : TExpr). formula_of u ≡ formula_form ds w (expression_of f))) boxed is_front) over so_far
+links_chained ds w e first v at all ls i f x (Ok b) (Err a) (Ok t) is whole same plain here is_front boxed over so_far chains = absurd chains
+links_chained ds w e first v at all ls i f x (Err a) list (Ok t) is whole same plain here is_front boxed over so_far chains = absurd chains
+links_chained ds w e first v at all ls i f x front list (Err a) is whole same plain here is_front boxed over so_far chains = tt
 
 -- a comparison
 

@@ -1,5 +1,5 @@
 -- A walk over members as lists, step by step.
-use Rattle.std.proofs.Common.{◌≡◌, ℕ, ◌+◌, ◌<◌, ◌≤◌, Bool, List, length, get_or, drop, subst, Option, Some, None, sym, ap, ◌∙◌}
+use Rattle.std.proofs.Common.{◌≡◌, ℕ, ◌+◌, ◌<◌, ◌≤◌, Bool, List, length, get_or, drop, subst, Option, Some, None, sym, ap, ◌∙◌, ◌⊎◌, inl, inr}
 use Rattle.std.specs.Prelude.{if◌then◌else◌, is_none, option_map, unwrap_or}
 use Rattle.std.specs.declared.alloc.Global.{Global}
 use Rattle.std.specs.declared.boxed.Box.{Box}
@@ -7,7 +7,7 @@ use Rattle.std.specs.declared.vec.Vec.{Vec}
 use Rattle.chp_base.specs.declared.span.Span.{Span}
 use Rattle.chp_syntax.specs.declared.tree.Arm.{Arm}
 use Rattle.chp_syntax.specs.declared.tree.Decl.{Decl}
-use Rattle.chp_syntax.specs.declared.tree.Expr.{Expr, Join, Chain}
+use Rattle.chp_syntax.specs.declared.tree.Expr.{Expr, Join, Not, Chain}
 use Rattle.chp_syntax.specs.declared.tree.Link.{Link}
 use Rattle.chp_syntax.specs.declared.tree.Stmt.{Stmt, Then, Beside, Select}
 use Rattle.chp_syntax.specs.Trees as plain
@@ -51,6 +51,28 @@ part_done ds e v at es i f g h n w wanted is same over so_far own wants leaf =
     by_wanted : (o : Option ℕ) → w ≡ unwrap_or o n → capped_width w ≡ capped_width (own_or ds o (join (join_parts es) at))
     by_wanted None so = ap capped_width (so ∙ own) ∙ capped_twice (own_widths ds (join_parts es))
     by_wanted (Some u) so = ap capped_width so
+
+-- an expression without parts
+pub leaf_done : (ds : List Decl) (e : Expr) (x : Expression) (f g : Findings) (n w : ℕ) (wanted : Option ℕ) → expression_of e ≡ x →
+    n ≡ capped_width (unwrap_or (own_width ds x) 0) → w ≡ unwrap_or wanted n → g ≡ noted ds f (met_in ds w x) →
+    g ≡ noted ds f (met_in ds (own_or ds wanted (expression_of e)) (expression_of e))
+leaf_done ds e x f g n w wanted is own wants done =
+    done ∙ noted_wanted ds f w (own_or ds wanted x) x (by_wanted wanted wants)
+    ∙ ap (λ (y : Expression). noted ds f (met_in ds (own_or ds wanted y) y)) (sym is)
+  where
+    by_wanted : (o : Option ℕ) → w ≡ unwrap_or o n → capped_width w ≡ capped_width (own_or ds o x)
+    by_wanted None so = ap capped_width (so ∙ own) ∙ capped_twice (unwrap_or (own_width ds x) 0)
+    by_wanted (Some u) so = ap capped_width so
+
+pub not_done : (ds : List Decl) (e : Expr) (inner : Box Expr Global) (at : Span) (a : Expr) (f g : Findings) (wanted : Option ℕ) → e ≡ Not inner at →
+    a ≡ inner.value → g ≡ noted ds f (met_in ds (own_or ds wanted (expression_of a)) (expression_of a)) →
+    g ≡ noted ds f (met_in ds (own_or ds wanted (expression_of e)) (expression_of e))
+not_done ds e inner at a f g None is here done =
+    done ∙ ap (λ (x : Expr). noted ds f (met_in ds (own_or ds None (expression_of x)) (expression_of x))) here
+    ∙ sym (ap (λ (x : Expr). noted ds f (met_in ds (own_or ds None (expression_of x)) (expression_of x))) is)
+not_done ds e inner at a f g (Some w) is here done =
+    done ∙ ap (λ (x : Expr). noted ds f (met_in ds w (expression_of x))) here
+    ∙ sym (ap (λ (x : Expr). noted ds f (met_in ds w (expression_of x))) is)
 
 pub link_step : (decls : List Decl) (w : ℕ) (ls : List Link) (i : ℕ) (l : Link) (f g whole : Findings) → i < length ls → l ≡ get_or ls i l →
     noted decls f (met_in_links decls w (links_in (drop i ls))) ≡ whole → g ≡ noted decls f (met_in decls w (expression_of l.right)) →
@@ -123,19 +145,25 @@ members_done : (decls : List Decl) (ss : List Stmt) (i : ℕ) (f g : Findings) �
     f ≡ noted decls g (met_of_each decls (statements_in ss))
 members_done decls ss i f g over so_far = ap (λ us. noted decls f (met_of_each decls us)) (sym (members_end ss i over)) ∙ so_far
 
-pub then_done : (decls : List Decl) (s : Stmt) (v : Vec Stmt Global) (ss : List Stmt) (i : ℕ) (f g : Findings) → s ≡ Then v → ss ≡ v.items → length ss ≤ i →
+then_done : (decls : List Decl) (s : Stmt) (v : Vec Stmt Global) (ss : List Stmt) (i : ℕ) (f g : Findings) → s ≡ Then v → ss ≡ v.items → length ss ≤ i →
     noted decls f (met_of_each decls (statements_in (drop i ss))) ≡ noted decls g (met_of_each decls (statements_in ss)) →
     f ≡ noted decls g (met_of decls (statement_of s))
 then_done decls s v ss i f g is same over so_far =
     members_done decls ss i f g over so_far ∙ ap (λ x. noted decls g (met_of decls x)) (ap (λ (xs : List Stmt). follows (statements_in xs)) same
     ∙ sym (then_is s v is))
 
-pub beside_done : (decls : List Decl) (s : Stmt) (v : Vec Stmt Global) (ss : List Stmt) (i : ℕ) (f g : Findings) → s ≡ Beside v → ss ≡ v.items → length ss ≤ i →
+beside_done : (decls : List Decl) (s : Stmt) (v : Vec Stmt Global) (ss : List Stmt) (i : ℕ) (f g : Findings) → s ≡ Beside v → ss ≡ v.items → length ss ≤ i →
     noted decls f (met_of_each decls (statements_in (drop i ss))) ≡ noted decls g (met_of_each decls (statements_in ss)) →
     f ≡ noted decls g (met_of decls (statement_of s))
 beside_done decls s v ss i f g is same over so_far =
     members_done decls ss i f g over so_far ∙ ap (λ x. noted decls g (met_of decls x)) (ap (λ (xs : List Stmt). besides (statements_in xs)) same
     ∙ sym (beside_is s v is))
+
+pub group_done : (decls : List Decl) (s : Stmt) (v : Vec Stmt Global) (ss : List Stmt) (i : ℕ) (f g : Findings) → (s ≡ Then v) ⊎ (s ≡ Beside v) →
+    ss ≡ v.items → length ss ≤ i → noted decls f (met_of_each decls (statements_in (drop i ss))) ≡ noted decls g (met_of_each decls (statements_in ss)) →
+    f ≡ noted decls g (met_of decls (statement_of s))
+group_done decls s v ss i f g (inl is) = then_done decls s v ss i f g is
+group_done decls s v ss i f g (inr is) = beside_done decls s v ss i f g is
 
 pub arm_step : (decls : List Decl) (xs : List Arm) (i : ℕ) (a : Arm) (f g h whole : Findings) → i < length xs → a ≡ get_or xs i a →
     noted decls f (met_of_arms decls (arms_in (drop i xs))) ≡ whole → g ≡ noted decls f (met_in decls 1 (expression_of a.guard)) →

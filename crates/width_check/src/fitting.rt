@@ -1,6 +1,6 @@
 //! Checks of expressions and statements over declared channels and variables.
 
-ghost use Rattle.std.specs.Prelude.{◌≡◌, ◌≢◌, ◌<◌, ◌≤◌, ℕ, length, true, Some, IfSome, IfNone, IsSomeAnd};
+ghost use Rattle.std.specs.Prelude.{◌≡◌, ◌≢◌, ◌<◌, ◌≤◌, ◌+◌, ℕ, length, true, false, Some, IfSome, IfNone, IsSomeAnd};
 ghost use Rattle.std.specs.Bool.{Decides};
 ghost use Rattle.width_check.specs.Typing.{var_width, IsOfWidth, IsSend, IsReceive, IsProcess};
 ghost use Rattle.width_check.specs.Values.{is_comparison};
@@ -40,6 +40,39 @@ fn compared_width(op: Op, left: Option<u8>, right: Option<u8>) -> Option<u8>
     }
 }
 
+/// The number of bits of an operation on two sides with these, or None if it compares or they don't have the same.
+fn operated_width(op: Op, left: Option<u8>, right: Option<u8>) -> Option<u8>
+    ensures some { IfSome result (λ width. (is_comparison op ≡ false) × (left ≡ Some width) × (right ≡ Some width)) }
+    ensures none { IfNone result (is_comparison op ≡ false → IfSome left (λ own. right ≢ Some own)) }
+{
+    match (left, right) {
+        (Some(one), Some(other)) if !is_comparison(op) && one == other => Some(one),
+        _ => None,
+    }
+}
+
+/// The number of bits of two parts together, or None if one of them has none, or they have more than 64.
+fn joined_width(one: Option<u8>, other: Option<u8>) -> Option<u8>
+    ensures some { IfSome result (λ width. (width ≤ 64) × IsSomeAnd one (λ a. IsSomeAnd other (λ b. width ≡ a + b))) }
+    ensures none { IfNone result (IfSome one (λ a. IfSome other (λ b. 64 < a + b))) }
+{
+    match (one, other) {
+        (Some(one), Some(other)) if one <= 64 && other <= 64 - one => Some(one + other),
+        _ => None,
+    }
+}
+
+/// A number of bits, or None if there are none.
+fn some_width(width: Option<u8>) -> Option<u8>
+    ensures some { IfSome result (λ own. (width ≡ Some own) × (1 ≤ own)) }
+    ensures none { IfNone result (IfSome width (λ own. own ≡ 0)) }
+{
+    match width {
+        Some(own) if 1 <= own => Some(own),
+        _ => None,
+    }
+}
+
 /// The number of bits of an expression over these variables, or None if it isn't well formed or reads bits that the
 /// variables don't have.
 fn width_over(vars: &[Var], e: &TExpr) -> Option<u8>
@@ -56,25 +89,19 @@ fn width_over(vars: &[Var], e: &TExpr) -> Option<u8>
             }
         }
         TExpr::Join { parts } => {
-            let mut width = 0;
+            let mut width = Some(0);
             for part in parts {
-                width += width_over(vars, part)?;
-                if width > 64 {
-                    return None;
-                }
+                width = joined_width(width, width_over(vars, part));
             }
-            if width == 0 { None } else { Some(width) }
+            some_width(width)
         }
         TExpr::Not { inner } => width_over(vars, inner),
         TExpr::Chain { first, rest } => {
-            let width = width_over(vars, first)?;
+            let mut width = width_over(vars, first);
             for link in rest {
-                let right = width_over(vars, &link.right)?;
-                if is_comparison(link.op) || right != width {
-                    return None;
-                }
+                width = operated_width(link.op, width, width_over(vars, &link.right));
             }
-            if rest.is_empty() { None } else { Some(width) }
+            if rest.is_empty() { None } else { width }
         }
         TExpr::Compare { op, left, right } => {
             compared_width(*op, width_over(vars, left), width_over(vars, right))

@@ -1,12 +1,19 @@
 //! The typed form of a program in which nothing is wrong.
 
-ghost use Rattle.std.specs.Prelude.{◌≡◌, ◌≤◌, ◌<◌, ◌-◌, ◌^◌, ◌++◌, ◌∷◌, [], true, false, Some, IfOk, OnOk, IsOkAnd};
+ghost use Rattle.std.specs.Prelude.{◌≡◌, ◌≤◌, ◌<◌, ◌-◌, ◌^◌, ◌++◌, ◌∷◌, [], true, false, Some, Ok, IfOk, IsOkAnd};
+ghost use Rattle.std.specs.declared.alloc.Global.{Global as memory};
+ghost use Rattle.std.specs.declared.vec.Vec.{Vec as row};
+ghost use Rattle.chp_syntax.specs.declared.tree.Stmt as plain;
+ghost use Rattle.chp_syntax.specs.declared.tree.Stmt.{Stmt as node};
 ghost use Rattle.chp_syntax.specs.Shape.{IsShapedExpression, IsShapedStatement};
+ghost use Rattle.chp_syntax.specs.Trees.{assigns, sends, receives};
 ghost use Rattle.chp_syntax.specs.View.{expression_of, statement_of};
+ghost use Rattle.width_check.specs.declared.typed.TExpr.{Join, Chain};
+ghost use Rattle.width_check.specs.declared.typed.TStmt.{Then, Beside, Select};
 ghost use Rattle.width_check.specs.Calls.{has_call};
 ghost use Rattle.width_check.specs.Form.{formula_form, process_form, var_number};
 ghost use Rattle.width_check.specs.Places.{declared_width};
-ghost use Rattle.width_check.specs.Processes.{compared, reading, repeating};
+ghost use Rattle.width_check.specs.Processes.{compared, inverted, reading, repeating};
 ghost use Rattle.width_check.specs.Sound.{AreRanged, IsSound, is_var_in};
 ghost use Rattle.width_check.specs.View.{formula_of, process_of};
 ghost use Rattle.width_check.specs.Walk.{met_in, met_of};
@@ -52,14 +59,78 @@ fn read_whole(scope: &Scope, of: &Ident) -> TExpr
 }
 
 /// What was made, in a box of its own.
-fn boxed(alloc: Global, made: Result<TExpr, AllocError>) -> Result<Box<TExpr>, AllocError>
+#[inline(never)]
+fn boxed<T: Drop>(alloc: Global, made: Result<T, AllocError>) -> Result<Box<T>, AllocError>
     ensures { IfOk result (λ b. made ≡ Ok b.value) }
 {
     Ok(Box::new(alloc, made?)?)
 }
 
-/// The comparison of what was made of its two sides. It takes both as results, so that the function that makes them
-/// owns no side where it may be left.
+/// Two things that were made. The functions that go down a tree own nothing where they may be left: they hand on what
+/// was made as a result, and functions that aren't put into them, so that their frames stay small, look at it.
+#[inline(never)]
+fn both<A: Drop, B: Drop>(
+    one: Result<A, AllocError>,
+    other: Result<B, AllocError>,
+) -> Result<(A, B), AllocError>
+    ensures { IfOk result (λ pair. (one ≡ Ok pair.0) × (other ≡ Ok pair.1)) }
+{
+    let one = one?;
+    Ok((one, other?))
+}
+
+/// The list that was made, with one more member that was made.
+#[inline(never)]
+fn extended<T: Drop>(
+    list: Result<Vec<T>, AllocError>,
+    member: Result<T, AllocError>,
+) -> Result<Vec<T>, AllocError>
+    ensures { IfOk result (λ new. IsOkAnd list (λ old. IsOkAnd member (λ x. new.items ≡ old.items ++ x ∷ []))) }
+{
+    let (mut list, member) = both(list, member)?;
+    list.push(member)?;
+    Ok(list)
+}
+
+/// The join of what was made of its parts.
+#[inline(never)]
+fn joined(parts: Result<Vec<TExpr>, AllocError>) -> Result<TExpr, AllocError>
+    ensures { IfOk result (λ made. IsOkAnd parts (λ p. made ≡ Join p)) }
+{
+    Ok(TExpr::Join { parts: parts? })
+}
+
+/// The negation of what was made.
+#[inline(never)]
+fn inverted(alloc: Global, inner: Result<TExpr, AllocError>) -> Result<TExpr, AllocError>
+    ensures { IfOk result (λ made. IsOkAnd inner (λ e. formula_of made ≡ inverted (formula_of e))) }
+{
+    Ok(TExpr::Not {
+        inner: boxed(alloc, inner)?,
+    })
+}
+
+/// An operator and what was made of its right side.
+#[inline(never)]
+fn linked(op: Op, right: Result<TExpr, AllocError>) -> Result<TLink, AllocError>
+    ensures { IfOk result (λ link. IsOkAnd right (λ e. link ≡ record { op = op; right = e })) }
+{
+    Ok(TLink { op, right: right? })
+}
+
+/// The chain of what was made of its first member and of the others.
+#[inline(never)]
+fn chained(
+    first: Result<Box<TExpr>, AllocError>,
+    rest: Result<Vec<TLink>, AllocError>,
+) -> Result<TExpr, AllocError>
+    ensures { IfOk result (λ made. IsOkAnd first (λ f. IsOkAnd rest (λ r. made ≡ Chain f r))) }
+{
+    let (first, rest) = both(first, rest)?;
+    Ok(TExpr::Chain { first, rest })
+}
+
+/// The comparison of what was made of its two sides.
 #[inline(never)]
 fn comparison(
     alloc: Global,
@@ -70,33 +141,8 @@ fn comparison(
     ensures { IfOk result (λ made. IsOkAnd left (λ l. IsOkAnd right (λ r.
         formula_of made ≡ compared op (formula_of l) (formula_of r)))) }
 {
-    let left = boxed(alloc, left)?;
-    let right = boxed(alloc, right)?;
+    let (left, right) = both(boxed(alloc, left), boxed(alloc, right))?;
     Ok(TExpr::Compare { op, left, right })
-}
-
-/// Adds what was made of a part.
-#[inline(never)]
-fn push_part(made: &mut Vec<TExpr>, part: Result<TExpr, AllocError>) -> Result<(), AllocError>
-    ensures { OnOk result (IsOkAnd part (λ e. made.new.items ≡ made.old.items ++ e ∷ [])) }
-{
-    made.push(part?)?;
-    Ok(())
-}
-
-/// Adds what was made of the right side of an operator.
-#[inline(never)]
-fn push_link(
-    made: &mut Vec<TLink>,
-    op: Op,
-    right: Result<TExpr, AllocError>,
-) -> Result<(), AllocError>
-    ensures { OnOk result (IsOkAnd right (λ e.
-        made.new.items ≡ made.old.items ++ record { op = op; right = e } ∷ [])) }
-{
-    let right = right?;
-    made.push(TLink { op, right })?;
-    Ok(())
 }
 
 /// The typed form of an expression with this expected width.
@@ -119,19 +165,14 @@ fn make_expression(alloc: Global, scope: &Scope, e: &Expr, width: u8) -> Result<
             Ok(read(scope, of, place, place))
         }
         Expr::Join { parts, .. } => {
-            let mut made = Vec::new(alloc);
+            let mut made = Ok(Vec::new(alloc));
             for part in parts {
                 let own = scope.own_width(part).unwrap_or(0);
-                push_part(&mut made, make_expression(alloc, scope, part, own))?;
+                made = extended(made, make_expression(alloc, scope, part, own));
             }
-            Ok(TExpr::Join { parts: made })
+            joined(made)
         }
-        Expr::Not { inner, .. } => {
-            let made = make_expression(alloc, scope, inner, width);
-            Ok(TExpr::Not {
-                inner: boxed(alloc, made)?,
-            })
-        }
+        Expr::Not { inner, .. } => inverted(alloc, make_expression(alloc, scope, inner, width)),
         Expr::Chain { first, rest, .. } => {
             if compares(rest) {
                 let side = scope.side_width(first, rest).unwrap_or(0);
@@ -140,42 +181,50 @@ fn make_expression(alloc: Global, scope: &Scope, e: &Expr, width: u8) -> Result<
                 let right = make_expression(alloc, scope, &link.right, side);
                 return comparison(alloc, link.op, left, right);
             }
-            let mut made = Vec::new(alloc);
+            let mut made = Ok(Vec::new(alloc));
             for link in rest {
                 let right = make_expression(alloc, scope, &link.right, width);
-                push_link(&mut made, link.op, right)?;
+                made = extended(made, linked(link.op, right));
             }
             let front = make_expression(alloc, scope, first, width);
-            Ok(TExpr::Chain {
-                first: boxed(alloc, front)?,
-                rest: made,
-            })
+            chained(boxed(alloc, front), made)
         }
     }
 }
 
-/// Adds what was made of a member of a group.
+/// A guard and the statement behind it, as they were made.
 #[inline(never)]
-fn push_member(made: &mut Vec<TStmt>, member: Result<TStmt, AllocError>) -> Result<(), AllocError>
-    ensures { OnOk result (IsOkAnd member (λ s. made.new.items ≡ made.old.items ++ s ∷ [])) }
+fn guarded(
+    guard: Result<TExpr, AllocError>,
+    body: Result<TStmt, AllocError>,
+) -> Result<TArm, AllocError>
+    ensures { IfOk result (λ arm. IsOkAnd guard (λ g. IsOkAnd body (λ s. arm ≡ record { guard = g; body = s }))) }
 {
-    made.push(member?)?;
-    Ok(())
+    let (guard, body) = both(guard, body)?;
+    Ok(TArm { guard, body })
 }
 
-/// Adds a guard with what was made of the statement behind it.
+/// A group of what was made of the members, of the kind of the group `s`: one after the other, or beside each other.
 #[inline(never)]
-fn push_arm(
-    made: &mut Vec<TArm>,
-    guard: TExpr,
-    body: Result<TStmt, AllocError>,
-) -> Result<(), AllocError>
-    ensures { OnOk result (IsOkAnd body (λ s.
-        made.new.items ≡ made.old.items ++ record { guard = guard; body = s } ∷ [])) }
+fn grouped(s: &Stmt, parts: Result<Vec<TStmt>, AllocError>) -> Result<TStmt, AllocError>
+    ensures turns { (members : row node memory) → s.now ≡ plain.Then members →
+        IfOk result (λ made. IsOkAnd parts (λ p. made ≡ Then p)) }
+    ensures sides { ((members : row node memory) → ¬ (s.now ≡ plain.Then members)) →
+        IfOk result (λ made. IsOkAnd parts (λ p. made ≡ Beside p)) }
 {
-    let body = body?;
-    made.push(TArm { guard, body })?;
-    Ok(())
+    let parts = parts?;
+    match s {
+        Stmt::Then { .. } => Ok(TStmt::Then { parts }),
+        _ => Ok(TStmt::Beside { parts }),
+    }
+}
+
+/// The selection of what was made of its arms.
+#[inline(never)]
+fn selected(again: bool, arms: Result<Vec<TArm>, AllocError>) -> Result<TStmt, AllocError>
+    ensures { IfOk result (λ made. IsOkAnd arms (λ a. made ≡ Select again a)) }
+{
+    Ok(TStmt::Select { again, arms: arms? })
 }
 
 /// The repetition of what was made.
@@ -184,8 +233,62 @@ fn repeated(alloc: Global, body: Result<TStmt, AllocError>) -> Result<TStmt, All
     ensures { IfOk result (λ made. IsOkAnd body (λ s. process_of made ≡ repeating (process_of s))) }
 {
     Ok(TStmt::Repeat {
-        body: Box::new(alloc, body?)?,
+        body: boxed(alloc, body)?,
     })
+}
+
+/// `x := e`
+#[inline(never)]
+fn make_assign(
+    alloc: Global,
+    scope: &Scope,
+    target: &Ident,
+    value: &Expr,
+) -> Result<TStmt, AllocError>
+    requires ranged { AreRanged scope.now.decls.now }
+    requires shaped { IsShapedExpression (expression_of value.now) }
+    requires sound { IsSound scope.now.decls.now
+        (met_of scope.now.decls.now (assigns target.now (expression_of value.now))) }
+    ensures { IfOk result (λ made. process_of made ≡
+        process_form scope.now.decls.now (assigns target.now (expression_of value.now))) }
+{
+    let value = make_expression(alloc, scope, value, scope.bits(&target.name))?;
+    Ok(TStmt::Assign {
+        var: scope.number(&target.name),
+        at: target.at,
+        value,
+    })
+}
+
+/// `X!e`
+#[inline(never)]
+fn make_send(alloc: Global, scope: &Scope, chan: &Ident, value: &Expr) -> Result<TStmt, AllocError>
+    requires ranged { AreRanged scope.now.decls.now }
+    requires shaped { IsShapedExpression (expression_of value.now) }
+    requires sound { IsSound scope.now.decls.now
+        (met_of scope.now.decls.now (sends chan.now (expression_of value.now))) }
+    ensures { IfOk result (λ made. process_of made ≡
+        process_form scope.now.decls.now (sends chan.now (expression_of value.now))) }
+{
+    let value = make_expression(alloc, scope, value, scope.bits(&chan.name))?;
+    Ok(TStmt::Send {
+        chan: scope.number(&chan.name),
+        at: chan.at,
+        value,
+    })
+}
+
+/// `X?v`
+fn make_receive(scope: &Scope, chan: &Ident, target: &Ident) -> TStmt
+    requires { IsSound scope.now.decls.now (met_of scope.now.decls.now (receives chan.now target.now)) }
+    ensures { process_of result ≡ process_form scope.now.decls.now (receives chan.now target.now) }
+{
+    TStmt::Receive {
+        chan: scope.number(&chan.name),
+        chan_at: chan.at,
+        var: scope.number(&target.name),
+        var_at: target.at,
+    }
 }
 
 /// The typed form of a statement.
@@ -198,48 +301,24 @@ pub fn make_statement(alloc: Global, scope: &Scope, s: &Stmt) -> Result<TStmt, A
 {
     match s {
         Stmt::Skip { .. } => Ok(TStmt::Skip),
-        Stmt::Assign { target, value } => {
-            let value = make_expression(alloc, scope, value, scope.bits(&target.name))?;
-            Ok(TStmt::Assign {
-                var: scope.number(&target.name),
-                at: target.at,
-                value,
-            })
-        }
-        Stmt::Send { chan, value } => {
-            let value = make_expression(alloc, scope, value, scope.bits(&chan.name))?;
-            Ok(TStmt::Send {
-                chan: scope.number(&chan.name),
-                at: chan.at,
-                value,
-            })
-        }
-        Stmt::Receive { chan, target } => Ok(TStmt::Receive {
-            chan: scope.number(&chan.name),
-            chan_at: chan.at,
-            var: scope.number(&target.name),
-            var_at: target.at,
-        }),
+        Stmt::Assign { target, value } => make_assign(alloc, scope, target, value),
+        Stmt::Send { chan, value } => make_send(alloc, scope, chan, value),
+        Stmt::Receive { chan, target } => Ok(make_receive(scope, chan, target)),
         Stmt::Then { parts } | Stmt::Beside { parts } => {
-            let mut made = Vec::new(alloc);
+            let mut made = Ok(Vec::new(alloc));
             for part in parts {
-                push_member(&mut made, make_statement(alloc, scope, part))?;
+                made = extended(made, make_statement(alloc, scope, part));
             }
-            match s {
-                Stmt::Then { .. } => Ok(TStmt::Then { parts: made }),
-                _ => Ok(TStmt::Beside { parts: made }),
-            }
+            grouped(s, made)
         }
         Stmt::Select { again, arms } => {
-            let mut made = Vec::new(alloc);
+            let mut made = Ok(Vec::new(alloc));
             for arm in arms {
-                let guard = make_expression(alloc, scope, &arm.guard, 1)?;
-                push_arm(&mut made, guard, make_statement(alloc, scope, &arm.body))?;
+                let guard = make_expression(alloc, scope, &arm.guard, 1);
+                let body = make_statement(alloc, scope, &arm.body);
+                made = extended(made, guarded(guard, body));
             }
-            Ok(TStmt::Select {
-                again: *again,
-                arms: made,
-            })
+            selected(*again, made)
         }
         Stmt::Repeat { body } => repeated(alloc, make_statement(alloc, scope, body)),
         Stmt::Call { .. } => unreachable!(),

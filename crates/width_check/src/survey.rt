@@ -277,17 +277,10 @@ fn with_statement(scope: &Scope, findings: Findings, s: &Stmt) -> Findings
         Stmt::Assign { target, value } => with_assign(scope, findings, target, value),
         Stmt::Send { chan, value } => with_send(scope, findings, chan, value),
         Stmt::Receive { chan, target } => with_receive(scope, findings, chan, target),
-        Stmt::Then { parts } => {
+        Stmt::Then { parts } | Stmt::Beside { parts } => {
             let mut findings = findings;
             for part in parts {
                 findings = with_statement(scope, findings, part);
-            }
-            findings
-        }
-        Stmt::Beside { parts } => {
-            let mut findings = findings;
-            for branch in parts {
-                findings = with_statement(scope, findings, branch);
             }
             findings
         }

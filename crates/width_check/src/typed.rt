@@ -161,6 +161,8 @@ impl Typed {
                 body,
             })
         } else {
+            // One call, where the end of the block would let go of it variant by variant.
+            drop(body);
             None
         }
     }

@@ -1,39 +1,31 @@
-use Rattle.std.proofs.Common.{sym, subst}
 use Rattle.std.proofs.lemmas.Result.{on_ok_weaker}
-use Rattle.width_check.specs.declared.typed.TExpr.{TExpr}
-use Rattle.width_check.specs.Sharing.{reads_of}
-use Rattle.width_check.specs.View.{formula_of}
-use Rattle.sharing_check.specs.Tells.{Adds}
-use Rattle.sharing_check.proofs.Telling.{adds_more}
-use Rattle.sharing_check.proofs.Members.{part_more, link_more, join_read, chain_read}
+use Rattle.sharing_check.proofs.Telling.{adds_none}
+use Rattle.sharing_check.proofs.Members.{join_read, parts_noted, links_begun, links_noted, chain_noted, sides_noted}
 use Rattle.sharing_check.proofs.deeds.+note_reads.Goals as goal
 
-pub loop-part-preserved : goal.loop-part-preserved
-loop-part-preserved t c = part_more _ _ c.loop-part.part-index _ _ _ _ c.loop-part-test.true c.part-item.is c.loop-part.invariant
-    c.in_ok-note_reads-in-Join.ensures
+pub loop-part-init : goal.loop-part-init
+loop-part-init t c = adds_none _ _
 
-pub loop-link-preserved : goal.loop-link-preserved
-loop-link-preserved t c = link_more _ _ c.loop-link.link-index _ _ _ _ c.loop-link-test.true c.link-item.is c.loop-link.invariant
-    c.in_ok-note_reads-in-Chain-2.ensures
+pub loop-part-preserved : goal.loop-part-preserved
+loop-part-preserved t c = parts_noted _ _ c.loop-part.part-index _ _ _ _ c.loop-part.noted c.note_reads.result c.and-noted.result c.loop-part-test.true
+    c.part-item.is c.loop-part.invariant c.note_reads.ensures c.and-noted.ensures
 
 pub returns-after-loop-part : goal.returns-after-loop-part
-returns-after-loop-part t c = join_read _ _ _ _ c.loop-part.part-index _ _ c.in-Join.is c.deref-part-items.ensures.value c.loop-part-test.false
-    c.loop-part.invariant
+returns-after-loop-part t c = on_ok_weaker c.loop-part.noted (λ adds. join_read _ _ _ _ c.loop-part.part-index _ _ c.in-Join.is
+    c.deref-part-items.ensures.value c.loop-part-test.false adds) c.loop-part.invariant
+
+pub loop-link-init : goal.loop-link-init
+loop-link-init t c = links_begun c.note_reads-noted.result _ (adds_none _ _)
+
+pub loop-link-preserved : goal.loop-link-preserved
+loop-link-preserved t c = links_noted _ _ c.loop-link.link-index _ _ _ _ c.note_reads-noted.result c.loop-link.noted c.note_reads-in-loop-link.result
+    c.and-noted-in-loop-link.result c.loop-link-test.true c.link-item.is c.loop-link.invariant c.note_reads-in-loop-link.ensures
+    c.and-noted-in-loop-link.ensures
 
 pub returns-after-loop-link : goal.returns-after-loop-link
-returns-after-loop-link t c =
-    let first : Adds c.args.cause (reads_of (formula_of c.in-Chain.first.value)) c.args.deeds.now c.note_reads-in-Chain.new.deeds =
-    rw (← c.deref-in-Chain.ensures) c.in_ok-note_reads-in-Chain.ensures in
-    chain_read _ _ _ _ _ c.loop-link.link-index _ _ _ c.in-Chain.is c.deref-link-items.ensures.value c.loop-link-test.false first c.loop-link.invariant
+returns-after-loop-link t c = chain_noted _ _ _ _ _ _ c.loop-link.link-index _ _ _ c.note_reads-noted.result c.loop-link.noted c.in-Chain.is
+    c.deref-in-Chain.ensures c.deref-link-items.ensures.value c.loop-link-test.false c.note_reads-noted.ensures c.loop-link.invariant
 
-pub returns-in_ok-note_reads-in-Compare : goal.returns-in_ok-note_reads-in-Compare
-returns-in_ok-note_reads-in-Compare t c =
-    let left : Adds c.args.cause (reads_of (formula_of c.in-Compare.left.value)) c.args.deeds.now c.note_reads-in-Compare.new.deeds =
-    rw (← c.deref-in-Compare.ensures) c.in_ok-note_reads-in-Compare.ensures in
-    on_ok_weaker c.note_reads-in-Compare-2.result
-    (λ (adds : Adds c.args.cause (reads_of (formula_of c.deref-in-Compare-2.result.now)) c.note_reads-in-Compare.new.deeds
-    c.note_reads-in-Compare-2.new.deeds).
-    let right : Adds c.args.cause (reads_of (formula_of c.in-Compare.right.value)) c.note_reads-in-Compare.new.deeds c.note_reads-in-Compare-2.new.deeds =
-    rw (← c.deref-in-Compare-2.ensures) adds in
-    subst (λ (e : TExpr). Adds c.args.cause (reads_of (formula_of e)) c.args.deeds.now c.note_reads-in-Compare-2.new.deeds) (sym c.in-Compare.is)
-    (adds_more _ _ _ _ _ _ left right)) c.note_reads-in-Compare-2.ensures
+pub returns-in-Compare : goal.returns-in-Compare
+returns-in-Compare t c = sides_noted _ _ _ _ _ _ _ _ _ _ c.note_reads-noted-in-Compare.result c.note_reads-in-Compare.result c.and.result c.in-Compare.is
+    c.deref-in-Compare.ensures c.deref-in-Compare-2.ensures c.note_reads-noted-in-Compare.ensures c.note_reads-in-Compare.ensures c.and.ensures

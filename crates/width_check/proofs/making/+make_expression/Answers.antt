@@ -7,7 +7,7 @@ use Rattle.width_check.specs.Places.{declared_width, use_of, read}
 use Rattle.width_check.specs.Walk.{join_parts}
 use Rattle.width_check.proofs.Leaves.{good_slice, declared_most}
 use Rattle.width_check.proofs.Soundness.{number_fits, bit_within, sound_inner}
-use Rattle.width_check.proofs.Ready.{ArePartsLeft, part_ready, part_pushed, parts_next, join_left, join_made, first_ready, links_left, links_next, link_ready, link_pushed, chain_made, made_so, not_made, if_err, comparison_ready, sides_made}
+use Rattle.width_check.proofs.Ready.{ArePartsLeft, part_ready, part_added, parts_next, join_left, parts_joined, first_ready, links_left, links_next, link_ready, link_added, links_chained, not_made, comparison_ready, sides_made}
 use Rattle.width_check.proofs.making.+make_expression.Goals as goal
 
 pub constant-requires-clause-fits : goal.constant-requires-clause-fits
@@ -61,7 +61,7 @@ pub loop-part-init : goal.loop-part-init
 loop-part-init t c =
     let left = join_left c.args.scope.now.decls.now c.args.width c.args.e.now c.in-Join.parts c.in-Join.at c.deref-part-items.result.now c.in-Join.is
     c.deref-part-items.ensures.value c.requires.shaped c.requires.sound in
-    record { made = rw c.new-made.ensures.items refl; shaped = left.shaped; full = left.full; sound = left.sound }
+    record { made = rw c.new.ensures.items refl; shaped = left.shaped; full = left.full; sound = left.sound }
 
 pub make_expression-requires : goal.make_expression-requires
 make_expression-requires t c =
@@ -81,16 +81,16 @@ loop-part-preserved t c =
     let left = parts_next c.args.scope.now.decls.now c.deref-part-items.result.now c.loop-part.part-index c.part-item.result c.loop-part-test.true
     c.part-item.is here in
     record {
-      made = part_pushed c.args.scope.now.decls.now c.requires.ranged c.deref-part-items.result.now c.loop-part.part-index c.part-item.result c.own_width.result
-          c.unwrap_or-own.result c.loop-part.made.items c.push_part.new.made.items c.make_expression.result _ c.loop-part-test.true c.part-item.is
-          here c.own_width.ensures c.unwrap_or-own.ensures c.make_expression.ensures c.in_ok-push_part-in-Join.ensures c.loop-part.invariant.made;
+      made = part_added c.args.scope.now.decls.now c.requires.ranged c.deref-part-items.result.now c.loop-part.part-index c.part-item.result c.own_width.result
+          c.unwrap_or-own.result c.loop-part.made c.extended-made.result c.make_expression.result _ c.loop-part-test.true c.part-item.is
+          here c.own_width.ensures c.unwrap_or-own.ensures c.make_expression.ensures c.extended-made.ensures c.loop-part.invariant.made;
       shaped = left.shaped;
       full = left.full;
       sound = left.sound;
     }
 
-pub make_expression-made-requires : goal.make_expression-made-requires
-make_expression-made-requires t c =
+pub make_expression-requires-in-Not : goal.make_expression-requires-in-Not
+make_expression-requires-in-Not t c =
     let s = rw c.in-Not.is at c.requires.sound in
     let shaped = rw c.in-Not.is at c.requires.shaped in (
       search (rules, the_lemmas, get_or_read),
@@ -168,46 +168,35 @@ loop-link-init t c =
     let left = links_left c.args.scope.now.decls.now c.args.width c.args.e.now c.in-Chain.first c.in-Chain.rest c.in-Chain.at c.deref-in-Chain.result.now
     c.deref-link-items.result.now c.in-Chain.is c.deref-in-Chain.ensures.value c.deref-link-items.ensures.value (sym c.if-compares.ensures)
     c.requires.shaped c.requires.sound in
-    record { made = rw c.new-made-in-Chain.ensures.items refl; shaped = left.shaped; sound = left.sound }
+    record { made = rw c.new-in-Chain.ensures.items refl; shaped = left.shaped; sound = left.sound }
 
 pub loop-link-preserved : goal.loop-link-preserved
 loop-link-preserved t c =
     let left = links_next c.args.scope.now.decls.now c.args.width c.deref-link-items.result.now c.loop-link.link-index c.link-item.result c.loop-link-test.true
     c.link-item.is (record { shaped = c.loop-link.invariant.shaped; sound = c.loop-link.invariant.sound }) in
     record {
-      made = link_pushed c.args.scope.now.decls.now c.args.width c.deref-link-items.result.now c.loop-link.link-index c.link-item.result c.loop-link.made.items
-          c.push_link.new.made.items c.make_expression-right-in-loop-link.result _ c.loop-link-test.true c.link-item.is
-          c.make_expression-right-in-loop-link.ensures c.in_ok-push_link-in-Chain.ensures c.loop-link.invariant.made;
+      made = link_added c.args.scope.now.decls.now c.args.width c.deref-link-items.result.now c.loop-link.link-index c.link-item.result c.loop-link.made
+          c.extended-made-in-loop-link.result c.linked.result c.make_expression-right-in-loop-link.result _ c.loop-link-test.true c.link-item.is
+          c.make_expression-right-in-loop-link.ensures c.linked.ensures c.extended-made-in-loop-link.ensures c.loop-link.invariant.made;
       shaped = left.shaped;
       sound = left.sound;
     }
 
 pub returns-after-loop-part : goal.returns-after-loop-part
-returns-after-loop-part t c = join_made c.args.scope.now.decls.now c.args.width c.args.e.now c.in-Join.parts c.in-Join.at c.deref-part-items.result.now
-    c.loop-part.part-index c.loop-part.made c.in-Join.is c.deref-part-items.ensures.value c.loop-part-test.false c.loop-part.invariant.made
+returns-after-loop-part t c = parts_joined c.args.scope.now.decls.now c.args.width c.args.e.now c.in-Join.parts c.in-Join.at c.deref-part-items.result.now
+    c.loop-part.part-index c.loop-part.made c.joined.result c.in-Join.is c.deref-part-items.ensures.value c.loop-part-test.false c.loop-part.invariant.made
+    c.joined.ensures
 
-pub returns-in_ok-boxed-in-Chain : goal.returns-in_ok-boxed-in-Chain
-returns-in_ok-boxed-in-Chain t c =
-    chain_made c.args.scope.now.decls.now c.args.width c.args.e.now c.in-Chain.first c.in-Chain.rest c.in-Chain.at c.deref-in-Chain.result.now
-    c.deref-link-items.result.now c.loop-link.link-index c.deref-in-Chain-2.result.now c.in_ok-boxed-in-Chain.field-0 c.loop-link.made c.in-Chain.is
-    c.deref-in-Chain.ensures.value c.deref-link-items.ensures.value (sym c.if-compares.ensures) c.deref-in-Chain-2.ensures
-    (made_so _ _ _ c.make_expression-front.ensures c.in_ok-boxed-in-Chain.ensures) c.loop-link-test.false c.loop-link.invariant.made
+pub returns-after-loop-link : goal.returns-after-loop-link
+returns-after-loop-link t c =
+    links_chained c.args.scope.now.decls.now c.args.width c.args.e.now c.in-Chain.first c.in-Chain.rest c.in-Chain.at c.deref-in-Chain.result.now
+    c.deref-link-items.result.now c.loop-link.link-index c.deref-in-Chain-2.result.now c.make_expression-front.result c.boxed.result c.loop-link.made
+    c.chained.result c.in-Chain.is c.deref-in-Chain.ensures.value c.deref-link-items.ensures.value (sym c.if-compares.ensures) c.deref-in-Chain-2.ensures
+    c.make_expression-front.ensures c.boxed.ensures c.loop-link-test.false c.loop-link.invariant.made c.chained.ensures
 
-pub returns-in_err-push_part-in-Join : goal.returns-in_err-push_part-in-Join
-returns-in_err-push_part-in-Join t c = if_err _ _ c.from_residual.ensures.0
-
-pub returns-in_err-push_link-in-Chain : goal.returns-in_err-push_link-in-Chain
-returns-in_err-push_link-in-Chain t c = if_err _ _ c.from_residual-in_err-push_link-in-Chain.ensures.0
-
-pub returns-in_err-boxed-in-Not : goal.returns-in_err-boxed-in-Not
-returns-in_err-boxed-in-Not t c = if_err _ _ c.from_residual-in_err-boxed-in-Not.ensures.0
-
-pub returns-in_err-boxed-in-Chain : goal.returns-in_err-boxed-in-Chain
-returns-in_err-boxed-in-Chain t c = if_err _ _ c.from_residual-in_err-boxed-in-Chain.ensures.0
-
-pub returns-in_ok-boxed-in-Not : goal.returns-in_ok-boxed-in-Not
-returns-in_ok-boxed-in-Not t c = not_made c.args.scope.now.decls.now c.args.width _ _ _ _ c.in_ok-boxed-in-Not.field-0 c.in-Not.is c.deref.ensures
-    (made_so _ _ _ c.make_expression-made.ensures c.in_ok-boxed-in-Not.ensures)
+pub returns-in-Not : goal.returns-in-Not
+returns-in-Not t c = not_made c.args.scope.now.decls.now c.args.width _ _ _ _ c.make_expression-in-Not.result c.inverted.result c.in-Not.is c.deref.ensures
+    c.make_expression-in-Not.ensures c.inverted.ensures
 
 pub returns-in-Bit : goal.returns-in-Bit
 returns-in-Bit t c = rw c.in-Bit.is c.read-in-Bit.ensures

@@ -1,12 +1,13 @@
 use Rattle.std.proofs.Common.{refl, sym, ap, ◌∙◌, arith}
 use Rattle.std.specs.Prelude.{option_map}
+use Rattle.chp_syntax.specs.Trees.{number, whole, slice, bit}
 use Rattle.chp_syntax.specs.View.{expression_of}
 use Rattle.chp_syntax.specs.declared.tree.Expr.{Expr}
 use Rattle.width_check.specs.Places.{own_width}
 use Rattle.width_check.specs.Walk.{capped_width, join_parts}
 use Rattle.width_check.proofs.OwnWidths.{part_summed, sum_done, join_own, from_none}
 use Rattle.width_check.proofs.Scopes.{capped_most}
-use Rattle.width_check.proofs.Strolls.{part_step, part_done, link_step, link_done, chain_own}
+use Rattle.width_check.proofs.Strolls.{leaf_done, not_done, part_step, part_done, link_step, link_done, chain_own}
 use Rattle.width_check.proofs.Swapping.{noted_parts}
 use Rattle.width_check.proofs.survey.+with_expression.Goals as goal
 
@@ -76,3 +77,28 @@ pub returns-in-Not-clause-own : goal.returns-in-Not-clause-own
 returns-in-Not-clause-own t c = λ none. c.with_expression.ensures.own none
     ∙ ap (λ (x : Expr). option_map capped_width (own_width c.args.scope.now.decls.now (expression_of x))) c.deref.ensures
     ∙ sym (ap (λ (x : Expr). option_map capped_width (own_width c.args.scope.now.decls.now (expression_of x))) c.in-Not.is)
+
+pub returns-in-Number-clause-findings : goal.returns-in-Number-clause-findings
+returns-in-Number-clause-findings t c = leaf_done c.args.scope.now.decls.now c.args.e.now (number c.in-Number.value c.in-Number.at) c.args.findings
+    c.with_number.result 0 c.unwrap_or.result c.args.wanted (ap expression_of c.in-Number.is) refl c.unwrap_or.ensures c.with_number.ensures
+
+pub returns-in-Whole-clause-findings : goal.returns-in-Whole-clause-findings
+returns-in-Whole-clause-findings t c = leaf_done c.args.scope.now.decls.now c.args.e.now (whole c.in-Whole.of) c.args.findings c.with_whole.result
+    c.capped-own.result c.unwrap_or-in-Whole.result c.args.wanted (ap expression_of c.in-Whole.is) (c.capped-own.ensures ∙ ap capped_width c.width.ensures)
+    c.unwrap_or-in-Whole.ensures c.with_whole.ensures
+
+pub returns-in-Slice-clause-findings : goal.returns-in-Slice-clause-findings
+returns-in-Slice-clause-findings t c = leaf_done c.args.scope.now.decls.now c.args.e.now (slice c.in-Slice.of c.in-Slice.high c.in-Slice.low c.in-Slice.at)
+    c.args.findings c.with_slice.result c.slice_width-own.result c.unwrap_or-in-Slice.result c.args.wanted (ap expression_of c.in-Slice.is)
+    c.slice_width-own.ensures c.unwrap_or-in-Slice.ensures c.with_slice.ensures
+
+pub returns-in-Bit-clause-findings : goal.returns-in-Bit-clause-findings
+returns-in-Bit-clause-findings t c = leaf_done c.args.scope.now.decls.now c.args.e.now (bit c.in-Bit.of c.in-Bit.place c.in-Bit.at) c.args.findings
+    c.with_bit.result 1 c.unwrap_or-in-Bit.result c.args.wanted (ap expression_of c.in-Bit.is) refl c.unwrap_or-in-Bit.ensures c.with_bit.ensures
+
+pub returns-in-Not-clause-findings : goal.returns-in-Not-clause-findings
+returns-in-Not-clause-findings t c = not_done c.args.scope.now.decls.now c.args.e.now c.in-Not.inner c.in-Not.at c.deref.result.now c.args.findings _
+    c.args.wanted c.in-Not.is c.deref.ensures c.with_expression.ensures.findings
+
+pub with_whole-requires : goal.with_whole-requires
+with_whole-requires t c = c.capped-own.ensures ∙ ap capped_width c.width.ensures

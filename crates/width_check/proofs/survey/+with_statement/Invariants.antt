@@ -6,10 +6,6 @@ abbrev pub invariant-loop-part : goal.invariant-loop-part
 invariant-loop-part l = noted l.scope.decls.now l.findings (met_of_each l.scope.decls.now (statements_in (drop l.part-index l.part-items))) ≡
     noted l.scope.decls.now l.initial.findings (met_of_each l.scope.decls.now (statements_in l.part-items))
 
-abbrev pub invariant-loop-branch : goal.invariant-loop-branch
-invariant-loop-branch l = noted l.scope.decls.now l.findings (met_of_each l.scope.decls.now (statements_in (drop l.branch-index l.branch-items))) ≡
-    noted l.scope.decls.now l.initial.findings (met_of_each l.scope.decls.now (statements_in l.branch-items))
-
 abbrev pub invariant-loop-arm : goal.invariant-loop-arm
 invariant-loop-arm l = noted l.scope.decls.now l.findings (met_of_arms l.scope.decls.now (arms_in (drop l.arm-index l.arm-items))) ≡
     noted l.scope.decls.now l.initial.findings (met_of_arms l.scope.decls.now (arms_in l.arm-items))
