@@ -1,7 +1,7 @@
 //! The arguments of a command, and how `clap` reads words by them.
 
-ghost use Rattle.std.specs.Prelude.{◌≡◌, IfOk, IfSome, false, is_some, map, true};
-ghost use Rattle.clap.specs.Words.{app_of, found_of, matches_of, rows_of, rule_of, takes};
+ghost use Rattle.std.specs.Prelude.{◌≡◌, IfOk, IfSome, Some, false, is_some, map, true};
+ghost use Rattle.clap.specs.Words.{app_of, found_of, matches_of, new_rule, rows_of, rule_of, takes};
 ghost use Rattle.command_words.specs.BuiltForms.{argument_of, form_of, rule_for};
 ghost use Rattle.command_words.specs.Forms.{is_form, texts_of};
 
@@ -27,14 +27,29 @@ fn arg_of<'a>(alloc: Global, argument: &Argument<'a>) -> Arg<'a>
     ensures local { result.global ≡ false }
 {
     match argument {
-        Argument::Word(name) => Arg::new(alloc, name).required(true).action(ArgAction::Set),
-        Argument::Flag(name) => Arg::new(alloc, name).long(name).action(ArgAction::SetTrue),
-        Argument::Value(name) => Arg::new(alloc, name).long(name).action(ArgAction::Set),
-        Argument::Needed(name) => Arg::new(alloc, name)
-            .long(name)
-            .required(true)
-            .action(ArgAction::Set),
+        Argument::Word(name) => arg_for(alloc, name, true, ArgAction::Set),
+        Argument::Flag(name) => called_arg(alloc, name, false, ArgAction::SetTrue),
+        Argument::Value(name) => called_arg(alloc, name, false, ArgAction::Set),
+        Argument::Needed(name) => called_arg(alloc, name, true, ArgAction::Set),
     }
+}
+
+/// What an argument that is called by its name is to `clap`.
+fn called_arg<'a>(alloc: Global, name: &'a str, needed: bool, action: ArgAction) -> Arg<'a>
+    ensures rule { rule_of result
+        ≡ record (new_rule name.entry.now) { long = Some name.entry.now; action = Some action; required = needed } }
+    ensures local { result.global ≡ false }
+{
+    arg_for(alloc, name, needed, action).long(name)
+}
+
+/// What an argument of this name with this action is to `clap` before it is called by its name.
+fn arg_for<'a>(alloc: Global, name: &'a str, needed: bool, action: ArgAction) -> Arg<'a>
+    ensures rule { rule_of result
+        ≡ record (new_rule name.entry.now) { action = Some action; required = needed } }
+    ensures local { result.global ≡ false }
+{
+    Arg::new(alloc, name).required(needed).action(action)
 }
 
 /// The form of a command of this name with these arguments, and no flag for help.

@@ -41,11 +41,18 @@ pub(crate) fn bench_with<'a>(matches: &ArgMatches<'a>) -> Option<Command<'a>>
         ≡ option_map benches (bench_by (texts_found bench_arguments (found_of matches.now))) }
     ensures bounds { IfSome result IsWithinBounds }
 {
-    let (Some(net), Some(peer)) = (matches.get_str("PRS"), matches.get_str("peer")) else {
+    let Some(net) = matches.get_str("PRS") else {
         return None;
     };
-    let seed = number_or(matches.get_str("seed"), 0, u64::MAX)?;
-    let steps = number_or(matches.get_str("steps"), STEPS, MOST_OF_STEPS)?;
+    let Some(peer) = matches.get_str("peer") else {
+        return None;
+    };
+    let Some(seed) = number_or(matches.get_str("seed"), 0, u64::MAX) else {
+        return None;
+    };
+    let Some(steps) = number_or(matches.get_str("steps"), STEPS, MOST_OF_STEPS) else {
+        return None;
+    };
     Some(Command::Bench(Benching {
         net,
         peer,

@@ -195,8 +195,10 @@ fn file_with<'a>(verb: FileVerb, matches: &ArgMatches<'a>) -> Option<Command<'a>
         ≡ option_map (asked_of verb) (file_by (texts_found file_arguments (found_of matches.now))) }
     ensures bounds { IfSome result IsWithinBounds }
 {
-    let file = matches.get_str("FILE")?;
-    Some(command_on(verb, file))
+    match matches.get_str("FILE") {
+        Some(file) => Some(command_on(verb, file)),
+        None => None,
+    }
 }
 
 /// This command on this file.

@@ -35,7 +35,9 @@ pub(crate) fn compile_with<'a>(matches: &ArgMatches<'a>) -> Option<Command<'a>>
         ≡ option_map compiles (compile_by (texts_found compile_arguments (found_of matches.now))) }
     ensures bounds { IfSome result IsWithinBounds }
 {
-    let file = matches.get_str("FILE")?;
+    let Some(file) = matches.get_str("FILE") else {
+        return None;
+    };
     Some(Command::Compile(Compilation {
         file,
         reset: is_set(matches.get_str("reset")),

@@ -37,11 +37,16 @@ pub(crate) fn grow_with<'a>(matches: &ArgMatches<'a>) -> Option<Command<'a>>
         ≡ option_map grows (grow_by (texts_found grow_arguments (found_of matches.now))) }
     ensures bounds { IfSome result IsWithinBounds }
 {
-    let (Some(seed), Some(stages)) = (matches.get_str("SEED"), matches.get_str("STAGES")) else {
+    let Some(seed) = matches.get_str("SEED") else {
         return None;
     };
-    let growth = growth_in(seed, stages, is_set(matches.get_str("sum")))?;
-    Some(Command::Grow(growth))
+    let Some(stages) = matches.get_str("STAGES") else {
+        return None;
+    };
+    match growth_in(seed, stages, is_set(matches.get_str("sum"))) {
+        Some(growth) => Some(Command::Grow(growth)),
+        None => None,
+    }
 }
 
 /// What is asked for by the words of both numbers.
@@ -49,14 +54,15 @@ fn growth_in(seed: &str, stages: &str, sum: bool) -> Option<Growth>
     ensures value { result ≡ growth_in seed.now stages.now sum }
     ensures bounds { IfSome result IsGrowable }
 {
-    let seed = number_up_to(seed, u64::MAX)?;
-    let stages = number_up_to(stages, MOST_OF_STAGES)?;
-    if stages == 0 {
-        return None;
+    match (
+        number_up_to(seed, u64::MAX),
+        number_up_to(stages, MOST_OF_STAGES),
+    ) {
+        (Some(seed), Some(stages)) if stages != 0 => Some(Growth {
+            seed,
+            stages: stages as u32,
+            sum,
+        }),
+        _ => None,
     }
-    Some(Growth {
-        seed,
-        stages: stages as u32,
-        sum,
-    })
 }

@@ -44,10 +44,15 @@ pub(crate) fn run_with<'a>(matches: &ArgMatches<'a>) -> Option<Command<'a>>
         ≡ option_map runs (rounds_by (texts_found run_arguments (found_of matches.now))) }
     ensures bounds { IfSome result IsWithinBounds }
 {
-    let (Some(file), Some(script)) = (matches.get_str("FILE"), matches.get_str("SCRIPT")) else {
+    let Some(file) = matches.get_str("FILE") else {
         return None;
     };
-    let rounds = number_or(matches.get_str("rounds"), ROUNDS, MOST_OF_ROUNDS)?;
+    let Some(script) = matches.get_str("SCRIPT") else {
+        return None;
+    };
+    let Some(rounds) = number_or(matches.get_str("rounds"), ROUNDS, MOST_OF_ROUNDS) else {
+        return None;
+    };
     Some(Command::Run(Rounds {
         file,
         script,

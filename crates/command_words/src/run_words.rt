@@ -99,22 +99,27 @@ impl<'a> Texts<'a> {
             ≡ option_map times (timing_with (texts_given self.entry) delays.entry.now) }
         ensures bounds { IfSome result IsWithinBounds }
     {
-        if self.order.is_some() || self.seed.is_some() {
-            return None;
+        let steps = number_or(self.steps, STEPS, MOST_OF_STEPS);
+        match (
+            self.order,
+            self.seed,
+            self.net,
+            self.script,
+            steps,
+            power_of(self.power),
+        ) {
+            (None, None, Some(net), Some(script), Some(steps), Some(power)) => Some(Command::Time(
+                Timing {
+                    net,
+                    script,
+                    delays,
+                    steps: steps as u32,
+                    power,
+                    against: self.against,
+                },
+            )),
+            _ => None,
         }
-        let (Some(net), Some(script)) = (self.net, self.script) else {
-            return None;
-        };
-        let steps = number_or(self.steps, STEPS, MOST_OF_STEPS)?;
-        let power = power_of(self.power)?;
-        Some(Command::Time(Timing {
-            net,
-            script,
-            delays,
-            steps: steps as u32,
-            power,
-            against: self.against,
-        }))
     }
 
     /// What they ask for where no delays are given, if both files are given and each option has a value of its kind.
@@ -122,12 +127,22 @@ impl<'a> Texts<'a> {
         ensures asked { option_map asked result ≡ option_map simulates (run_with (texts_given self.entry)) }
         ensures bounds { IfSome result IsWithinBounds }
     {
-        let (Some(net), Some(script)) = (self.net, self.script) else {
+        // A `?` is two calls more in the proof, so this and the other commands end by `else` instead.
+        let Some(net) = self.net else {
             return None;
         };
-        let seed = number_or(self.seed, 0, u64::MAX)?;
-        let steps = number_or(self.steps, STEPS, MOST_OF_STEPS)?;
-        let power = power_of(self.power)?;
+        let Some(script) = self.script else {
+            return None;
+        };
+        let Some(seed) = number_or(self.seed, 0, u64::MAX) else {
+            return None;
+        };
+        let Some(steps) = number_or(self.steps, STEPS, MOST_OF_STEPS) else {
+            return None;
+        };
+        let Some(power) = power_of(self.power) else {
+            return None;
+        };
         Some(Command::Simulate(Simulation {
             net,
             script,

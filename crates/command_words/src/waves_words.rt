@@ -41,10 +41,15 @@ pub(crate) fn waves_with<'a>(matches: &ArgMatches<'a>) -> Option<Command<'a>>
         ≡ option_map traces (waves_by (texts_found waves_arguments (found_of matches.now))) }
     ensures bounds { IfSome result IsWithinBounds }
 {
-    let (Some(net), Some(script)) = (matches.get_str("PRS"), matches.get_str("SCRIPT")) else {
+    let Some(net) = matches.get_str("PRS") else {
         return None;
     };
-    let steps = number_or(matches.get_str("steps"), STEPS, MOST_OF_STEPS)?;
+    let Some(script) = matches.get_str("SCRIPT") else {
+        return None;
+    };
+    let Some(steps) = number_or(matches.get_str("steps"), STEPS, MOST_OF_STEPS) else {
+        return None;
+    };
     Some(Command::Waves(Waves {
         net,
         script,

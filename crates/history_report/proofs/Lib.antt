@@ -1,4 +1,7 @@
 mod Few
+mod Ands
+mod Pieces
+mod Lines
 mod Fronts
 mod Onward
 mod Once

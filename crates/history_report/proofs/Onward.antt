@@ -42,12 +42,14 @@ made_further first c d all left fewer most less at is =
     is ∙ (ap (λ (x : Configuration). rounds_from x (left - fewer)) at ∙ (rounds_more (all - left) (left - fewer) first ∙ ap (rounds_from first) e))
 
 -- however far they have come, all of them lead to one configuration
-pub all_lead : (first start c d : Configuration) (all n left fewer : ℕ) → first ≡ start → all ≡ n → left ≤ all → fewer ≤ left →
-    c ≡ rounds_from first (all - left) → d ≡ rounds_from c (left - fewer) → rounds_from d fewer ≡ rounds_from start n
-all_lead first start c d all n left fewer from so_many most less at is =
+pub all_lead : (first c d : Configuration) (all left fewer : ℕ) → left ≤ all → fewer ≤ left →
+    c ≡ rounds_from first (all - left) → d ≡ rounds_from c (left - fewer) → rounds_from d fewer ≡ rounds_from first all
+all_lead first c d all left fewer most less at is =
     let within : fewer ≤ all = omega arith in
     all_made first d all fewer within (made_further first c d all left fewer most less at is)
-    ∙ (ap (λ (x : Configuration). rounds_from x all) from ∙ ap (rounds_from start) so_many)
+
+pub from_start : (first start : Configuration) (all n : ℕ) → first ≡ start → all ≡ n → rounds_from first all ≡ rounds_from start n
+from_start first start all n starts counted = ap (λ (x : Configuration). rounds_from x all) starts ∙ ap (rounds_from start) counted
 
 -- further rounds only append
 

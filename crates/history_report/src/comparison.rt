@@ -1,26 +1,26 @@
 //! How the histories of a run compare with those of a program's rounds.
 
-ghost use Rattle.std.specs.Prelude.{◌≡◌, ◌↔◌, ◌⊎◌, ◌++◌, ◌-◌, ◌<◌, ◌≤◌, ℕ, length, map, true, IfOk, IfSome, IfNone, OnOk};
+ghost use Rattle.std.specs.Prelude.{◌≡◌, ◌↔◌, ◌⊎◌, ◌++◌, ◌-◌, ◌<◌, ◌≤◌, ℕ, length, map, true, List, Some, IfOk, IfSome, IfNone, OnOk};
 ghost use Rattle.prs_core.specs.declared.wires.Wires.{Wires as WiresValue};
 ghost use Rattle.env_script.specs.Environment.{net_channels};
 ghost use Rattle.env_script.specs.Runs.{history_at};
-ghost use Rattle.env_script.specs.Scripts.{IsScript};
+ghost use Rattle.env_script.specs.Scripts.{OfferValue, IsScript};
 ghost use Rattle.event_sim.specs.Passing.{values_through};
 ghost use Rattle.width_check.specs.Sharing.{MeetsSharing};
 ghost use Rattle.width_check.specs.Typed.{program_of};
 ghost use Rattle.width_check.specs.View.{process_of};
+ghost use Rattle.chp_meaning.specs.Steps.{start_of};
 ghost use Rattle.chp_meaning.specs.Rounds.{rounds_from};
 ghost use Rattle.chp_meaning.specs.Ends.{seen, IsOf};
 ghost use Rattle.chp_meaning.specs.Prefixes.{IsPrefixOf};
 ghost use Rattle.history_report.specs.Comparing.{IsFirstDifference, run_history, IsAgainst, IsAgainstIn, against_line};
 
-use crate::report::{append, channel_name};
+use crate::report::{append, channel_name, hazard_line};
 use chp_base::Channel;
 use chp_meaning::{Config, round, start};
 use env_script::Script;
 use event_sim::Ran;
-use itoa::Buffer;
-use prs_core::Wires;
+use prs_core::{Net, Wires};
 use std::alloc::{AllocError, Global};
 use width_check::Typed;
 
@@ -62,24 +62,37 @@ fn are_channels(wires: &[Wires], channels: &[Channel]) -> bool
 fn values_on(alloc: Global, passed: &[(u32, u64)], chan: u32) -> Result<Vec<u64>, AllocError>
     ensures { IfOk result (λ values. values.items ≡ values_through chan passed.now) }
 {
-    passed
-        .iter()
-        .filter(|(on, _)| *on == chan)
-        .map(|(_, value)| *value)
-        .collect(alloc)
+    let mut values = Vec::new(alloc);
+    for (on, value) in passed {
+        if *on == chan {
+            values.push(*value)?;
+        }
+    }
+    Ok(values)
+}
+
+/// The index that was found, as a 32-bit number. A run with a larger index has more values than memory holds, and
+/// counts as out of memory.
+fn place_number(place: usize) -> Result<Option<u32>, AllocError>
+    ensures { IfOk result (λ number. number ≡ Some place) }
+{
+    match u32::try_from(place) {
+        Ok(number) => Ok(Some(number)),
+        Err(_) => Err(AllocError),
+    }
 }
 
 /// The first index at which the value isn't the history's, or it has none; None where the values are a prefix of it.
-fn first_difference(values: &[u64], history: &[u64]) -> Option<usize>
-    ensures some { IfSome result (λ place. IsFirstDifference values.now history.now place) }
-    ensures none { IfNone result (IsPrefixOf values.now history.now) }
+fn first_difference(values: &[u64], history: &[u64]) -> Result<Option<u32>, AllocError>
+    ensures some { IfOk result (λ found. IfSome found (λ place. IsFirstDifference values.now history.now place)) }
+    ensures none { IfOk result (λ found. IfNone found (IsPrefixOf values.now history.now)) }
 {
     for (place, value) in values.iter().enumerate() {
         if place >= history.len() || history[place] != *value {
-            return Some(place);
+            return place_number(place);
         }
     }
-    None
+    Ok(None)
 }
 
 /// Makes rounds until so many values have passed on the channel. At most `left` more rounds may be made, and each is
@@ -121,7 +134,7 @@ fn difference_on(
     program: &Typed,
     left: &mut u32,
     chan: u32,
-) -> Result<Option<usize>, AllocError>
+) -> Result<Option<u32>, AllocError>
     requires sharing { MeetsSharing (process_of program.now.body) }
     requires of { IsOf program.now config.old }
     requires within { chan < length program.now.channels }
@@ -135,19 +148,10 @@ fn difference_on(
         (history_at (rounds_from (seen program.now config.new) left.new).histories chan))) }
 {
     let values = values_on(alloc, ran.passed(), chan)?;
-    reach(alloc, config, program, left, chan, values.len())?;
-    Ok(first_difference(&values, config.history(chan)))
-}
-
-/// The index as a 32-bit number. A run with a larger index has more values than memory holds, and counts as
-/// out of memory.
-fn place_number(place: usize) -> Result<u32, AllocError>
-    ensures { IfOk result (λ number. number ≡ place) }
-{
-    match u32::try_from(place) {
-        Ok(number) => Ok(number),
-        Err(_) => Err(AllocError),
-    }
+    reach(alloc, config, program, left, chan, values.len()).and(first_difference(
+        &values,
+        config.history(chan),
+    ))
 }
 
 /// Compares what the run has passed with what as many rounds of the program as it has moves pass, under this script of
@@ -163,15 +167,36 @@ pub fn compare(
     ensures against { IfOk result (λ against. IsAgainst ran.now (program_of program.now) script.now against) }
     ensures within { IfOk result (λ against. IsAgainstIn ran.now.net against) }
 {
-    let channels = ran.net().channels();
-    if !are_channels(channels, program.channels()) {
-        return Ok(Against::Channels);
+    if are_channels(ran.net().channels(), program.channels()) {
+        let mut config = start(alloc, program, script)?;
+        let against = compare_from(alloc, ran, program, &mut config);
+        drop(config);
+        against
+    } else {
+        Ok(Against::Channels)
     }
-    let mut config = start(alloc, program, script)?;
+}
+
+/// The same where the net has the program's channels, from the configuration in which the program starts under some
+/// script. It is lent that, since what a function owns is let go at each of its ways out, and each is proved.
+fn compare_from(
+    alloc: Global,
+    ran: &Ran,
+    program: &Typed,
+    config: &mut Config,
+) -> Result<Against, AllocError>
+    requires sharing { MeetsSharing (process_of program.now.body) }
+    requires of { IsOf program.now config.old }
+    requires alike { net_channels ran.now.net ≡ program.now.channels }
+    ensures against { (script : List OfferValue) →
+        seen program.now config.old ≡ start_of (program_of program.now) script →
+        IfOk result (λ against. IsAgainst ran.now (program_of program.now) script against) }
+    ensures within { IfOk result (λ against. IsAgainstIn ran.now.net against) }
+{
     let mut left = ran.moves();
+    let channels = ran.net().channels();
     for chan in 0..channels.len() as u32 {
-        if let Some(place) = difference_on(alloc, ran, &mut config, program, &mut left, chan)? {
-            let place = place_number(place)?;
+        if let Some(place) = difference_on(alloc, ran, config, program, &mut left, chan)? {
             return Ok(Against::Differs { chan, place });
         }
     }
@@ -184,18 +209,22 @@ pub fn against_text(alloc: Global, ran: &Ran, against: Against) -> Result<Vec<u8
     ensures { IfOk result (λ v. v.items ≡ against_line ran.now.net against) }
 {
     let mut text = Vec::new(alloc);
+    against_line(ran.net(), against, &mut text).and(Ok(text))
+}
+
+/// Appends that line.
+fn against_line(net: &Net, against: Against, to: &mut Vec<u8>) -> Result<(), AllocError>
+    requires { IsAgainstIn net.now against }
+    ensures { OnOk result (to.new.items ≡ to.old.items ++ against_line net.now against) }
+{
     match against {
-        Against::Agrees => append(&mut text, &[b"against agrees\n"])?,
-        Against::Channels => append(&mut text, &[b"against channels\n"])?,
-        Against::Differs { chan, place } => {
-            let mut buffer = Buffer::new();
-            let number = buffer.format(place).as_bytes();
-            let name = channel_name(ran.net(), chan);
-            append(
-                &mut text,
-                &[b"against differs ", name, b" at ", number, b"\n"],
-            )?;
-        }
+        Against::Agrees => append(to, &[b"against agrees\n"]),
+        Against::Channels => append(to, &[b"against channels\n"]),
+        Against::Differs { chan, place } => hazard_line(
+            b"against differs ",
+            channel_name(net, chan),
+            place,
+            to,
+        ),
     }
-    Ok(text)
 }

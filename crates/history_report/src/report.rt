@@ -22,8 +22,13 @@ pub(crate) fn append(to: &mut Vec<u8>, pieces: &[&[u8]]) -> Result<(), AllocErro
     Ok(())
 }
 
-/// Appends the line of a hazard.
-fn hazard_line(words: &[u8], name: &[u8], moves: u32, to: &mut Vec<u8>) -> Result<(), AllocError>
+/// Appends the line of a hazard, or another one of this form.
+pub(crate) fn hazard_line(
+    words: &[u8],
+    name: &[u8],
+    moves: u32,
+    to: &mut Vec<u8>,
+) -> Result<(), AllocError>
     ensures { OnOk result (to.new.items ≡ to.old.items ++ hazard_line words.now name.now moves) }
 {
     let mut buffer = Buffer::new();
@@ -126,9 +131,9 @@ fn channel_line(
     ensures { OnOk result (to.new.items ≡ to.old.items
         ++ channel_line wires.now.channel.name (values_through chan passed.now)) }
 {
-    append(to, &[wires.channel.name.bytes(), b":"])?;
-    value_words(passed, chan, to)?;
-    append(to, &[b"\n"])
+    append(to, &[wires.channel.name.bytes(), b":"])
+        .and(value_words(passed, chan, to))
+        .and(append(to, &[b"\n"]))
 }
 
 /// Appends a line for each channel.
@@ -152,10 +157,16 @@ pub fn report_text(alloc: Global, ran: &Ran, time: Option<u64>) -> Result<Vec<u8
     ensures { IfOk result (λ v. v.items ≡ report_of ran.now time) }
 {
     let mut text = Vec::new(alloc);
-    ending_line(ran.net(), ran.end(), ran.moves(), &mut text)?;
-    moves_line(ran.moves(), &mut text)?;
-    time_line(time, &mut text)?;
-    done_line(ran.done_high(), &mut text)?;
-    history_lines(ran.net().channels(), ran.passed(), &mut text)?;
-    Ok(text)
+    report_lines(ran, time, &mut text).and(Ok(text))
+}
+
+/// Appends the lines of the report. They go on for nothing where memory has run out, so that there is one way out.
+fn report_lines(ran: &Ran, time: Option<u64>, to: &mut Vec<u8>) -> Result<(), AllocError>
+    ensures { OnOk result (to.new.items ≡ to.old.items ++ report_of ran.now time) }
+{
+    ending_line(ran.net(), ran.end(), ran.moves(), to)
+        .and(moves_line(ran.moves(), to))
+        .and(time_line(time, to))
+        .and(done_line(ran.done_high(), to))
+        .and(history_lines(ran.net().channels(), ran.passed(), to))
 }

@@ -48,9 +48,9 @@ fn words_of(values: &[u64], to: &mut Vec<u8>) -> Result<(), AllocError>
 fn passed_line(name: &Name, values: &[u64], to: &mut Vec<u8>) -> Result<(), AllocError>
     ensures { OnOk result (to.new.items ≡ to.old.items ++ channel_line name.now values.now) }
 {
-    append(to, &[name.bytes(), b":"])?;
-    words_of(values, to)?;
-    append(to, &[b"\n"])
+    append(to, &[name.bytes(), b":"])
+        .and(words_of(values, to))
+        .and(append(to, &[b"\n"]))
 }
 
 /// Appends a line for each channel, with its history.
@@ -83,9 +83,24 @@ pub fn rounds_text(
     ensures { IfOk result (λ v. v.items ≡ rounds_report_of program.now.channels n end (seen program.now config.now)) }
 {
     let mut text = Vec::new(alloc);
-    rounds_ending(end, &mut text)?;
-    rounds_line(n, &mut text)?;
-    done_line(config.is_done(), &mut text)?;
-    passed_lines(program.channels(), config.histories(), &mut text)?;
-    Ok(text)
+    rounds_lines(config, program, n, end, &mut text).and(Ok(text))
+}
+
+/// Appends the lines of that report. They go on for nothing where memory has run out, so that there is one way out.
+fn rounds_lines(
+    config: &Config,
+    program: &Typed,
+    n: u32,
+    end: RunEnd,
+    to: &mut Vec<u8>,
+) -> Result<(), AllocError>
+    requires of { IsOf program.now config.now }
+    requires end { end ≢ RunEnd.TooMany }
+    ensures { OnOk result (to.new.items ≡ to.old.items
+        ++ rounds_report_of program.now.channels n end (seen program.now config.now)) }
+{
+    rounds_ending(end, to)
+        .and(rounds_line(n, to))
+        .and(done_line(config.is_done(), to))
+        .and(passed_lines(program.channels(), config.histories(), to))
 }
