@@ -1,0 +1,3 @@
+pub mod ScriptChannels
+pub mod Tested
+pub mod WorkedSelection

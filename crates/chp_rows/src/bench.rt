@@ -1,7 +1,8 @@
-//! What a case sets out: files, and devices with their planned faults.
+//! What a case sets out: files, and devices with their planned faults; below the commands a net, a script and rules.
 
 use case_text::{bytes_of, numbers_of};
 use chp_edge::{MemShelf, MemSink};
+use prs_core::Rules;
 use std::alloc::{AllocError, Global};
 
 /// A sink to be made: what it takes in a call, what it has room for, and the numbers of the calls that fail.
@@ -43,6 +44,24 @@ impl Plan {
     }
 }
 
+/// The text of a rule file, the text of a script, and the rules that cells have written.
+#[derive(Drop)]
+pub struct NetBench {
+    pub net: Vec<u8>,
+    pub script: Vec<u8>,
+    pub rules: Rules,
+}
+
+impl NetBench {
+    fn new(alloc: Global) -> Result<NetBench, AllocError> {
+        Ok(NetBench {
+            net: Vec::new(alloc),
+            script: Vec::new(alloc),
+            rules: Rules::new(alloc, 0)?,
+        })
+    }
+}
+
 /// What a case has set out so far.
 #[derive(Drop)]
 pub struct Bench {
@@ -50,16 +69,19 @@ pub struct Bench {
     failing: Vec<u64>,
     pub out: Plan,
     pub say: Plan,
+    pub below: NetBench,
 }
 
 impl Bench {
-    pub fn new(alloc: Global) -> Bench {
-        Bench {
+    pub fn new(alloc: Global) -> Result<Bench, AllocError> {
+        let below = NetBench::new(alloc)?;
+        Ok(Bench {
             files: Vec::new(alloc),
             failing: Vec::new(alloc),
             out: Plan::wide(alloc),
             say: Plan::wide(alloc),
-        }
+            below,
+        })
     }
 
     /// Adds a file of this name after the others, with the text that may follow the name. True: any line can begin one.
@@ -86,6 +108,18 @@ impl Bench {
         }
     }
 
+    /// The last file is the rule file of what is below the commands.
+    pub fn take_net(&mut self, alloc: Global) -> Result<bool, AllocError> {
+        self.below.net = Vec::from_slice(alloc, self.last())?;
+        Ok(true)
+    }
+
+    /// The last file is the script there.
+    pub fn take_script(&mut self, alloc: Global) -> Result<bool, AllocError> {
+        self.below.script = Vec::from_slice(alloc, self.last())?;
+        Ok(true)
+    }
+
     /// The calls of the shelf that fail, and whether these words are numbers.
     pub fn fail(&mut self, alloc: Global, line: &str) -> Result<bool, AllocError> {
         match numbers_of(alloc, line)? {
@@ -102,17 +136,11 @@ impl Bench {
         self.failing = failing;
     }
 
-    /// A shelf of the files, the last one cut to at most this many bytes.
-    pub fn shelf(&self, alloc: Global, bytes: usize) -> Result<MemShelf, AllocError> {
+    /// A shelf of the files.
+    pub fn shelf(&self, alloc: Global) -> Result<MemShelf, AllocError> {
         let mut files = Vec::new(alloc);
-        for (place, file) in self.files.iter().enumerate() {
-            let is_last = place + 1 == self.files.len();
-            let kept = if is_last {
-                bytes.min(file.1.len())
-            } else {
-                file.1.len()
-            };
-            let text = Vec::from_slice(alloc, &file.1[..kept])?;
+        for file in &self.files {
+            let text = Vec::from_slice(alloc, &file.1)?;
             files.push((file.0.clone()?, text))?;
         }
         Ok(MemShelf::new(files, self.failing.clone()?))

@@ -41,7 +41,7 @@ fn play(
 ) -> Result<(Status, u32), AllocError> {
     let mut players = players;
     let words = words_of(alloc, line)?;
-    let mut shelf = bench.shelf(alloc, usize::MAX)?;
+    let mut shelf = bench.shelf(alloc)?;
     let mut out = bench.out.sink(alloc)?;
     let mut say = bench.say.sink(alloc)?;
     drops.set(0);

@@ -40,7 +40,7 @@ pub fn read(
     names: &str,
     page: &mut String,
 ) -> Result<(), AllocError> {
-    let mut shelf = bench.shelf(alloc, usize::MAX)?;
+    let mut shelf = bench.shelf(alloc)?;
     for name in names.split_whitespace() {
         put_read(alloc, &mut shelf, name, limit, page)?;
     }

@@ -4,6 +4,7 @@ ghost use Rattle.std.specs.Prelude.{◌≡◌, ◌-◌, ◌%◌, ◌^◌, ◌<�
 ghost use Rattle.chp_rows.specs.Moods.{mood_due, mood_name, mood_willing};
 
 use peer_bench::{Note, Peer};
+use square_device::low_bits;
 use std::alloc::{AllocError, Global};
 use std::cell::Cell;
 use std::rc::Rc;
@@ -26,19 +27,6 @@ pub enum Mood {
 pub struct Moody {
     mood: Mood,
     log: Vec<Note>,
-}
-
-/// The lowest bits of a number, so many of them.
-fn low_bits(value: u64, width: u8) -> u64
-    requires { width ≤ 64 }
-    ensures value { result ≡ value % 2 ^ width }
-    ensures below { result < 2 ^ width }
-{
-    if width == 64 {
-        value
-    } else {
-        value % (1 << width)
-    }
 }
 
 /// The largest value of this width.

@@ -1,4 +1,5 @@
-//! A plain printer of programs, with brackets wherever a group is in a group.
+//! A plain printer of programs, with brackets wherever a group is in a group. Where memory runs out it goes on, and
+//! says so at the end: the prover goes through each place at which a function may be left early.
 
 use chp_syntax::{Decl, DeclKind, Expr, Ident, Op, Program, Stmt};
 use itoa::Buffer;
@@ -31,24 +32,22 @@ fn sign(op: Op) -> &'static str {
 
 /// A name, and what comes after it.
 fn put_name(out: &mut Vec<u8>, name: &Ident, end: &str) -> Result<(), AllocError> {
-    out.extend_from_slice(name.name.bytes())?;
-    put(out, end)
+    out.extend_from_slice(name.name.bytes()).and(put(out, end))
 }
 
-/// Places of a name, in brackets.
+/// Places of a name, in brackets: one, or from the first one down to the last one.
 fn put_places(
     out: &mut Vec<u8>,
     name: &Ident,
     first: u64,
     last: Option<u64>,
 ) -> Result<(), AllocError> {
-    put_name(out, name, "[")?;
-    put_number(out, first)?;
-    if let Some(last) = last {
-        put(out, ":")?;
-        put_number(out, last)?;
-    }
-    put(out, "]")
+    let begun = put_name(out, name, "[").and(put_number(out, first));
+    let gone_on = match last {
+        Some(last) => put(out, ":").and(put_number(out, last)),
+        None => Ok(()),
+    };
+    begun.and(gone_on).and(put(out, "]"))
 }
 
 fn put_expr(out: &mut Vec<u8>, e: &Expr, nested: bool) -> Result<(), AllocError> {
@@ -60,60 +59,46 @@ fn put_expr(out: &mut Vec<u8>, e: &Expr, nested: bool) -> Result<(), AllocError>
         Expr::Join { parts, .. } => {
             let mut before = b"{".as_slice();
             for part in parts {
-                out.extend_from_slice(before)?;
-                put_expr(out, part, false)?;
+                out.extend_from_slice(before)
+                    .and(put_expr(out, part, false))?;
                 before = b", ".as_slice();
             }
             put(out, "}")
         }
-        Expr::Not { inner, .. } => {
-            put(out, "~")?;
-            put_expr(out, inner, true)
-        }
+        Expr::Not { inner, .. } => put(out, "~").and(put_expr(out, inner, true)),
         Expr::Chain { first, rest, .. } => {
-            put(out, if nested { "(" } else { "" })?;
-            put_expr(out, first, true)?;
+            put(out, if nested { "(" } else { "" }).and(put_expr(out, first, true))?;
             for link in rest {
-                put(out, sign(link.op))?;
-                put_expr(out, &link.right, true)?;
+                put(out, sign(link.op)).and(put_expr(out, &link.right, true))?;
             }
             put(out, if nested { ")" } else { "" })
         }
     }
 }
 
+/// What an arm begins with, and its guard.
 fn put_arm(out: &mut Vec<u8>, before: &[u8], guard: &Expr) -> Result<(), AllocError> {
-    out.extend_from_slice(before)?;
-    put_expr(out, guard, false)?;
-    put(out, " -> ")
+    out.extend_from_slice(before)
+        .and(put_expr(out, guard, false))
+        .and(put(out, " -> "))
 }
 
 fn put_stmt(out: &mut Vec<u8>, s: &Stmt, nested: bool) -> Result<(), AllocError> {
     match s {
         Stmt::Skip { .. } => put(out, "skip"),
         Stmt::Assign { target, value } => {
-            put_name(out, target, " := ")?;
-            put_expr(out, value, false)
+            put_name(out, target, " := ").and(put_expr(out, value, false))
         }
-        Stmt::Send { chan, value } => {
-            put_name(out, chan, "!")?;
-            put_expr(out, value, false)
-        }
-        Stmt::Receive { chan, target } => {
-            put_name(out, chan, "?")?;
-            put_name(out, target, "")
-        }
-        Stmt::Call { of } => {
-            put(out, "call ")?;
-            put_name(out, of, "")
-        }
+        Stmt::Send { chan, value } => put_name(out, chan, "!").and(put_expr(out, value, false)),
+        Stmt::Receive { chan, target } => put_name(out, chan, "?").and(put_name(out, target, "")),
+        Stmt::Call { of } => put(out, "call ").and(put_name(out, of, "")),
         Stmt::Then { parts } | Stmt::Beside { parts } => {
             let is_sequence = matches!(s, Stmt::Then { .. });
             let between = if is_sequence { "; " } else { " || " };
             let mut before = if nested { "(" } else { "" }.as_bytes();
             for part in parts {
-                out.extend_from_slice(before)?;
-                put_stmt(out, part, true)?;
+                out.extend_from_slice(before)
+                    .and(put_stmt(out, part, true))?;
                 before = between.as_bytes();
             }
             put(out, if nested { ")" } else { "" })
@@ -121,16 +106,15 @@ fn put_stmt(out: &mut Vec<u8>, s: &Stmt, nested: bool) -> Result<(), AllocError>
         Stmt::Select { again, arms } => {
             let mut before = if *again { "*[" } else { "[" }.as_bytes();
             for arm in arms {
-                put_arm(out, before, &arm.guard)?;
-                put_stmt(out, &arm.body, false)?;
+                put_arm(out, before, &arm.guard).and(put_stmt(out, &arm.body, false))?;
                 before = b" [] ".as_slice();
             }
             put(out, "]")
         }
         Stmt::Repeat { body } => {
-            put(out, "*[")?;
-            put_stmt(out, body, false)?;
-            put(out, "]")
+            put(out, "*[")
+                .and(put_stmt(out, body, false))
+                .and(put(out, "]"))
         }
     }
 }
@@ -142,14 +126,15 @@ fn put_declaration(out: &mut Vec<u8>, decl: &Decl) -> Result<(), AllocError> {
         DeclKind::Chan => "chan ",
         DeclKind::Var => "var ",
     };
-    put(out, kind)?;
-    put_name(out, &decl.name, " : ")?;
-    put_number(out, decl.width)?;
-    if decl.first_at != decl.width_at {
-        put(out, " = ")?;
-        put_number(out, decl.first)?;
-    }
-    put(out, "; ")
+    let begun = put(out, kind)
+        .and(put_name(out, &decl.name, " : "))
+        .and(put_number(out, decl.width));
+    let gone_on = if decl.first_at != decl.width_at {
+        put(out, " = ").and(put_number(out, decl.first))
+    } else {
+        Ok(())
+    };
+    begun.and(gone_on).and(put(out, "; "))
 }
 
 /// Prints the program, with its procedures after its other declarations.
@@ -158,12 +143,12 @@ pub fn put_program(out: &mut Vec<u8>, program: &Program) -> Result<(), AllocErro
         put_declaration(out, decl)?;
     }
     for procedure in &program.procs {
-        put(out, "proc ")?;
-        put_name(out, &procedure.name, " = ")?;
-        put_stmt(out, &procedure.body, true)?;
-        put(out, "; ")?;
+        put(out, "proc ")
+            .and(put_name(out, &procedure.name, " = "))
+            .and(put_stmt(out, &procedure.body, true))
+            .and(put(out, "; "))?;
     }
-    put(out, "begin ")?;
-    put_stmt(out, &program.body, false)?;
-    put(out, " end")
+    put(out, "begin ")
+        .and(put_stmt(out, &program.body, false))
+        .and(put(out, " end"))
 }

@@ -1,5 +1,6 @@
 //! What a text is read as.
 
+ghost use Rattle.std.specs.Prelude.{◌≤◌, length, IfOk};
 ghost use Rattle.chp_syntax.specs.Shape.{IsShaped};
 ghost use Rattle.chp_syntax.specs.View.{program_tree};
 
@@ -15,6 +16,14 @@ use width_check::{Typed, is_call_free, resolve};
 /// The most bytes of a program text.
 const MOST: usize = 262_144;
 
+/// The program that the text is. Functions that own one drop it by one call, since it is in a box.
+fn parsed(alloc: Global, text: &[u8]) -> Result<Box<Program>, TextError>
+    requires { length text.now ≤ 262144 }
+    ensures { IfOk result (λ program. IsShaped (program_tree program.value)) }
+{
+    Ok(Box::new(alloc, parse(alloc, text)?)?)
+}
+
 /// The program with its names resolved, where it has neither procedures nor calls.
 fn resolved(alloc: Global, program: &Program) -> Option<Typed>
     requires { IsShaped (program_tree program.now) }
@@ -25,15 +34,21 @@ fn resolved(alloc: Global, program: &Program) -> Option<Typed>
     resolve(alloc, program).ok()
 }
 
+/// The program that the text is, with its names resolved.
+fn typed_of(alloc: Global, text: &[u8]) -> Option<Typed>
+    requires { length text.now ≤ 262144 }
+{
+    let program = parsed(alloc, text).ok()?;
+    resolved(alloc, &program)
+}
+
 /// The accepted program that the text is. `None` where the text is too long or refused, has procedures or calls, or
 /// memory runs out.
 pub fn accepted(alloc: Global, text: &[u8]) -> Option<Disjoint> {
     if text.len() > MOST {
         return None;
     }
-    let program = parse(alloc, text).ok()?;
-    let typed = resolved(alloc, &program)?;
-    share(alloc, typed).ok()
+    share(alloc, typed_of(alloc, text)?).ok()
 }
 
 fn put_refusal(page: &mut String, error: &TextError) -> Result<(), AllocError> {
@@ -46,28 +61,28 @@ fn put_refusal(page: &mut String, error: &TextError) -> Result<(), AllocError> {
     }
 }
 
-fn put_tree(alloc: Global, page: &mut String, program: &Program) -> Result<Vec<u8>, AllocError> {
+fn put_tree(
+    alloc: Global,
+    page: &mut String,
+    program: &Program,
+) -> Result<Option<Vec<u8>>, AllocError> {
     let mut printed = Vec::new(alloc);
     put_program(&mut printed, program)?;
     page.push_str("= ")?;
     put_bytes(page, &printed)?;
     page.push('\n')?;
-    Ok(printed)
+    Ok(Some(printed))
 }
 
 /// The program that the text is, printed with brackets round each group in a group; `None` where it is refused, and
 /// then the number of the cause and the place are put.
 fn put_text(alloc: Global, text: &[u8], page: &mut String) -> Result<Option<Vec<u8>>, AllocError> {
     if text.len() > MOST {
-        page.push_str("too long\n")?;
-        return Ok(None);
+        return page.push_str("too long\n").and(Ok(None));
     }
-    match parse(alloc, text) {
-        Ok(program) => Ok(Some(put_tree(alloc, page, &program)?)),
-        Err(error) => {
-            put_refusal(page, &error)?;
-            Ok(None)
-        }
+    match parsed(alloc, text) {
+        Ok(program) => put_tree(alloc, page, &program),
+        Err(error) => put_refusal(page, &error).and(Ok(None)),
     }
 }
 

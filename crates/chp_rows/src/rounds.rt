@@ -29,10 +29,10 @@ fn put_end(
     };
     writeln!(page, "{word}, done {}", u8::from(config.is_done()))?;
     for (channel, history) in program.channels().iter().zip(config.histories()) {
-        put_bytes(page, channel.name.bytes())?;
-        page.push(':')?;
-        put_numbers(page, history)?;
-        page.push('\n')?;
+        put_bytes(page, channel.name.bytes())
+            .and(page.push(':'))
+            .and(put_numbers(page, history))
+            .and(page.push('\n'))?;
     }
     Ok(())
 }

@@ -10,6 +10,7 @@ use chp_cli::{Players, Status, chp_main};
 use chp_edge::{MemSink, Shelf, SureShelf};
 use event_sim::{Lowest, Newest, Oldest, Picker, Random};
 use peer_bench::{Echo, Peer, Ramp};
+use square_device::Square;
 use std::alloc::{AllocError, Global};
 use std::fmt::Write;
 
@@ -77,6 +78,7 @@ fn play_with<S: Shelf>(
     let mut peers: Vec<Box<dyn Peer>> = Vec::new(alloc);
     peers.push(Box::new(alloc, Ramp::new(alloc))?)?;
     peers.push(Box::new(alloc, Echo::new(alloc))?)?;
+    peers.push(Box::new(alloc, Square::new(alloc))?)?;
     for mood in [Mood::Mute, Mood::Deaf, Mood::Greedy, Mood::Fickle] {
         peers.push(Box::new(alloc, Moody::new(alloc, mood))?)?;
     }
@@ -102,9 +104,9 @@ fn command<S: Shelf>(
     play_with(alloc, bench, line, shelf, orders)
 }
 
-/// What the command leaves over the files of the case, the last one cut to at most so many bytes.
-fn over_files(alloc: Global, bench: &Bench, line: &str, bytes: usize) -> Result<Ran, AllocError> {
-    let mut shelf = bench.shelf(alloc, bytes)?;
+/// What the command leaves over the files of the case.
+fn over_files(alloc: Global, bench: &Bench, line: &str) -> Result<Ran, AllocError> {
+    let mut shelf = bench.shelf(alloc)?;
     command(alloc, bench, line, &mut shelf)
 }
 
@@ -119,14 +121,14 @@ fn put_end(page: &mut String, ran: &Ran) -> Result<(), AllocError> {
 }
 
 fn put_all(page: &mut String, line: &str, ran: &Ran) -> Result<(), AllocError> {
-    writeln!(page, "> {line}")?;
-    put_end(page, ran)?;
-    put_lines(page, ran.out.written())
+    writeln!(page, "> {line}")
+        .and(put_end(page, ran))
+        .and(put_lines(page, ran.out.written()))
 }
 
 /// Runs the words over the files of the case.
 pub fn run(alloc: Global, bench: &Bench, line: &str, page: &mut String) -> Result<(), AllocError> {
-    put_all(page, line, &over_files(alloc, bench, line, usize::MAX)?)
+    put_all(page, line, &over_files(alloc, bench, line)?)
 }
 
 /// How many of the written lines begin with the prefix.
@@ -146,9 +148,29 @@ pub fn run_count(
     page: &mut String,
 ) -> Result<(), AllocError> {
     writeln!(page, "> {line}")?;
-    let ran = over_files(alloc, bench, line, usize::MAX)?;
+    let ran = over_files(alloc, bench, line)?;
     put_end(page, &ran)?;
     put_count(alloc, page, front, &ran)
+}
+
+/// The written lines with a colon, which say what has passed on each channel.
+fn put_passed(page: &mut String, ran: &Ran) -> Result<(), AllocError> {
+    for line in ran.out.written().split(|byte| *byte == b'\n') {
+        if line.contains(&b':') {
+            put_bytes(page, line).and(page.push('\n'))?;
+        }
+    }
+    Ok(())
+}
+
+/// Runs the words, and prints of what is written the lines with a colon.
+pub fn run_passed(
+    alloc: Global,
+    bench: &Bench,
+    line: &str,
+    page: &mut String,
+) -> Result<(), AllocError> {
+    put_passed(page, &over_files(alloc, bench, line)?)
 }
 
 /// Runs the words over a shelf that has the last file under every name, and never fails.
@@ -162,31 +184,6 @@ pub fn run_surely(
     put_all(page, line, &command(alloc, bench, line, &mut shelf)?)
 }
 
-/// How the command ended with so many bytes of the last file, and what was written if it didn't end well.
-fn put_cut(page: &mut String, bytes: usize, ran: &Ran) -> Result<(), AllocError> {
-    write!(page, "{bytes}: ")?;
-    put_end(page, ran)?;
-    if ran.status != Status::Done {
-        put_lines(page, ran.out.written())?;
-    }
-    Ok(())
-}
-
-/// Runs the words for each length of the last file that is shorter than it: one line each, with the length, the status
-/// and what was said. What was written is printed only where the command didn't end well.
-pub fn run_cuts(
-    alloc: Global,
-    bench: &Bench,
-    line: &str,
-    page: &mut String,
-) -> Result<(), AllocError> {
-    writeln!(page, "> {line}")?;
-    for bytes in 0..bench.last().len() {
-        put_cut(page, bytes, &over_files(alloc, bench, line, bytes)?)?;
-    }
-    Ok(())
-}
-
 /// Runs the words, and what they write becomes a file after the others. Nothing is printed where all was written.
 pub fn keep(
     alloc: Global,
@@ -195,7 +192,7 @@ pub fn keep(
     line: &str,
     page: &mut String,
 ) -> Result<(), AllocError> {
-    let ran = over_files(alloc, bench, line, usize::MAX)?;
+    let ran = over_files(alloc, bench, line)?;
     if ran.status != Status::Done {
         put_all(page, line, &ran)?;
     }
@@ -229,7 +226,7 @@ pub fn run_orders(
     let mut earlier: Vec<Ran> = Vec::new(alloc);
     for order in ["lowest", "oldest", "newest", "random"] {
         let words = format!(in alloc; "{line} --order {order} --seed 7")?;
-        let ran = over_files(alloc, bench, &words, usize::MAX)?;
+        let ran = over_files(alloc, bench, &words)?;
         match earlier.first() {
             None => put_all(page, &words, &ran)?,
             Some(first) => put_order(page, order, &ran, first, &earlier)?,
@@ -241,11 +238,11 @@ pub fn run_orders(
 
 /// How a run ended under a planned fault, and what was written, on one line.
 fn put_fault(page: &mut String, call: u64, ran: &Ran) -> Result<(), AllocError> {
-    write!(page, "{call}: {} ", ran.status.number())?;
-    put_bytes(page, ran.say.written())?;
-    page.push(' ')?;
-    put_bytes(page, ran.out.written())?;
-    page.push('\n')
+    write!(page, "{call}: {} ", ran.status.number())
+        .and(put_bytes(page, ran.say.written()))
+        .and(page.push(' '))
+        .and(put_bytes(page, ran.out.written()))
+        .and(page.push('\n'))
 }
 
 /// Runs the words under the planned fault of this call, and says whether they ended well.
@@ -256,7 +253,7 @@ fn ends_well(
     call: u64,
     page: &mut String,
 ) -> Result<bool, AllocError> {
-    let ran = over_files(alloc, bench, line, usize::MAX)?;
+    let ran = over_files(alloc, bench, line)?;
     put_fault(page, call, &ran)?;
     Ok(ran.status == Status::Done)
 }

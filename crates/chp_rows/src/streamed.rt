@@ -16,8 +16,7 @@ const SIZES: [usize; 3] = [1, 7, 65_536];
 const MOST_PIECES: usize = 1 << 24;
 
 /// All that is left of the streamer's file, in pieces of this size.
-fn pieces(alloc: Global, streamer: Streamer, size: usize) -> Result<Vec<u8>, AllocError> {
-    let mut left = streamer;
+fn pieces(alloc: Global, left: &mut Streamer, size: usize) -> Result<Vec<u8>, AllocError> {
     let mut piece = vec![in alloc; 0_u8; size]?;
     let mut text = Vec::new(alloc);
     for _ in 0..MOST_PIECES {
@@ -28,11 +27,7 @@ fn pieces(alloc: Global, streamer: Streamer, size: usize) -> Result<Vec<u8>, All
         if count == 0 {
             break;
         }
-        for (place, byte) in piece.iter().enumerate() {
-            if place < count {
-                text.push(*byte)?;
-            }
-        }
+        text.extend_from_slice(piece.get(..count).unwrap_or(&[]))?;
     }
     Ok(text)
 }
@@ -64,7 +59,7 @@ fn streamed(
         Streamer::new(alloc, program)
     };
     match made {
-        Ok(streamer) => Ok(Some(pieces(alloc, streamer, size)?)),
+        Ok(mut streamer) => Ok(Some(pieces(alloc, &mut streamer, size)?)),
         Err(NetError::TooManyNodes(_)) => Ok(None),
         Err(NetError::NoMemory(error)) => Err(error),
     }
@@ -97,11 +92,16 @@ fn compare(
     Ok(())
 }
 
+/// The same without a reset node, and then with one.
+fn compare_both(alloc: Global, program: &Disjoint, page: &mut String) -> Result<(), AllocError> {
+    compare(alloc, program, false, page)?;
+    compare(alloc, program, true, page)
+}
+
 /// The rule files of the program that the text is, without a reset node and with one, as they come in pieces.
 pub fn stream(alloc: Global, text: &[u8], page: &mut String) -> Result<(), AllocError> {
-    let Some(program) = accepted(alloc, text) else {
-        return page.push_str("no program\n");
-    };
-    compare(alloc, &program, false, page)?;
-    compare(alloc, &program, true, page)
+    match accepted(alloc, text) {
+        Some(program) => compare_both(alloc, &program, page),
+        None => page.push_str("no program\n"),
+    }
 }

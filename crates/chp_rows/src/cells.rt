@@ -1,0 +1,319 @@
+//! The calls of the cells, at the nodes of worked programs.
+
+ghost use Rattle.std.specs.Prelude.{◌≡◌, ◌≢◌, ◌<◌, ◌==◌, not, nat_lt, All, IsTrue, IfOk};
+ghost use Rattle.std.specs.List.{list_all};
+ghost use Rattle.cell_select.specs.PortNodes.{IsSelect, IsAgain};
+
+use cell_channel::{emit_end, emit_receive_port};
+use cell_parallel::emit_tree;
+use cell_select::{AgainPorts, SelectPorts, emit_again, emit_select};
+use cell_sequence::{QPorts, emit_loop, emit_q, emit_skip};
+use cell_variable::{emit_or, emit_variable, emit_write_site};
+use prs_core::{Guard, Rules, Term};
+use std::alloc::{AllocError, Global};
+use std::fmt::Write;
+
+fn pass_below(nodes: &[u32], count: u32) -> bool
+    ensures { result ≡ list_all (λ node. nat_lt node count) nodes.now }
+{
+    nodes.iter().all(|node| *node < count)
+}
+
+/// Whether all of these are below the count.
+#[tactic(auto, using(crate::proofs::Tested::below))]
+fn are_below(nodes: &[u32], count: u32) -> bool
+    ensures { IsTrue result → All (λ node. node < count) nodes.now }
+{
+    pass_below(nodes, count)
+}
+
+fn pass_other(nodes: &[u32], node: u32) -> bool
+    ensures { result ≡ list_all (λ other. not (other == node)) nodes.now }
+{
+    nodes.iter().all(|other| *other != node)
+}
+
+/// Whether none of these is the node.
+#[tactic(auto, using(crate::proofs::Tested::apart))]
+fn are_other(nodes: &[u32], node: u32) -> bool
+    ensures { IsTrue result → All (λ other. other ≢ node) nodes.now }
+{
+    pass_other(nodes, node)
+}
+
+/// The end of a channel: its request, the acknowledge, and its answer.
+fn end(alloc: Global, rules: &mut Rules, nodes: &[u32]) -> Result<bool, AllocError> {
+    let count = rules.nodes();
+    match nodes {
+        [request, ack, answer]
+            if *request < count
+                && *ack < count
+                && *answer < count
+                && request != answer
+                && ack != answer => {
+            emit_end(alloc, *request, *ack, *answer, rules)?;
+            Ok(true)
+        }
+        _ => Ok(false),
+    }
+}
+
+/// The port of a receive: its request, its first node, and the rails that it takes.
+fn port(alloc: Global, rules: &mut Rules, nodes: &[u32]) -> Result<bool, AllocError> {
+    let count = rules.nodes();
+    let [request, from, rails @ ..] = nodes else {
+        return Ok(false);
+    };
+    if *request >= count || !are_below(rails, count) {
+        return Ok(false);
+    }
+    if rails.len() > count as usize || *from as usize + rails.len() > count as usize {
+        return Ok(false);
+    }
+    emit_receive_port(alloc, *request, rails, *from, rules)?;
+    Ok(true)
+}
+
+/// A completion tree: its first node, and the leaves.
+fn tree(alloc: Global, rules: &mut Rules, nodes: &[u32]) -> Result<bool, AllocError> {
+    let count = rules.nodes();
+    let [from, leaves @ ..] = nodes else {
+        return Ok(false);
+    };
+    if leaves.is_empty() || !are_below(leaves, count) || leaves.len() > count as usize {
+        return Ok(false);
+    }
+    if *from as usize + leaves.len() > count as usize + 1 {
+        return Ok(false);
+    }
+    emit_tree(alloc, leaves, *from, rules)?;
+    Ok(true)
+}
+
+/// A Q-element: its request, its child's request and answer, its latch, and the next request.
+fn q(alloc: Global, rules: &mut Rules, nodes: &[u32]) -> Result<bool, AllocError> {
+    let count = rules.nodes();
+    match nodes {
+        [request, child_request, child_answer, latch, next]
+            if *request < count
+                && *child_request < count
+                && *child_answer < count
+                && *latch < count
+                && *next < count
+                && child_request != request
+                && child_request != child_answer
+                && child_request != latch
+                && child_request != next
+                && latch != request
+                && latch != child_answer
+                && latch != next
+                && next != request
+                && next != child_answer => {
+            let ports = QPorts {
+                request: *request,
+                child_request: *child_request,
+                child_answer: *child_answer,
+                latch: *latch,
+                next: *next,
+            };
+            emit_q(alloc, &ports, rules)?;
+            Ok(true)
+        }
+        _ => Ok(false),
+    }
+}
+
+/// A skip: its request and its answer.
+fn skip(alloc: Global, rules: &mut Rules, nodes: &[u32]) -> Result<bool, AllocError> {
+    let count = rules.nodes();
+    match nodes {
+        [request, answer] if *request < count && *answer < count && request != answer => {
+            emit_skip(alloc, *request, *answer, rules)?;
+            Ok(true)
+        }
+        _ => Ok(false),
+    }
+}
+
+/// A loop: its request, and its body's request and answer.
+fn repeat(alloc: Global, rules: &mut Rules, nodes: &[u32]) -> Result<bool, AllocError> {
+    let count = rules.nodes();
+    match nodes {
+        [request, body_request, body_answer]
+            if *request < count
+                && *body_request < count
+                && *body_answer < count
+                && request != body_request
+                && body_answer != body_request => {
+            emit_loop(alloc, *request, *body_request, *body_answer, rules)?;
+            Ok(true)
+        }
+        _ => Ok(false),
+    }
+}
+
+/// A merge: its node, and its inputs.
+fn merge(alloc: Global, rules: &mut Rules, nodes: &[u32]) -> Result<bool, AllocError> {
+    let count = rules.nodes();
+    let [node, inputs @ ..] = nodes else {
+        return Ok(false);
+    };
+    if *node >= count || !are_below(inputs, count) || !are_other(inputs, *node) {
+        return Ok(false);
+    }
+    emit_or(alloc, inputs, *node, rules)?;
+    Ok(true)
+}
+
+/// A variable: its first node, and its width.
+fn variable(alloc: Global, rules: &mut Rules, nodes: &[u32]) -> Result<bool, AllocError> {
+    let count = rules.nodes();
+    let [from, width] = nodes else {
+        return Ok(false);
+    };
+    let Ok(width) = u8::try_from(*width) else {
+        return Ok(false);
+    };
+    if width < 1 || width > 64 || *from > count {
+        return Ok(false);
+    }
+    if u64::from(*from) + 6 * u64::from(width) > u64::from(count) + 1 {
+        return Ok(false);
+    }
+    emit_variable(alloc, *from, width, rules)?;
+    Ok(true)
+}
+
+/// A write: its request, the node that says that all bits are written, and its answer.
+fn write_site(alloc: Global, rules: &mut Rules, nodes: &[u32]) -> Result<bool, AllocError> {
+    let count = rules.nodes();
+    match nodes {
+        [request, all_written, answer]
+            if *request < count
+                && *all_written < count
+                && *answer < count
+                && request != answer
+                && all_written != answer => {
+            emit_write_site(alloc, *request, *all_written, *answer, rules)?;
+            Ok(true)
+        }
+        _ => Ok(false),
+    }
+}
+
+/// The selection of `out A : 1; out B : 1; var x : 2; begin [x = 0 -> A!1 [] x < 2 -> B!1] end`.
+fn selection(alloc: Global) -> Result<SelectPorts, AllocError>
+    ensures { IfOk result (λ p. IsSelect 60 p) }
+{
+    Ok(SelectPorts {
+        request: 19,
+        answer: 21,
+        eval: 22,
+        any: 23,
+        latches: Vec::from_slice(alloc, &[24, 25])?,
+        starts: Vec::from_slice(alloc, &[26, 27])?,
+        answers: Vec::from_slice(alloc, &[54, 57])?,
+        guard_rails: Vec::from_slice(alloc, &[40, 41, 52, 53])?,
+    })
+}
+
+/// The guarded repetition of `var x : 1 = 1; begin *[x = 0 -> skip] end`.
+fn repetition(alloc: Global) -> Result<AgainPorts, AllocError>
+    ensures { IfOk result (λ p. IsAgain 24 p) }
+{
+    Ok(AgainPorts {
+        request: 7,
+        answer: 9,
+        loop_request: 10,
+        joined: 11,
+        eval: 12,
+        any: 13,
+        leave: 14,
+        latches: Vec::from_slice(alloc, &[15])?,
+        starts: Vec::from_slice(alloc, &[16])?,
+        answers: Vec::from_slice(alloc, &[23])?,
+        guard_rails: Vec::from_slice(alloc, &[21, 22])?,
+    })
+}
+
+/// The rules of the selection alone.
+pub fn put_select(alloc: Global, page: &mut String) -> Result<(), AllocError> {
+    let ports = selection(alloc)?;
+    let mut rules = Rules::new(alloc, 60)?;
+    emit_select(alloc, &ports, &mut rules)?;
+    put_rules(page, &rules)
+}
+
+/// The rules of the guarded repetition alone.
+pub fn put_again(alloc: Global, page: &mut String) -> Result<(), AllocError> {
+    let ports = repetition(alloc)?;
+    let mut rules = Rules::new(alloc, 24)?;
+    emit_again(alloc, &ports, &mut rules)?;
+    put_rules(page, &rules)
+}
+
+/// Lets the named cell write its rules at these nodes. It says whether there is such a cell, and whether the nodes are
+/// some that it may be given.
+pub fn emit(
+    alloc: Global,
+    rules: &mut Rules,
+    cell: &str,
+    nodes: &[u32],
+) -> Result<bool, AllocError> {
+    match cell {
+        "end" => end(alloc, rules, nodes),
+        "port" => port(alloc, rules, nodes),
+        "tree" => tree(alloc, rules, nodes),
+        "q" => q(alloc, rules, nodes),
+        "skip" => skip(alloc, rules, nodes),
+        "loop" => repeat(alloc, rules, nodes),
+        "or" => merge(alloc, rules, nodes),
+        "variable" => variable(alloc, rules, nodes),
+        "write-site" => write_site(alloc, rules, nodes),
+        _ => Ok(false),
+    }
+}
+
+/// The literals of a term, as `1 & ~2`.
+fn put_term(page: &mut String, term: &Term) -> Result<(), AllocError> {
+    for (at, literal) in term.literals().iter().enumerate() {
+        page.push_str(match (at > 0, literal.high) {
+            (false, true) => "",
+            (false, false) => "~",
+            (true, true) => " & ",
+            (true, false) => " & ~",
+        })?;
+        write!(page, "{}", literal.node)?;
+    }
+    Ok(())
+}
+
+/// The guard with its literals, as ` 1 & ~2 | 3`.
+fn put_guard(page: &mut String, guard: &Guard) -> Result<(), AllocError> {
+    for (place, term) in guard.terms().iter().enumerate() {
+        page.push_str(if place > 0 { " | " } else { " " })?;
+        put_term(page, term)?;
+    }
+    Ok(())
+}
+
+/// The guards of a node: where it rises, and where it falls.
+pub fn put_guards(page: &mut String, up: &Guard, down: &Guard) -> Result<(), AllocError> {
+    page.push_str(" up")?;
+    put_guard(page, up)?;
+    page.push_str(" down")?;
+    put_guard(page, down)?;
+    page.push('\n')
+}
+
+/// The guards of each node that has any.
+pub fn put_rules(page: &mut String, rules: &Rules) -> Result<(), AllocError> {
+    for node in 0..rules.nodes() {
+        let (up, down) = (rules.up(node), rules.down(node));
+        if !up.terms().is_empty() || !down.terms().is_empty() {
+            write!(page, "{node}")?;
+            put_guards(page, up, down)?;
+        }
+    }
+    Ok(())
+}
