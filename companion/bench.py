@@ -5,10 +5,11 @@ from __future__ import annotations
 from collections.abc import Sequence
 
 from companion import options
-from companion.drive import MOST_MOVES, Drive, device_words, drive_of
+from companion.drive import Drive, device_words, drive_of
 from companion.options import Parser, natural
 from companion.program import Refusal
 from companion.terminal import Progress
+from companion.until import MOST_MOVES
 from companion.waves import read_report
 
 ABOUT = f"""\

@@ -13,6 +13,8 @@ from dataclasses import dataclass, field
 from companion.program import TOP
 
 LANGUAGE, FORMATS, COMMANDS = "docs/LANGUAGE.md", "docs/FORMATS.md", "docs/COMMANDS.md"
+# what is said in place of these sentences where only the companion was copied somewhere
+NO_PAGES = "(more is told where the folder docs lies beside companion, which it doesn't here)"
 
 
 @dataclass(frozen=True)

@@ -104,9 +104,19 @@ def read_program(data: bytes) -> Program:
     return program_of(Statements(tokens_of(data)))
 
 
-def program_of(reader: Statements) -> Program:
-    """The program that the reader's tokens are."""
-    decls, procs = [], {}
+def declarations(data: bytes) -> list[Decl]:
+    """The declarations of channels and variables, up to where this reading can't follow the text."""
+    found: list[Decl] = []
+    try:
+        heads(Statements(tokens_of(data)), found)
+    except Unread:
+        pass
+    return found
+
+
+def heads(reader: Statements, decls: list[Decl]) -> dict[str, Stmt]:
+    """Reads what comes up to `begin`: adds the declarations to those given, and tells the procedures' bodies."""
+    procs: dict[str, Stmt] = {}
     while not reader.has("begin"):
         kind = reader.take("in", "out", "chan", "var", "proc").kind
         name = reader.take("name")
@@ -120,6 +130,13 @@ def program_of(reader: Statements) -> Program:
                 reader.take("number")
             decls.append(Decl(kind, name.text, width, name.start, name.end))
         reader.take(";")
+    return procs
+
+
+def program_of(reader: Statements) -> Program:
+    """The program that the reader's tokens are."""
+    decls: list[Decl] = []
+    procs = heads(reader, decls)
     body = reader.parallel()
     reader.take("end")
     reader.take("eof")

@@ -1,42 +1,14 @@
-"""The forms of the program's commands, as the table in docs/COMMANDS.md has them, and what each of some words is in
-them."""
+"""What each of some words is in the forms of the program's commands."""
 
 from __future__ import annotations
 
-import functools
 import os
 import re
 from collections.abc import Sequence
 from dataclasses import dataclass, field
 
-from companion.causes import COMMANDS, tables
+from companion.forms import OPTION_ROLES, RANGES, VALUES, Form, forms, forms_of, role_of
 from companion.own import OWN
-
-PROGRAM, RULES, SCRIPT, DELAYS, WAVE = "program", "rule file", "script", "delay file", "wave file"
-# what a file is for, by the word that stands for it in a form, or by the command and that word
-ROLES = {"PRS": RULES, "SCRIPT": SCRIPT, "migrate FILE": RULES, "unwave FILE": WAVE, "FILE": PROGRAM}
-OPTION_ROLES = {"--delays": DELAYS, "--against": PROGRAM}
-# the least and the greatest number that may stand for a word
-RANGES = {
-    "--steps": (0, 1_000_000),
-    "--rounds": (0, 1_000_000),
-    "--seed": (0, 2**64 - 1),
-    "SEED": (0, 2**64 - 1),
-    "STAGES": (1, 400),
-}
-
-
-@dataclass(frozen=True)
-class Form:
-    """One form of a command: the words that stand for files and numbers, and its options with the words for their
-    values, which are empty for those without one. `needed` are the options that it can't be without."""
-
-    command: str
-    text: str
-    about: str
-    places: tuple[str, ...]
-    options: dict[str, str]
-    needed: frozenset[str]
 
 
 @dataclass
@@ -54,40 +26,6 @@ class Taken:
         return [name for name, role, _ in self.files if role in roles]
 
 
-def form_of(text: str, about: str) -> Form:
-    """A form as the table writes it."""
-    bare = re.sub(r"\[([^\]]*)\]", r"?\1?", text)
-    options, needed, places = {}, set(), []
-    for part in re.findall(r"\?[^?]*\?|--\S+ [A-Zlow|high]+|\S+", bare)[1:]:
-        words = part.strip("?").split()
-        if words[0].startswith("--"):
-            options[words[0]] = words[1] if len(words) > 1 else ""
-            if not part.startswith("?"):
-                needed.add(words[0])
-        else:
-            places.append(words[0])
-    return Form(text.split()[0], text, about, tuple(places), options, frozenset(needed))
-
-
-@functools.cache
-def forms() -> list[Form]:
-    """All forms of all commands."""
-    for table in tables(COMMANDS):
-        if table.columns[0] == "Words":
-            return [form_of(row[0].strip("`"), row[1]) for row in table.rows]
-    return []
-
-
-def forms_of(command: str) -> list[Form]:
-    """Those of one command."""
-    return [form for form in forms() if form.command == command]
-
-
-def role_of(command: str, place: str) -> str:
-    """What stands at a place of a form: a role of a file, or the word itself where it is none."""
-    return ROLES.get(f"{command} {place}", ROLES.get(place, place))
-
-
 def number_fault(word: str, place: str) -> str:
     """Why a word isn't the number that is wanted, or nothing."""
     low, high = RANGES[place]
@@ -97,9 +35,11 @@ def number_fault(word: str, place: str) -> str:
 
 
 def take(words: Sequence[str]) -> Taken:
-    """Finds out what each word is."""
+    """Finds out what each word is; nothing where no forms are known."""
     taken = Taken(words[0] if words else "")
     known = forms_of(taken.command)
+    if not forms():
+        return taken
     if not known:
         names = ", ".join(dict.fromkeys([*(form.command for form in forms()), *OWN]))
         taken.faults.append(
@@ -166,8 +106,8 @@ def note_option(taken: Taken, name: str, value: str, at: int) -> None:
         taken.files.append((value, OPTION_ROLES[name], at))
     if name in RANGES and number_fault(value, name):
         taken.faults.append((at, number_fault(value, name)))
-    if name == "--power" and value not in ("low", "high"):
-        taken.faults.append((at, "low or high is wanted here"))
+    if name == "--power" and value not in VALUES[name]:
+        taken.faults.append((at, f"{' or '.join(VALUES[name])} is wanted here"))
 
 
 def note_places(taken: Taken, known: list[Form], plain: list[tuple[int, str]], end: int) -> None:

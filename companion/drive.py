@@ -17,10 +17,10 @@ from companion.options import Parser
 from companion.program import Answer, Refusal
 from companion.rules import Channel, net_in
 from companion.terminal import Progress
+from companion.until import MOST_MOVES
 from companion.waves import Report, read_report
 
 MOST_VALUES = 65_536  # of a script
-MOST_MOVES = 1_000_000
 ENOUGH = 3_000_000  # moves of all runs from the start, after which runs go on where the last one ended
 
 

@@ -3,47 +3,28 @@
 from __future__ import annotations
 
 from argparse import Namespace
-from collections.abc import Iterator, Sequence
-from dataclasses import dataclass, field
+from collections.abc import Sequence
+from dataclasses import dataclass
 
 from companion.as_json import put
 from companion.compiled import Compiled, compiled
+from companion.hazards import ENDED
 from companion.options import Parser, natural
-from companion.parts import Part
+from companion.passed import Event, events_of
 from companion.program import Refusal
 from companion.rules import Net, net_in
 from companion.stat import aligned
 from companion.terminal import Progress
-from companion.until import STEPS, add_until, cut_note, cut_off, steps_of
+from companion.until import MOST_MOVES, STEPS, add_until, cut_note, cut_off, steps_of
 from companion.untimed import Untimed
-from companion.waves import Wave, bits, wave_of
+from companion.waves import Report, wave_of
 
 ABOUT = """\
 What passed on all channels in a timed run, in the order of its moves and so of time: the number of the
 move by which a value passed, which raises the channel's acknowledge, the time, the channel and the
 value; and with --program the statements that sent and took it. The run is that of `chpc waves`, or,
-with --order, one of `chpc simulate`, which has no times."""
-
-
-@dataclass(frozen=True)
-class Event:
-    """A value that passed: the number of the move, the time of a timed run, the channel, its digits on the rails, the
-    highest first, and the statements at its ends, as places and texts."""
-
-    move: int
-    time: int | None
-    channel: str
-    digits: str
-    ends: list[str] = field(default_factory=list)
-
-    def number(self) -> int | None:
-        """The value; none where not each bit has one, as it may be in files that `compile` didn't write."""
-        return int(self.digits, 2) if set(self.digits) <= {"0", "1"} else None
-
-    def value(self, in_hex: bool) -> str:
-        """The value for people."""
-        number = self.number()
-        return self.digits if number is None else hex(number) if in_hex else str(number)
+with --order, one of `chpc simulate`, which has no times; its statements are those by which the same
+value of the channel passes in the timed run."""
 
 
 @dataclass(frozen=True)
@@ -55,24 +36,6 @@ class Listed:
     moves: int
     has_hazard: bool
     notes: list[str]
-
-
-def events_of(net: Net, wave: Wave, circuit: Compiled | None) -> Iterator[Event]:
-    """The values that passed, in order."""
-    values = dict(wave.first)
-    scene = circuit.scene(values) if circuit else None
-    acks = {f"{it.name}.a": it for it in net.channels}
-    for move, change in enumerate(wave.changes, 1):
-        values[change.node] = change.value
-        if change.value != "1" or change.node not in acks:
-            continue
-        channel = acks[change.node]
-        ends: list[Part] = []
-        if scene:
-            sites = [it for kind in ("send", "receive") for it in scene.sites.get((kind, channel.name), [])]
-            ends = [part for part in sites if scene.is_active(part)]
-        told = [scene.called_on(scene.path(part)) for part in ends] if scene else []
-        yield Event(move, change.time, channel.name, bits(values, channel.name, channel.width), told)
 
 
 def table(found: list[Event], in_hex: bool, with_ends: bool) -> list[str]:
@@ -109,19 +72,45 @@ def in_time(given: Namespace) -> Listed:
     net = circuit.net if circuit else net_in(given.rules)
     wave = wave_of(given.rules, given.script, given.delays, steps_of(given, net))
     notes = [*(circuit.notes if circuit else []), *cut_off(given, wave)]
-    return Listed(net, list(events_of(net, wave, circuit)), len(wave.changes), wave.status == 5, notes)
+    return Listed(net, list(events_of(wave, net.channels, circuit)), len(wave.changes), wave.status == 5, notes)
+
+
+def in_timed_run(given: Namespace, circuit: Compiled, report: Report) -> dict[tuple[str, int], Event]:
+    """The events of a timed run in which as much passes as in a reported one, by channel and place. In as many moves it
+    may be less on one channel and more on another."""
+    steps = max(report.moves, 1)
+    while True:
+        wave = wave_of(given.rules, given.script, None, steps)
+        found = {(it.channel, it.place): it for it in events_of(wave, circuit.net.channels, circuit)}
+        lacks = any((name, len(values) - 1) not in found for name, values in report.passed.items() if values)
+        if not lacks or len(wave.changes) < steps or steps == MOST_MOVES:
+            return found
+        steps = min(2 * steps, MOST_MOVES)
 
 
 def by_order(given: Namespace) -> Listed:
-    """The events of a run by an order."""
-    if given.program or given.delays or given.until:
-        raise Refusal("--order goes without --program, --delays and --until: these are of timed runs", 2)
-    net = net_in(given.rules)
+    """The events of a run by an order. On each channel the same values pass as in the timed run, by the same
+    statements, so these are looked up there."""
+    if given.delays or given.until:
+        raise Refusal("--order goes without --delays and --until: these are of timed runs", 2)
+    circuit = compiled(given.rules, given.program, given.buffer) if given.program else None
+    net = circuit.net if circuit else net_in(given.rules)
     seed = ["--seed", str(given.seed)] if given.seed is not None else []
     run = Untimed(given.rules, given.script, ("--order", given.order, *seed))
     found, report = run.events(given.steps if given.steps is not None else STEPS)
-    events = [Event(move, None, name, f"{value:b}") for move, name, value in found]
-    return Listed(net, events, report.moves, report.end[0] not in ("rest", "spent"), cut_note(report.moves, report.end))
+    timed = in_timed_run(given, circuit, report) if circuit else {}
+    counts = {it.name: 0 for it in net.channels}
+    events, unlike = [], 0
+    for move, name, value in found:
+        other = timed.get((name, counts[name]))
+        is_same = other is not None and other.number() == value
+        unlike += circuit is not None and not is_same
+        events.append(Event(move, None, name, counts[name], f"{value:b}", other.ends if other and is_same else []))
+        counts[name] += 1
+    notes = [*(circuit.notes if circuit else []), *cut_note(report.moves, report.end)]
+    if unlike:
+        notes.append(f"note: no statements are told of {unlike} values that don't pass in the timed run")
+    return Listed(net, events, report.moves, report.end[0] not in ("rest", "spent"), notes)
 
 
 def main(words: Sequence[str]) -> int:
@@ -146,5 +135,5 @@ def main(words: Sequence[str]) -> int:
     else:
         print("\n".join([*listed.notes, *table(found, given.hex, given.program is not None)]))
         if listed.has_hazard:
-            print("the run ends in a hazard; `chpx hunt` tells of it")
+            print(ENDED)
     return 5 if listed.has_hazard else 0

@@ -7,7 +7,8 @@ import shlex
 from collections.abc import Sequence
 
 from companion import causes, expected, filekinds, hints, linefaults, textfaults
-from companion.commands import DELAYS, PROGRAM, RULES, SCRIPT, WAVE, forms_of, take
+from companion.commands import take
+from companion.forms import DELAYS, PROGRAM, RULES, SCRIPT, WAVE, forms, told_forms
 from companion.labels import STANDARD_INPUT, called
 from companion.places import Text
 from companion.program import Answer
@@ -24,6 +25,8 @@ class Explainer:
 
     def __init__(self, words: Sequence[str], answer: Answer, paint: Paint) -> None:
         self.taken = take(words)
+        if not forms():
+            self.taken.files = filekinds.looked_at(words[1:])
         self.words = words
         self.answer = answer
         self.paint = paint
@@ -48,7 +51,9 @@ class Explainer:
         cause = causes.causes().get(number)
         if cause is None:
             if not causes.causes():
-                self.say("(more is told where the folder docs lies beside companion, which it doesn't here)")
+                if hint:
+                    self.say(f"write instead: {hint}")
+                self.say(causes.NO_PAGES)
             return
         if hint:
             self.say(f"write instead: {hint}")
@@ -56,10 +61,11 @@ class Explainer:
             self.say("a way out: " + "; or ".join(cause.instead))
         self.say(self.paint.dim(f"(more on {number} {cause.name}: {cause.page})"))
 
-    def when(self, number: int, name: str) -> str:
-        """When a cause comes, in a sentence."""
+    def named(self, number: int, name: str, what: str = "") -> str:
+        """A cause's name with what is known of the place, or else with when it comes."""
         cause = causes.causes().get(number)
-        return "; or ".join(cause.when) if cause else name
+        told = what or ("; or ".join(cause.when) if cause else "")
+        return self.paint.red(name) + (f": {told}" if told else "")
 
     def refused_text(self, told: re.Match[str]) -> None:
         """A program text is refused: one place or two."""
@@ -67,14 +73,14 @@ class Explainer:
         text = self.text_of(PROGRAM)
         spans = [(int(told[3]), int(told[4]))] + ([(int(told[5]), int(told[6]))] if told[5] else [])
         if text is None:
-            self.say(f"{name}: {self.when(number, name)}")
+            self.say(self.named(number, name))
             self.cause(number)
             return
         if self.taken_for(text, PROGRAM):
             return
         found = textfaults.of(text.data, number, *spans[0])
         for at, (start, end) in enumerate(spans):
-            what = "and here" if at else f"{self.paint.red(name)}: {found.what or self.when(number, name)}"
+            what = "and here" if at else self.named(number, name, found.what)
             self.say(f"{self.paint.bold(text.told(start))}: {what}")
             self.lines += text.shown(start, end, self.paint)
         if found.wanted:
@@ -104,7 +110,7 @@ class Explainer:
         text = self.text_of(role)
         hint = ""
         if text is None:
-            self.say(f"{role}, line {line}: {name}: {self.when(number, name)}")
+            self.say(f"{role}, line {line}: {self.named(number, name)}")
         elif self.taken_for(text, role):
             return
         else:
@@ -113,7 +119,7 @@ class Explainer:
             start, end = linefaults.stretch(data, number, self.text_of(RULES))
             column = len(data[:start].decode("utf-8", "replace")) + 1
             place = self.paint.bold(f"{text.name}:{line}:{column}")
-            self.say(f"{place}: the {role}: {self.paint.red(name)}: {self.when(number, name)}")
+            self.say(f"{place}: the {role}: {self.named(number, name)}")
             if line <= len(text.starts):
                 first = text.starts[line - 1]
                 self.lines += text.shown(first + start, first + end, self.paint)
@@ -129,16 +135,17 @@ class Explainer:
             wide = len(words[index]) if index < len(words) else 1
             self.say("  " + " ".join(["chpx", *words]))
             self.say("  " + " " * left + self.paint.red("^" * wide) + f" {why}")
-        if not self.taken.faults:
+        if not forms():
+            self.say(f"which word is wrong isn't known {causes.NO_PAGES}")
+        elif not self.taken.faults:
             self.say("which word is wrong isn't known here: each looks like one of these forms")
-        for form in forms_of(self.taken.command):
-            self.say(f"a form: chpx {form.text}")
+        self.lines += told_forms(self.taken.command)
 
     def missing_file(self, name: str) -> None:
         """A file can't be read: what it was to be."""
         roles = [role for file, role, _ in self.taken.files if file == name]
-        role = " or ".join(roles) or "one of the command"
-        self.say(f"{self.paint.bold(called(name))}: this file, {role}, can't be read")
+        role = f", {' or '.join(roles)}," if roles else ""
+        self.say(f"{self.paint.bold(called(name))}: this file{role} can't be read")
 
     def status(self) -> None:
         """What the table of statuses says."""
@@ -164,7 +171,9 @@ class Explainer:
                 self.say("a device in Python is named by --device: `chpx bench PRS --device FILE.py`")
             if said.startswith("chp: 3 read "):
                 self.missing_file(said.removeprefix("chp: 3 read "))
-            if self.answer.status not in causes.statuses():
+            if not causes.statuses() and self.answer.status < 128:
+                self.say(causes.NO_PAGES)
+            elif self.answer.status not in causes.statuses():
                 ended = f"ended by the signal {self.answer.status - 128}" if self.answer.status > 128 else "ended"
                 self.say(f"chpc {ended} with a status that no page tells of: {self.answer.status}")
             self.status()

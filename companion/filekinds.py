@@ -3,9 +3,10 @@
 from __future__ import annotations
 
 import re
+from collections.abc import Sequence
 
 from companion.chp_tokens import KEYWORDS
-from companion.commands import DELAYS, PROGRAM, RULES, SCRIPT, WAVE
+from companion.forms import DELAYS, PROGRAM, RULES, SCRIPT, WAVE
 
 # for a file of one kind where another is wanted what to do
 WAYS = {
@@ -42,3 +43,16 @@ def other_than(data: bytes, role: str) -> str:
     """The kind of file that this is, where it is plainly not of the one that is wanted; else nothing."""
     kind = kind_of(data)
     return kind if kind != role else ""
+
+
+def looked_at(words: Sequence[str]) -> list[tuple[str, str, int]]:
+    """The files among some words, each with the kind of file that it looks like: what is taken for their roles where
+    the forms of commands aren't known. One that looks like none is taken for a program where it is the only one."""
+    found = []
+    for at, word in enumerate(words, 1):
+        try:
+            with open(word, "rb") as file:
+                found.append((word, kind_of(file.read()), at))
+        except OSError:
+            continue
+    return [(word, kind or PROGRAM, at) for word, kind, at in found if kind or len(found) == 1]

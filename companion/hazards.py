@@ -6,6 +6,7 @@ from companion.rules import Net
 from companion.waves import Report, Wave
 
 TURNS = {"0": "falls", "1": "rises"}
+ENDED = "the run ends in a hazard; `chpx hunt` tells of it"  # of a run that is looked at for something else
 MOST = 3  # moves of the chain of causes that are shown
 
 

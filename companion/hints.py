@@ -5,9 +5,13 @@ from __future__ import annotations
 
 import re
 
+from companion import widths
 from companion.causes import wrote
+from companion.chp_reader import declarations
+from companion.chp_tokens import number_of
 
 CALLED, WAITED = "`p`, `p()`", "`[x]`, `*[x]`"  # rows of which a name that is a procedure's decides
+INTO_BITS = "`L?x[3:0]`"
 BEGINS = r"(\bbegin|[;,(\[]|->|\|\|)\s*"  # what may stand before a statement
 # for each row, by its first cell: what stands right before the place and what begins there
 ROWS: list[tuple[str, tuple[int, ...], str, str]] = [
@@ -30,7 +34,7 @@ ROWS: list[tuple[str, tuple[int, ...], str, str]] = [
     ("`x <- 1`", (11,), r"\w\s*$", r"<\s*-"),
     ("`x << 1`", (11,), r"<\s*$", r"<"),
     ("`x >> 1`", (11,), r">\s*$", r">"),
-    ("`3 < x < 9`", (11,), r"[<>=]\s*\w[\w\[\]:]*\s*$", r"(<=|>=|!=|<(?!-)|>|=)"),
+    ("`3 < x < 9`", (11,), r"(?<![-:])[<>=]\s*\w[\w\[\]:]*\s*$", r"(<=|>=|!=|<(?!-)|>|=)"),
     ("`-- ..` as a comment", (11,), r"(^|[;\n\])}]|\bbegin|\bend)\s*$", r"--"),
     ("`-- ..` as a comment", (11,), r"-$", r"-\s"),
     ("`# ..` as a comment", (13,), r"(^|[;\n\])}]|\bbegin)\s*$", r"#"),
@@ -50,8 +54,9 @@ ROWS: list[tuple[str, tuple[int, ...], str, str]] = [
     ("`x[3:0] := y`", (11,), r"(\bbegin|[;,(\[]|->|\|\|)\s*[A-Za-z]\w*\s*$", r"\[[^\]]*\]\s*:="),
     ("`X!`, `X?`", (11,), r"[A-Za-z]\w*\s*[!?]\s*$", r"(;|,|\]|\[\]|\)|\|\||end\b|$)"),
     ("`X!(a, b)`", (11,), r"!\s*\([^()]*$", r","),
-    ("`L?x[3:0]`", (11,), r"\?\s*[A-Za-z]\w*\s*$", r"\["),
-    ("`in X, Y : 8;`", (11,), r"\b(in|out|chan|var)\s+\w+\s*$", r","),
+    (INTO_BITS, (11,), r"\?\s*[A-Za-z]\w*\s*$", r"\["),
+    ("`in X, Y : 8;`", (11,), r"\b(in|out|chan)\s+\w+\s*$", r","),
+    ("`var x, y : 8;`", (11,), r"\bvar\s+\w+\s*$", r","),
     ("`in X;`, `out X;`", (11,), r"\b(in|out|chan)\s+\w+\s*$", r"[;=]|:="),
     ("`var x;`, `var x := 0;`", (11,), r"\bvar\s+\w+\s*$", r"[;=\[]|:="),
     ("`var x : 8 := 0;`", (11,), r"\bvar\s+\w+\s*:\s*\w+\s*$", r":="),
@@ -72,6 +77,7 @@ ROWS: list[tuple[str, tuple[int, ...], str, str]] = [
     ("`proc p(a) = S;`", (11,), r"\bproc\s+\w+\s*$", r"\("),
     ("`proc p = S; T;`", (11,), r"\bproc\s+\w+\s*=(?!\s*\()[^;]*;\s*$", r"(skip\b|\*|\[|\(|[A-Za-z]\w*\s*(:=|!|\?))"),
     ("`x = 1;` as a statement", (11,), r"(\bbegin|[;,(\[]|->|\|\|)\s*[A-Za-z]\w*\s*$", r"="),
+    ("`x = 1;` as a statement", (11,), r"\*\s*\[\s*[A-Za-z]\w*\s*=[^\[\](){};]*$", r"[;,]"),
     (
         "`x := 1  y := 2`",
         (11,),
@@ -104,7 +110,26 @@ def key_of(data: bytes, number: int, start: int) -> str:
     return ""
 
 
+def into_bits(data: bytes, start: int) -> tuple[str, str]:
+    """What to write for a receive into bits of a variable that begin at a place, by the widths that are declared, and
+    what stands there; nothing where the widths don't tell it."""
+    text = bare(data)
+    names = re.search(r"([A-Za-z]\w*)\s*\?\s*([A-Za-z]\w*)\s*$", text[:start])
+    told = re.match(r"\[\s*(\w+)\s*(?::\s*(\w+)\s*)?\]", text[start:])
+    bits = [number_of(word) for word in (told[1], told[2] or told[1])] if told else []
+    known = [bit for bit in bits if bit is not None]
+    if not names or not told or len(known) < 2:
+        return "", ""
+    taken = set(re.findall(r"\bproc\s+(\w+)", text))
+    instead = widths.received_into(declarations(data), taken, names[1], names[2], *known)
+    return instead, f"`{re.sub(r'[ ]+', '', names[0] + told[0])}`"
+
+
 def hint(data: bytes, number: int, start: int, end: int) -> str:
     """What to write instead at a refused place, as the table says, or nothing."""
-    row = wrote().get(key_of(data, number, start))
+    key = key_of(data, number, start)
+    row = wrote().get(key)
+    own, written = into_bits(data, start) if key == INTO_BITS else ("", "")
+    if own:
+        return f"{own} (for {written})"
     return f"{row.instead} (for {row.key})" if row else ""

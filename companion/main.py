@@ -9,8 +9,9 @@ import sys
 from collections.abc import Sequence
 
 from companion import bench, check, options, program
-from companion.commands import forms, forms_of
+from companion.causes import NO_PAGES
 from companion.explain import explained
+from companion.forms import DEVICE_FORM, forms, forms_of, told_forms
 from companion.own import OWN
 from companion.program import Ended, Refusal
 from companion.terminal import Paint, Progress
@@ -34,7 +35,7 @@ proof. NO_COLOR takes the colours away. docs/COMPANION.md shows it all.
 def help_text() -> str:
     """What `chpx --help` prints."""
     lines = [HEAD, "commands of chpc, with its answer explained:"]
-    lines += [f"  {form.text}" for form in forms()]
+    lines += [f"  {form.text}" for form in forms()] or [f"  {NO_PAGES}"]
     lines += ["", "commands of chpx, which make many calls of chpc:"]
     lines += [f"  {name:9} {about}" for name, (_, about) in OWN.items()]
     return "\n".join([*lines, "", TAIL])
@@ -46,7 +47,7 @@ def help_of(command: str) -> str:
     for form in forms_of(command):
         lines += [f"  chpx {form.text}", f"      {form.about}", ""]
     if command == "bench":
-        lines += ["  chpx bench PRS --device NAME ..", "      the same against a device in Python: docs/DEVICES.md", ""]
+        lines += [f"  chpx {DEVICE_FORM[0]}", f"      {DEVICE_FORM[1]}", ""]
     lines.append("More of it is in docs/COMMANDS.md. Nothing that chpx adds to it is proved.")
     return "\n".join(lines)
 
@@ -88,8 +89,8 @@ def dispatch(words: Sequence[str]) -> int:
     asked = named[: named.index("--")] if "--" in named else named
     if words and words[0] == "check" and "--json" in asked[1:]:
         return check.main([word for word in named[1:] if word != "--json"])
-    if ("--help" in asked[1:] or "-h" in asked[1:]) and forms_of(words[0]):
-        print(help_of(words[0]))
+    if {"--help", "-h"} & {*asked[1:]} and (forms_of(words[0]) or not forms()):
+        print(help_of(words[0]) if forms() else f"`chpx {words[0]}` calls `chpc {words[0]}` {NO_PAGES}")
         return 0
     return call(named)
 
@@ -97,12 +98,17 @@ def dispatch(words: Sequence[str]) -> int:
 def without_proof(words: Sequence[str]) -> None:
     """Has all answers come from the program of which nothing is proved, and compiles it where it isn't there, unless
     the words are plainly wrong."""
+    if not os.path.isdir(os.path.join(program.TOP, "wrapper")):
+        raise Refusal("--unproved compiles a program, and no source of one lies beside companion", 127)
     from wrapper import unproved
     from wrapper.words import fault
 
-    wrong = fault(words) if words[0] not in OWN and not bench.is_asked(words) else None
+    # what only chpx has: `check --json`, and standard input as `-`
+    asked = [os.devnull if word == "-" else word for word in words if (words[0], word) != ("check", "--json")]
+    wrong = fault(asked) if words[0] not in OWN and not bench.is_asked(words) else None
     if wrong:
-        raise Refusal(f"{wrong[1]}; nothing was built", wrong[0])
+        told = told_forms(words[0]) if wrong[0] == 2 else []
+        raise Refusal("\n".join([f"{wrong[1]}; nothing was built", *told]), wrong[0])
     status = unproved.ready()
     if status:
         raise Refusal("without that program there is no answer", status)

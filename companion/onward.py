@@ -9,7 +9,6 @@ import os
 from companion import options, program
 from companion.passed import events_of
 from companion.rules import net_in
-from companion.signals import signals_of
 from companion.waves import Report, Wave, wave_of
 
 
@@ -24,9 +23,8 @@ class Onward:
     def __init__(self, rules: str, report: Report, folder: str) -> None:
         self.rules, self.net = rules, net_in(rules)
         self.lines = options.read(rules).decode("latin-1").split("\n")
-        outside = {it.name for it in self.net.channels if it.kind != "chan"}
-        self.signals = [it for it in signals_of(self.net) if it.what == "channel" and it.name in outside]
-        self.passed = {name: list(values) for name, values in report.passed.items() if name in outside}
+        self.outside = [it for it in self.net.channels if it.kind != "chan"]
+        self.passed = {it.name: list(report.passed[it.name]) for it in self.outside}
         self.moves = report.moves
         self.values: dict[str, str] = {}
         self.names = [os.path.join(folder, name) for name in ("onward.prs", "onward.script")]
@@ -68,8 +66,10 @@ class Onward:
         options.write(self.names[1], "".join(f"{line}\n" for line in lines))
         left = steps - self.moves
         wave = self.wave(self.names[0], self.names[1], left + 1)
-        for event in events_of(wave, self.signals):
-            self.passed[event.channel].append(event.value)
+        for event in events_of(wave, self.outside):
+            number = event.number()
+            if number is not None:
+                self.passed[event.channel].append(number)
         self.values = wave.last()
         self.moves += len(wave.changes) - 1
         end = "spent" if len(wave.changes) > left else "rest"

@@ -8,6 +8,7 @@ from collections.abc import Sequence
 from companion.as_json import put
 from companion.chain import UNBOUNDED, Cycles, Profile, Share, profile_of
 from companion.compiled import compiled
+from companion.hazards import ENDED
 from companion.options import Parser, natural
 from companion.owners import Owner
 from companion.program import Refusal
@@ -22,7 +23,8 @@ Where the time of a timed run goes: the chain of causes of its last move (or of 
 move), each move the cause of the next, folded by statement and by turn of a loop, the longest first.
 Of what is off the chain it tells the slack, which is how much later its moves could come with the end
 no later; and of the channels the least, the mean and the greatest time from one value to the next,
-and the slack of their values. PRS is what `chpc compile F` writes."""
+and the slack of their values. PRS is what `chpc compile F` writes. The status is 0, or 5 where the run
+ends in a hazard."""
 TURNS = 3  # turns that are told of each loop
 
 
@@ -154,7 +156,7 @@ def head(it: Profile, wave: Wave, end: int, start: int | None) -> str:
 
 
 def main(words: Sequence[str]) -> int:
-    """Runs the command; its status is 0, whatever the run ends with."""
+    """Runs the command: 0, or 5 where the run ends in a hazard."""
     given = parser().parse_args(words)
     with Progress(f"where the time of {given.rules} goes"):
         circuit = compiled(given.rules, given.program, given.buffer)
@@ -169,10 +171,11 @@ def main(words: Sequence[str]) -> int:
         checked(made.whole, wave, causes_of(given.rules, given.script, given.delays, end + 1))
     scene, notes = circuit.scene({}), circuit.notes + (cut_off(given, wave) if given.to is None else [])
     if given.json:
-        put({"notes": notes, **as_json(scene, made)})
-        return 0
+        put({"notes": notes, **as_json(scene, made), "hazard": wave.status == 5})
+        return wave.status
     paint = Paint(sys.stdout)
     lines = [*notes, head(made, wave, end, start), "", *statements(scene, made, given.most)]
     lines += ["", *turns(scene, made, paint)] if made.turns else []
-    print("\n".join([*lines, "", *channels(made)]))
-    return 0
+    lines += ["", *channels(made), *([ENDED] if wave.status else [])]
+    print("\n".join(lines))
+    return wave.status

@@ -68,7 +68,8 @@ def started(words: Sequence[str], out: int | None, err: int | None, name: str) -
     try:
         return subprocess.Popen([name, *words], stdin=subprocess.DEVNULL, stdout=out, stderr=err)
     except OSError as error:
-        raise Refusal(f"{name} can't be started: {error.strerror}", 127) from error
+        other = "" if "CHPC" in os.environ else "; the variable CHPC may name a built chpc elsewhere"
+        raise Refusal(f"{name} can't be started: {error.strerror}{other}", 127) from error
 
 
 def again() -> str:

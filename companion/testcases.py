@@ -5,9 +5,10 @@ from __future__ import annotations
 from dataclasses import dataclass, field
 
 from companion.chp_tokens import number_of
+from companion.forms import VALUES
+from companion.until import MOST_MOVES
 
-ORDERS = ("lowest", "oldest", "newest", "random")
-MOST_MOVES = 1_000_000
+ORDERS = VALUES["--order"]
 
 
 @dataclass(frozen=True)

@@ -6,7 +6,6 @@ from dataclasses import dataclass
 
 from companion.passed import events_of
 from companion.rules import net_in
-from companion.signals import signals_of
 from companion.testcases import Case, Values
 from companion.waves import wave_of
 
@@ -85,10 +84,10 @@ def fault_of(case: Case, came: Outcome, is_unit: bool = False) -> Fault | None:
     return None
 
 
-def events_before(fault: Fault, rules: str, script: str) -> list[str]:
-    """What passed before a difference, in lines: the last events of the timed run in which each move takes 1."""
-    channels = [it for it in signals_of(net_in(rules)) if it.what == "channel"]
-    events = events_of(wave_of(rules, script), channels)
+def events_before(fault: Fault, rules: str, script: str, steps: int | None) -> list[str]:
+    """What passed before a difference, in lines: the last events of the timed run in which each move takes 1, of at
+    most so many moves as the run had in which it was found; none are told where that was one of rounds."""
+    events = list(events_of(wave_of(rules, script, None, steps), net_in(rules).channels))
     ends = [at for at, it in enumerate(events) if (it.channel, it.place) == (fault.channel, fault.place)]
     end = ends[0] + 1 if ends else len(events)
     head = "the events up to it" if ends else "the last events"
@@ -96,5 +95,5 @@ def events_before(fault: Fault, rules: str, script: str) -> list[str]:
     if not shown:
         return ["nothing passed"]
     more = [f"  .. {end - len(shown)} before"] if end > len(shown) else []
-    lines = [f"  {it.time} {it.channel} {it.value}" for it in shown]
+    lines = [f"  {it.time} {it.channel} {it.value()}" for it in shown]
     return [f"{head}, by time where each move takes 1:", *more, *lines]

@@ -7,7 +7,7 @@ import re
 from dataclasses import replace
 
 from companion import filekinds, options
-from companion.commands import PROGRAM
+from companion.forms import PROGRAM
 from companion.places import Text
 from companion.program import Refusal
 from companion.testcases import Case

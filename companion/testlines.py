@@ -12,7 +12,8 @@ from companion.chp_tokens import number_of
 from companion.places import Text
 from companion.program import Refusal
 from companion.terminal import Paint
-from companion.testcases import MOST_MOVES, ORDERS, Case, Values
+from companion.testcases import ORDERS, Case, Values
+from companion.until import MOST_MOVES
 
 WORD = re.compile(r"[^ \t\r]+")
 

@@ -65,8 +65,9 @@ class Checker:
         told = LINE_FAULT.match(answer.said())
         if told and told[1].startswith("5") and not case.device:
             line = list(case.script.values())[int(told[3]) - 1][1]
-            cause = causes.causes()[int(told[1])]
-            return Failed(f"{case.file}:{line}: {told[1]} {told[2]}: {'; or '.join(cause.when)}")
+            cause = causes.causes().get(int(told[1]))
+            when = f": {'; or '.join(cause.when)}" if cause else ""
+            return Failed(f"{case.file}:{line}: {told[1]} {told[2]}{when}")
         return Failed(f"chpc {words[0]} of {case.program}: {answer.said()}", *explained(words, answer, self.paint))
 
     def check(self, numbered: tuple[int, Case]) -> Result:
@@ -168,5 +169,5 @@ class Checker:
             return
         lines = [f"{case.file}:{fault.line}: {fault.why} (by {what})"]
         if not fault.is_late and came.end in ("rest", "spent"):
-            lines += events_before(fault, rules, script)
+            lines += events_before(fault, rules, script, case.steps if came.moves >= 0 else None)
         raise Failed(*lines)

@@ -7,8 +7,8 @@ from dataclasses import dataclass, field
 
 from companion import expected, widths
 from companion.chp_reader import read_program
-from companion.chp_tokens import Unread, number_of
-from companion.chp_tree import Program
+from companion.chp_tokens import Token, Unread, number_of
+from companion.chp_tree import CLOSING, OPENING, Program
 
 SYNTAX, UNDECLARED, WIDTH, TOO_WIDE, UNKNOWN, SLICE = 11, 21, 24, 25, 26, 27
 ENDS = {b"end": "", b")": "(", b"]": "[", b"}": "{", b"": ""}  # what may close too early, with what each closes
@@ -31,7 +31,9 @@ def of(data: bytes, number: int, start: int, end: int) -> Found:
         wanted, opened = expected.at_fault(data, start)
         is_early = bool(opened) and data[start:end] in ENDS and ENDS[data[start:end]] != opened[-1].kind
         last = [(opened[-1].start, opened[-1].end)] if is_early else []
-        return Found(wanted=wanted, opened=last, what="this can't stand here" if wanted and start < len(data) else "")
+        way = closed_first(data[start:end], opened, wanted) if is_early else ""
+        what = "this can't stand here" if wanted and start < len(data) else ""
+        return Found(what=what, instead=way, wanted=wanted, opened=last)
     try:
         it = read_program(data)
     except Unread:
@@ -45,6 +47,22 @@ def of(data: bytes, number: int, start: int, end: int) -> Found:
     if number == UNDECLARED:
         return Found(instead=declared(it, start, data[start:end].decode("latin-1")))
     return Found(instead=bound_tighter(it, data, start, end)) if number == UNKNOWN else Found()
+
+
+def closed_first(early: bytes, opened: list[Token], wanted: list[str]) -> str:
+    """What closes the brackets that have to be closed before what stands too early; nothing where more than that is
+    missing, or where another bracket may have been meant."""
+    inside = []
+    for token in reversed(opened):
+        if token.kind == ENDS[early]:
+            break
+        inside.append(CLOSING[OPENING.index(token.kind)])
+    else:
+        if ENDS[early]:
+            return ""
+    if f"`{inside[0]}`" not in wanted:
+        return ""
+    return f"`{''.join(inside)}` before `{early.decode()}`" if early else f"`{''.join(inside)}`, and then `end`"
 
 
 def of_slice(it: Program, text: str) -> Found:

@@ -12,6 +12,7 @@ from companion.rules import Net
 from companion.waves import Wave, wave_of
 
 STEPS = 100_000  # the most moves of a run where no other limit is given
+MOST_MOVES = 1_000_000  # the greatest limit that may be given
 UNTIL = "stops where the N-th value passes on the channel X"
 
 

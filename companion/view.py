@@ -6,6 +6,7 @@ import os
 from collections.abc import Sequence
 
 from companion import options
+from companion.hazards import ENDED
 from companion.options import Parser
 from companion.program import Refusal
 from companion.rules import net_in
@@ -51,8 +52,8 @@ def main(words: Sequence[str]) -> int:
             chain = causes_of(given.rules, given.script, given.delays, number)
     if given.causes_of:
         print(f"move {number} of the run, and the moves by which it came, each the cause of the next")
-        print("\n".join(chain))
-        return 0
+        print("\n".join([*chain, *([ENDED] if wave.status else [])]))
+        return wave.status
     signals = signals_of(net)
     channels = [it for it in signals if it.what == "channel"]
     found = passings(wave, channels)
@@ -67,6 +68,6 @@ def main(words: Sequence[str]) -> int:
     print("\n".join(table(found)))
     if given.latency:
         print(between(found, *given.latency))
-    if wave.status == 5:
-        print("the run ends in a hazard; `chpx hunt` tells of it")
+    if wave.status:
+        print(ENDED)
     return wave.status

@@ -20,7 +20,8 @@ ABOUT = """\
 What is under way where a run of a program's circuit stops: the statements that have been asked and
 haven't answered, their places in the source, what each waits for, and the variables' values; for a
 deadlock also who waits for whom. The run is the timed one of `chpc waves` and `chpc simulate
---delays`. PRS is what `chpc compile F` writes."""
+--delays`. PRS is what `chpc compile F` writes. The status is 0, also for a deadlock, or 5 where the
+run ends in a hazard."""
 
 
 def parser() -> Parser:
@@ -105,7 +106,7 @@ def as_json(scene: Scene, waits: list[Wait], notes: list[str]) -> dict[str, obje
 
 
 def main(words: Sequence[str]) -> int:
-    """Runs the command; its status is 0, whatever the run ends with."""
+    """Runs the command: 0, or 5 where the run ends in a hazard."""
     given = parser().parse_args(words)
     with Progress(f"the run of {given.rules}"):
         circuit = compiled(given.rules, given.program, given.buffer)
@@ -114,14 +115,15 @@ def main(words: Sequence[str]) -> int:
             delays = f"{options.room()}/delays"
             options.write(delays, "")
         words = ["simulate", *run_words(given.rules, given.script, delays, steps)]
-        report = read_report(program.wanted(words, (0, 5)).text())
+        answer = program.wanted(words, (0, 5))
+        report = read_report(answer.text())
         wave = wave_of(given.rules, given.script, given.delays, steps)
     scene = circuit.scene(wave.last(), report, given.hex)
     waits = waits_of(scene)
     if given.json:
         put(as_json(scene, waits, circuit.notes))
-        return 0
+        return answer.status
     paint = Paint(sys.stdout)
     head = [*circuit.notes, ending(report, given.until)]
     print("\n".join([*head, *told(scene, waits, paint, given.all), *conclusion(scene, waits, paint)]))
-    return 0
+    return answer.status

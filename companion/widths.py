@@ -5,7 +5,7 @@ from __future__ import annotations
 from collections.abc import Iterator
 
 from companion.chp_expr import Node
-from companion.chp_tree import Program, Stmt
+from companion.chp_tree import Decl, Program, Stmt
 
 Widths = dict[str, int]  # of each channel and variable by its name
 
@@ -126,6 +126,30 @@ def received(stmt: Stmt, widths: Widths) -> tuple[str, str] | None:
         return None
     return (f"the channel {stmt.name} carries {counted(wanted)}, and the variable {stmt.target} has {has}",
             f"`var {stmt.target} : {wanted};`, or a variable of {counted(wanted)} from which the value goes on")
+
+
+def of_bits(name: str, high: int, low: int) -> str:
+    """Bits of a variable, as a program has them."""
+    return f"{name}[{high}:{low}]" if high > low else f"{name}[{low}]"
+
+
+def received_into(decls: list[Decl], taken: set[str], channel: str, name: str, high: int, low: int) -> str:
+    """What to write for a receive into bits of a variable, with a variable whose name isn't taken; nothing where there
+    is no such channel or no such bits. Where the channel carries fewer bits, the lowest of those that are written."""
+    widths = {decl.name: decl.width for decl in decls}
+    carried, has = widths.get(channel, 0), widths.get(name, 0)
+    if not carried or not low <= high < has:
+        return ""
+    high = min(high, low + carried - 1)
+    bits = high - low + 1
+    if carried == bits == has:
+        return f"`{channel}?{name}`"
+    names = {*widths, *taken}
+    free = next(it for it in ("t", "u", "v", *(f"t{at}" for at in range(len(names)))) if it not in names)
+    parts = [of_bits(name, has - 1, high + 1)] * (high + 1 < has)
+    parts += [free if carried == bits else of_bits(free, bits - 1, 0)] + [of_bits(name, low - 1, 0)] * (low > 0)
+    value = parts[0] if len(parts) == 1 else f"{{{', '.join(parts)}}}"
+    return f"`var {free} : {carried};`, and then `{channel}?{free}; {name} := {value}`"
 
 
 def first_value(it: Program, number: int, start: int, end: int, data: bytes) -> tuple[str, str] | None:

@@ -73,14 +73,14 @@ class Case(unittest.TestCase):
             status = main.main(list(words))
         return Ran(status, out.getvalue(), err.getvalue())
 
-    def typed(self, *words: str, given: str = "", to: str = "", other: str = "") -> Ran:
-        """Runs ./chpx as a person does. `given` is standard input, `to` a file for standard output, and `other` a
-        program in place of the recorded answers."""
+    def typed(self, *words: str, given: str = "", to: str = "", other: str = "", top: str = TOP) -> Ran:
+        """Runs ./chpx as a person does. `given` is standard input, `to` a file for standard output, `other` a program
+        in place of the recorded answers, and `top` the folder that chpx lies in."""
         where = dict(os.environ, CHPC=other or recorded.stand_in("."))
         with contextlib.ExitStack() as stack:
             out = stack.enter_context(open(to, "wb")) if to else subprocess.PIPE
             run = subprocess.run(
-                [sys.executable, os.path.join(TOP, "chpx"), *words],
+                [sys.executable, os.path.join(top, "chpx"), *words],
                 input=given.encode(),
                 stdout=out,
                 stderr=subprocess.PIPE,

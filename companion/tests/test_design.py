@@ -71,6 +71,14 @@ class Tests(Case):
         self.fails("script L: 1 2\nwithin 20 time\n", "where each move takes 1, more than 20 (by delays of 1)")
         self.fails("script L: 1 2\nsteps 50\n", "the run ends with `spent`, wanted `rest` (by the order lowest)")
 
+    def test_steps(self) -> None:
+        """What passed is told of a run of as many moves as the case allows; rounds have no moves."""
+        script = "script L: 1 2 3\nsteps 150\n"
+        ran = self.of(f"program fifo1.chp\n{script}")
+        self.has(ran.out, ["ends with `spent`, wanted `rest` (by the order lowest)\n# the last events"])
+        self.assertEqual(ran.out.splitlines()[-3:], ["#   14 L 1", "#   30 R 1", "# 1 of 1 cases failed"])
+        self.fails(script + "R = 1 2 4\nend spent\n", "value 3 is 3, wanted 4 (by chpc run)", " R 2\n", " R 3\n")
+
     def test_refused_programs(self) -> None:
         self.write("bad.chp", "var x : 1;\nbegin x := 2 end\n")
         for line in ("refused 25", "refused 25 at 2:12"):

@@ -4,6 +4,7 @@ from __future__ import annotations
 
 import json
 
+from companion.hazards import ENDED
 from companion.tests.base import Case
 from companion.tests.programs import ALU, ALU_SCRIPT, BOTH, BOTH_SCRIPT
 
@@ -77,19 +78,47 @@ class Events(Case):
         ran = self.chpx(*words[:5], "--steps", str(moves[3]), "--hex")
         self.has(ran.out, [f"note: the run has {moves[3]} moves, as many as are allowed", "move  time", "   -  "])
         self.assertEqual(ran.out.splitlines()[-1].split()[0], str(moves[3]))
-        for more in (("--until", "R:1"), ("--program", "pipeline.chp"), ("--delays", "d")):
+        for more in (("--until", "R:1"), ("--delays", "d")):
             self.assertEqual(self.chpx(*words, *more).status, 2)
         self.assertEqual(self.chpx(*words[:3], "--seed", "1").status, 2)
         self.assertEqual(self.chpx(*words[:3], "--order", "fastest").status, 9)
+
+    def test_statements_of_order(self) -> None:
+        """On each channel the same statements as in the timed run, also where they are in a procedure, and where fewer
+        moves of the timed run don't bring as much on each channel."""
+        self.example("bus.chp"), self.example("bus.script"), self.compiled("bus")
+        for name, order, most in (("bus", "lowest", "1000"), ("pipeline", "newest", "500")):
+            words = ("events", f"{name}.prs", f"{name}.script", "--program", f"{name}.chp", "--json")
+            told = json.loads(self.chpx(*words, "--order", order, "--steps", most).out)["events"]
+            timed = json.loads(self.chpx(*words).out)["events"]
+            for channel in {it["channel"] for it in told}:
+                of_both = [[it["statements"] for it in each if it["channel"] == channel] for each in (told, timed)]
+                self.assertEqual(of_both[0], of_both[1][:len(of_both[0])])
+            self.assertTrue(all(it["statements"] for it in told))
+        self.has(self.chpx(*words[:5], "--order", "newest").out, ["statement\n", "pipeline.chp:10:13: R!y + y\n"])
 
     def test_hazard(self) -> None:
         """The events up to a hazard, and its status."""
         with open("pipeline.prs", encoding="ascii") as file:
             text = file.read()
         self.write("bad.prs", text.replace("rule L.a", "rule ~R.a & L.a").replace(" -> R.0.t+", " | go -> R.0.t+"))
-        ran = self.chpx("events", "bad.prs", "pipeline.script")
+        words = ("bad.prs", "pipeline.script")
+        ran = self.chpx("events", *words)
         self.assertEqual(ran.status, 5)
-        self.has(ran.out, ["move  time  channel", "the run ends in a hazard"])
+        self.has(ran.out, ["move  time  channel", ENDED])
+        for more in ((), ("--causes-of", "go")):
+            ran = self.chpx("view", *words, *more)
+            self.assertEqual((ran.status, ran.out.splitlines()[-1]), (5, ENDED))
+        words += ("--program", "pipeline.chp")
+        ran = self.chpx("profile", *words)
+        self.assertEqual((ran.status, ran.out.splitlines()[-1]), (5, ENDED))
+        ran = self.chpx("profile", *words, "--json")
+        self.assertEqual((ran.status, json.loads(ran.out)["hazard"]), (5, True))
+        ran = self.chpx("why", *words)
+        self.assertEqual(ran.status, 5)
+        self.has(ran.out, ["the run ends in a hazard after"])
+        ran = self.chpx("why", *words, "--json")
+        self.assertEqual((ran.status, json.loads(ran.out)["end"].split()[0]), (5, "both"))
 
     def test_why_until(self) -> None:
         words = ("gcd.prs", "gcd.script", "--until", "G:2")

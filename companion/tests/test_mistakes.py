@@ -17,9 +17,11 @@ PROGRAMS: list[tuple[str, list[str]]] = [
     ("var x : 8; begin x := 256 end", ["8 bits wanted here, and 256 needs 9 bits", "a number below 256"]),
     ("var x : 4 = 16; begin skip end", ["x has 4 bits, and 16 needs 5 bits"]),
     ("var x : 8; begin [x & 1 = 1 -> skip] end", ["`(x & 1) = 1`", "binds tighter"]),
-    ("var x : 8; begin [x = 1 -> x := 2 end", ["expected here: ", "this bracket is still open there"]),
-    ("var x : 8; begin (x := 1; x := 2 end", ["expected here: ", "this bracket is still open there"]),
-    ("var x : 8; begin *[x := 1 end", ["this bracket is still open there"]),
+    ("var x : 8; begin [x = 1 -> x := 2 end", ["this bracket is still open there", "instead: `]` before `end`\n"]),
+    ("var x : 8; begin (x := 1; x := 2 end", ["this bracket is still open there", "instead: `)` before `end`\n"]),
+    ("var x : 8; begin *[x := 1", ["this bracket is still open there", "instead: `]`, and then `end`\n"]),
+    ("var x : 8; begin *[[x = 1 -> x := 1 end", ["instead: `]]` before `end`\n"]),
+    ("var x : 8; begin (*[x := 2); skip end", ["instead: `]` before `)`\n"]),
     ("var x 8; begin skip end", ["expected here: `:`"]),
     ("var x : 8; begin x := end", ["expected here: an expression"]),
     ("begin skip skip end", ["expected here: `,`, `;`, `end` or `||`", "a `;` between them"]),
@@ -37,7 +39,15 @@ PROGRAMS: list[tuple[str, list[str]]] = [
     ("# a comment\nbegin skip end", ["`// ..`"]),
     ("var a : 1; begin [a => skip] end", ["`->`"]),
     ("out T; begin skip end", ["`in X : 8;`, with a width"]),
-    ("in L : 4; var x : 8; begin L?x[3:0] end", ["`L?t; x := {x[7:4], t}`"]),
+    ("in L : 4; var x : 8; begin L?x[3:0] end", ["`var t : 4;`, and then `L?t; x := {x[7:4], t}`"]),
+    ("in L : 8; var t : 1; var x : 8; begin L?x[5:2] end", ["`var u : 8;`", "`L?u; x := {x[7:6], u[3:0], x[1:0]}`"]),
+    ("in L : 16; var x : 8; begin L?x[7:0] end", ["`var t : 16;`", "`L?t; x := t[7:0]`"]),
+    ("in L : 2; var x : 2; begin L?x[1:0] end", ["instead: `L?x` (for"]),
+    ("in L : 2; var x : 8; begin L?x[0] end", ["`L?t; x := {x[7:1], t[0]}`"]),
+    ("in L : 2; var x : 8; begin L?x[7:4] end", ["t : 2", "`L?t; x := {x[7:6], t, x[3:0]}` (for `L?x[7:4]`)"]),
+    ("in L : 4; var x : 8; proc t = skip; begin L?x [3] end", ["`var u : 4;`", "u[0], x[2:0]}` (for `L?x[3]`)"]),
+    ("var a, b : 8; begin skip end", ["`var x : 8; var y : 8;`"]),
+    ("var x : 1; begin [x = 0 -> x = 1 [] x = 1 -> skip] end", ["`x := 1` (for `x = 1;`"]),
     ("var x : 4; begin [3 < x < 9 -> skip] end", ["`3 < x & x < 9`"]),
     ("out R : 1; var x : 1; begin [x = 0 -> R!0 | x = 1 -> R!1] end", ["`[a -> S [] b -> T]`"]),
     ("var x : 8; out R : 8; proc p = x := x + 1; R!x; begin call p end", ["`proc p = (S; T);`"]),
@@ -92,6 +102,9 @@ class Mistakes(Case):
             "var x : 2; begin [x = 1 | x = 2] -> skip end",
             "var x : 2; begin (skip [] x = 1 -> skip) end",
             "var x : 2; begin [x = 3 | -> skip] end",
+            "var x : 2; begin [x = 3 -> x < 1] end",
+            "var x : 2; begin [x = 3 end",
+            "var x : 2; begin *[x := 1;",
         ):
             with self.subTest(text):
                 ran = self.chpx("check", self.write("f.chp", text))
@@ -122,6 +135,9 @@ class Mistakes(Case):
                 self.has(ran.err, parts)
 
     def test_words(self) -> None:
-        """An option that a command can't be without."""
+        """An option that a command can't be without, and what may stand in its place."""
         self.write("net.prs", NET)
-        self.has(self.chpx("bench", "net.prs").err, ["--peer NAME is missing", "a form: chpx bench PRS --peer NAME"])
+        told = ["a form: chpx bench PRS --peer NAME", "a form: chpx bench PRS --device NAME ..", "--peer ramp and echo",
+                "--device source, sink, echo, fifo, memory, and files FILE.py"]
+        self.has(self.chpx("bench", "net.prs").err, ["--peer NAME is missing", *told])
+        self.has(self.chpx("--unproved", "bench", "net.prs").err, ["lacks --peer NAME", "nothing was built", *told])

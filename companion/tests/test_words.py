@@ -5,7 +5,7 @@ from __future__ import annotations
 import os
 
 from companion import causes, hints
-from companion.commands import forms
+from companion.forms import forms
 from companion.own import OWN
 from companion.tests import recorded
 from companion.tests.base import Case
@@ -36,7 +36,12 @@ WROTE = {
     "`p`, `p()`": ["proc p = skip; begin p; skip end", "proc p = skip; begin p() end"],
     "`proc p = S; T;`": ["var x : 8; out R : 8; proc p = x := x + 1; R!x; begin skip end"],
     "`proc p(a) = S;`": ["proc p(a) = skip; begin call p end"],
-    "`x = 1;` as a statement": ["var x : 1; begin x = 1 end", "var x : 1; begin x := 0; x = 1 end"],
+    "`x = 1;` as a statement": [
+        "var x : 1; begin x = 1 end",
+        "var x : 1; begin x := 0; x = 1 end",
+        "var x : 1; begin [x = 0 -> x = 1 [] x = 1 -> skip] end",
+        "var x : 1; begin *[x = 0; skip] end",
+    ],
     "`x <- 1`": ["var a : 1; begin a <- 1 end"],
     "`x++`, `x += 1`": ["var a : 8; begin a += 1 end", "var a : 8; begin a++ end"],
     "`!b`": ["var x : 1; begin x := !x end", "var x : 1; begin [!x -> skip] end"],
@@ -52,7 +57,8 @@ WROTE = {
     "`m[i]`": ["var m : 8; var i : 3; var b : 1; begin b := m[i] end"],
     "`X!`, `X?`": ["out X : 1; begin X! end", "in X : 1; begin X?; skip end"],
     "`X!(a, b)`": ["out X : 2; var a : 1; begin X!(a, a) end"],
-    "`in X, Y : 8;`": ["in X, Y : 8; begin skip end"],
+    "`in X, Y : 8;`": ["in X, Y : 8; begin skip end", "chan a, b : 1; begin skip end"],
+    "`var x, y : 8;`": ["var a, b : 8; begin skip end"],
     "`var x;`, `var x := 0;`": ["var x; begin skip end", "var x := 0; begin skip end"],
     "`var x : 8 := 0;`": ["var x : 8 := 0; begin skip end"],
     "`var x : 8` without `;`": ["var a : 1 begin skip end"],

@@ -2,11 +2,15 @@
 
 from __future__ import annotations
 
+import io
+import json
+import os
+import sys
 import unittest
 from unittest import mock
 
 from companion.tests.base import Case
-from wrapper import crates, watch
+from wrapper import crates, unproved, watch
 from wrapper.words import fault, forms
 
 
@@ -16,9 +20,9 @@ class Words(Case):
     def test_forms(self) -> None:
         """Each command's words and options, as its forms show them."""
         places, options = forms()["simulate"]
-        self.assertEqual(places, ["PRS", "SCRIPT"])
+        self.assertEqual(places, ("PRS", "SCRIPT"))
         self.assertEqual(sorted(options), ["--against", "--delays", "--order", "--power", "--seed", "--steps"])
-        self.assertEqual(forms()["grow"], (["SEED", "STAGES"], {"--sum": ""}))
+        self.assertEqual(forms()["grow"], (("SEED", "STAGES"), {"--sum": ""}))
 
     def test_wrong_words(self) -> None:
         """Commands, options and numbers of words that no command has."""
@@ -29,7 +33,7 @@ class Words(Case):
             ("migrate a.prs a.prs", 2, "migrate takes FILE, and has 2"),
             ("compile a.prs --bufer X", 2, "compile has no option --bufer"),
             ("compile a.prs --buffer", 2, "--buffer wants X behind it"),
-            ("bench a.prs --order lowest", 2, "bench lacks --peer NAME"),
+            ("bench a.prs --order lowest", 2, "bench lacks --peer NAME (ramp or echo)"),
             ("simulate a.prs none", 3, "none: there is no such file"),
             ("waves a.prs a.prs --delays=none", 3, "none: there is no such file"),
             ("check -- --none", 3, "--none: there is no such file"),
@@ -39,6 +43,15 @@ class Words(Case):
             assert found is not None
             self.assertEqual(found[0], status, line)
             self.assertIn(text, found[1])
+
+    def test_words_of_chpx(self) -> None:
+        """What only chpx has is no fault behind --unproved."""
+        given = io.TextIOWrapper(io.BytesIO(b"begin y := 0 end"))
+        ready = mock.patch.object(unproved, "ready", return_value=0)
+        with ready, mock.patch.dict(os.environ), mock.patch.object(sys, "stdin", given):
+            ran = self.chpx("--unproved", "check", self.example("one.chp"), "--json")
+            self.assertEqual((ran.status, json.loads(ran.out)["accepted"]), (0, True))
+            self.has(self.chpx("--unproved", "check", "-").err, ["standard input:1:7: Undeclared"])
 
     def test_words_of_the_program(self) -> None:
         """What the program itself has to find is left to it."""
