@@ -12,14 +12,21 @@ use Rattle.peer_bench.specs.Growing.{script_by}
 use Rattle.command_answers.specs.Answers.{Answer}
 use Rattle.command_steps.specs.Orders.{OrderState, order_state, played_by}
 use Rattle.run_reports.specs.RunReporting.{IsReported}
-use Rattle.simulation_commands.specs.Simulating.{OthersStay}
-use Rattle.simulation_commands.proofs.Keeping.{get_same, only_played, others_at, played_at}
+use Rattle.simulation_commands.specs.Simulating.{SameObjects}
+use Rattle.simulation_commands.proofs.Keeping.{get_same, objects_at, only_played, played_at}
+use Rattle.std.specs.declared.alloc.Global.{Global}
+use Rattle.std.specs.declared.dyn_box.DynBox.{DynBox}
+use Rattle.event_sim.specs.Asking.{PickerValue}
+use Rattle.prs_core.specs.Nets.{NetValue}
+use Rattle.peer_bench.proofs.Listed.{set_apart}
+use Rattle.peer_bench.specs.Benches.{bench_enabled}
+use Rattle.bench_commands.specs.Asked.{WithNotesOf}
 use Rattle.bench_commands.specs.HandedIn.{StayHandedIn, handed_over}
 use Rattle.bench_commands.specs.OnBench.{AgainstPeer, BenchesNet, notes_grown}
-use Rattle.bench_commands.specs.Peers.{KeepsPeers, peered_by}
+use Rattle.bench_commands.specs.Peers.{KeepsPeers, Peered, peered_by}
 use Rattle.bench_commands.specs.PreparedRuns.{RunsAgainst}
 use Rattle.bench_commands.proofs.Named.{along_named}
-use Rattle.bench_commands.proofs.Staying.{kept_peers}
+use Rattle.bench_commands.proofs.Staying.{keeps_both, kept_peers, notes_same}
 
 -- ---- an item of a list
 
@@ -58,8 +65,9 @@ module _ {P : Type 0} (f : P → PeerValue) (xs ys : List P) (which : ℕ) (with
   the_run = some_of _ new_there.1 (some_of _ old_there.1 run)
 
   -- the device keeps its name
-  pub run_keeps : OthersStay (Some which) xs ys → KeepsPeers (Some which) (peered_by (map f xs) (map f ys))
-  run_keeps stay = kept_peers f xs ys which stay (named new_there.0 old_there.0 new_there.1 old_there.1 (along_named s.net _ (f old_there.0) the_run.noted))
+  pub run_keeps : ((k : ℕ) → (k ≡ which → ⊥) → slice_get ys k ≡ slice_get xs k) → KeepsPeers (Some which) (peered_by (map f xs) (map f ys))
+  run_keeps stay = kept_peers f xs ys which (λ k other. stay k (λ same. other (ap (λ n. Some n) (sym same)))) (named new_there.0 old_there.0 new_there.1 old_there.1 (along_named s.net _ (f old_there.0) the_run.noted))
+      (λ p q here there. some_of _ there (some_of _ here noted))
     where
       named : (q p : P) → slice_get ys which ≡ Some q → slice_get xs which ≡ Some p → (f q).name ≡ (f p).name →
           option_map (λ x. (f x).name) (slice_get ys which) ≡ option_map (λ x. (f x).name) (slice_get xs which)
@@ -80,6 +88,29 @@ module _ {P : Type 0} (f : P → PeerValue) (xs ys : List P) (which : ℕ) (with
     run = the_run;
     written = written (script_by s.net (notes_grown (f old_there.0) (f new_there.0)));
   }
+
+-- the lists with which the order is asked
+pub run_asked : {P : Type 0} (f : P → PeerValue) (xs ys : List P) (which : ℕ) → which < length xs → length ys ≡ length xs → (net : NetValue)
+    (Holds : (List ℕ → List ℕ) → Type 0) →
+    IfSome (slice_get xs which) (λ p. IfSome (slice_get ys which) (λ q. Holds (bench_enabled net (noted_since (f p).log (f q).log)))) →
+    WithNotesOf net (peered_by (map f xs) (map f ys)) which Holds
+run_asked f xs ys which within count net Holds both =
+    let old = item_there xs which within in
+    let new = item_there ys which (omega (arith, within, count)) in
+    record {
+      was = f old.0;
+      is = f new.0;
+      before = known_there f xs which old.0 old.1;
+      after = known_there f ys which new.0 new.1;
+      holds = some_of _ new.1 (some_of _ old.1 both);
+    }
+
+pub asked_then : {net : NetValue} {peers : Peered} {which : ℕ} (Then Holds : (List ℕ → List ℕ) → Type 0) →
+    ((enabled : List ℕ → List ℕ) → Holds enabled → Then enabled) → WithNotesOf net peers which Holds → WithNotesOf net peers which Then
+asked_then Then Holds next w = record { was = w.was; is = w.is; before = w.before; after = w.after; holds = next _ w.holds }
+
+one_of : {X : Type 0} {o : Option X} {a b : X} → o ≡ Some a → o ≡ Some b → b ≡ a
+one_of e g = cc (e, g)
 
 -- ---- before it: the order got its seed, and both got room
 
@@ -123,21 +154,35 @@ module _ {P : Type 0} (f : P → PeerValue) (xs ys : List P) (which : ℕ) (item
       Ran s was now p q ran log = (now ≡ was ++ growth was now) × (q.log ≡ log ++ noted_since log q.log)
           × IsBenchRun (λ (v : PeerValue). v) s (growth was now) (noted_since log q.log) p q ran
 
+  pub prepared_asked : (net : NetValue) (Then Holds : (List ℕ → List ℕ) → Type 0) → ((enabled : List ℕ → List ℕ) → Holds enabled → Then enabled) →
+      WithNotesOf net (peered_by (map f (set xs which ready)) (map f ys)) which Holds → WithNotesOf net (peered_by (map f xs) (map f ys)) which Then
+  prepared_asked net Then Holds next w =
+      let logs : w.was.log ≡ (f item).log = ap (λ (p : PeerValue). p.log) (one_known w.before (known_is f xs which ready within)) ∙ log in
+      record {
+        was = f item;
+        is = w.is;
+        before = known_was f xs which item within there;
+        after = w.after;
+        holds = next _ (subst (λ (l : List Note). Holds (bench_enabled net (noted_since l w.is.log))) logs w.holds);
+      }
+
   -- a device that got room, and no run
   pub ready_keeps : KeepsPeers (Some which) (peered_by (map f xs) (map f (set xs which ready)))
-  ready_keeps = kept_peers f xs (set xs which ready) which (others_at xs which ready)
+  ready_keeps = kept_peers f xs (set xs which ready) which (λ k other. set_apart xs which k ready (λ same. other (ap (λ n. Some n) (sym same))))
       (ap (option_map (λ x. (f x).name)) (get_same xs which ready within)
       ∙ (ap (λ n. Some n) name
-      ∙ sym (ap (option_map (λ x. (f x).name)) (slice_get-get_or xs which item within ∙ ap (λ y. Some y) (sym there)))))
+      ∙ sym (ap (option_map (λ x. (f x).name)) is_item)))
+      (λ was is held holds. notes_same (f was).log (f is).log (ap (λ x. (f x).log) (one_of (get_same xs which ready within) holds)
+      ∙ log ∙ ap (λ x. (f x).log) (one_of is_item held)))
+    where
+      is_item : slice_get xs which ≡ Some item
+      is_item = slice_get-get_or xs which item within ∙ ap (λ y. Some y) (sym there)
 
 -- ---- one change after another
 
-keeps_both : (which : Option ℕ) (a b c : List PeerValue) → KeepsPeers which (peered_by a b) → KeepsPeers which (peered_by b c)
-    → KeepsPeers which (peered_by a c)
-keeps_both which a b c one two = record { names = two.names ∙ one.names; others = λ k other. two.others k other ∙ one.others k other }
-
-pub stay_both : {X : Type 0} (which : Option ℕ) (a b c : List X) → OthersStay which a b → OthersStay which b c → OthersStay which a c
-stay_both which a b c one two = λ k other. two k other ∙ one k other
+pub objects_both : {D : Type 0} {Device : D → Type 0} (which : Option ℕ) (a b c : List (DynBox D Global Device)) → SameObjects which a b →
+    SameObjects which b c → SameObjects which a c
+objects_both which a b c one two = record { kinds = two.kinds ∙ one.kinds; others = λ k other. two.others k other ∙ one.others k other }
 
 pub keeps_then : {P : Type 0} (f : P → PeerValue) (which : Option ℕ) (xs ys zs : List P) → KeepsPeers which (peered_by (map f xs) (map f ys)) →
     KeepsPeers which (peered_by (map f ys) (map f zs)) → KeepsPeers which (peered_by (map f xs) (map f zs))
@@ -145,8 +190,9 @@ keeps_then f which xs ys zs one two = keeps_both which (map f xs) (map f ys) (ma
 
 -- ---- the order is one of those that are handed in
 
-module _ {O P : Type 0} (order : O → OrderState) (peer : P → PeerValue) (os : List O) (ps rs : List P) (place which : ℕ) (item now : O)
-    (within : place < length os) (there : item ≡ get_or os place item) where
+module _ {B : Type 0} {Order : B → Type 0} {D : Type 0} {Device : D → Type 0} (order : DynBox B Global Order → OrderState)
+    (peer : DynBox D Global Device → PeerValue) (os : List (DynBox B Global Order)) (ps rs : List (DynBox D Global Device)) (place which : ℕ)
+    (item now : DynBox B Global Order) (within : place < length os) (there : item ≡ get_or os place item) where
   pub net_benched : (seed : ℕ) (s : SetupValue) (answer : Answer) →
       AgainstPeer s seed (order item) (order now) (peered_by (map peer ps) (map peer rs)) which answer →
       BenchesNet (handed_over order peer os (set os place now) ps rs) place which seed s answer
@@ -158,19 +204,22 @@ module _ {O P : Type 0} (order : O → OrderState) (peer : P → PeerValue) (os 
     against = against;
   }
 
-  pub net_stays : (order now).name ≡ (order item).name → KeepsPeers (Some which) (peered_by (map peer ps) (map peer rs)) → OthersStay (Some which) ps rs →
+  pub net_stays : (order now).name ≡ (order item).name → (order now).log ≡ (order item).log ++ growth (order item).log (order now).log →
+      now.vtable ≡ item.vtable → KeepsPeers (Some which) (peered_by (map peer ps) (map peer rs)) → SameObjects (Some which) ps rs →
       StayHandedIn order peer (Some place) (Some which) os (set os place now) ps rs
-  net_stays name keeps stay = record {
-    orders = only_played place (played_by (map order os) (map order (set os place now))) (played_at order os place item now within there name);
-    others = others_at os place now;
+  net_stays name grown kind keeps stay = record {
+    orders = only_played place (played_by (map order os) (map order (set os place now))) (played_at order os place item now within there name grown);
+    order_objects = objects_at os place item now within there kind;
     peers = keeps;
-    peers_others = stay;
+    peer_objects = stay;
   }
 
 -- ---- the same, where lists, places and nets are called otherwise
 
-pub others_apart : {X : Type 0} (xs ys : List X) (which : ℕ) → ((k : ℕ) → (k ≡ which → ⊥) → slice_get ys k ≡ slice_get xs k) → OthersStay (Some which) xs ys
-others_apart xs ys which stay = λ k other. stay k (λ same. other (ap (λ n. Some n) (sym same)))
+pub run_objects : {D : Type 0} {Device : D → Type 0} (xs ys : List (DynBox D Global Device)) (which : ℕ) →
+    map (λ (box : DynBox D Global Device). box.vtable) ys ≡ map (λ (box : DynBox D Global Device). box.vtable) xs →
+    ((k : ℕ) → (k ≡ which → ⊥) → slice_get ys k ≡ slice_get xs k) → SameObjects (Some which) xs ys
+run_objects xs ys which kinds stay = record { kinds = kinds; others = λ k other. stay k (λ same. other (ap (λ n. Some n) (sym same))) }
 
 module _ {P : Type 0} (f : P → PeerValue) {xs ys old new : List P} {which place : ℕ} (same_old : old ≡ xs) (same_new : new ≡ ys)
     (same_place : place ≡ which) where
@@ -181,9 +230,13 @@ module _ {P : Type 0} (f : P → PeerValue) {xs ys old new : List P} {which plac
   pub keeps_as : KeepsPeers (Some which) (peered_by (map f xs) (map f ys)) → KeepsPeers (Some place) (peered_by (map f old) (map f new))
   keeps_as k = rw (same_old, same_new, same_place) k
 
-pub stays_as : {X : Type 0} (xs ys old new : List X) (which place : ℕ) → old ≡ xs → new ≡ ys → place ≡ which → OthersStay (Some which) xs ys →
-    OthersStay (Some place) old new
-stays_as xs ys old new which place same_old same_new same_place k = rw (same_old, same_new, same_place) k
+  pub asked_as : {net own : NetValue} → own ≡ net → (Holds : (List ℕ → List ℕ) → Type 0) →
+      WithNotesOf net (peered_by (map f xs) (map f ys)) which Holds → WithNotesOf own (peered_by (map f old) (map f new)) place Holds
+  asked_as same_net Holds w = rw (same_old, same_new, same_place, same_net) w
+
+pub objects_as : {D : Type 0} {Device : D → Type 0} (xs ys old new : List (DynBox D Global Device)) (which place : ℕ) → old ≡ xs → new ≡ ys →
+    place ≡ which → SameObjects (Some which) xs ys → SameObjects (Some place) old new
+objects_as xs ys old new which place same_old same_new same_place k = rw (same_old, same_new, same_place) k
 
 pub holds_in : {X : Type 0} (xs : List X) (k : ℕ) (x : X) (Q : X → Type 0) → k < length xs → Q x → IfSome (slice_get (set xs k x) k) Q
 holds_in xs k x Q within holds = subst (λ o. IfSome o Q) (sym (get_same xs k x within)) holds

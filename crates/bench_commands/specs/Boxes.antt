@@ -2,6 +2,7 @@
 -- methods.
 use Rattle.std.specs.declared.alloc.Global.{Global}
 use Rattle.std.specs.declared.dyn_box.DynBox.{DynBox}
+use Rattle.event_sim.specs.Asking.{PickerValue, picker_value}
 use Rattle.event_sim.specs.declared.picker.Picker.{Ghosts as PickerMembers}
 use Rattle.peer_bench.specs.declared.peer.Peer.{Ghosts as PeerMembers}
 use Rattle.peer_bench.specs.Asking.{PeerValue, peer_value}
@@ -12,6 +13,13 @@ abbrev pub order_seen : {B : Type 0} {Order : B → Type 0} →
     ((box : DynBox B Global Order) → PickerMembers (Order box.vtable)) → DynBox B Global Order → OrderState
 order_seen order box = order_state ((order box).name box.value) ((order box).log box.value)
     ((order box).seeded box.value)
+
+-- what is known of it as a scheduler
+abbrev pub picker_seen : {B : Type 0} {Order : B → Type 0} →
+    ((box : DynBox B Global Order) → PickerMembers (Order box.vtable)) → DynBox B Global Order → PickerValue
+picker_seen order box = picker_value ((order box).name box.value) ((order box).log box.value)
+    ((order box).spare box.value) ((order box).nodes box.value) ((order box).seeded box.value)
+    ((order box).choice box.value)
 
 -- and of a device
 abbrev pub peer_seen : {D : Type 0} {Device : D → Type 0} →

@@ -1,8 +1,10 @@
 -- All that a call is handed in: orders and devices.
 use Rattle.std.specs.Prelude.{ℕ, List, map, Option}
+use Rattle.std.specs.declared.alloc.Global.{Global}
+use Rattle.std.specs.declared.dyn_box.DynBox.{DynBox}
 use Rattle.peer_bench.specs.Asking.{PeerValue}
 use Rattle.command_steps.specs.Orders.{OrderState, Played, KeepsOrders, played_by}
-use Rattle.simulation_commands.specs.Simulating.{OthersStay}
+use Rattle.simulation_commands.specs.Simulating.{SameObjects}
 use Rattle.bench_commands.specs.Peers.{Peered, KeepsPeers, peered_over}
 
 -- what is known of them before a call and after it
@@ -18,11 +20,13 @@ handed_over order peer orders_before orders_after peers_before peers_after = rec
   peers = peered_over peer peers_before peers_after;
 }
 
--- All have their names and their places still; and each order but the one at the first place, and each device but the
--- one at the second, if these are asked for, is the very object that it was.
-pub record StayHandedIn {O P : Type 0} (order : O → OrderState) (peer : P → PeerValue) (place which : Option ℕ)
-    (orders_before orders_after : List O) (peers_before peers_after : List P) : Type 0 where
+-- All objects are still there, each in its place, with its name, and its log has at most grown. Each order but the one at
+-- the first place, and each device but the one at the second, if these are asked for, is as it was.
+pub record StayHandedIn {B : Type 0} {Order : B → Type 0} {D : Type 0} {Device : D → Type 0}
+    (order : DynBox B Global Order → OrderState) (peer : DynBox D Global Device → PeerValue) (place which : Option ℕ)
+    (orders_before orders_after : List (DynBox B Global Order))
+    (peers_before peers_after : List (DynBox D Global Device)) : Type 0 where
   pub orders : KeepsOrders place (played_by (map order orders_before) (map order orders_after))
-  pub others : OthersStay place orders_before orders_after
+  pub order_objects : SameObjects place orders_before orders_after
   pub peers : KeepsPeers which (peered_over peer peers_before peers_after)
-  pub peers_others : OthersStay which peers_before peers_after
+  pub peer_objects : SameObjects which peers_before peers_after

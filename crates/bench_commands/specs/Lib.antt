@@ -2,4 +2,5 @@ pub mod Boxes
 pub mod Peers
 pub mod HandedIn
 pub mod OnBench
+pub mod Asked
 pub mod PreparedRuns

@@ -1,6 +1,7 @@
 -- The handed-in devices, as far as a call speaks of them.
-use Rattle.std.specs.Prelude.{◌≡◌, ◌≢◌, ℕ, List, map, slice_get, position, bytes_eq, Option, Some, None}
+use Rattle.std.specs.Prelude.{◌≡◌, ◌≢◌, ℕ, List, ◌++◌, map, slice_get, position, bytes_eq, Option, Some, None}
 use Rattle.peer_bench.specs.Asking.{PeerValue}
+use Rattle.peer_bench.specs.Benches.{noted_since}
 use Rattle.command_answers.specs.declared.status.Status.TheVariants.{NoPeer}
 use Rattle.command_answers.specs.Answers.{Answer, refuses}
 use Rattle.command_answers.specs.Lines.{no_peer_line}
@@ -21,10 +22,13 @@ peered_over peer before after = peered_by (map peer before) (map peer after)
 abbrev pub peer_named : List PeerValue → (name : List ℕ) → Option ℕ
 peer_named peers name = position (λ (p : PeerValue). bytes_eq p.name name) peers
 
--- all have their names still, and each but the one at the place that is asked for, if any is, is as it was
+-- All have their names still, and each but the one at the place that is asked for, if any is, is as it was. The notes of
+-- each before are a prefix of those after.
 pub record KeepsPeers (asked : Option ℕ) (peers : Peered) : Type 0 where
   pub names : map (λ (p : PeerValue). p.name) peers.after ≡ map (λ (p : PeerValue). p.name) peers.before
   pub others : (place : ℕ) → asked ≢ Some place → slice_get peers.after place ≡ slice_get peers.before place
+  pub logs : (place : ℕ) (was is : PeerValue) → slice_get peers.before place ≡ Some was →
+      slice_get peers.after place ≡ Some is → is.log ≡ was.log ++ noted_since was.log is.log
 
 -- a step: it wants a device of this name
 pub data FromPeer (peers : Peered) (name : List ℕ) (Next : ℕ → Answer → Type 0) : Answer → Type 0 where

@@ -1,18 +1,21 @@
 //! `bench PRS --peer NAME`: one run of a net against a handed-in device, whose moves a handed-in order chooses.
 
-ghost use Rattle.std.specs.Prelude.{◌≡◌, ◌+◌, ◌*◌, ◌<◌, ◌≤◌, ◌∷◌, [], length, map, slice_get, IfOk, IfErr, IfSome, OnOk, Some};
+ghost use Rattle.std.specs.Prelude.{◌≡◌, ◌+◌, ◌*◌, ◌<◌, ◌≤◌, ◌∷◌, ◌++◌, [], length, map, slice_get, IfOk, IfErr, IfSome, OnOk, Some};
 ghost use Rattle.command_answers.specs.Answers.{given_by};
 ghost use Rattle.command_answers.specs.Replies.{Stops, stop_status, told_answer};
 ghost use Rattle.command_steps.specs.Orders.{place_named};
 ghost use Rattle.command_words.specs.BenchWords.{bench_asked};
+ghost use Rattle.event_sim.specs.Asking.{IsAskedAlong};
 ghost use Rattle.event_sim.specs.Simulating.{growth};
 ghost use Rattle.peer_bench.specs.Benches.{external_channels};
-ghost use Rattle.bench_commands.specs.Boxes.{order_seen, peer_seen};
+ghost use Rattle.bench_commands.specs.Asked.{AsksBench, AsksBenchAt, WithNotesOf};
+ghost use Rattle.bench_commands.specs.Boxes.{order_seen, peer_seen, picker_seen};
 ghost use Rattle.bench_commands.specs.HandedIn.{StayHandedIn, handed_over};
 ghost use Rattle.bench_commands.specs.OnBench.{AgainstPeer, Benches, BenchesAt, BenchesNet, setup_for};
 ghost use Rattle.bench_commands.specs.Peers.{KeepsPeers, peer_named, peered_over};
 ghost use Rattle.bench_commands.specs.PreparedRuns.{RunsAgainst};
-ghost use Rattle.simulation_commands.specs.Simulating.{OthersStay, StaysUnasked};
+ghost use Rattle.simulation_commands.specs.Asked.{IsAskedAt, IsAskedThrough};
+ghost use Rattle.simulation_commands.specs.Simulating.{SameObjects, StaysUnasked};
 
 use crate::peer_places::place_of_peer;
 use chp_edge::Shelf;
@@ -42,6 +45,7 @@ fn make_ready(peer: &mut Box<dyn Peer>, notes: u32) -> Result<(), AllocError>
     ensures due { due peer.new ≡ due peer.old }
     ensures willing { willing peer.new ≡ willing peer.old }
     ensures room { OnOk result (notes ≤ spare peer.new) }
+    ensures kind { peer.new.vtable ≡ peer.old.vtable }
 {
     peer.make_room(notes)
 }
@@ -66,11 +70,18 @@ fn report_on(
         (order_seen Picker-box picker.old).log
         (order_seen Picker-box picker.new).log (peered_over (peer_seen Peer-box) peers.old.items peers.new.items)
         which (told_answer output)) }
+    ensures asked { IfOk result (λ output. WithNotesOf net (peered_over (peer_seen Peer-box) peers.old.items
+        peers.new.items) which (λ enabled. IsAskedAlong (picker_seen Picker-box) enabled
+        (growth (picker_seen Picker-box picker.old).log (picker_seen Picker-box picker.new).log)
+        picker.old picker.new)) }
     ensures name { (order_seen Picker-box picker.new).name ≡
         (order_seen Picker-box picker.old).name }
+    ensures grown { (order_seen Picker-box picker.new).log ≡ (order_seen Picker-box picker.old).log
+        ++ growth (order_seen Picker-box picker.old).log (order_seen Picker-box picker.new).log }
+    ensures kind { picker.new.vtable ≡ picker.old.vtable }
     ensures seeded { seeded picker.new ≡ seeded picker.old }
     ensures peers { KeepsPeers (Some which) (peered_over (peer_seen Peer-box) peers.old.items peers.new.items) }
-    ensures peers_others { OthersStay (Some which) peers.old.items peers.new.items }
+    ensures peer_objects { SameObjects (Some which) peers.old.items peers.new.items }
 {
     let taken = mem::replace(peers, Vec::new(alloc));
     let bench = match Bench::new(alloc, net, taken, which, steps) {
@@ -101,10 +112,16 @@ fn bench_with(
         (order_seen Picker-box picker.old)
         (order_seen Picker-box picker.new) (peered_over (peer_seen Peer-box) peers.old.items peers.new.items)
         which (told_answer output)) }
+    ensures asked { IfOk result (λ output. WithNotesOf net (peered_over (peer_seen Peer-box) peers.old.items
+        peers.new.items) which (λ enabled. IsAskedThrough (picker_seen Picker-box) enabled asked.now.seed
+        picker.old picker.new)) }
     ensures name { (order_seen Picker-box picker.new).name ≡
         (order_seen Picker-box picker.old).name }
+    ensures grown { (order_seen Picker-box picker.new).log ≡ (order_seen Picker-box picker.old).log
+        ++ growth (order_seen Picker-box picker.old).log (order_seen Picker-box picker.new).log }
+    ensures kind { picker.new.vtable ≡ picker.old.vtable }
     ensures peers { KeepsPeers (Some which) (peered_over (peer_seen Peer-box) peers.old.items peers.new.items) }
-    ensures peers_others { OthersStay (Some which) peers.old.items peers.new.items }
+    ensures peer_objects { SameObjects (Some which) peers.old.items peers.new.items }
 {
     let room = Room {
         picks: asked.steps,
@@ -132,6 +149,9 @@ fn bench_net(
     ensures answered { IfOk result (λ output. BenchesNet (handed_over (order_seen Picker-box) (peer_seen Peer-box)
         orders.old.items orders.new.items peers.old.items peers.new.items)
         place which asked.now.seed (setup_for net asked.now.steps) (told_answer output)) }
+    ensures asked { IfOk result (λ output. WithNotesOf net (peered_over (peer_seen Peer-box) peers.old.items
+        peers.new.items) which (λ enabled. IsAskedAt (picker_seen Picker-box) place enabled asked.now.seed
+        orders.old.items orders.new.items)) }
     ensures stay { StayHandedIn (order_seen Picker-box) (peer_seen Peer-box)
         (Some place) (Some which)
         orders.old.items orders.new.items peers.old.items peers.new.items }
@@ -156,6 +176,9 @@ fn bench_at<'a, S: Shelf>(
         (given_by (S.tells shelf.old) (S.holds shelf.old)) (handed_over (order_seen Picker-box) (peer_seen Peer-box)
         orders.old.items orders.new.items peers.old.items peers.new.items)
         place which (told_answer output)) }
+    ensures asked { IfOk result (λ output. AsksBenchAt (picker_seen Picker-box) (peer_seen Peer-box)
+        (bench_asked asked.now) (given_by (S.tells shelf.old) (S.holds shelf.old)) place which
+        orders.old.items orders.new.items peers.old.items peers.new.items) }
     ensures stopped { IfErr result (Stops (BenchesAt (bench_asked asked.now)
         (given_by (S.tells shelf.old) (S.holds shelf.old)) (handed_over (order_seen Picker-box) (peer_seen Peer-box)
         orders.old.items orders.new.items peers.old.items peers.new.items) place which)
@@ -190,6 +213,9 @@ pub fn bench<'a, S: Shelf>(
     ensures answered { IfOk result (λ output. Benches (bench_asked asked.now)
         (given_by (S.tells shelf.old) (S.holds shelf.old)) (handed_over (order_seen Picker-box) (peer_seen Peer-box)
         orders.old.items orders.new.items peers.old.items peers.new.items) (told_answer output)) }
+    ensures asked { IfOk result (λ output. AsksBench (picker_seen Picker-box) (peer_seen Peer-box)
+        (bench_asked asked.now) (given_by (S.tells shelf.old) (S.holds shelf.old))
+        orders.old.items orders.new.items peers.old.items peers.new.items) }
     ensures stopped { IfErr result (Stops (Benches (bench_asked asked.now)
         (given_by (S.tells shelf.old) (S.holds shelf.old)) (handed_over (order_seen Picker-box) (peer_seen Peer-box)
         orders.old.items orders.new.items peers.old.items peers.new.items))

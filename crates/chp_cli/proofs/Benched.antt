@@ -27,7 +27,7 @@ use Rattle.command_steps.specs.Steps.{a_file, a_net}
 use Rattle.command_words.specs.BenchWords.{AskedBench}
 use Rattle.grown_commands.proofs.SafeRuns.{all_safe}
 use Rattle.run_reports.specs.RunReporting.{ending_for}
-use Rattle.chp_cli.specs.BenchedFiles.{BenchedFollows, IsFileBenched}
+use Rattle.chp_cli.specs.BenchedFiles.{BenchedEndsAll, BenchedFollows, IsFileBenched}
 use Rattle.chp_cli.specs.Simulated.{HoldsCarrying, HoldsCompiled}
 use Rattle.chp_cli.proofs.CalmRuns.{file_carries, reported_calm}
 use Rattle.chp_cli.proofs.RoundsFollowed.{followed, meets_sharing}
@@ -62,6 +62,12 @@ module _ (powered : (net : NetValue) (high : Bool) → IsNet net → IsSome net.
       reported_calm _ None against.ran None end text against.written
       (done_calm against.ran.end (calm (setup_for f.net b.steps) _ _ _ _ against.ran f.file.kept run
       (all_safe powered f.net p _ false f.file.kept run.suits (file_carries holds f.held f.file))))
+
+  pub benched_ends : (b : AskedBench) (given : Given) (handed : HandedIn) (p : TypedProgram) → HoldsCarrying given b.net p → (answer : Answer)
+      (f : IsFileBenched b given handed answer) → BenchedEndsAll b given handed f
+  benched_ends b given handed p holds answer f =
+      let run = f.benched.against.run.run in
+      run.one_length (all_safe powered f.net p _ false f.file.kept run.suits (file_carries holds f.held f.file))
 
   pub benched_follow : (hold : (p : TypedProgram) (script : List OfferValue) → MeetsSharing p.body → RoundsHold p script)
       → ((s : SetupValue) (picks : List ℕ) (notes : List Note) (was is : PeerValue) (ran : RanValue) → IsNet s.net →

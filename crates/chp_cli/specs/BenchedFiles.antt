@@ -1,5 +1,7 @@
 -- What follows from what `bench` answers.
 use Rattle.std.specs.Prelude.{◌≡◌, ◌≢◌, ℕ, List, Some}
+use Rattle.env_script.specs.OneLength.{EndsAll}
+use Rattle.event_sim.specs.declared.ran.End.TheVariants.{AtRest}
 use Rattle.event_sim.specs.Simulating.{growth}
 use Rattle.peer_bench.specs.Benches.{bench_start, bench_moves}
 use Rattle.peer_bench.specs.Growing.{script_by}
@@ -40,10 +42,21 @@ BenchedFollows b given handed p f =
     FollowsRounds p f.net (script_by f.net notes) (bench_start f.net)
     (bench_moves f.net notes (growth f.benched.was.log f.benched.is.log)) against.ran.end
 
--- The report is that of a run on a bench without a hazard, which passes what the rounds of a program pass for which
--- `compile` writes this rule file.
+-- where it reports rest, no run under that script has more moves than the one that was made, and each one that rests has
+-- as many, of each node as many
+abbrev pub BenchedEndsAll : (b : AskedBench) (given : Given) (handed : HandedIn) → {answer : Answer} →
+    IsFileBenched b given handed answer → Type 0
+BenchedEndsAll b given handed f = let against = f.benched.against in
+    let notes = notes_grown against.peer_was against.peer_is in
+    against.ran.end ≡ AtRest → EndsAll f.net (script_by f.net notes) (bench_start f.net)
+    (bench_moves f.net notes (growth f.benched.was.log f.benched.is.log))
+
+-- The report is that of a run on a bench without a hazard; where it says rest, no order makes more moves under the
+-- script of all that the device offered and took. The run passes what the rounds of a program pass for which `compile`
+-- writes this rule file.
 pub record IsCalmBench (b : AskedBench) (given : Given) (handed : HandedIn) (end : Ending) (report : List ℕ) : Type 0
   where
     pub run : IsFileBenched b given handed (writes end report)
     pub calm : end ≢ Hazard
+    pub one_length : BenchedEndsAll b given handed run
     pub follows : (p : TypedProgram) → HoldsCompiled given b.net p → BenchedFollows b given handed p run

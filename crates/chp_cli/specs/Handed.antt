@@ -6,7 +6,6 @@ use Rattle.chp_edge.specs.Faults.{Rose}
 use Rattle.chp_edge.specs.declared.shelf.Shelf.{Ghosts as ShelfMembers}
 use Rattle.chp_edge.specs.declared.sink.Sink.{Ghosts as SinkMembers}
 use Rattle.event_sim.specs.declared.picker.Picker.{Ghosts as PickerMembers}
-use Rattle.event_sim.specs.Asking.{PickerValue, picker_value}
 use Rattle.peer_bench.specs.declared.peer.Peer.{Ghosts as PeerMembers}
 use Rattle.command_answers.specs.Answers.{Given, given_by}
 use Rattle.command_words.specs.CommandWords.{Asked}
@@ -49,13 +48,6 @@ pub record NothingFails {S : Type 0} (shelf : ShelfMembers S) (before after : S)
 
 -- ---- orders and peers, each in a box, whose ghost members its table of methods brings
 
--- what is known of an order as a scheduler
-abbrev pub picker_seen : {B : Type 0} {Order : B → Type 0} →
-    ((box : DynBox B Global Order) → PickerMembers (Order box.vtable)) → DynBox B Global Order → PickerValue
-picker_seen order box = picker_value ((order box).name box.value) ((order box).log box.value)
-    ((order box).spare box.value) ((order box).nodes box.value) ((order box).seeded box.value)
-    ((order box).choice box.value)
-
 -- what is known of all of them before the call and after it
 abbrev pub handed_of : {B : Type 0} {Order : B → Type 0} {D : Type 0} {Device : D → Type 0} →
     ((box : DynBox B Global Order) → PickerMembers (Order box.vtable)) →
@@ -64,8 +56,8 @@ abbrev pub handed_of : {B : Type 0} {Order : B → Type 0} {D : Type 0} {Device 
 handed_of order peer before after = handed_over (order_seen order) (peer_seen peer)
     before.orders.items after.orders.items before.peers.items after.peers.items
 
--- All have their names and their places still, and each but the order and the peer that the command asks for, if it
--- asks for such, is the very object that it was.
+-- All objects are still there, each in its place, with its name, and its log has at most grown; and each but the order
+-- and the peer that the command asks for, if it asks for such, is as it was.
 abbrev pub StaysBut : {B : Type 0} {Order : B → Type 0} {D : Type 0} {Device : D → Type 0} →
     ((box : DynBox B Global Order) → PickerMembers (Order box.vtable)) →
     ((box : DynBox D Global Device) → PeerMembers (Device box.vtable)) →

@@ -8,6 +8,7 @@ pub mod TracedFiles
 pub mod BenchedFiles
 pub mod Ends
 pub mod Handed
+pub mod Shown
 pub mod CompiledRuns
 pub mod ServedRuns
 pub use Rattle.chp_edge.specs.Faults

@@ -14,7 +14,7 @@ ghost use Rattle.chp_cli.specs.Commands.{EndsServed, IsAnswer, IsToServe};
 ghost use Rattle.command_steps.specs.Orders.{Played};
 ghost use Rattle.bench_commands.specs.HandedIn.{HandedIn};
 ghost use Rattle.bench_commands.specs.OnBench.{Benches};
-ghost use Rattle.chp_cli.specs.BenchedFiles.{BenchedFollows, IsFileBenched};
+ghost use Rattle.chp_cli.specs.BenchedFiles.{BenchedEndsAll, BenchedFollows, IsFileBenched};
 ghost use Rattle.command_words.specs.BenchWords.{AskedBench};
 ghost use Rattle.chp_cli.specs.Serving.{IsToBench, IsToSimulate, IsToTime, IsToTrace};
 ghost use Rattle.chp_cli.specs.ServedRuns.{IsCompiledToBench, IsCompiledToSimulate, IsCompiledToTime, IsCompiledToTrace};
@@ -142,10 +142,14 @@ pub fn carried_runs_agree()
 }
 
 /// Law: where the simulation of such a rule file reports rest, no order makes more moves of it under that script from
-/// that state, and each run that rests has as many moves, of each node as many.
+/// that state, and each run that rests has as many moves, of each node as many. So it is of a run on a bench, under the
+/// script of all that the device offered and took.
 pub fn carried_runs_have_one_length()
-    ensures { (s : AskedRun) (given : Given) (played : Played) (p : TypedProgram) → HoldsCarrying given s.net p →
+    ensures simulated { (s : AskedRun) (given : Given) (played : Played) (p : TypedProgram) → HoldsCarrying given s.net p →
         (answer : Answer) (f : IsFileSimulated s given played answer) → EndsAllAtRest s given played answer f }
+    ensures benched { (b : AskedBench) (given : Given) (handed : HandedIn) (p : TypedProgram) →
+        HoldsCarrying given b.net p → (answer : Answer) (f : IsFileBenched b given handed answer) →
+        BenchedEndsAll b given handed f }
 {
     power_is_powered();
     safe_moves_bring_no_hazard();

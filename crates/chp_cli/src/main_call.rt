@@ -3,9 +3,8 @@
 ghost use Rattle.std.specs.Prelude.{◌≡◌, ◌≢◌, ℕ, List, [], None, Some, true, false, IfOk, IfErr, ◌⊎◌};
 ghost use Rattle.chp_edge.specs.Faults.{IsReadFault};
 ghost use Rattle.command_answers.specs.Answers.{Answer, status_of};
-ghost use Rattle.command_words.specs.CommandWords.{Asked, IsWithinBounds, asked, asked_by, compiles, simulates};
+ghost use Rattle.command_words.specs.CommandWords.{Asked, IsWithinBounds, asked, asked_by, compiles};
 ghost use Rattle.command_words.specs.CompileWords.{AskedCompilation};
-ghost use Rattle.command_words.specs.SimulateWords.{AskedRun};
 ghost use Rattle.chp_cli.specs.Commands.{EndsServed, IsAnswer, IsToServe, files_of};
 ghost use Rattle.chp_cli.specs.Ends.{AnswersTo, Ends, IsFile};
 ghost use Rattle.chp_cli.specs.Handed.{
@@ -17,15 +16,14 @@ ghost use Rattle.chp_cli.specs.Handed.{
   StaysBut,
   given_of,
   handed_of,
-  picker_seen,
 };
+ghost use Rattle.chp_cli.specs.Shown.{ShowsEnabled};
 ghost use Rattle.command_answers.specs.Replies.{Stops, end_line, end_status, stop_status};
 ghost use Rattle.program_commands.specs.Compiling.{IsFaithfulFile};
 ghost use Rattle.program_commands.specs.RepliesTold.{reply_bytes, told_reply};
 ghost use Rattle.chp_cli.specs.ServedRuns.{IsCompiledToServe};
 ghost use Rattle.chp_cli.specs.CompiledRuns.{IsComparedWith, IsSteady, RunsCompiled};
 ghost use Rattle.command_answers.specs.Statuses.{is_whole};
-ghost use Rattle.simulation_commands.specs.Asked.{AsksOrder};
 ghost use Rattle.simulation_commands.specs.Simulating.{StaysUnasked};
 ghost use Rattle.width_check.specs.Processes.{TypedProgram};
 
@@ -68,8 +66,8 @@ fn answer<'a, S: Shelf>(
         (handed_of Picker-box Peer-box players.old players.new) (told_reply reply)) }
     ensures carried { IfOk result (λ reply. (c : AskedCompilation) → asked command.now ≡ compiles c →
         IsFaithfulFile c (given_of S.Shelf shelf.old) (reply_bytes reply)) }
-    ensures shown { IfOk result (λ reply. (run : AskedRun) → asked command.now ≡ simulates run → AsksOrder
-        (picker_seen Picker-box) run (given_of S.Shelf shelf.old) players.old.orders.items players.new.orders.items) }
+    ensures shown { IfOk result (λ reply. ShowsEnabled Picker-box Peer-box (asked command.now)
+        (given_of S.Shelf shelf.old) players.old players.new) }
     ensures stopped { IfErr result (Stops (IsAnswer (asked command.now) (given_of S.Shelf shelf.old)
         (handed_of Picker-box Peer-box players.old players.new)) (files_of (asked command.now))
         (given_of S.Shelf shelf.old) (S.faults shelf.old) (S.faults shelf.new)) }
@@ -118,9 +116,8 @@ fn run<'a, S: Shelf, K: Sink>(
     ensures carried { (c : AskedCompilation) → asked_by words.now ≡ Some (compiles c) →
         end_status result ≡ Status.Done → (file : List ℕ) × IsAppended K.Sink out.old out.new file
         × IsFaithfulFile c (given_of S.Shelf shelf.old) file }
-    ensures shown { (run : AskedRun) → asked_by words.now ≡ Some (simulates run) → is_whole (end_status result) ≡ true →
-        AsksOrder (picker_seen Picker-box) run (given_of S.Shelf shelf.old) players.old.orders.items
-        players.new.orders.items }
+    ensures shown { (command : Asked) → asked_by words.now ≡ Some command → is_whole (end_status result) ≡ true →
+        ShowsEnabled Picker-box Peer-box command (given_of S.Shelf shelf.old) players.old players.new }
     ensures stay { StaysBut Picker-box Peer-box (asked_by words.now) players.old players.new }
     ensures unasked { StaysUnasked (end_status result) players.old players.new }
     ensures shelf { KeepsShelf S.Shelf shelf.old shelf.new }
@@ -172,14 +169,15 @@ fn run<'a, S: Shelf, K: Sink>(
 ///
 /// A run of a rule file that `compile` wrote on a bench finds no hazard against whatever device. What has passed is a
 /// prefix of what its program passes under the script of all that the device offered and took, and all of it where it
-/// reports rest.
+/// reports rest; then no order makes more moves under that script.
 ///
-/// Where `simulate` writes all of its report, the order that it asks for got its seed, and was then asked before each
-/// move of the run with the list of all moves that are enabled; its picks are the new entries of its log.
+/// Where `simulate`, `bench` or `grow --sum` writes all of its report, the order that it asks for got its seed, and was
+/// then asked before each move of the run with the list of all moves that are enabled; its picks are the new entries of
+/// its log.
 ///
-/// Of the handed-in orders and devices only the one order and the one device that the command asks for are used, if it
-/// asks for such, and none where it refuses: the others are the very objects that they were, and all have their names
-/// and their places still.
+/// All handed-in orders and devices are still there, each in its place: each is of the kind that it was, with its name,
+/// and its log has at most grown. Only the one order and the one device that the command asks for are used, if it asks
+/// for such, and none where it refuses: the others are as they were.
 pub fn chp_main<S: Shelf, K: Sink, W: Sink>(
     alloc: Global,
     words: &[String],
@@ -209,8 +207,8 @@ pub fn chp_main<S: Shelf, K: Sink, W: Sink>(
     ensures silent { is_whole result ≡ false → result ≢ Status.Write → IsAppended K.Sink out.old out.new [] }
     ensures stay { StaysBut Picker-box Peer-box (asked_by words.now) players.old players.new }
     ensures unasked { StaysUnasked result players.old players.new }
-    ensures shown { (run : AskedRun) → asked_by words.now ≡ Some (simulates run) → is_whole result ≡ true → AsksOrder
-        (picker_seen Picker-box) run (given_of S.Shelf shelf.old) players.old.orders.items players.new.orders.items }
+    ensures shown { (command : Asked) → asked_by words.now ≡ Some command → is_whole result ≡ true →
+        ShowsEnabled Picker-box Peer-box command (given_of S.Shelf shelf.old) players.old players.new }
     ensures carried { (c : AskedCompilation) → asked_by words.now ≡ Some (compiles c) → result ≡ Status.Done →
         (file : List ℕ) × IsAppended K.Sink out.old out.new file
         × IsFaithfulFile c (given_of S.Shelf shelf.old) file }

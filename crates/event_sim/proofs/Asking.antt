@@ -3,21 +3,18 @@ use Rattle.std.proofs.Common.{◌≡◌, ℕ, ◌+◌, ◌<◌, ◌≤◌, List,
 use Rattle.std.specs.Prelude.{◌⊎◌, nat_le, if◌then◌else◌}
 use Rattle.std.proofs.lemmas.Bool.{cases_lt, le-leb, lt-leb}
 use Rattle.std.proofs.lemmas.List.{append-nil, length_push, take-append-le, take_all, get_or_append_left, append_assoc}
-use Rattle.prs_core.specs.Nets.{NetValue}
-use Rattle.env_script.specs.Scripts.{OfferValue}
-use Rattle.env_script.specs.Runs.{RunState}
 use Rattle.event_sim.specs.Simulating.{growth}
-use Rattle.event_sim.specs.Asking.{PickerValue, IsPick, IsAskedAlong, enabled_after}
+use Rattle.event_sim.specs.Asking.{PickerValue, IsPick, IsAskedAlong}
 use Rattle.event_sim.proofs.Finishing.{growth_is}
 
-asked_none : {P : Type 0} (known : P → PickerValue) (net : NetValue) (script : List OfferValue) (st : RunState) (was : P) →
-    IsAskedAlong known net script st [] was was
-asked_none known net script st was = record { after_picks = λ k. was; first = refl; last = refl; each = λ k below. absurd (omega arith) }
+pub asked_none : {P : Type 0} (known : P → PickerValue) (enabled : List ℕ → List ℕ) (was : P) →
+    IsAskedAlong known enabled [] was was
+asked_none known enabled was = record { after_picks = λ k. was; first = refl; last = refl; each = λ k below. absurd (omega arith) }
 
-asked_more : {P : Type 0} (known : P → PickerValue) (net : NetValue) (script : List OfferValue) (st : RunState) (picks : List ℕ) (p : ℕ) (was mid is : P) →
-    IsAskedAlong known net script st picks was mid → IsPick (enabled_after net script st picks) p (known mid) (known is) →
-    IsAskedAlong known net script st (picks ++ p ∷ []) was is
-asked_more {P} known net script st picks p was mid is asked pick = record {
+pub asked_more : {P : Type 0} (known : P → PickerValue) (enabled : List ℕ → List ℕ) (picks : List ℕ) (p : ℕ) (was mid is : P) →
+    IsAskedAlong known enabled picks was mid → IsPick (enabled picks) p (known mid) (known is) →
+    IsAskedAlong known enabled (picks ++ p ∷ []) was is
+asked_more {P} known enabled picks p was mid is asked pick = record {
   after_picks = later;
   first = early 0 (omega arith) ∙ asked.first;
   last = ap later (length_push picks p) ∙ at_end;
@@ -38,37 +35,49 @@ asked_more {P} known net script st picks p was mid is asked pick = record {
     one (x ∷ xs) = one xs
 
     by_place : (k : ℕ) → k < length (picks ++ p ∷ []) → (k < length picks) ⊎ (length picks ≤ k) →
-        IsPick (enabled_after net script st (take k (picks ++ p ∷ []))) (get_or (picks ++ p ∷ []) k 0) (known (later k)) (known (later (k + 1)))
+        IsPick (enabled (take k (picks ++ p ∷ []))) (get_or (picks ++ p ∷ []) k 0) (known (later k)) (known (later (k + 1)))
     by_place k below (inl less) =
         rw (take-append-le k picks (p ∷ []) (omega arith), get_or_append_left picks (p ∷ []) 0 k less, early k (omega arith), early (k + 1) (omega arith))
         (asked.each k less)
     by_place k below (inr past) =
         let same : k ≡ length picks = omega (arith, length_push picks p) in
-        subst (λ (n : ℕ). IsPick (enabled_after net script st (take n (picks ++ p ∷ []))) (get_or (picks ++ p ∷ []) n 0) (known (later n))
+        subst (λ (n : ℕ). IsPick (enabled (take n (picks ++ p ∷ []))) (get_or (picks ++ p ∷ []) n 0) (known (later n))
         (known (later (n + 1)))) (sym same) here
       where
         front : take (length picks) (picks ++ p ∷ []) ≡ picks
         front = take-append-le (length picks) picks (p ∷ []) (omega arith) ∙ take_all (length picks) picks (omega arith)
 
-        here : IsPick (enabled_after net script st (take (length picks) (picks ++ p ∷ []))) (get_or (picks ++ p ∷ []) (length picks) 0)
+        here : IsPick (enabled (take (length picks) (picks ++ p ∷ []))) (get_or (picks ++ p ∷ []) (length picks) 0)
             (known (later (length picks))) (known (later (length picks + 1)))
         here = rw (front, one picks, early (length picks) (omega arith), asked.last, at_end) pick
 
+-- only the lists count that some of the picks lead to
+pub asked_alike : {P : Type 0} (known : P → PickerValue) (enabled others : List ℕ → List ℕ) (picks : List ℕ) (was is : P) →
+    ((k : ℕ) → k < length picks → enabled (take k picks) ≡ others (take k picks)) → IsAskedAlong known enabled picks was is →
+    IsAskedAlong known others picks was is
+asked_alike known enabled others picks was is same asked = record {
+  after_picks = asked.after_picks;
+  first = asked.first;
+  last = asked.last;
+  each = λ k below. subst (λ (list : List ℕ). IsPick list (get_or picks k 0) (known (asked.after_picks k)) (known (asked.after_picks (k + 1))))
+      (same k below) (asked.each k below);
+}
+
 -- no pick yet
-pub asked_not : {P : Type 0} (known : P → PickerValue) (net : NetValue) (script : List OfferValue) (st : RunState) (log : List ℕ) (was : P) →
-    IsAskedAlong known net script st (growth log log) was was
-asked_not known net script st log was =
-    subst (λ (picks : List ℕ). IsAskedAlong known net script st picks was was) (sym (growth_is log log [] (sym (append-nil log))))
-    (asked_none known net script st was)
+pub asked_not : {P : Type 0} (known : P → PickerValue) (enabled : List ℕ → List ℕ) (log : List ℕ) (was : P) →
+    IsAskedAlong known enabled (growth log log) was was
+asked_not known enabled log was =
+    subst (λ (picks : List ℕ). IsAskedAlong known enabled picks was was) (sym (growth_is log log [] (sym (append-nil log))))
+    (asked_none known enabled was)
 
 -- one more, where the log has grown by these picks
-pub asked_on : {P : Type 0} (known : P → PickerValue) (net : NetValue) (script : List OfferValue) (st : RunState) (before now later picks : List ℕ) (p : ℕ)
-    (was mid is : P) → now ≡ before ++ picks → later ≡ now ++ p ∷ [] → IsAskedAlong known net script st (growth before now) was mid →
-    IsPick (enabled_after net script st picks) p (known mid) (known is) → IsAskedAlong known net script st (growth before later) was is
-asked_on known net script st before now later picks p was mid is grown more asked pick =
-    subst (λ (ps : List ℕ). IsAskedAlong known net script st ps was is) (sym (growth_is before later (picks ++ p ∷ []) whole))
-    (asked_more known net script st picks p was mid is
-    (subst (λ (ps : List ℕ). IsAskedAlong known net script st ps was mid) (growth_is before now picks grown) asked) pick)
+pub asked_on : {P : Type 0} (known : P → PickerValue) (enabled : List ℕ → List ℕ) (before now later picks : List ℕ) (p : ℕ)
+    (was mid is : P) → now ≡ before ++ picks → later ≡ now ++ p ∷ [] → IsAskedAlong known enabled (growth before now) was mid →
+    IsPick (enabled picks) p (known mid) (known is) → IsAskedAlong known enabled (growth before later) was is
+asked_on known enabled before now later picks p was mid is grown more asked pick =
+    subst (λ (ps : List ℕ). IsAskedAlong known enabled ps was is) (sym (growth_is before later (picks ++ p ∷ []) whole))
+    (asked_more known enabled picks p was mid is
+    (subst (λ (ps : List ℕ). IsAskedAlong known enabled ps was mid) (growth_is before now picks grown) asked) pick)
   where
     whole : later ≡ before ++ (picks ++ p ∷ [])
     whole = more ∙ ap (λ (ps : List ℕ). ps ++ p ∷ []) grown ∙ append_assoc before picks (p ∷ [])

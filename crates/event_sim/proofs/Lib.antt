@@ -8,6 +8,7 @@ pub mod Underway
 pub mod Ranges
 pub mod Finishing
 pub mod Asking
+pub mod KindsKept
 pub mod Wholes
 pub mod Present
 pub mod Aging

@@ -33,11 +33,11 @@ abbrev pub enabled_after : NetValue → List OfferValue → RunState → List �
 enabled_after net script st picks = enabled_moves net script (after net st (follow net script st picks))
 
 -- A scheduler was asked before each move of a run with the list of the moves that were enabled then, and these are its
--- picks. It has a state after each number of picks.
-pub record IsAskedAlong {P : Type 0} (known : P → PickerValue) (net : NetValue) (script : List OfferValue)
-    (st : RunState) (picks : List ℕ) (was is : P) : Type 0 where
+-- picks. It has a state after each number of picks. The list after some picks is what `enabled` says.
+pub record IsAskedAlong {P : Type 0} (known : P → PickerValue) (enabled : List ℕ → List ℕ) (picks : List ℕ)
+    (was is : P) : Type 0 where
   pub after_picks : ℕ → P
   pub first : after_picks 0 ≡ was
   pub last : after_picks (length picks) ≡ is
-  pub each : (k : ℕ) → k < length picks → IsPick (enabled_after net script st (take k picks)) (slice_index picks k)
+  pub each : (k : ℕ) → k < length picks → IsPick (enabled (take k picks)) (slice_index picks k)
       (known (after_picks k)) (known (after_picks (k + 1)))

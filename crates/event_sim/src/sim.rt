@@ -11,7 +11,7 @@ ghost use Rattle.event_sim.specs.Following.{ArePicks};
 ghost use Rattle.event_sim.specs.Passing.{passed_in};
 ghost use Rattle.event_sim.specs.Ends.{end_from, end_with, EndsSo};
 ghost use Rattle.event_sim.specs.Picking.{IsChoiceList};
-ghost use Rattle.event_sim.specs.Asking.{IsAskedAlong, picker_value};
+ghost use Rattle.event_sim.specs.Asking.{IsAskedAlong, enabled_after, picker_value};
 
 use crate::picker::Picker;
 use crate::power::power_state;
@@ -53,6 +53,7 @@ pub fn choose(picker: &mut Box<dyn Picker>, enabled: &[u32]) -> usize
     ensures name { name picker.new ≡ name picker.old }
     ensures nodes { nodes picker.new ≡ nodes picker.old }
     ensures seeded { seeded picker.new ≡ seeded picker.old }
+    ensures kind { picker.new.vtable ≡ picker.old.vtable }
 {
     picker.pick(enabled)
 }
@@ -148,7 +149,8 @@ impl Sim {
         ensures picks { ArePicks self.net self.script (start_at self) (growth (log picker.old) (log picker.new)) }
         ensures asked { IsAskedAlong
             (λ p. picker_value (name p) (log p) (spare p) (nodes p) (seeded p) (choice p))
-            self.net self.script (start_at self) (growth (log picker.old) (log picker.new)) picker.old picker.new }
+            (enabled_after self.net self.script (start_at self)) (growth (log picker.old) (log picker.new))
+            picker.old picker.new }
         ensures run { IsRun self.net self.script (start_at self) (picked_moves self (log picker.old) (log picker.new)) }
         ensures ends { EndsSo self.net self.script self.steps (start_at self)
             (picked_moves self (log picker.old) (log picker.new)) result.end }
@@ -164,6 +166,7 @@ impl Sim {
         ensures name { name picker.new ≡ name picker.old }
         ensures nodes { nodes picker.new ≡ nodes picker.old }
         ensures seeded { seeded picker.new ≡ seeded picker.old }
+        ensures kind { picker.new.vtable ≡ picker.old.vtable }
     {
         let steps = self.steps;
         let mut stage = self.stage;

@@ -1,8 +1,9 @@
 -- What `grow --sum` answers: a summary of the program that is made of the numbers.
-use Rattle.std.specs.Prelude.{◌≡◌, ℕ, ◌+◌, ◌-◌, ◌*◌, ◌==◌, ◌≤◌, if◌then◌else◌, List, [], ◌∷◌, ◌++◌, length, replicate, sum_by, None, codes, decimal}
+use Rattle.std.specs.Prelude.{◌≡◌, ℕ, ◌+◌, ◌-◌, ◌*◌, ◌==◌, ◌≤◌, if◌then◌else◌, List, [], ◌∷◌, ◌++◌, length, map, replicate, sum_by, Some, None, codes, decimal}
 use Rattle.std.specs.List.{concat}
 use Rattle.env_script.specs.declared.script.Count.{Count}
 use Rattle.env_script.specs.Scripts.{OfferValue, gives, takes, nothing}
+use Rattle.event_sim.specs.Asking.{PickerValue}
 use Rattle.event_sim.specs.Simulating.{RanValue, SimValue}
 use Rattle.handshake_expand.specs.Layout.{node_count}
 use Rattle.history_report.specs.Reports.{report_of}
@@ -15,9 +16,10 @@ use Rattle.command_answers.specs.declared.answer.Ending.TheVariants.{Done}
 use Rattle.command_words.specs.declared.grow_words.Growth.{Growth}
 use Rattle.command_answers.specs.Answers.{Answer, writes}
 use Rattle.command_steps.specs.HeldPrograms.{IsProgramOf}
-use Rattle.command_steps.specs.Orders.{Played}
+use Rattle.command_steps.specs.Orders.{Played, place_named}
 use Rattle.run_reports.specs.RunReporting.{ending_for}
 use Rattle.command_steps.specs.RunSteps.{FromOrder}
+use Rattle.simulation_commands.specs.Asked.{IsAskedAt, order_of_picker, simulated_enabled}
 use Rattle.simulation_commands.specs.Simulating.{HasPlayed, simulation_for}
 
 -- ---- the run
@@ -71,6 +73,21 @@ summing_order = codes "lowest"
 
 abbrev pub Summarizes : Growth → Played → Answer → Type 0
 Summarizes growth played = FromOrder played summing_order (SumsUp growth played)
+
+-- ---- with which lists of moves the order is asked
+
+-- the order at this place, in the run of the net of the program that the text of the numbers reads as
+pub record AsksSumAt {P : Type 0} (known : P → PickerValue) (growth : Growth) (place : ℕ) (before after : List P) :
+    Type 0 where
+  pub program : TypedProgram
+  pub read : IsProgramOf (generated_text growth.seed growth.stages) program
+  pub asked : IsAskedAt known place (simulated_enabled (summed_run growth program)) 0 before after
+
+-- it is the first one of its name
+pub record AsksSum {P : Type 0} (known : P → PickerValue) (growth : Growth) (before after : List P) : Type 0 where
+  pub place : ℕ
+  pub named : place_named (map (λ p. order_of_picker (known p)) before) summing_order ≡ Some place
+  pub asked : AsksSumAt known growth place before after
 
 -- ---- what follows from that
 

@@ -2,8 +2,9 @@
 
 ghost use Rattle.std.specs.Prelude.{map, IfOk, IfErr};
 ghost use Rattle.command_words.specs.GrowWords.{IsGrowable};
-ghost use Rattle.grown_commands.specs.Growing.{Grows, IsGrownText, grow_order};
-ghost use Rattle.simulation_commands.specs.Simulating.{OthersStay, StaysUnasked};
+ghost use Rattle.event_sim.specs.Asking.{picker_value};
+ghost use Rattle.grown_commands.specs.Growing.{AsksGrown, Grows, IsGrownText, grow_order};
+ghost use Rattle.simulation_commands.specs.Simulating.{SameObjects, StaysUnasked};
 ghost use Rattle.command_steps.specs.Orders.{KeepsOrders, order_state, played_by};
 ghost use Rattle.command_answers.specs.Replies.{Halts, stop_status, told_answer};
 
@@ -40,6 +41,9 @@ pub fn grow<'a>(
         (map (λ order. order_state (name order) (log order) (seeded order)) orders.old.items)
         (map (λ order. order_state (name order) (log order) (seeded order)) orders.new.items))
         (told_answer output)) }
+    ensures asked { IfOk result (λ output. AsksGrown growth.now.sum
+        (λ p. picker_value (name p) (log p) (spare p) (nodes p) (seeded p) (choice p))
+        growth.now orders.old.items orders.new.items) }
     ensures stopped { IfErr result (Halts (Grows growth.now (played_by
         (map (λ order. order_state (name order) (log order) (seeded order)) orders.old.items)
         (map (λ order. order_state (name order) (log order) (seeded order)) orders.new.items)))) }
@@ -47,7 +51,7 @@ pub fn grow<'a>(
         orders.old.items in
         KeepsOrders (grow_order growth.now.sum before) (played_by before
         (map (λ order. order_state (name order) (log order) (seeded order)) orders.new.items)) }
-    ensures others { OthersStay (grow_order growth.now.sum
+    ensures objects { SameObjects (grow_order growth.now.sum
         (map (λ order. order_state (name order) (log order) (seeded order)) orders.old.items))
         orders.old.items orders.new.items }
     ensures unasked { IfErr result (λ stop. StaysUnasked (stop_status stop) orders.old orders.new) }

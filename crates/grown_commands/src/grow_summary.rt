@@ -3,6 +3,7 @@
 ghost use Rattle.std.specs.Prelude.{◌≡◌, ◌+◌, ◌*◌, ◌<◌, ◌≤◌, None, length, map, IfOk, IfErr};
 ghost use Rattle.env_script.specs.Environment.{net_channels};
 ghost use Rattle.env_script.specs.Scripts.{IsScript};
+ghost use Rattle.event_sim.specs.Asking.{picker_value};
 ghost use Rattle.grown_programs.specs.Served.{pipeline_channels};
 ghost use Rattle.handshake_expand.specs.Layout.{node_count};
 ghost use Rattle.net_compose.specs.Carries.{Carries};
@@ -13,8 +14,9 @@ ghost use Rattle.command_words.specs.GrowWords.{IsGrowable};
 ghost use Rattle.command_steps.specs.HeldPrograms.{IsProgramOf};
 ghost use Rattle.command_steps.specs.Orders.{IsPlayedAt, KeepsOrders, order_state, place_named, played_by};
 ghost use Rattle.command_answers.specs.Replies.{Halts, stop_status, told_answer};
-ghost use Rattle.simulation_commands.specs.Simulating.{OthersStay, StaysUnasked, HasPlayed, simulation_for};
-ghost use Rattle.grown_commands.specs.Summing.{SumsUp, Summarizes, grown_script, guard_rules, most_of_summed_moves, rule_count, summary_of, summing_order};
+ghost use Rattle.simulation_commands.specs.Asked.{IsAskedAt, simulated_enabled};
+ghost use Rattle.simulation_commands.specs.Simulating.{SameObjects, StaysUnasked, HasPlayed, simulation_for};
+ghost use Rattle.grown_commands.specs.Summing.{AsksSum, AsksSumAt, SumsUp, Summarizes, grown_script, guard_rules, most_of_summed_moves, rule_count, summary_of, summing_order};
 
 use command_answers::{Ending, Output, Refusal, Stop};
 use command_steps::{accepted_program, place_of};
@@ -137,10 +139,14 @@ fn run_summed(
         (map (λ order. order_state (name order) (log order) (seeded order)) orders.old.items)
         (map (λ order. order_state (name order) (log order) (seeded order)) orders.new.items))
         place 0 (simulation_for net script most_of_summed_moves None) ran) }
+    ensures asked { IfOk result (λ ran. IsAskedAt
+        (λ p. picker_value (name p) (log p) (spare p) (nodes p) (seeded p) (choice p))
+        place (simulated_enabled (simulation_for net script most_of_summed_moves None)) 0
+        orders.old.items orders.new.items) }
     ensures played { IsPlayedAt place (played_by
         (map (λ order. order_state (name order) (log order) (seeded order)) orders.old.items)
         (map (λ order. order_state (name order) (log order) (seeded order)) orders.new.items)) }
-    ensures others { OthersStay (Some place) orders.old.items orders.new.items }
+    ensures objects { SameObjects (Some place) orders.old.items orders.new.items }
 {
     let room = Room {
         picks: MOST_OF_MOVES,
@@ -163,11 +169,14 @@ fn sum_up_at<'a>(
         (map (λ order. order_state (name order) (log order) (seeded order)) orders.old.items)
         (map (λ order. order_state (name order) (log order) (seeded order)) orders.new.items))
         place (told_answer output)) }
+    ensures asked { IfOk result (λ output. AsksSumAt
+        (λ p. picker_value (name p) (log p) (spare p) (nodes p) (seeded p) (choice p))
+        growth.now place orders.old.items orders.new.items) }
     ensures stopped { IfErr result (λ stop. stop ≡ Stop.NoMemory) }
     ensures played { IsPlayedAt place (played_by
         (map (λ order. order_state (name order) (log order) (seeded order)) orders.old.items)
         (map (λ order. order_state (name order) (log order) (seeded order)) orders.new.items)) }
-    ensures others { OthersStay (Some place) orders.old.items orders.new.items }
+    ensures objects { SameObjects (Some place) orders.old.items orders.new.items }
 {
     let program = grown_program(alloc, growth)?;
     let net = grown_net(alloc, &program)?;
@@ -199,6 +208,9 @@ pub fn sum_up<'a>(
         (map (λ order. order_state (name order) (log order) (seeded order)) orders.old.items)
         (map (λ order. order_state (name order) (log order) (seeded order)) orders.new.items))
         (told_answer output)) }
+    ensures asked { IfOk result (λ output. AsksSum
+        (λ p. picker_value (name p) (log p) (spare p) (nodes p) (seeded p) (choice p))
+        growth.now orders.old.items orders.new.items) }
     ensures stopped { IfErr result (Halts (Summarizes growth.now (played_by
         (map (λ order. order_state (name order) (log order) (seeded order)) orders.old.items)
         (map (λ order. order_state (name order) (log order) (seeded order)) orders.new.items)))) }
@@ -206,7 +218,7 @@ pub fn sum_up<'a>(
         orders.old.items in
         KeepsOrders (place_named before summing_order) (played_by before
         (map (λ order. order_state (name order) (log order) (seeded order)) orders.new.items)) }
-    ensures others { OthersStay (place_named
+    ensures objects { SameObjects (place_named
         (map (λ order. order_state (name order) (log order) (seeded order)) orders.old.items) summing_order)
         orders.old.items orders.new.items }
     ensures unasked { IfErr result (λ stop. StaysUnasked (stop_status stop) orders.old orders.new) }

@@ -15,6 +15,7 @@ use Rattle.env_script.specs.Scripts.{OfferValue, offer_at, IsScript}
 use Rattle.env_script.specs.Environment.{in_reset, net_channels}
 use Rattle.env_script.specs.Runs.{RunState, completed}
 use Rattle.env_script.specs.Hazards.{first_hazard}
+use Rattle.event_sim.specs.Asking.{PickerValue}
 use Rattle.event_sim.specs.Following.{power_value, power_of}
 use Rattle.event_sim.specs.Passing.{channel_histories}
 use Rattle.event_sim.specs.Stages.{StageValue, now_of}
@@ -153,14 +154,15 @@ begun {P} known s now steps asks on more was is last net unasked on_is asks_is s
     by_asks true e asked = asked_quiet known s.net (now_of now) 0 [] more was is asked
     by_asks false e asked = absurd (cc e)
 
-pub begins : {P : Type 0} (known : P → PeerValue) (v : SetupValue) (s now : StageValue) (steps : ℕ) (on : Bool) (more : List Note) (was is : P)
-    (last : Option Hazard) (log : List ℕ) → IsNet s.net → record { net = s.net; steps = steps } ≡ v → IsUnasked s steps →
+pub begins : {P Q : Type 0} (known : P → PeerValue) (seen : Q → PickerValue) (v : SetupValue) (s now : StageValue) (steps : ℕ) (on : Bool) (more : List Note)
+    (was is : P) (chooser : Q) (last : Option Hazard) (log : List ℕ) → IsNet s.net → record { net = s.net; steps = steps } ≡ v → IsUnasked s steps →
     on ≡ in_reset s.net.reset (high s.values) → now ≡ record s { script = now.script } →
     IsAskedByIf (not on) known s.net (now_of s) 0 s.script now.script more was is → AreOffered now.script (now_of now) →
     (known is).spare + free_on s.net s.script (now_of s) ≡ (known was).spare + free_on now.net now.script (now_of now) →
     2 * v.steps + 1 + external_channels v.net ≤ (known was).spare → last ≡ first_hazard now.net (now_of now) →
-    IsScript (net_channels now.net) now.script → HasDriven known v.net v.steps log log 0 was is now last
-begins known v s now steps on more was is last log net view unasked on_is same asked offered room spare hazard kept =
-    subst (λ (x : SetupValue). 2 * x.steps + 1 + external_channels x.net ≤ (known was).spare → HasDriven known x.net x.steps log log 0 was is now last) view
-    (λ enough. has_begun known s.net steps log more was is now last
+    IsScript (net_channels now.net) now.script → HasDriven known seen v.net v.steps log log 0 was is chooser chooser now last
+begins known seen v s now steps on more was is chooser last log net view unasked on_is same asked offered room spare hazard kept =
+    subst (λ (x : SetupValue). 2 * x.steps + 1 + external_channels x.net ≤ (known was).spare →
+    HasDriven known seen x.net x.steps log log 0 was is chooser chooser now last) view
+    (λ enough. has_begun known seen s.net steps log more was is chooser now last
     (begun known s now steps (not on) on more was is last net unasked on_is refl same asked offered room enough hazard kept)) spare

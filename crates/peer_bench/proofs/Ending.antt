@@ -1,20 +1,24 @@
 -- A run on a bench goes on by one move, and ends.
-use Rattle.std.proofs.Common.{◌≡◌, ℕ, zero, suc, ◌+◌, ◌<◌, ◌≤◌, Bool, true, false, List, [], ◌∷◌, ◌++◌, length, get_or, drop, refl, sym, ap, subst, ◌∙◌, inl, inr, arith}
+use Rattle.std.proofs.Common.{◌≡◌, ℕ, zero, suc, ◌+◌, ◌<◌, ◌≤◌, Bool, true, false, List, [], ◌∷◌, ◌++◌, length, get_or, take, drop, refl, sym, ap, subst, ◌∙◌, inl, inr, arith}
 use Rattle.std.specs.Prelude.{◌⊎◌, not, ◌&&◌, ◌||◌, ◌==◌, if◌then◌else◌, All, AllPairs, Option, Some, None}
 use Rattle.std.proofs.lemmas.Bool.{eq-eqb, or_parts, and_from, not_from_false}
-use Rattle.std.proofs.lemmas.List.{append-nil, append_assoc, length_push}
+use Rattle.std.proofs.lemmas.List.{append-nil, append_assoc, length_push, length-take-le}
 use Rattle.prs_core.specs.Nets.{NetValue, IsNet}
 use Rattle.prs_core.specs.Moves.{high, rule_enabled}
 use Rattle.env_script.specs.declared.hazard.Hazard.{Hazard}
 use Rattle.env_script.specs.Scripts.{OfferValue, offer_at}
 use Rattle.env_script.specs.Environment.{all_below, in_reset, is_reset, rules_rest, raises_go, channels_move}
 use Rattle.env_script.specs.Runs.{RunState, after, moved, completed, IsAtRest}
+use Rattle.env_script.proofs.Fronts.{ends_all}
 use Rattle.event_sim.specs.declared.ran.End.{End}
 use Rattle.event_sim.specs.declared.ran.End.TheVariants.{AtRest, Spent}
+use Rattle.event_sim.specs.Asking.{PickerValue, IsPick, IsAskedAlong}
 use Rattle.event_sim.specs.Ends.{end_from, end_with, last_hazard}
+use Rattle.event_sim.specs.Following.{enabled_moves}
 use Rattle.event_sim.specs.Picking.{IsChoiceList}
 use Rattle.event_sim.specs.Simulating.{RanValue, IsEndIn, growth}
 use Rattle.event_sim.specs.Stages.{StageValue, now_of, moves_now}
+use Rattle.event_sim.proofs.Asking.{asked_alike, asked_more, asked_none}
 use Rattle.event_sim.proofs.Finishing.{growth_is}
 use Rattle.event_sim.proofs.Following.{ascending, enabled_below}
 use Rattle.event_sim.proofs.Ranges.{rests, end_within}
@@ -24,38 +28,61 @@ use Rattle.peer_bench.specs.Running.{Scripts, later, hazard_under}
 use Rattle.peer_bench.specs.Asking.{PeerValue}
 use Rattle.peer_bench.specs.Along.{NothingComes}
 use Rattle.peer_bench.specs.Steps.{IsMoveNoted, AreOffered, AreRailsHeld, free_on}
-use Rattle.peer_bench.specs.Benches.{SetupValue, bench_start, bench_moves, noted_since, IsBenchRun}
+use Rattle.peer_bench.specs.Benches.{SetupValue, bench_start, bench_moves, bench_enabled, noted_since, IsBenchRun}
+use Rattle.peer_bench.proofs.Growth.{enabled_agree, script_now}
+use Rattle.peer_bench.proofs.Placed.{ArePlaced, along_placed}
 use Rattle.peer_bench.proofs.Underway.{IsDriven, IsMade, goes_calm, moves_count, listed_now, end_now, step}
 
--- a picker's log has grown by so many picks, and these have led to the stage
-pub record HasDriven {P : Type 0} (known : P → PeerValue) (net : NetValue) (steps : ℕ) (before now : List ℕ) (count : ℕ) (was is : P)
-    (stage : StageValue) (last : Option Hazard) : Type 0 where
+-- A scheduler's log has grown by so many picks, and these have led to the stage. It was asked before each of these moves with the list of those that
+-- were enabled.
+pub record HasDriven {P Q : Type 0} (known : P → PeerValue) (seen : Q → PickerValue) (net : NetValue) (steps : ℕ) (before now : List ℕ) (count : ℕ)
+    (was is : P) (at_first chooser : Q) (stage : StageValue) (last : Option Hazard) : Type 0 where
   pub picks : List ℕ
   pub notes : List Note
   pub grown : now ≡ before ++ picks
   pub counted : length picks ≡ count
   pub driven : IsDriven known net steps picks notes was is stage last
+  pub asked : IsAskedAlong seen (bench_enabled net notes) picks at_first chooser
 
-pub has_begun : {P : Type 0} (known : P → PeerValue) (net : NetValue) (steps : ℕ) (log : List ℕ) (notes : List Note) (was is : P) (stage : StageValue)
-    (last : Option Hazard) → IsDriven known net steps [] notes was is stage last → HasDriven known net steps log log 0 was is stage last
-has_begun known net steps log notes was is stage last d =
-    record { picks = []; notes = notes; grown = sym (append-nil log); counted = refl; driven = d }
+pub has_begun : {P Q : Type 0} (known : P → PeerValue) (seen : Q → PickerValue) (net : NetValue) (steps : ℕ) (log : List ℕ) (notes : List Note)
+    (was is : P) (chooser : Q) (stage : StageValue) (last : Option Hazard) → IsDriven known net steps [] notes was is stage last →
+    HasDriven known seen net steps log log 0 was is chooser chooser stage last
+has_begun known seen net steps log notes was is chooser stage last d = record {
+  picks = [];
+  notes = notes;
+  grown = sym (append-nil log);
+  counted = refl;
+  driven = d;
+  asked = asked_none seen (bench_enabled net notes) chooser;
+}
 
-pub goes_on : {P : Type 0} (known : P → PeerValue) (net : NetValue) (s next : StageValue) (steps : ℕ) (before now log : List ℕ) (count : ℕ) (was mid is : P)
-    (last brought : Option Hazard) (p n at : ℕ) → IsNet net → HasDriven known net steps before now count was mid s last → log ≡ now ++ p ∷ [] →
+pub goes_on : {P Q : Type 0} (known : P → PeerValue) (seen : Q → PickerValue) (net : NetValue) (s next : StageValue) (steps : ℕ) (before now log : List ℕ)
+    (count : ℕ) (was mid is : P) (at_first chooser picked : Q) (last brought : Option Hazard) (p n at : ℕ) → IsNet net →
+    HasDriven known seen net steps before now count was mid at_first chooser s last → log ≡ now ++ p ∷ [] →
+    IsPick (moves_now s) p (seen chooser) (seen picked) →
     count < steps → end_with last (moves_now s) false ≡ None → p < length (moves_now s) → n ≡ get_or (moves_now s) p n → IsMade s next n brought →
     at ≡ count + 1 → IsMoveNoted known s.net (now_of s) (now_of next) n at s.script next.script mid is → AreOffered next.script (now_of next) →
     (known mid).spare + free_on s.net next.script (now_of next) ≤ (known is).spare + free_on s.net s.script (now_of s) + 2 →
-    HasDriven known net steps before log (count + 1) was is next brought
-goes_on known net s next steps before now log count was mid is last brought p n at is_net h more few goes within here made moment noted offered spare =
+    HasDriven known seen net steps before log (count + 1) was is at_first picked next brought
+goes_on known seen net s next steps before now log count was mid is at_first chooser picked last brought p n at is_net h more pick few goes within here made
+    moment noted offered spare =
     let one = step known net s next steps h.picks h.notes was mid is last brought p n at is_net h.driven (omega (arith, h.counted)) goes within here made
     (omega (arith, h.counted)) noted offered spare in
+    let listed : moves_now s ≡ bench_enabled net (h.notes ++ one.0) h.picks = listed_now known net steps h.picks h.notes was mid s last h.driven
+    ∙ ap (λ (e : List OfferValue). enabled_moves net e (after net (bench_start net) (bench_moves net h.notes h.picks)))
+    (sym (script_now net h.notes (length h.picks) h.driven.until))
+    ∙ sym (enabled_agree net h.notes one.0 h.picks (length h.picks + 1) (omega arith) one.1) in
     record {
       picks = h.picks ++ p ∷ [];
       notes = h.notes ++ one.0;
       grown = more ∙ ap (λ (xs : List ℕ). xs ++ p ∷ []) h.grown ∙ append_assoc before h.picks (p ∷ []);
       counted = length_push h.picks p ∙ ap (λ (k : ℕ). k + 1) h.counted;
-      driven = one.1;
+      driven = one.2;
+      asked = asked_more seen (bench_enabled net (h.notes ++ one.0)) h.picks p at_first chooser picked
+          (asked_alike seen (bench_enabled net h.notes) (bench_enabled net (h.notes ++ one.0)) h.picks at_first chooser
+          (λ k below. sym (enabled_agree net h.notes one.0 (take k h.picks) (length h.picks + 1)
+          (omega (arith, length-take-le k h.picks (omega arith))) one.1)) h.asked)
+          (subst (λ (list : List ℕ). IsPick list p (seen chooser) (seen picked)) listed pick);
     }
 
 -- the list that a pick is from
@@ -92,10 +119,11 @@ pub record IsReady {P : Type 0} (known : P → PeerValue) (stage : StageValue) (
   pub rails : AreRailsHeld stage.net stage.script (now_of stage)
   pub spare : free_on stage.net stage.script (now_of stage) + 3 ≤ (known is).spare
 
-pub is_ready : {P : Type 0} (known : P → PeerValue) (net : NetValue) (steps : ℕ) (before now : List ℕ) (count : ℕ) (was is : P) (stage : StageValue)
-    (last : Option Hazard) → HasDriven known net steps before now count was is stage last → count < steps → end_with last (moves_now stage) false ≡ None →
+pub is_ready : {P Q : Type 0} (known : P → PeerValue) (seen : Q → PickerValue) (net : NetValue) (steps : ℕ) (before now : List ℕ) (count : ℕ) (was is : P)
+    (at_first chooser : Q) (stage : StageValue) (last : Option Hazard) →
+    HasDriven known seen net steps before now count was is at_first chooser stage last → count < steps → end_with last (moves_now stage) false ≡ None →
     IsReady known stage is
-is_ready known net steps before now count was is stage last h few goes = record {
+is_ready known seen net steps before now count was is at_first chooser stage last h few goes = record {
   room = omega (arith, h.driven.room, h.counted);
   rails = subst (λ (w : NetValue). AreRailsHeld w stage.script (now_of stage)) (sym h.driven.net_is) (h.driven.rails (goes_calm last (moves_now stage) goes));
   spare = let free : free_on stage.net stage.script (now_of stage) ≡ free_on net stage.script (now_of stage) =
@@ -158,8 +186,8 @@ drop_front : (xs ys : List Note) → drop (length xs) (xs ++ ys) ≡ ys
 drop_front [] ys = refl
 drop_front (x ∷ xs) ys = drop_front xs ys
 
-pub record IsOver {P : Type 0} (known : P → PeerValue) (s : SetupValue) (before now : List ℕ) (count : ℕ) (was is : P) (stage : StageValue)
-    (end : End) : Type 0 where
+pub record IsOver {P Q : Type 0} (known : P → PeerValue) (seen : Q → PickerValue) (s : SetupValue) (before now : List ℕ) (count : ℕ) (was is : P)
+    (at_first chooser : Q) (stage : StageValue) (end : End) : Type 0 where
   pub log : now ≡ before ++ growth before now
   pub noted : (known is).log ≡ (known was).log ++ noted_since (known was).log (known is).log
   pub name : (known is).name ≡ (known was).name
@@ -167,11 +195,13 @@ pub record IsOver {P : Type 0} (known : P → PeerValue) (s : SetupValue) (befor
   pub run : IsBenchRun known s (growth before now) (noted_since (known was).log (known is).log) was is
       (record { net = stage.net; end = end; moves = count; done_high = high stage.values 1; passed = stage.passed })
   pub within : IsEndIn s.net end
+  pub asked : IsAskedAlong seen (bench_enabled s.net (noted_since (known was).log (known is).log)) (growth before now) at_first chooser
 
-pub over : {P : Type 0} (known : P → PeerValue) (s : SetupValue) (before now : List ℕ) (count total : ℕ) (was is : P) (stage : StageValue)
-    (last : Option Hazard) (spent : Bool) (end : End) → IsNet s.net → HasDriven known s.net s.steps before now count was is stage last → total ≡ count →
-    (count == s.steps) ≡ spent → end_with last (moves_now stage) spent ≡ Some end → IsOver known s before now total was is stage end
-over {P} known s before now count total was is stage last spent end net h all counted ended = record {
+pub over : {P Q : Type 0} (known : P → PeerValue) (seen : Q → PickerValue) (s : SetupValue) (before now : List ℕ) (count total : ℕ) (was is : P)
+    (at_first chooser : Q) (stage : StageValue) (last : Option Hazard) (spent : Bool) (end : End) → IsNet s.net →
+    HasDriven known seen s.net s.steps before now count was is at_first chooser stage last → total ≡ count → (count == s.steps) ≡ spent →
+    end_with last (moves_now stage) spent ≡ Some end → IsOver known seen s before now total was is at_first chooser stage end
+over {P} known seen s before now count total was is at_first chooser stage last spent end net h all counted ended = record {
   log = h.grown ∙ ap (λ (xs : List ℕ). before ++ xs) (sym picked);
   noted = h.driven.logged.log ∙ ap (λ (xs : List Note). (known was).log ++ xs) (sym noted);
   name = h.driven.logged.name;
@@ -182,17 +212,22 @@ over {P} known s before now count total was is stage last spent end net h all co
         run = h.driven.run;
         suits = h.driven.suits;
         noted = h.driven.noted;
+        placed = placed.placed;
+        took = placed.took;
         ends = record {
           ended = sym (end_now known s.net s.steps h.picks h.notes was is stage last spent h.driven (ap (λ (k : ℕ). k == s.steps) h.counted ∙ counted)) ∙ ended;
           not_before = λ k less. h.driven.no_end k (omega (arith, moves_count s.net h.notes h.picks));
         };
         quiet = λ e. quiet e;
+        one_length = λ safe rest. ends_all s.net (script_by s.net h.notes) (bench_start s.net) net safe moves h.driven.run (resting rest);
         net = h.driven.net_is;
         moves = all ∙ sym h.counted;
         done = ap (λ (r : RunState). high r.values 1) h.driven.now;
         passed = h.driven.passed;
       }));
   within = end_within s.net cause.0 cause.1.0 cause.1.1.0 (moves_now stage) spent last end (h.driven.hazard ∙ cause.1.1.1) ended;
+  asked = subst (λ (xs : List Note). IsAskedAlong seen (bench_enabled s.net xs) (growth before now) at_first chooser) (sym noted)
+      (subst (λ (ps : List ℕ). IsAskedAlong seen (bench_enabled s.net h.notes) ps at_first chooser) (sym picked) h.asked);
 }
   where
     ran : RanValue
@@ -200,6 +235,15 @@ over {P} known s before now count total was is stage last spent end net h all co
 
     moves : List ℕ
     moves = bench_moves s.net h.notes h.picks
+
+    placed : ArePlaced s.net (bench_start s.net) moves h.notes
+    placed = along_placed known s.net (bench_start s.net) was h.driven.noted
+
+    resting : end ≡ AtRest → IsAtRest s.net (script_by s.net h.notes) (after s.net (bench_start s.net) moves)
+    resting rest =
+        rests s.net (script_by s.net h.notes) (after s.net (bench_start s.net) moves) net
+        (sym (listed_now known s.net s.steps h.picks h.notes was is stage last h.driven)
+        ∙ rest_empties last (moves_now stage) spent (ended ∙ ap Some rest))
 
     picked : growth before now ≡ h.picks
     picked = growth_is before now h.picks h.grown
@@ -220,8 +264,5 @@ over {P} known s before now count total was is stage last spent end net h all co
     quiet : (end ≡ AtRest) ⊎ ((end ≡ Spent) × (in_reset s.net.reset (high (after s.net (bench_start s.net) moves).values) ≡ false)) →
         NothingComes s.net h.notes (after s.net (bench_start s.net) moves) (known is)
     quiet (inl rest) =
-        still (rest_low s.net (script_by s.net h.notes) (after s.net (bench_start s.net) moves)
-        (rests s.net (script_by s.net h.notes) (after s.net (bench_start s.net) moves) net
-        (sym (listed_now known s.net s.steps h.picks h.notes was is stage last h.driven)
-        ∙ rest_empties last (moves_now stage) spent (ended ∙ ap Some rest))))
+        still (rest_low s.net (script_by s.net h.notes) (after s.net (bench_start s.net) moves) (resting rest))
     quiet (inr spent_low) = still spent_low.1

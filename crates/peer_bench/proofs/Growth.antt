@@ -14,6 +14,7 @@ use Rattle.peer_bench.specs.declared.note.Note.{Note}
 use Rattle.peer_bench.specs.Notes.{at_of, up_to}
 use Rattle.peer_bench.specs.Growing.{script_by, script_after}
 use Rattle.peer_bench.specs.Running.{Scripts, later, follow_under, ArePicksUnder, hazard_under, end_under}
+use Rattle.peer_bench.specs.Benches.{bench_start, bench_moves, bench_enabled}
 
 -- one more
 
@@ -114,6 +115,16 @@ pub scripts_agree : (net : NetValue) (notes more : List Note) (k l : ℕ) → k 
 scripts_agree net notes more k l less are =
     ap (script_by net) (filter-append (λ note. nat_le (at_of note) k) notes more
     ∙ ap (λ (xs : List Note). up_to k notes ++ xs) (none_until k l more less are) ∙ append-nil (up_to k notes))
+
+-- and the moves that are enabled after the picks till then
+pub enabled_agree : (net : NetValue) (notes more : List Note) (picks : List ℕ) (l : ℕ) → length picks < l → AreAt l more →
+    bench_enabled net (notes ++ more) picks ≡ bench_enabled net notes picks
+enabled_agree net notes more picks l less are =
+    ap (λ (e : List OfferValue). enabled_moves net e (after net (bench_start net) (bench_moves net (notes ++ more) picks)))
+    (scripts_agree net notes more (length picks) l less are)
+    ∙ ap (λ (ns : List ℕ). enabled_moves net (script_after net notes (length picks)) (after net (bench_start net) ns))
+    (follow_agree net (script_after net (notes ++ more)) (script_after net notes) (bench_start net) picks
+    (λ i within. scripts_agree net notes more i l (omega arith) are))
 
 -- and the script of the last moment is that of all notes
 pub script_now : (net : NetValue) (notes : List Note) (k : ℕ) → AreUntil k notes → script_after net notes k ≡ script_by net notes

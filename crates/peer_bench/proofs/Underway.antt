@@ -298,9 +298,10 @@ step_here : {P : Type 0} (known : P → PeerValue) (s later : StageValue) (steps
     end_with last (moves_now s) false ≡ None → p < length (moves_now s) → n ≡ get_or (moves_now s) p n → IsMade s later n brought →
     length picks + 1 ≡ at → IsMoveNoted known s.net (now_of s) (now_of later) n at s.script later.script mid is → AreOffered later.script (now_of later) →
     (known mid).spare + free_on s.net later.script (now_of later) ≤ (known is).spare + free_on s.net s.script (now_of s) + 2 →
-    (extra : List Note) × IsDriven known s.net steps (picks ++ p ∷ []) (notes ++ extra) was is later brought
+    (extra : List Note) × AreAt (length picks + 1) extra × IsDriven known s.net steps (picks ++ p ∷ []) (notes ++ extra) was is later brought
 step_here {P} known s later steps picks notes was mid is last brought p n at net d few goes within here made moment noted offered spare = (
   news ++ noted.more,
+  of_moment,
   record {
     net_is = made.net;
     now = made.now ∙ ap (λ (r : RunState). moved s.net r n) d.now ∙ there;
@@ -417,8 +418,9 @@ pub step : {P : Type 0} (known : P → PeerValue) (net : NetValue) (s later : St
     end_with last (moves_now s) false ≡ None → p < length (moves_now s) → n ≡ get_or (moves_now s) p n → IsMade s later n brought →
     length picks + 1 ≡ at → IsMoveNoted known s.net (now_of s) (now_of later) n at s.script later.script mid is → AreOffered later.script (now_of later) →
     (known mid).spare + free_on s.net later.script (now_of later) ≤ (known is).spare + free_on s.net s.script (now_of s) + 2 →
-    (extra : List Note) × IsDriven known net steps (picks ++ p ∷ []) (notes ++ extra) was is later brought
+    (extra : List Note) × AreAt (length picks + 1) extra × IsDriven known net steps (picks ++ p ∷ []) (notes ++ extra) was is later brought
 step known net s later steps picks notes was mid is last brought p n at is_net d few goes within here made moment noted offered spare =
-    subst (λ (w : NetValue). (extra : List Note) × IsDriven known w steps (picks ++ p ∷ []) (notes ++ extra) was is later brought) d.net_is
+    subst (λ (w : NetValue). (extra : List Note) × AreAt (length picks + 1) extra × IsDriven known w steps (picks ++ p ∷ []) (notes ++ extra) was is later brought)
+    d.net_is
     (step_here known s later steps picks notes was mid is last brought p n at (subst (λ (w : NetValue). IsNet w) (sym d.net_is) is_net)
     (subst (λ (w : NetValue). IsDriven known w steps picks notes was mid s last) (sym d.net_is) d) few goes within here made moment noted offered spare)

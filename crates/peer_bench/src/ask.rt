@@ -34,6 +34,7 @@ fn ask_value(stage: &mut Stage, peer: &mut Box<dyn Peer>, chan: u32, width: u8, 
         (peer_value (name peer.old) (log peer.old) (spare peer.old) (due peer.old) (willing peer.old))
         (peer_value (name peer.new) (log peer.new) (spare peer.new) (due peer.new) (willing peer.new)) }
     ensures came { result ≡ is_some (due peer.old chan width) }
+    ensures kind { peer.new.vtable ≡ peer.old.vtable }
 {
     match peer.offer(chan, width, at) {
         None => false,
@@ -58,6 +59,7 @@ fn ask_ready(stage: &mut Stage, peer: &mut Box<dyn Peer>, chan: u32, at: u32) ->
         (peer_value (name peer.old) (log peer.old) (spare peer.old) (due peer.old) (willing peer.old))
         (peer_value (name peer.new) (log peer.new) (spare peer.new) (due peer.new) (willing peer.new)) }
     ensures came { result ≡ willing peer.old chan }
+    ensures kind { peer.new.vtable ≡ peer.old.vtable }
 {
     let is_ready = peer.ready(chan, at);
     if is_ready {
@@ -82,6 +84,7 @@ fn ask(stage: &mut Stage, peer: &mut Box<dyn Peer>, chan: u32, at: u32) -> bool
         (peer_value (name peer.new) (log peer.new) (spare peer.new) (due peer.new) (willing peer.new)) }
     ensures came { result ≡ nat_lt 0 (length (asked_under stage.old.net stage.old.script (now_of stage.old)
         (peer_value (name peer.old) (log peer.old) (spare peer.old) (due peer.old) (willing peer.old)) at chan)) }
+    ensures kind { peer.new.vtable ≡ peer.old.vtable }
 {
     if !stage.is_idle(chan) {
         return false;
@@ -109,6 +112,7 @@ fn ask_each(stage: &mut Stage, peer: &mut Box<dyn Peer>, at: u32) -> bool
     ensures room { spare peer.new + free_on stage.old.net stage.old.script (now_of stage.old) ≡
         spare peer.old + free_on stage.new.net stage.new.script (now_of stage.new) }
     ensures fewer { result ≡ true → spare peer.new < spare peer.old }
+    ensures kind { peer.new.vtable ≡ peer.old.vtable }
 {
     let mut came = false;
     for chan in 0..stage.net().channels().len() as u32 {
@@ -128,6 +132,7 @@ pub(crate) fn ask_all(stage: &mut Stage, peer: &mut Box<dyn Peer>, at: u32)
     ensures offered { AreOffered stage.new.script (now_of stage.new) }
     ensures room { spare peer.new + free_on stage.old.net stage.old.script (now_of stage.old) ≡
         spare peer.old + free_on stage.new.net stage.new.script (now_of stage.new) }
+    ensures kind { peer.new.vtable ≡ peer.old.vtable }
 {
     while ask_each(stage, peer, at) {}
 }

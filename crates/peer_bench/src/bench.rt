@@ -1,6 +1,7 @@
 //! Benches.
 
-ghost use Rattle.std.specs.Prelude.{◌≡◌, ◌≢◌, ℕ, ◌+◌, ◌*◌, ◌<◌, ◌≤◌, ◌++◌, length, slice_get, vec_len, IfOk, IfErr, IfSome};
+ghost use Rattle.std.specs.Prelude.{◌≡◌, ◌≢◌, ℕ, ◌+◌, ◌*◌, ◌<◌, ◌≤◌, ◌++◌, length, map, slice_get, vec_len, IfOk, IfErr, IfSome};
+ghost use Rattle.event_sim.specs.Asking.{IsAskedAlong, picker_value};
 ghost use Rattle.event_sim.specs.Simulating.{growth};
 ghost use Rattle.peer_bench.specs.Asking.{PeerValue, peer_value};
 
@@ -28,7 +29,7 @@ pub struct Benched {
 }
 
 impl Bench {
-    ghost use Rattle.peer_bench.specs.Benches.{SetupValue, external_channels, noted_since, IsBenchRun};
+    ghost use Rattle.peer_bench.specs.Benches.{BothAt, SetupValue, bench_enabled, external_channels, noted_since, IsBenchRun};
 
     /// The bench of the net and the device at this index of the list, for at most `steps` moves (up to 1,000,000).
     /// Where the net has a reset node, the nodes that have rules are low at power-up. When out of memory it returns the
@@ -71,15 +72,13 @@ impl Bench {
             (⟦<dyn Picker as Picker>⟧ picker.old.vtable).log picker.old.value
             ++ growth ((⟦<dyn Picker as Picker>⟧ picker.old.vtable).log picker.old.value)
             ((⟦<dyn Picker as Picker>⟧ picker.new.vtable).log picker.new.value) }
-        ensures noted { IfSome (slice_get self.peers.items self.which)
-            (λ was. IfSome (slice_get result.peers.items self.which)
-            (λ is. (⟦<dyn Peer as Peer>⟧ is.vtable).log is.value ≡
+        ensures noted { BothAt self.peers.items result.peers.items self.which
+            (λ was is. (⟦<dyn Peer as Peer>⟧ is.vtable).log is.value ≡
             (⟦<dyn Peer as Peer>⟧ was.vtable).log was.value
             ++ noted_since ((⟦<dyn Peer as Peer>⟧ was.vtable).log was.value)
-            ((⟦<dyn Peer as Peer>⟧ is.vtable).log is.value))) }
-        ensures run { IfSome (slice_get self.peers.items self.which)
-            (λ was. IfSome (slice_get result.peers.items self.which)
-            (λ is. IsBenchRun (λ (p : PeerValue). p) self.setup
+            ((⟦<dyn Peer as Peer>⟧ is.vtable).log is.value)) }
+        ensures run { BothAt self.peers.items result.peers.items self.which
+            (λ was is. IsBenchRun (λ (p : PeerValue). p) self.setup
             (growth ((⟦<dyn Picker as Picker>⟧ picker.old.vtable).log picker.old.value)
             ((⟦<dyn Picker as Picker>⟧ picker.new.vtable).log picker.new.value))
             (noted_since ((⟦<dyn Peer as Peer>⟧ was.vtable).log was.value)
@@ -89,15 +88,25 @@ impl Bench {
             (due was) (willing was))
             (peer_value ((⟦<dyn Peer as Peer>⟧ is.vtable).name is.value)
             ((⟦<dyn Peer as Peer>⟧ is.vtable).log is.value) ((⟦<dyn Peer as Peer>⟧ is.vtable).spare is.value)
-            (due is) (willing is)) result.ran)) }
+            (due is) (willing is)) result.ran) }
+        ensures asked { BothAt self.peers.items result.peers.items self.which
+            (λ was is. IsAskedAlong (λ p. picker_value ((⟦<dyn Picker as Picker>⟧ p.vtable).name p.value)
+            ((⟦<dyn Picker as Picker>⟧ p.vtable).log p.value) ((⟦<dyn Picker as Picker>⟧ p.vtable).spare p.value)
+            (nodes p) (seeded p) (choice p))
+            (bench_enabled self.setup.net (noted_since ((⟦<dyn Peer as Peer>⟧ was.vtable).log was.value)
+            ((⟦<dyn Peer as Peer>⟧ is.vtable).log is.value)))
+            (growth ((⟦<dyn Picker as Picker>⟧ picker.old.vtable).log picker.old.value)
+            ((⟦<dyn Picker as Picker>⟧ picker.new.vtable).log picker.new.value)) picker.old picker.new) }
         ensures others { (k : ℕ) → k ≢ self.which → slice_get result.peers.items k ≡ slice_get self.peers.items k }
         ensures count { length result.peers.items ≡ length self.peers.items }
+        ensures kinds { map (λ p. p.vtable) result.peers.items ≡ map (λ p. p.vtable) self.peers.items }
         ensures spare { (⟦<dyn Picker as Picker>⟧ picker.new.vtable).spare picker.new.value + result.ran.moves ≡
             (⟦<dyn Picker as Picker>⟧ picker.old.vtable).spare picker.old.value }
         ensures name { (⟦<dyn Picker as Picker>⟧ picker.new.vtable).name picker.new.value ≡
             (⟦<dyn Picker as Picker>⟧ picker.old.vtable).name picker.old.value }
         ensures nodes { nodes picker.new ≡ nodes picker.old }
         ensures seeded { seeded picker.new ≡ seeded picker.old }
+        ensures kind { picker.new.vtable ≡ picker.old.vtable }
     {
         let Bench {
             setup,

@@ -7,6 +7,7 @@ ghost use Rattle.env_script.specs.Scripts.{IsScript};
 ghost use Rattle.env_script.specs.Environment.{net_channels, in_reset};
 ghost use Rattle.env_script.specs.Runs.{move_enabled, moved};
 ghost use Rattle.env_script.specs.Hazards.{hazard_of};
+ghost use Rattle.event_sim.specs.Asking.{IsAskedAlong, picker_value};
 ghost use Rattle.event_sim.specs.Passing.{channel_acknowledged, completion};
 ghost use Rattle.event_sim.specs.Simulating.{growth};
 ghost use Rattle.event_sim.specs.Stages.{now_of};
@@ -14,7 +15,7 @@ ghost use Rattle.peer_bench.specs.declared.note.Note.{Note};
 ghost use Rattle.peer_bench.specs.declared.note.Note.TheVariants.{Took};
 ghost use Rattle.peer_bench.specs.Asking.{peer_value, HasNoted};
 ghost use Rattle.peer_bench.specs.Along.{is_external, is_out, chan_is, told_passed};
-ghost use Rattle.peer_bench.specs.Benches.{external_channels, noted_since, IsBenchRun};
+ghost use Rattle.peer_bench.specs.Benches.{bench_enabled, external_channels, noted_since, IsBenchRun};
 ghost use Rattle.peer_bench.specs.Steps.{IsAskedByIf, IsMoveNoted, AreOffered, AreRailsHeld, free_on};
 
 use crate::ask::ask_all;
@@ -61,9 +62,10 @@ fn is_external_ack(stage: &Stage, node: u32) -> bool
 /// Notifies the device of the value that it took.
 fn tell_taken(peer: &mut Box<dyn Peer>, chan: u32, value: u64, at: u32)
     requires { 1 ≤ spare peer.old }
-    ensures { HasNoted (Took at chan value ∷ [])
+    ensures noted { HasNoted (Took at chan value ∷ [])
         (peer_value (name peer.old) (log peer.old) (spare peer.old) (due peer.old) (willing peer.old))
         (peer_value (name peer.new) (log peer.new) (spare peer.new) (due peer.new) (willing peer.new)) }
+    ensures kind { peer.new.vtable ≡ peer.old.vtable }
 {
     peer.took(chan, value, at);
 }
@@ -72,9 +74,10 @@ fn tell_taken(peer: &mut Box<dyn Peer>, chan: u32, value: u64, at: u32)
 fn tell_value(stage: &Stage, peer: &mut Box<dyn Peer>, chan: u32, value: u64, at: u32)
     requires chan { chan < length stage.now.net.channels }
     requires room { 1 ≤ spare peer.old }
-    ensures { HasNoted (told_passed stage.now.net at (Some (chan, value)))
+    ensures noted { HasNoted (told_passed stage.now.net at (Some (chan, value)))
         (peer_value (name peer.old) (log peer.old) (spare peer.old) (due peer.old) (willing peer.old))
         (peer_value (name peer.new) (log peer.new) (spare peer.new) (due peer.new) (willing peer.new)) }
+    ensures kind { peer.new.vtable ≡ peer.old.vtable }
 {
     if is_out(stage.net().channels()[chan as usize].channel.kind) {
         tell_taken(peer, chan, value, at);
@@ -85,9 +88,10 @@ fn tell_value(stage: &Stage, peer: &mut Box<dyn Peer>, chan: u32, value: u64, at
 fn tell(stage: &Stage, peer: &mut Box<dyn Peer>, passed: Option<(u32, u64)>, at: u32)
     requires chan { IfSome passed (λ p. p.0 < length stage.now.net.channels) }
     requires room { 1 ≤ spare peer.old }
-    ensures { HasNoted (told_passed stage.now.net at passed)
+    ensures noted { HasNoted (told_passed stage.now.net at passed)
         (peer_value (name peer.old) (log peer.old) (spare peer.old) (due peer.old) (willing peer.old))
         (peer_value (name peer.new) (log peer.new) (spare peer.new) (due peer.new) (willing peer.new)) }
+    ensures kind { peer.new.vtable ≡ peer.old.vtable }
 {
     match passed {
         None => {}
@@ -115,6 +119,7 @@ fn ask_if(stage: &mut Stage, peer: &mut Box<dyn Peer>, asks: bool, at: u32)
     ensures offered { AreOffered stage.new.script (now_of stage.new) }
     ensures room { spare peer.new + free_on stage.old.net stage.old.script (now_of stage.old) ≡
         spare peer.old + free_on stage.new.net stage.new.script (now_of stage.new) }
+    ensures kind { peer.new.vtable ≡ peer.old.vtable }
 {
     if asks {
         ask_all(stage, peer, at);
@@ -143,6 +148,7 @@ fn make(stage: &mut Stage, peer: &mut Box<dyn Peer>, node: u32, at: u32) -> Opti
     ensures offered { AreOffered stage.new.script (now_of stage.new) }
     ensures spare { spare peer.old + free_on stage.old.net stage.new.script (now_of stage.new) ≤
         spare peer.new + free_on stage.old.net stage.old.script (now_of stage.old) + 2 }
+    ensures kind { peer.new.vtable ≡ peer.old.vtable }
 {
     let was_in_reset = stage.in_reset();
     let is_ack = is_external_ack(stage, node);
@@ -178,14 +184,23 @@ pub(crate) fn drive(setup: Setup, picker: &mut Box<dyn Picker>, peer: &mut Box<d
         (noted_since ((⟦<dyn Peer as Peer>⟧ peer.old.vtable).log peer.old.value)
         ((⟦<dyn Peer as Peer>⟧ peer.new.vtable).log peer.new.value))
         peer.old peer.new result }
+    ensures asked { IsAskedAlong (λ p. picker_value ((⟦<dyn Picker as Picker>⟧ p.vtable).name p.value)
+        ((⟦<dyn Picker as Picker>⟧ p.vtable).log p.value) ((⟦<dyn Picker as Picker>⟧ p.vtable).spare p.value)
+        (nodes p) (seeded p) (choice p))
+        (bench_enabled setup.net (noted_since ((⟦<dyn Peer as Peer>⟧ peer.old.vtable).log peer.old.value)
+        ((⟦<dyn Peer as Peer>⟧ peer.new.vtable).log peer.new.value)))
+        (growth ((⟦<dyn Picker as Picker>⟧ picker.old.vtable).log picker.old.value)
+        ((⟦<dyn Picker as Picker>⟧ picker.new.vtable).log picker.new.value)) picker.old picker.new }
     ensures device { (⟦<dyn Peer as Peer>⟧ peer.new.vtable).name peer.new.value ≡
         (⟦<dyn Peer as Peer>⟧ peer.old.vtable).name peer.old.value }
+    ensures device_kind { peer.new.vtable ≡ peer.old.vtable }
     ensures spare { (⟦<dyn Picker as Picker>⟧ picker.new.vtable).spare picker.new.value + result.moves ≡
         (⟦<dyn Picker as Picker>⟧ picker.old.vtable).spare picker.old.value }
     ensures name { (⟦<dyn Picker as Picker>⟧ picker.new.vtable).name picker.new.value ≡
         (⟦<dyn Picker as Picker>⟧ picker.old.vtable).name picker.old.value }
     ensures nodes { nodes picker.new ≡ nodes picker.old }
     ensures seeded { seeded picker.new ≡ seeded picker.old }
+    ensures kind { picker.new.vtable ≡ picker.old.vtable }
 {
     let Setup { mut stage, steps } = setup;
     let is_in_reset = stage.in_reset();

@@ -4,29 +4,29 @@ use Rattle.std.proofs.lemmas.Option.{slice_get-get_or}
 use Rattle.env_script.specs.Environment.{net_channels}
 use Rattle.env_script.specs.Scripts.{OfferValue}
 use Rattle.event_sim.specs.Asking.{PickerValue, IsAskedAlong}
-use Rattle.event_sim.specs.Simulating.{SimValue, growth, start_at}
+use Rattle.event_sim.specs.Simulating.{growth}
 use Rattle.prs_core.specs.Nets.{NetValue}
 use Rattle.command_answers.specs.Answers.{Given}
 use Rattle.command_steps.specs.Held.{HoldsNet, HoldsScript}
 use Rattle.command_words.specs.SimulateWords.{AskedRun}
-use Rattle.simulation_commands.specs.Asked.{AsksAt, IsAskedAt, IsAskedThrough}
+use Rattle.simulation_commands.specs.Asked.{AsksAt, IsAskedAt, IsAskedThrough, simulated_enabled}
 use Rattle.simulation_commands.specs.Simulating.{simulation_for}
 use Rattle.simulation_commands.proofs.Keeping.{get_same}
 
 module _ {P : Type 0} (known : P → PickerValue) where
-  pub asked_through : (s : SimValue) (seed : ℕ) (was ready is : P) → (known ready).seeded ≡ Some (seed, length (known was).log)
-      → (known ready).log ≡ (known was).log
-      → IsAskedAlong known s.net s.script (start_at s) (growth (known ready).log (known is).log) ready is → IsAskedThrough known s seed was is
-  asked_through s seed was ready is seeded same asked = record {
+  pub asked_through : (enabled : List ℕ → List ℕ) (seed : ℕ) (was ready is : P) → (known ready).seeded ≡ Some (seed, length (known was).log)
+      → (known ready).log ≡ (known was).log → IsAskedAlong known enabled (growth (known ready).log (known is).log) ready is
+      → IsAskedThrough known enabled seed was is
+  asked_through enabled seed was ready is seeded same asked = record {
     ready = ready;
     log = same;
     seeded = seeded;
-    asked = subst (λ (log : List ℕ). IsAskedAlong known s.net s.script (start_at s) (growth log (known is).log) ready is) same asked;
+    asked = subst (λ (log : List ℕ). IsAskedAlong known enabled (growth log (known is).log) ready is) same asked;
   }
 
-  pub asked_at : (s : SimValue) (seed : ℕ) (xs : List P) (place : ℕ) (item x : P) → place < length xs → item ≡ get_or xs place item
-      → IsAskedThrough known s seed item x → IsAskedAt known place s seed xs (set xs place x)
-  asked_at s seed xs place item x within there through = record {
+  pub asked_at : (enabled : List ℕ → List ℕ) (seed : ℕ) (xs : List P) (place : ℕ) (item x : P) → place < length xs → item ≡ get_or xs place item
+      → IsAskedThrough known enabled seed item x → IsAskedAt known place enabled seed xs (set xs place x)
+  asked_at enabled seed xs place item x within there through = record {
     was = item;
     is = x;
     held = slice_get-get_or xs place item within ∙ ap (λ y. Some y) (sym there);
@@ -36,7 +36,7 @@ module _ {P : Type 0} (known : P → PickerValue) where
 
   pub asks_at : (run : AskedRun) (given : Given) (place : ℕ) (net : NetValue) (script : List OfferValue) (before after : List P)
       → HoldsNet given run.net net → HoldsScript given run.script (net_channels net) script
-      → IsAskedAt known place (simulation_for net script run.steps run.power) run.seed before after → AsksAt known run given place before after
+      → IsAskedAt known place (simulated_enabled (simulation_for net script run.steps run.power)) run.seed before after → AsksAt known run given place before after
   asks_at run given place net script before after holds told asked = record {
     s = simulation_for net script run.steps run.power;
     files = record { net = holds; script = told; steps = refl; high = refl };

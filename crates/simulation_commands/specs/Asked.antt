@@ -1,7 +1,7 @@
--- With which lists of moves `simulate` asks an order.
+-- With which lists of moves an order is asked.
 use Rattle.std.specs.Prelude.{◌≡◌, ℕ, List, length, map, slice_get, Some}
 use Rattle.env_script.specs.Environment.{net_channels}
-use Rattle.event_sim.specs.Asking.{PickerValue, IsAskedAlong}
+use Rattle.event_sim.specs.Asking.{PickerValue, IsAskedAlong, enabled_after}
 use Rattle.event_sim.specs.Simulating.{SimValue, growth, start_at}
 use Rattle.command_answers.specs.Answers.{Given}
 use Rattle.command_steps.specs.Held.{HoldsNet, HoldsScript}
@@ -9,22 +9,27 @@ use Rattle.command_steps.specs.Orders.{OrderState, order_state, place_named}
 use Rattle.command_words.specs.SimulateWords.{AskedRun}
 use Rattle.simulation_commands.specs.Simulating.{power_or_low}
 
--- An order got this seed. Then it was asked before each move of the simulation with the list of the moves that were
--- enabled, and its picks are the new entries of its log.
-pub record IsAskedThrough {P : Type 0} (known : P → PickerValue) (s : SimValue) (seed : ℕ) (was is : P) : Type 0 where
+-- An order got this seed. Then it was asked before each move of a run with the list of the moves that were enabled, which
+-- `enabled` says after some picks; and its picks are the new entries of its log.
+pub record IsAskedThrough {P : Type 0} (known : P → PickerValue) (enabled : List ℕ → List ℕ) (seed : ℕ) (was is : P) :
+    Type 0 where
   pub ready : P
   pub log : (known ready).log ≡ (known was).log
   pub seeded : (known ready).seeded ≡ Some (seed, length (known was).log)
-  pub asked : IsAskedAlong known s.net s.script (start_at s) (growth (known was).log (known is).log) ready is
+  pub asked : IsAskedAlong known enabled (growth (known was).log (known is).log) ready is
 
 -- so the order at this index was
-pub record IsAskedAt {P : Type 0} (known : P → PickerValue) (place : ℕ) (s : SimValue) (seed : ℕ)
+pub record IsAskedAt {P : Type 0} (known : P → PickerValue) (place : ℕ) (enabled : List ℕ → List ℕ) (seed : ℕ)
     (before after : List P) : Type 0 where
   pub was : P
   pub is : P
   pub held : slice_get before place ≡ Some was
   pub holds : slice_get after place ≡ Some is
-  pub through : IsAskedThrough known s seed was is
+  pub through : IsAskedThrough known enabled seed was is
+
+-- the moves that are enabled in a simulation after some picks
+abbrev pub simulated_enabled : SimValue → (picks : List ℕ) → List ℕ
+simulated_enabled s = enabled_after s.net s.script (start_at s)
 
 -- the simulation is that of the net and the script that the files hold, as it is asked for
 pub record HoldsSimulation (run : AskedRun) (given : Given) (s : SimValue) : Type 0 where
@@ -38,7 +43,7 @@ pub record AsksAt {P : Type 0} (known : P → PickerValue) (run : AskedRun) (giv
     (before after : List P) : Type 0 where
   pub s : SimValue
   pub files : HoldsSimulation run given s
-  pub asked : IsAskedAt known place s run.seed before after
+  pub asked : IsAskedAt known place (simulated_enabled s) run.seed before after
 
 abbrev pub order_of_picker : PickerValue → OrderState
 order_of_picker p = order_state p.name p.log p.seeded

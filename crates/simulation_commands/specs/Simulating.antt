@@ -1,5 +1,7 @@
 -- What `simulate` answers.
-use Rattle.std.specs.Prelude.{◌≡◌, ◌≢◌, ℕ, Bool, true, false, List, ◌++◌, length, slice_get, Option, Some, None}
+use Rattle.std.specs.Prelude.{◌≡◌, ◌≢◌, ℕ, Bool, true, false, List, ◌++◌, length, map, slice_get, Option, Some, None}
+use Rattle.std.specs.declared.alloc.Global.{Global}
+use Rattle.std.specs.declared.dyn_box.DynBox.{DynBox}
 use Rattle.prs_core.specs.Nets.{NetValue}
 use Rattle.prs_core.specs.Moves.{high}
 use Rattle.env_script.specs.Environment.{net_channels}
@@ -47,9 +49,12 @@ ran_value s before now end = record {
   passed = passed_in s.net (start_at s) (picked_moves s before now);
 }
 
--- every order except the one at the index that is asked for, if any is, is the very object that it was
-abbrev pub OthersStay : {Order : Type 0} → (asked : Option ℕ) → (before after : List Order) → Type 0
-OthersStay asked before after = (place : ℕ) → asked ≢ Some place → slice_get after place ≡ slice_get before place
+-- Objects in boxes are still there, each in its place: each but the one at the index that is asked for, if any is, is as
+-- it was, and that one is of the kind that it was, by its table of methods.
+pub record SameObjects {B : Type 0} {Object : B → Type 0} (asked : Option ℕ) (before after : List (DynBox B Global Object)) :
+    Type 0 where
+  pub kinds : map (λ box. box.vtable) after ≡ map (λ box. box.vtable) before
+  pub others : (place : ℕ) → asked ≢ Some place → slice_get after place ≡ slice_get before place
 
 -- the statuses of calls in which an order may have been used: the output was written, or cut off, or memory ran out
 abbrev pub may_have_asked : Status → Bool

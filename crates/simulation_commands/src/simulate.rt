@@ -1,17 +1,18 @@
 //! `simulate PRS SCRIPT`: one run of a net under a script, whose moves a handed-in order chooses.
 
-ghost use Rattle.std.specs.Prelude.{◌≡◌, ◌<◌, ◌≤◌, ◌∷◌, false, length, map, IfOk, IfErr, OnOk, None, Some, option_map, option_to_list};
+ghost use Rattle.std.specs.Prelude.{◌≡◌, ◌<◌, ◌≤◌, ◌∷◌, ◌++◌, false, length, map, IfOk, IfErr, OnOk, None, Some, option_map, option_to_list};
 ghost use Rattle.env_script.specs.Environment.{net_channels};
 ghost use Rattle.env_script.specs.Scripts.{IsScript};
 ghost use Rattle.event_sim.specs.Asking.{picker_value};
+ghost use Rattle.event_sim.specs.Simulating.{growth};
 ghost use Rattle.command_answers.specs.Answers.{given_by};
 ghost use Rattle.command_words.specs.CommandWords.{run_asked};
 ghost use Rattle.command_steps.specs.Orders.{IsPlayedAt, KeepsOrders, order_state, place_named, played_by};
 ghost use Rattle.command_answers.specs.Replies.{Stops, stop_status, told_answer};
-ghost use Rattle.simulation_commands.specs.Asked.{AsksAt, AsksOrder, IsAskedAt, IsAskedThrough};
+ghost use Rattle.simulation_commands.specs.Asked.{AsksAt, AsksOrder, IsAskedAt, IsAskedThrough, simulated_enabled};
 ghost use Rattle.run_reports.specs.RunReporting.{IsReported};
 ghost use Rattle.command_steps.specs.RunSteps.{lacks_reset};
-ghost use Rattle.simulation_commands.specs.Simulating.{OthersStay, StaysUnasked, HasPlayed, IsPlayed, Simulates, SimulatesAt, SimulatesNet, ran_value, simulation_for};
+ghost use Rattle.simulation_commands.specs.Simulating.{SameObjects, StaysUnasked, HasPlayed, IsPlayed, Simulates, SimulatesAt, SimulatesNet, ran_value, simulation_for};
 ghost use Rattle.command_words.specs.SimulateWords.{text_given};
 ghost use Rattle.width_check.specs.Typed.{program_of as typed_of};
 
@@ -66,6 +67,7 @@ pub fn prepare(picker: &mut Box<dyn Picker>, seed: u64, room: Room) -> Result<()
     ensures log { log picker.new ≡ log picker.old }
     ensures picks { OnOk result (room.picks ≤ spare picker.new) }
     ensures wide { OnOk result (room.nodes ≤ nodes picker.new) }
+    ensures kind { picker.new.vtable ≡ picker.old.vtable }
 {
     picker.seed(seed);
     picker.make_room(room.picks, room.nodes)
@@ -81,8 +83,10 @@ fn play(picker: &mut Box<dyn Picker>, sim: Sim, seed: u64, room: Room) -> Result
     ensures led { IfOk result (λ ran. ran ≡ ran_value sim (log picker.old) (log picker.new) ran.end) }
     ensures asked { IfOk result (λ ran. IsAskedThrough
         (λ p. picker_value (name p) (log p) (spare p) (nodes p) (seeded p) (choice p))
-        sim seed picker.old picker.new) }
+        (simulated_enabled sim) seed picker.old picker.new) }
     ensures name { name picker.new ≡ name picker.old }
+    ensures grown { log picker.new ≡ log picker.old ++ growth (log picker.old) (log picker.new) }
+    ensures kind { picker.new.vtable ≡ picker.old.vtable }
 {
     prepare(picker, seed, room)?;
     Ok(sim.run(picker))
@@ -105,11 +109,11 @@ pub fn play_at(
         place seed sim ran) }
     ensures asked { IfOk result (λ ran. IsAskedAt
         (λ p. picker_value (name p) (log p) (spare p) (nodes p) (seeded p) (choice p))
-        place sim seed orders.old.items orders.new.items) }
+        place (simulated_enabled sim) seed orders.old.items orders.new.items) }
     ensures played { IsPlayedAt place (played_by
         (map (λ order. order_state (name order) (log order) (seeded order)) orders.old.items)
         (map (λ order. order_state (name order) (log order) (seeded order)) orders.new.items)) }
-    ensures others { OthersStay (Some place) orders.old.items orders.new.items }
+    ensures objects { SameObjects (Some place) orders.old.items orders.new.items }
 {
     play(&mut orders[place], sim, seed, room)
 }
@@ -135,12 +139,12 @@ fn report_at(
         (λ ran. IsReported script None ran (option_map typed_of program.now)) (told_answer output)) }
     ensures asked { IfOk result (λ output. IsAskedAt
         (λ p. picker_value (name p) (log p) (spare p) (nodes p) (seeded p) (choice p))
-        place (simulation_for net script run.now.steps run.now.power) run.now.seed
+        place (simulated_enabled (simulation_for net script run.now.steps run.now.power)) run.now.seed
         orders.old.items orders.new.items) }
     ensures played { IsPlayedAt place (played_by
         (map (λ order. order_state (name order) (log order) (seeded order)) orders.old.items)
         (map (λ order. order_state (name order) (log order) (seeded order)) orders.new.items)) }
-    ensures others { OthersStay (Some place) orders.old.items orders.new.items }
+    ensures objects { SameObjects (Some place) orders.old.items orders.new.items }
 {
     let room = Room {
         picks: run.steps,
@@ -181,7 +185,7 @@ fn simulate_at<'a, S: Shelf>(
     ensures played { IsPlayedAt place (played_by
         (map (λ order. order_state (name order) (log order) (seeded order)) orders.old.items)
         (map (λ order. order_state (name order) (log order) (seeded order)) orders.new.items)) }
-    ensures others { OthersStay (Some place) orders.old.items orders.new.items }
+    ensures objects { SameObjects (Some place) orders.old.items orders.new.items }
     ensures unasked { IfErr result (λ stop. StaysUnasked (stop_status stop) orders.old orders.new) }
     ensures same { S.tells shelf.new ≡ S.tells shelf.old }
     ensures kept { S.holds shelf.new ≡ S.holds shelf.old }
@@ -227,7 +231,7 @@ pub fn simulate<'a, S: Shelf>(
         orders.old.items in
         KeepsOrders (place_named before run.now.order.now) (played_by before
         (map (λ order. order_state (name order) (log order) (seeded order)) orders.new.items)) }
-    ensures others { OthersStay (place_named
+    ensures objects { SameObjects (place_named
         (map (λ order. order_state (name order) (log order) (seeded order)) orders.old.items) run.now.order.now)
         orders.old.items orders.new.items }
     ensures unasked { IfErr result (λ stop. StaysUnasked (stop_status stop) orders.old orders.new) }

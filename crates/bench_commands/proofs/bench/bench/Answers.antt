@@ -31,3 +31,14 @@ pub returns-clause-stay : goal.returns-clause-stay
 returns-clause-stay g c =
     stay_named _ _ _ _ c.in-Some.place c.in-Some-place_of_peer.which _ _ _ _ (sym c.place_of.ensures.place ∙ c.in-Some.is)
     (sym c.place_of_peer.ensures.place ∙ c.in-Some-place_of_peer.is) c.bench_at.ensures.stay
+
+pub returns-clause-asked : goal.returns-clause-asked
+returns-clause-asked g c =
+    ok_in c.bench_at.result _ _
+    (λ output asks. record {
+      place = c.in-Some.place;
+      which = c.in-Some-place_of_peer.which;
+      named = sym c.place_of.ensures.place ∙ c.in-Some.is;
+      device = sym c.place_of_peer.ensures.place ∙ c.in-Some-place_of_peer.is;
+      asked = asks;
+    }) c.bench_at.ensures.asked

@@ -11,3 +11,6 @@ returns-in_err-net-clause-stopped g c =
 pub returns-in-Ok-clause-answered : goal.returns-in-Ok-clause-answered
 returns-in-Ok-clause-answered g c =
     net_answers (bench_asked c.args.asked.now) _ _ _ _ c.in_ok-net.net c.in_ok-net.ensures.read _ c.in-Ok.ensures.answered
+
+pub returns-in-Ok-clause-asked : goal.returns-in-Ok-clause-asked
+returns-in-Ok-clause-asked g c = record { net = c.in_ok-net.net; held = c.in_ok-net.ensures.read; asked = c.in-Ok.ensures.asked }

@@ -1,15 +1,12 @@
 use Rattle.std.proofs.Common.{◌≡◌, ℕ, List, [], refl, subst}
-use Rattle.event_sim.specs.Asking.{PickerValue}
 use Rattle.command_answers.specs.declared.answer.Stop.{Stop}
 use Rattle.command_words.specs.declared.grow_words.Growth.{Growth}
-use Rattle.command_words.specs.CommandWords.{asked, compiles, simulates, run_asked}
+use Rattle.command_words.specs.CommandWords.{asked, compiles}
 use Rattle.command_words.specs.CompileWords.{AskedCompilation, compilation_asked}
-use Rattle.command_words.specs.SimulateWords.{AskedRun}
 use Rattle.command_words.proofs.Results.{ok_in}
 use Rattle.program_commands.specs.Compiling.{IsFaithfulFile}
 use Rattle.program_commands.specs.RepliesTold.{reply_bytes}
 use Rattle.chp_cli.specs.Handed.{given_of}
-use Rattle.simulation_commands.specs.Asked.{AsksOrder}
 use Rattle.command_answers.specs.Answers.{Given, given_by}
 use Rattle.grown_commands.specs.Growing.{Grows}
 use Rattle.command_steps.specs.Orders.{Played}
@@ -75,11 +72,11 @@ returns-in_err-simulate-in-Simulate-clause-stopped g c =
 
 pub returns-in_ok-simulate-in-Simulate-clause-stay : goal.returns-in_ok-simulate-in-Simulate-clause-stay
 returns-in_ok-simulate-in-Simulate-clause-stay g c =
-    rw c.in-Simulate.is (orders_stay _ _ _ _ _ _ _ c.simulate.ensures.orders c.simulate.ensures.others)
+    rw c.in-Simulate.is (orders_stay _ _ _ _ _ _ _ c.simulate.ensures.orders c.simulate.ensures.objects)
 
 pub returns-in_err-simulate-in-Simulate-clause-stay : goal.returns-in_err-simulate-in-Simulate-clause-stay
 returns-in_err-simulate-in-Simulate-clause-stay g c =
-    rw c.in-Simulate.is (orders_stay _ _ _ _ _ _ _ c.simulate.ensures.orders c.simulate.ensures.others)
+    rw c.in-Simulate.is (orders_stay _ _ _ _ _ _ _ c.simulate.ensures.orders c.simulate.ensures.objects)
 
 pub simulate-requires : goal.simulate-requires
 simulate-requires g c = rw c.in-Simulate.is at c.requires
@@ -143,11 +140,11 @@ returns-in_err-grow-in-Grow-clause-stopped g c =
 
 pub returns-in_ok-grow-in-Grow-clause-stay : goal.returns-in_ok-grow-in-Grow-clause-stay
 returns-in_ok-grow-in-Grow-clause-stay g c =
-    rw c.in-Grow.is (orders_stay _ _ _ _ _ _ _ c.grow.ensures.orders c.grow.ensures.others)
+    rw c.in-Grow.is (orders_stay _ _ _ _ _ _ _ c.grow.ensures.orders c.grow.ensures.objects)
 
 pub returns-in_err-grow-in-Grow-clause-stay : goal.returns-in_err-grow-in-Grow-clause-stay
 returns-in_err-grow-in-Grow-clause-stay g c =
-    rw c.in-Grow.is (orders_stay _ _ _ _ _ _ _ c.grow.ensures.orders c.grow.ensures.others)
+    rw c.in-Grow.is (orders_stay _ _ _ _ _ _ _ c.grow.ensures.orders c.grow.ensures.objects)
 
 pub bench-requires : goal.bench-requires
 bench-requires g c = rw c.in-Bench.is at c.requires
@@ -212,13 +209,35 @@ returns-in_ok-rounds-in-Run-clause-stay g c = all_stay _ _ _ _ _ _
 pub returns-in_err-rounds-in-Run-clause-stay : goal.returns-in_err-rounds-in-Run-clause-stay
 returns-in_err-rounds-in-Run-clause-stay g c = all_stay _ _ _ _ _ _
 
-asked_for : {P : Type 0} {known : P → PickerValue} {given : Given} {before after : List P} (r run : AskedRun) → r ≡ run
-    → AsksOrder known r given before after → AsksOrder known run given before after
-asked_for {known = known} {given = given} {before = before} {after = after} r run same asks =
-    subst (λ (x : AskedRun). AsksOrder known x given before after) same asks
+pub returns-in_ok-migrate-in-Migrate-clause-shown : goal.returns-in_ok-migrate-in-Migrate-clause-shown
+returns-in_ok-migrate-in-Migrate-clause-shown g c = rw c.in-Migrate.is tt
+
+pub returns-in_ok-check-in-Check-clause-shown : goal.returns-in_ok-check-in-Check-clause-shown
+returns-in_ok-check-in-Check-clause-shown g c = rw c.in-Check.is tt
+
+pub returns-in_ok-expand-in-Expand-clause-shown : goal.returns-in_ok-expand-in-Expand-clause-shown
+returns-in_ok-expand-in-Expand-clause-shown g c = rw c.in-Expand.is tt
+
+pub returns-in_ok-time-in-Time-clause-shown : goal.returns-in_ok-time-in-Time-clause-shown
+returns-in_ok-time-in-Time-clause-shown g c = rw c.in-Time.is tt
+
+pub returns-in_ok-waves-in-Waves-clause-shown : goal.returns-in_ok-waves-in-Waves-clause-shown
+returns-in_ok-waves-in-Waves-clause-shown g c = rw c.in-Waves.is tt
+
+pub returns-in_ok-unwave-in-Unwave-clause-shown : goal.returns-in_ok-unwave-in-Unwave-clause-shown
+returns-in_ok-unwave-in-Unwave-clause-shown g c = rw c.in-Unwave.is tt
+
+pub returns-in_ok-rounds-in-Run-clause-shown : goal.returns-in_ok-rounds-in-Run-clause-shown
+returns-in_ok-rounds-in-Run-clause-shown g c = rw c.in-Run.is tt
+
+pub returns-in-Compile-clause-shown : goal.returns-in-Compile-clause-shown
+returns-in-Compile-clause-shown g c = ok_in c.compile.result _ _ (λ reply is. rw c.in-Compile.is tt) c.compile.ensures.carried
 
 pub returns-in_ok-simulate-in-Simulate-clause-shown : goal.returns-in_ok-simulate-in-Simulate-clause-shown
-returns-in_ok-simulate-in-Simulate-clause-shown g c = λ run named.
-    let own : asked c.args.command.now ≡ simulates (run_asked c.in-Simulate.run') = rw c.in-Simulate.is refl in
-    let same : run_asked c.in-Simulate.run' ≡ run = cc (own, named) in
-    asked_for (run_asked c.in-Simulate.run') run same c.in_ok-simulate-in-Simulate.ensures.asked
+returns-in_ok-simulate-in-Simulate-clause-shown g c = rw c.in-Simulate.is c.in_ok-simulate-in-Simulate.ensures.asked
+
+pub returns-in_ok-bench-in-Bench-clause-shown : goal.returns-in_ok-bench-in-Bench-clause-shown
+returns-in_ok-bench-in-Bench-clause-shown g c = rw c.in-Bench.is c.in_ok-bench-in-Bench.ensures.asked
+
+pub returns-in_ok-grow-in-Grow-clause-shown : goal.returns-in_ok-grow-in-Grow-clause-shown
+returns-in_ok-grow-in-Grow-clause-shown g c = rw c.in-Grow.is c.in_ok-grow-in-Grow.ensures.asked

@@ -72,7 +72,7 @@ returns-clause-steady g c = λ p told runs whole.
     let run = c.simulated_right.ensures s _ _ told end text are in record {
       run = run;
       calm = c.carried_runs_are_safe.ensures s _ _ p carries end text run;
-      one_length = c.carried_runs_have_one_length.ensures s _ _ p carries _ run;
+      one_length = c.carried_runs_have_one_length.ensures.simulated s _ _ p carries _ run;
       follows = λ q holds. c.compiled_runs_follow.ensures.simulated s _ _ q holds _ run;
       rests = λ q holds. c.compiled_runs_rest.ensures.simulated s _ _ q holds _ run;
     })
@@ -89,6 +89,7 @@ returns-clause-steady g c = λ p told runs whole.
     record {
       run = run;
       calm = c.benched_runs_are_safe.ensures b _ _ p carries end text run;
+      one_length = c.carried_runs_have_one_length.ensures.benched b _ _ p carries _ run;
       follows = λ q holds. c.benched_runs_follow.ensures b _ _ q holds _ run;
     })
     (λ w carries end text are.
@@ -112,4 +113,4 @@ returns-clause-compiled g c = λ p well served compared.
     asked runs served compared (λ command named is. returns-clause-served g c command well named is)
 
 pub returns-clause-shown : goal.returns-clause-shown
-returns-clause-shown g c = λ run named whole. c.run-end.ensures.shown run named (ap is_whole (sym c.status.ensures) ∙ whole)
+returns-clause-shown g c = λ command named whole. c.run-end.ensures.shown command named (ap is_whole (sym c.status.ensures) ∙ whole)

@@ -1,5 +1,5 @@
 use Rattle.std.proofs.Common.{◌≡◌, ◌≢◌, [], Some, None, true, rules, take, refl, sym, append-nil}
-use Rattle.command_words.specs.CommandWords.{asked, asked_by, compiles, simulates}
+use Rattle.command_words.specs.CommandWords.{asked, asked_by, compiles}
 use Rattle.command_answers.specs.declared.answer.Stop.{Stop}
 use Rattle.command_answers.specs.declared.answer.Stop.TheVariants as stopped
 use Rattle.command_answers.specs.declared.status.Status.TheVariants.{Done}
@@ -71,13 +71,13 @@ stop_not_whole (stopped.Unread name) = λ w. cc
 stop_not_whole stopped.NoMemory = λ w. cc
 
 pub returns-in-Err-answer-clause-shown : goal.returns-in-Err-answer-clause-shown
-returns-in-Err-answer-clause-shown g c = λ run named whole. absurd (stop_not_whole c.in-Err-answer.stop whole)
+returns-in-Err-answer-clause-shown g c = λ command named whole. absurd (stop_not_whole c.in-Err-answer.stop whole)
 
 pub returns-in-Ok-write-clause-shown : goal.returns-in-Ok-write-clause-shown
-returns-in-Ok-write-clause-shown g c = λ run named whole.
+returns-in-Ok-write-clause-shown g c = λ command named whole.
     let own : asked_by c.args.words.now ≡ Some (asked c.in-Ok-Some.command) = search rules in
-    let same : asked c.in-Ok-Some.command ≡ simulates run = cc (own, named) in
-    c.in-Ok.ensures.shown run same
+    let same : asked c.in-Ok-Some.command ≡ command = cc (own, named) in
+    rw (← same) c.in-Ok.ensures.shown
 
 pub returns-in-Err-answer-clause-stay : goal.returns-in-Err-answer-clause-stay
 returns-in-Err-answer-clause-stay g c =

@@ -39,5 +39,11 @@ returns-else-growth-clause-stopped g c = rw c.if-growth.false c.grown.ensures.st
 pub returns-else-growth-clause-orders : goal.returns-else-growth-clause-orders
 returns-else-growth-clause-orders g c = unplayed _ _
 
-pub returns-then-growth-clause-others : goal.returns-then-growth-clause-others
-returns-then-growth-clause-others g c = rw c.if-growth.true c.sum_up.ensures.others
+pub returns-then-growth-clause-objects : goal.returns-then-growth-clause-objects
+returns-then-growth-clause-objects g c = rw c.if-growth.true c.sum_up.ensures.objects
+
+pub returns-then-growth-clause-asked : goal.returns-then-growth-clause-asked
+returns-then-growth-clause-asked g c = rw c.if-growth.true c.sum_up.ensures.asked
+
+pub returns-else-growth-clause-asked : goal.returns-else-growth-clause-asked
+returns-else-growth-clause-asked g c = ok_in c.grown.result _ _ (λ output is. rw c.if-growth.false tt) c.grown.ensures.answered

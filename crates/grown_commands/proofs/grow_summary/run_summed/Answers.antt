@@ -6,3 +6,6 @@ returns-in_err-sim-clause-played g c = still_at _ _
 
 pub returns-clause-led : goal.returns-clause-led
 returns-clause-led g c = rw c.in_ok-sim.ensures at c.play_at.ensures.led
+
+pub returns-clause-asked : goal.returns-clause-asked
+returns-clause-asked g c = rw c.in_ok-sim.ensures at c.play_at.ensures.asked

@@ -1,6 +1,6 @@
 use Rattle.std.proofs.Common.{◌∙◌, sym}
 use Rattle.command_steps.specs.RunSteps.{an_order, no_order}
-use Rattle.simulation_commands.proofs.Keeping.{only_named, others_named, unplayed}
+use Rattle.simulation_commands.proofs.Keeping.{only_named, objects_named, unplayed}
 use Rattle.command_steps.proofs.Stopping.{err_in}
 use Rattle.command_words.proofs.Results.{ok_in}
 use Rattle.grown_commands.proofs.grow_summary.sum_up.Goals as goal
@@ -21,5 +21,10 @@ returns-in-Some-clause-stopped g c = err_in c.sum_up_at.result _ _ (λ stop is. 
 pub returns-in-Some-clause-orders : goal.returns-in-Some-clause-orders
 returns-in-Some-clause-orders g c = only_named _ _ c.in-Some.place (sym c.place_of.ensures.place ∙ c.in-Some.is) c.sum_up_at.ensures.played
 
-pub returns-in-Some-clause-others : goal.returns-in-Some-clause-others
-returns-in-Some-clause-others g c = others_named _ _ _ c.in-Some.place (sym c.place_of.ensures.place ∙ c.in-Some.is) c.sum_up_at.ensures.others
+pub returns-in-Some-clause-objects : goal.returns-in-Some-clause-objects
+returns-in-Some-clause-objects g c = objects_named _ _ _ c.in-Some.place (sym c.place_of.ensures.place ∙ c.in-Some.is) c.sum_up_at.ensures.objects
+
+pub returns-in-Some-clause-asked : goal.returns-in-Some-clause-asked
+returns-in-Some-clause-asked g c =
+    ok_in c.sum_up_at.result _ _
+    (λ output asks. record { place = c.in-Some.place; named = sym c.place_of.ensures.place ∙ c.in-Some.is; asked = asks }) c.sum_up_at.ensures.asked

@@ -43,3 +43,12 @@ returns-in-Ok-summary_text-clause-answered g c =
       run = rw (net_is, c.in-Ok.ensures) at c.in-Ok-run_summed.ensures.led;
       written = ap (λ text. writes Done text) c.in-Ok-summary_text.ensures;
     }
+
+pub returns-in-Ok-summary_text-clause-asked : goal.returns-in-Ok-summary_text-clause-asked
+returns-in-Ok-summary_text-clause-asked g c =
+    let net_is : c.in_ok-net.net ≡ translation (typed_of c.in_ok-program.program) = c.in_ok-net.ensures.net in
+    record {
+      program = typed_of c.in_ok-program.program;
+      read = c.in_ok-program.ensures.read;
+      asked = rw (net_is, c.in-Ok.ensures) at c.in-Ok-run_summed.ensures.asked;
+    }

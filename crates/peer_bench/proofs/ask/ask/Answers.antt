@@ -50,6 +50,7 @@ returns-in-In g c =
       stage = c.ask_value.ensures.stage ∙ ap (λ (xs : List Note). record stage { script = script_noting xs stage.script }) (sym same);
       noted = subst (λ (xs : List Note). HasNoted xs p now) (sym same) c.ask_value.ensures.noted;
       came = c.ask_value.ensures.came ∙ came_offer at k (q.due v k w.channel.width) ∙ ap (λ (xs : List Note). nat_lt 0 (length xs)) (sym same);
+      kind = c.ask_value.ensures.kind;
     }
 
 pub returns-in-Out : goal.returns-in-Out
@@ -74,6 +75,7 @@ returns-in-Out g c =
       stage = c.ask_ready.ensures.stage ∙ ap (λ (xs : List Note). record stage { script = script_noting xs stage.script }) (sym same);
       noted = subst (λ (xs : List Note). HasNoted xs p now) (sym same) c.ask_ready.ensures.noted;
       came = c.ask_ready.ensures.came ∙ came_ready at k (q.willing v k) ∙ ap (λ (xs : List Note). nat_lt 0 (length xs)) (sym same);
+      kind = c.ask_ready.ensures.kind;
     }
 
 pub returns-in-Chan : goal.returns-in-Chan
@@ -95,4 +97,5 @@ returns-in-Chan g c =
       stage = ap (λ (xs : List Note). record stage { script = script_noting xs stage.script }) (sym same);
       noted = subst (λ (xs : List Note). HasNoted xs p p) (sym same) (noted_none p p refl);
       came = ap (λ (xs : List Note). nat_lt 0 (length xs)) (sym same);
+      kind = refl;
     }

@@ -14,6 +14,7 @@ loop-init g c = record {
   asked = ([], no_pass_by);
   offered = c.requires.offered;
   room = refl;
+  kind = refl;
 }
 
 pub ask_each-requires-clause-low : goal.ask_each-requires-clause-low
@@ -47,6 +48,7 @@ loop-preserved g c =
       );
       offered = subst (λ (st : RunState). AreOffered ns.script st) (ap now_of whole) e.offered;
       room = omega (arith, e.room, i.room, free, behind);
+      kind = e.kind ∙ i.kind;
     }
 
 pub returns : goal.returns
@@ -66,4 +68,5 @@ returns g c =
       );
       offered = e.offered;
       room = omega (arith, e.room, i.room, free);
+      kind = e.kind ∙ i.kind;
     }

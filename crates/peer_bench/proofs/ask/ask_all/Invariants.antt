@@ -17,6 +17,7 @@ invariant-loop g l =
       offered : AreOffered l.stage.script (now_of l.fn.stage);
       room : now.spare l.peer.value + free_on l.fn.stage.net l.fn.stage.script (now_of l.fn.stage) ≡
           first.spare l.fn.peer.value + free_on l.fn.stage.net l.stage.script (now_of l.fn.stage);
+      kind : l.peer.vtable ≡ l.fn.peer.vtable;
     }
 
 abbrev pub decreases-loop : goal.decreases-loop

@@ -20,6 +20,7 @@ loop-chan-init g c = record {
   room = refl;
   most = omega arith;
   fewer = λ e. absurd (cc e);
+  kind = refl;
 }
 
 few_nodes : (reset : Option ℕ) → most_nodes reset ≤ 65537
@@ -76,4 +77,5 @@ loop-chan-preserved g c =
       most = omega (arith, noted.spare, i.most);
       fewer = fewer_on c.loop-chan.came c.ask-came.result given now.spare p.spare (first.spare c.args.peer.now.value) came
           noted.spare i.most i.fewer;
+      kind = c.ask-came.ensures.kind ∙ i.kind;
     }

@@ -21,4 +21,5 @@ invariant-loop-chan g l =
           first.spare l.fn.peer.value + free_on l.fn.stage.net l.stage.script (now_of l.fn.stage);
       most : now.spare l.peer.value ≤ first.spare l.fn.peer.value;
       fewer : l.came ≡ true → now.spare l.peer.value < first.spare l.fn.peer.value;
+      kind : l.peer.vtable ≡ l.fn.peer.vtable;
     }

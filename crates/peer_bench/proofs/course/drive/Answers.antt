@@ -28,14 +28,16 @@ loop-made-init g c =
     record {
       steps = ap (λ (v : SetupValue). v.steps) c.setup.view_is;
       net = subst (λ (v : SetupValue). IsNet v.net) c.setup.view_is here;
-      driven = begins _ c.args.setup stage c.ask_if.new.stage c.setup.inside.steps c.in_reset-is_in_reset.result c.ask_if.ensures.asked.0 c.args.peer.now
-          c.ask_if.new.peer c.first_hazard-hazard.result _ here c.setup.view_is c.setup.invariant c.in_reset-is_in_reset.ensures c.ask_if.ensures.stage
+      driven = begins _ _ c.args.setup stage c.ask_if.new.stage c.setup.inside.steps c.in_reset-is_in_reset.result c.ask_if.ensures.asked.0 c.args.peer.now
+          c.ask_if.new.peer c.args.picker.now c.first_hazard-hazard.result _ here c.setup.view_is c.setup.invariant c.in_reset-is_in_reset.ensures c.ask_if.ensures.stage
           c.ask_if.ensures.asked.1 c.ask_if.ensures.offered c.ask_if.ensures.room c.requires.room c.first_hazard-hazard.ensures.hazard
           c.net-kept.ensures.script;
       spare = omega arith;
       name = refl;
       nodes = refl;
       seeded = refl;
+      kind = refl;
+      device_kind = c.ask_if.ensures.kind;
     }
 
 pub ran-requires : goal.ran-requires
@@ -44,7 +46,7 @@ ran-requires g c =
     let ended : end_with c.loop-made.hazard (moves_now c.loop-made.stage) false ≡ Some c.in-Some.end =
     ap (λ (xs : List ℕ). end_with c.loop-made.hazard xs false) (sym c.moves.ensures) ∙ sym c.early_end.ensures ∙ c.in-Some.is in
     let goes : (c.loop-made.made == c.args.setup.steps) ≡ false = ne_eqb _ _ (omega (arith, i.steps, c.loop-made-test.true)) in
-    let fin = over _ c.args.setup _ _ c.loop-made.made c.loop-made.made _ _ c.loop-made.stage c.loop-made.hazard false c.in-Some.end i.net i.driven refl
+    let fin = over _ _ c.args.setup _ _ c.loop-made.made c.loop-made.made _ _ _ _ c.loop-made.stage c.loop-made.hazard false c.in-Some.end i.net i.driven refl
     goes ended in
     subst (λ (w : NetValue). IsEndIn w c.in-Some.end) (sym fin.net) fin.within
 
@@ -54,7 +56,7 @@ ran-requires-2 g c =
     let ended : end_with c.loop-made.hazard (moves_now c.loop-made.stage) true ≡ Some c.last_end-end.result =
     ap (λ (xs : List ℕ). end_with c.loop-made.hazard xs true) (sym c.moves-2.ensures) ∙ c.last_end-end.ensures in
     let spent : (c.loop-made.made == c.args.setup.steps) ≡ true = eq-eqb _ _ (omega (arith, i.steps, c.loop-made-test.false)) in
-    let fin = over _ c.args.setup _ _ c.loop-made.made c.loop-made.made _ _ c.loop-made.stage c.loop-made.hazard true c.last_end-end.result i.net i.driven refl
+    let fin = over _ _ c.args.setup _ _ c.loop-made.made c.loop-made.made _ _ _ _ c.loop-made.stage c.loop-made.hazard true c.last_end-end.result i.net i.driven refl
     spent ended in
     subst (λ (w : NetValue). IsEndIn w c.last_end-end.result) (sym fin.net) fin.within
 
@@ -86,7 +88,7 @@ make-hazard-requires-clause-rails g c =
     let i = c.loop-made.invariant in
     let none : end_with c.loop-made.hazard (moves_now c.loop-made.stage) false ≡ None =
     ap (λ (xs : List ℕ). end_with c.loop-made.hazard xs false) (sym c.moves.ensures) ∙ sym c.early_end.ensures ∙ c.in-None.is in
-    (is_ready _ c.args.setup.net c.args.setup.steps _ _ c.loop-made.made _ _ c.loop-made.stage c.loop-made.hazard i.driven
+    (is_ready _ _ c.args.setup.net c.args.setup.steps _ _ c.loop-made.made _ _ _ _ c.loop-made.stage c.loop-made.hazard i.driven
     (omega (arith, i.steps, c.loop-made-test.true)) none).rails
 
 pub make-hazard-requires-clause-offered : goal.make-hazard-requires-clause-offered
@@ -97,7 +99,7 @@ make-hazard-requires-clause-spare g c =
     let i = c.loop-made.invariant in
     let none : end_with c.loop-made.hazard (moves_now c.loop-made.stage) false ≡ None =
     ap (λ (xs : List ℕ). end_with c.loop-made.hazard xs false) (sym c.moves.ensures) ∙ sym c.early_end.ensures ∙ c.in-None.is in
-    (is_ready _ c.args.setup.net c.args.setup.steps _ _ c.loop-made.made _ _ c.loop-made.stage c.loop-made.hazard i.driven
+    (is_ready _ _ c.args.setup.net c.args.setup.steps _ _ c.loop-made.made _ _ _ _ c.loop-made.stage c.loop-made.hazard i.driven
     (omega (arith, i.steps, c.loop-made-test.true)) none).spare
 
 pub loop-made-preserved : goal.loop-made-preserved
@@ -106,6 +108,7 @@ loop-made-preserved g c =
     let p = c.choose-place.result in
     let xs = c.moves-in-None-2.result.now in
     let e = c.make-hazard.ensures in
+    let mid = goal.Picker-dyn g (c.loop-made.picker.vtable, c.loop-made.picker.value) in
     let none : end_with c.loop-made.hazard (moves_now c.loop-made.stage) false ≡ None =
     ap (λ (xs : List ℕ). end_with c.loop-made.hazard xs false) (sym c.moves.ensures) ∙ sym c.early_end.ensures ∙ c.in-None.is in
     let within : p < length (moves_now c.loop-made.stage) = omega (arith, c.choose-place.ensures.within, ap length c.moves-in-None.ensures) in
@@ -114,14 +117,24 @@ loop-made-preserved g c =
     record {
       steps = i.steps;
       net = i.net;
-      driven = goes_on _ c.args.setup.net c.loop-made.stage c.make-hazard.new.stage c.args.setup.steps _ _ _ c.loop-made.made _ _ _ c.loop-made.hazard
-          c.make-hazard.result p (get_or xs p 0) (c.loop-made.made + 1) i.net i.driven c.choose-place.ensures.log
+      driven = goes_on _ _ c.args.setup.net c.loop-made.stage c.make-hazard.new.stage c.args.setup.steps _ _ _ c.loop-made.made _ _ _ _ _
+          c.choose-place.new.picker c.loop-made.hazard c.make-hazard.result p (get_or xs p 0) (c.loop-made.made + 1) i.net i.driven
+          c.choose-place.ensures.log (record {
+            choice = c.choose-place.ensures.choice ∙ ap (mid.choice c.loop-made.picker.value) c.moves-in-None.ensures;
+            log = c.choose-place.ensures.log;
+            spare = c.choose-place.ensures.spare;
+            name = c.choose-place.ensures.name;
+            nodes = c.choose-place.ensures.nodes;
+            seeded = c.choose-place.ensures.seeded;
+          })
           (omega (arith, i.steps, c.loop-made-test.true)) none within at
           (record { net = e.net; now = e.moved; fits = e.fits; passed = e.passed; room = e.room; hazard = e.hazard }) refl e.noted e.offered e.spare;
       spare = omega (arith, c.choose-place.ensures.spare, i.spare);
       name = c.choose-place.ensures.name ∙ i.name;
       nodes = c.choose-place.ensures.nodes ∙ i.nodes;
       seeded = c.choose-place.ensures.seeded ∙ i.seeded;
+      kind = c.choose-place.ensures.kind ∙ i.kind;
+      device_kind = e.kind ∙ i.device_kind;
     }
 
 pub returns-in-Some : goal.returns-in-Some
@@ -130,17 +143,20 @@ returns-in-Some g c =
     let ended : end_with c.loop-made.hazard (moves_now c.loop-made.stage) false ≡ Some c.in-Some.end =
     ap (λ (xs : List ℕ). end_with c.loop-made.hazard xs false) (sym c.moves.ensures) ∙ sym c.early_end.ensures ∙ c.in-Some.is in
     let goes : (c.loop-made.made == c.args.setup.steps) ≡ false = ne_eqb _ _ (omega (arith, i.steps, c.loop-made-test.true)) in
-    let fin = over _ c.args.setup _ _ c.loop-made.made c.loop-made.made _ _ c.loop-made.stage c.loop-made.hazard false c.in-Some.end i.net i.driven refl
+    let fin = over _ _ c.args.setup _ _ c.loop-made.made c.loop-made.made _ _ _ _ c.loop-made.stage c.loop-made.hazard false c.in-Some.end i.net i.driven refl
     goes ended in
     record {
       log = fin.log;
       noted = fin.noted;
       run = rw c.ran.ensures fin.run;
+      asked = fin.asked;
       device = fin.name;
+      device_kind = i.device_kind;
       spare = rw c.ran.ensures i.spare;
       name = i.name;
       nodes = i.nodes;
       seeded = i.seeded;
+      kind = i.kind;
     }
 
 pub returns : goal.returns
@@ -150,15 +166,18 @@ returns g c =
     ap (λ (xs : List ℕ). end_with c.loop-made.hazard xs true) (sym c.moves-2.ensures) ∙ c.last_end-end.ensures in
     let all : c.setup.inside.steps ≡ c.loop-made.made = omega (arith, c.loop-made-test.false, c.loop-made.auto.made-end) in
     let spent : (c.loop-made.made == c.args.setup.steps) ≡ true = eq-eqb _ _ (omega (arith, i.steps, all)) in
-    let fin = over _ c.args.setup _ _ c.loop-made.made c.setup.inside.steps _ _ c.loop-made.stage c.loop-made.hazard true c.last_end-end.result i.net i.driven
+    let fin = over _ _ c.args.setup _ _ c.loop-made.made c.setup.inside.steps _ _ _ _ c.loop-made.stage c.loop-made.hazard true c.last_end-end.result i.net i.driven
     all spent ended in
     record {
       log = fin.log;
       noted = fin.noted;
       run = rw c.ran-2.ensures fin.run;
+      asked = fin.asked;
       device = fin.name;
+      device_kind = i.device_kind;
       spare = rw c.ran-2.ensures (omega (arith, i.spare, all));
       name = i.name;
       nodes = i.nodes;
       seeded = i.seeded;
+      kind = i.kind;
     }

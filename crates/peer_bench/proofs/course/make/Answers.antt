@@ -47,7 +47,10 @@ ask_if-requires-clause-room g c =
     ∙ ap (free_on s.net s.script) e.moved in
     let more = free_moved s c.args.node s.script c.is_external_ack-is_ack.ensures.net in
     let few = told_few l.net c.args.at c.completion-passed.result in
-    omega (arith, c.tell.ensures.spare, c.requires.spare)
+    omega (arith, c.tell.ensures.noted.spare, c.requires.spare)
+
+pub returns-clause-kind : goal.returns-clause-kind
+returns-clause-kind g c = c.ask_if.ensures.kind ∙ c.tell.ensures.kind
 
 pub returns-clause-net : goal.returns-clause-net
 returns-clause-net g c = ap (λ (t : StageValue). t.net) c.ask_if.ensures.stage ∙ c.make-hazard.ensures.net
@@ -79,7 +82,7 @@ returns-clause-noted g c =
     record {
       mid = c.tell.new.peer;
       more = c.ask_if.ensures.asked.0;
-      told_is = told_then s.net l.net c.args.at c.completion-passed.result _ _ _ e.net c.completion-passed.ensures c.tell.ensures;
+      told_is = told_then s.net l.net c.args.at c.completion-passed.result _ _ _ e.net c.completion-passed.ensures c.tell.ensures.noted;
       asked = asked_then _ s l now c.args.node c.args.at c.may_ask-asks.result c.in_reset.result c.in_reset-was_in_reset.result c.is_external_ack-is_ack.result
           c.ask_if.ensures.asked.0 c.tell.new.peer c.ask_if.new.peer e.net e.script c.ask_if.ensures.stage c.may_ask-asks.ensures c.in_reset.ensures
           c.in_reset-was_in_reset.ensures c.is_external_ack-is_ack.ensures.ack c.ask_if.ensures.asked.1;
@@ -98,4 +101,4 @@ returns-clause-spare g c =
     let few = told_few l.net c.args.at c.completion-passed.result in
     let same : free_on now.net now.script (now_of now) ≡ free_on s.net now.script (now_of now) =
     ap (λ (w : NetValue). free_on w now.script (now_of now)) (ap (λ (t : StageValue). t.net) c.ask_if.ensures.stage ∙ e.net) in
-    omega (arith, c.tell.ensures.spare, c.ask_if.ensures.room)
+    omega (arith, c.tell.ensures.noted.spare, c.ask_if.ensures.room)

@@ -6,18 +6,18 @@ use Rattle.peer_bench.proofs.Known.{took_noted, took_nothing}
 use Rattle.peer_bench.proofs.Suiting.{read_at, kind_at}
 use Rattle.peer_bench.proofs.course.tell_value.Goals as goal
 
-pub returns-then-is_out : goal.returns-then-is_out
-returns-then-is_out g c =
+pub returns-then-is_out-clause-noted : goal.returns-then-is_out-clause-noted
+returns-then-is_out-clause-noted g c =
     let net = c.args.stage.now.net in
     let k = c.args.chan in
     let w = get_or c.channels.result.now k c.index-channels-chan.result in
     let all : c.channels.result.now ≡ net.channels = c.channels.ensures.channels ∙ ap (λ (n : NetValue). n.channels) c.net.ensures.net in
     let kind : c.is_out.result ≡ chan_is is_out net (Some k) = c.is_out.ensures
     ∙ kind_at net is_out k w c.requires.chan (read_at net.channels c.channels.result.now k c.index-channels-chan.result all c.requires.chan) in
-    took_noted _ _ c.args.at k c.args.value (chan_is is_out net (Some k)) (sym kind ∙ c.if-is_out.true) c.tell_taken.ensures
+    took_noted _ _ c.args.at k c.args.value (chan_is is_out net (Some k)) (sym kind ∙ c.if-is_out.true) c.tell_taken.ensures.noted
 
-pub returns-else-is_out : goal.returns-else-is_out
-returns-else-is_out g c =
+pub returns-else-is_out-clause-noted : goal.returns-else-is_out-clause-noted
+returns-else-is_out-clause-noted g c =
     let net = c.args.stage.now.net in
     let k = c.args.chan in
     let w = get_or c.channels.result.now k c.index-channels-chan.result in

@@ -3,6 +3,7 @@ use Rattle.std.specs.Prelude.{◌==◌}
 use Rattle.std.proofs.lemmas.Bool.{ne_eqb, eq-eqb}
 use Rattle.std.proofs.lemmas.List.{append_assoc, length_push}
 use Rattle.prs_core.specs.Nets.{NetValue}
+use Rattle.event_sim.specs.Asking.{enabled_after}
 use Rattle.event_sim.specs.Ends.{end_with}
 use Rattle.event_sim.specs.Simulating.{SimValue, IsEndIn, start_at}
 use Rattle.event_sim.specs.Stages.{moves_now}
@@ -25,11 +26,12 @@ loop-made-init g c =
       steps = ap (λ (v : SimValue). v.steps) c.self.view_is;
       net = rw (← c.self.view_is) c.first_hazard-hazard.ensures.net;
       picked = rw (← c.self.view_is) (begun s.stage s.steps s.high c.first_hazard-hazard.result _ c.self.invariant c.first_hazard-hazard.ensures.hazard);
-      asked = asked_not _ c.args.self.net c.args.self.script (start_at c.args.self) (first.log c.args.picker.now.value) c.args.picker.now;
+      asked = asked_not _ (enabled_after c.args.self.net c.args.self.script (start_at c.args.self)) (first.log c.args.picker.now.value) c.args.picker.now;
       spare = omega arith;
       name = refl;
       nodes = refl;
       seeded = refl;
+      kind = refl;
     }
 
 pub ran-requires : goal.ran-requires
@@ -95,7 +97,7 @@ loop-made-preserved g c =
             i.picked.underway few none within at c.make-hazard.ensures.net c.make-hazard.ensures.script c.make-hazard.ensures.moved c.make-hazard.ensures.passed
             c.make-hazard.ensures.room c.make-hazard.ensures.hazard;
       };
-      asked = asked_on _ c.args.self.net c.args.self.script (start_at c.args.self) (first.log c.args.picker.now.value)
+      asked = asked_on _ (enabled_after c.args.self.net c.args.self.script (start_at c.args.self)) (first.log c.args.picker.now.value)
           (mid.log c.loop-made.picker.value) (later.log c.choose-place.new.picker.value) i.picked.picks p c.args.picker.now c.loop-made.picker
           c.choose-place.new.picker i.picked.grown c.choose-place.ensures.log i.asked (record {
             choice = c.choose-place.ensures.choice ∙ ap (mid.choice c.loop-made.picker.value) (c.moves-in-None.ensures ∙ listed);
@@ -109,6 +111,7 @@ loop-made-preserved g c =
       name = c.choose-place.ensures.name ∙ i.name;
       nodes = c.choose-place.ensures.nodes ∙ i.nodes;
       seeded = c.choose-place.ensures.seeded ∙ i.seeded;
+      kind = c.choose-place.ensures.kind ∙ i.kind;
     }
 
 pub returns-in-Some : goal.returns-in-Some
@@ -133,6 +136,7 @@ returns-in-Some g c =
       name = i.name;
       nodes = i.nodes;
       seeded = i.seeded;
+      kind = i.kind;
     }
 
 pub returns : goal.returns
@@ -158,4 +162,5 @@ returns g c =
       name = i.name;
       nodes = i.nodes;
       seeded = i.seeded;
+      kind = i.kind;
     }

@@ -1,5 +1,6 @@
 use Rattle.std.proofs.Common.{arith}
 use Rattle.std.proofs.lemmas.List.{length-set}
+use Rattle.event_sim.proofs.KindsKept.{kinds_kept}
 use Rattle.peer_bench.proofs.Listed.{set_apart, there, both_there}
 use Rattle.peer_bench.proofs.Seen.{run_seen}
 use Rattle.peer_bench.proofs.bench.Bench.run.Goals as goal
@@ -50,3 +51,18 @@ pub returns-clause-others : goal.returns-clause-others
 returns-clause-others g c =
     let self = c.args.self in
     λ k apart. set_apart self.peers.items self.which k c.drive-ran.new.peer apart
+
+pub returns-clause-asked : goal.returns-clause-asked
+returns-clause-asked g c =
+    let self = c.args.self in
+    both_there self.peers.items self.which c.index_mut.result.now c.drive-ran.new.peer _
+    (omega (arith, self.within, self.peers.ok.0)) c.index_mut.ensures.value c.drive-ran.ensures.asked
+
+pub returns-clause-kinds : goal.returns-clause-kinds
+returns-clause-kinds g c =
+    let self = c.args.self in
+    kinds_kept (λ p. p.vtable) self.peers.items self.which c.index_mut.result.now c.drive-ran.new.peer
+    (omega (arith, self.within, self.peers.ok.0)) c.index_mut.ensures.value c.drive-ran.ensures.device_kind
+
+pub returns-clause-kind : goal.returns-clause-kind
+returns-clause-kind g c = c.drive-ran.ensures.kind
