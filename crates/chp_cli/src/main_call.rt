@@ -140,8 +140,7 @@ fn run<'a, S: Shelf, K: Sink>(
 }
 
 /// Runs the command that the words ask for: reads its files from the shelf, writes its output, and says one line where
-/// it doesn't end well. The output is written whole, or where it fails less than the whole, a prefix of it. Faults of
-/// `say` change neither the status nor the output.
+/// it doesn't end well. The output is written whole, or where it fails less than the whole, a prefix of it.
 ///
 /// What is answered, written and said is the command's answer to its files, of which there is at most one where the
 /// shelf is observable, for the same orders and devices before and after. Three things may come between: the shelf

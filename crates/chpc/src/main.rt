@@ -1,11 +1,13 @@
 //! The program: the top call over the files and the standard streams of the system.
 #![tactic(auto)]
 
+ghost use Rattle.std.specs.Prelude.{◌≡◌, ◌∷◌, [], codes, map, IfOk};
+
 use chp_cli::{Players, Status, chp_main};
 use chp_edge::{ErrSink, FileShelf, OutSink, Sink, write_all};
 use event_sim::{Lowest, Newest, Oldest, Picker, Random};
 use peer_bench::{Echo, Peer, Ramp};
-use std::alloc::AllocError;
+use std::alloc::{AllocError, Global};
 use std::env;
 use std::io::{BufWriter, ErrorKind, Write};
 use std::process::ExitCode;
@@ -22,7 +24,42 @@ fn words<R: Env + AllocGlobal>(rt: &R) -> Result<Vec<String>, AllocError> {
     words.collect(rt.alloc())
 }
 
-/// Runs the words over real files and these sinks, with the four orders and the two devices.
+/// The four orders.
+fn orders(alloc: Global) -> Result<Vec<Box<dyn Picker>>, AllocError>
+    ensures { IfOk result (λ orders. map (λ order. name order) orders.items ≡
+        codes "lowest" ∷ codes "oldest" ∷ codes "newest" ∷ codes "random" ∷ []) }
+{
+    let mut orders: Vec<Box<dyn Picker>> = Vec::new(alloc);
+    orders.push(Box::new(alloc, Lowest::new(alloc))?)?;
+    orders.push(Box::new(alloc, Oldest::new(alloc))?)?;
+    orders.push(Box::new(alloc, Newest::new(alloc))?)?;
+    orders.push(Box::new(alloc, Random::new(alloc))?)?;
+    Ok(orders)
+}
+
+/// The two devices.
+fn peers(alloc: Global) -> Result<Vec<Box<dyn Peer>>, AllocError>
+    ensures { IfOk result (λ peers. map (λ peer. name peer) peers.items ≡ codes "ramp" ∷ codes "echo" ∷ []) }
+{
+    let mut peers: Vec<Box<dyn Peer>> = Vec::new(alloc);
+    peers.push(Box::new(alloc, Ramp::new(alloc))?)?;
+    peers.push(Box::new(alloc, Echo::new(alloc))?)?;
+    Ok(peers)
+}
+
+/// What each call is handed in: the four orders and the two devices.
+fn players(alloc: Global) -> Result<Players, AllocError>
+    ensures orders { IfOk result (λ players. map (λ order. (⟦<dyn Picker as Picker>⟧ order.vtable).name order.value)
+        players.orders.items ≡ codes "lowest" ∷ codes "oldest" ∷ codes "newest" ∷ codes "random" ∷ []) }
+    ensures peers { IfOk result (λ players. map (λ peer. (⟦<dyn Peer as Peer>⟧ peer.vtable).name peer.value)
+        players.peers.items ≡ codes "ramp" ∷ codes "echo" ∷ []) }
+{
+    let orders = orders(alloc)?;
+    let peers = peers(alloc)?;
+    Ok(Players { orders, peers })
+}
+
+/// Runs the words over real files and these sinks.
 fn run_words<R: AllocGlobal + Files, K: Sink, W: Sink>(
     rt: &R,
     words: &[String],
@@ -30,15 +67,7 @@ fn run_words<R: AllocGlobal + Files, K: Sink, W: Sink>(
     say: &mut W,
 ) -> Result<Status, AllocError> {
     let alloc = rt.alloc();
-    let mut orders: Vec<Box<dyn Picker>> = Vec::new(alloc);
-    orders.push(Box::new(alloc, Lowest::new(alloc))?)?;
-    orders.push(Box::new(alloc, Oldest::new(alloc))?)?;
-    orders.push(Box::new(alloc, Newest::new(alloc))?)?;
-    orders.push(Box::new(alloc, Random::new(alloc))?)?;
-    let mut peers: Vec<Box<dyn Peer>> = Vec::new(alloc);
-    peers.push(Box::new(alloc, Ramp::new(alloc))?)?;
-    peers.push(Box::new(alloc, Echo::new(alloc))?)?;
-    let mut players = Players { orders, peers };
+    let mut players = players(alloc)?;
     let mut shelf = FileShelf::new(rt);
     Ok(chp_main(alloc, words, &mut shelf, out, say, &mut players))
 }
