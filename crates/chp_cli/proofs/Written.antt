@@ -46,7 +46,7 @@ module _ (c : AskedCompilation) (no_fault : (program : ProgramTree) (f : Fault) 
 -- what is written is the text of the program's net
 module _ (c : AskedCompilation) (given : Given) where
   pub written_right : (end : Ending) (text : List ℕ) → Compiles c given (writes end text) → IsFileCompiled c given text
-  written_right end text (a_file {text = x} gives short (a_program {program = p} is (accepted {plain = r} means are (has_channel q buffered form)))) =
+  written_right end text (a_file {text = x} gives short (a_program {program = p} is (accepted {plain = r} means are (has_channel q buffered keeps form)))) =
       let spelled = net_spelled c.reset form.bodies end text form.net in record {
         text = x;
         program = p;

@@ -40,7 +40,7 @@ meant_checks {tree} means free (accepted itself are is) = accepted (subst (λ (t
 pub buffer_goes : {tree : ProgramTree} {chan : Option (List ℕ)} {Next : TypedProgram → Answer → Type 0} {a : Answer} → FromBuffer tree chan Never a →
     FromBuffer tree chan Next a
 buffer_goes (no_channel named not) = no_channel named not
-buffer_goes (has_channel made is never) = absurd never
+buffer_goes (has_channel made is keeps never) = absurd never
 
 -- ---- from a text on
 
@@ -69,7 +69,7 @@ module _ (given : Given) (file : List ℕ) (chan : Option (List ℕ)) (Next : Ty
     pub buffered_on : (a : Answer) → Next program a → FromProgramFile given file chan Next a
     buffered_on a is =
         let from = holds.is.from in
-        a_file holds.gives holds.short (a_program holds.is.read (accepted from.means from.accepted (has_channel from.is.made from.is.buffered
+        a_file holds.gives holds.short (a_program holds.is.read (accepted from.means from.accepted (has_channel from.is.made from.is.buffered from.is.keeps
         (subst (λ (p : TypedProgram). Next p a) from.is.form is))))
 
 -- a program by itself, accepted or not

@@ -156,9 +156,9 @@ module _ (program : ProgramTree) (chan : Option (List ℕ)) (Next : TypedProgram
   pub buffer_once : (a b : Answer) → FromBuffer program chan Next a → FromBuffer program chan Next b → a ≡ b
   buffer_once a b (no_channel {name = x} is n) (no_channel {name = y} are m) =
       ap (λ (name : List ℕ). refuses NoChannel (no_channel_line name)) (same_name is are)
-  buffer_once a b (no_channel {name = x} is n) (has_channel p has m) = needs_channel program chan x p is n has
-  buffer_once a b (has_channel p has n) (no_channel {name = x} is m) = needs_channel program chan x p is m has
-  buffer_once a b (has_channel p is n) (has_channel q are m) =
+  buffer_once a b (no_channel {name = x} is n) (has_channel p has keeps m) = needs_channel program chan x p is n has
+  buffer_once a b (has_channel p has keeps n) (no_channel {name = x} is m) = needs_channel program chan x p is m has
+  buffer_once a b (has_channel p is kept n) (has_channel q are keeps m) =
       next (typed_form p) a b n (subst (λ (r : ProgramTree). Next (typed_form r) b) (one_buffered program chan q p are is) m)
 
 module _ (checked : (program : ProgramTree) (Next : ProgramTree → Answer → Type 0) → ((plain : ProgramTree) → OneAnswer (Next plain)) →

@@ -49,7 +49,7 @@ module _ (P : Answer → Type 0) where
   pub buffer_passed : (p made : ProgramTree) (chan : Option (List ℕ)) → IsBuffered p chan made → (Next : TypedProgram → Answer → Type 0)
       → ((a : Answer) → Next (typed_form made) a → P a) → (a : Answer) → FromBuffer p chan Next a → P a
   buffer_passed p made chan buffered Next next a (no_channel {name = x} named not) = needs_channel p chan x made named not buffered
-  buffer_passed p made chan buffered Next next a (has_channel other also is) =
+  buffer_passed p made chan buffered Next next a (has_channel other also keeps is) =
       next a (subst (λ (t : ProgramTree). Next (typed_form t) a) (one_buffered p chan other made also buffered) is)
 
   pub net_passed : (text : List ℕ) (net : NetValue) → IsNet net → NetText text net → (Next : NetValue → Answer → Type 0) → ((a : Answer) → Next net a → P a)

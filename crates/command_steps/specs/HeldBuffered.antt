@@ -6,15 +6,16 @@ use Rattle.width_check.specs.Accepted.{IsAccepted}
 use Rattle.width_check.specs.Form.{typed_form}
 use Rattle.width_check.specs.Processes.{TypedProgram}
 use Rattle.command_answers.specs.Answers.{Given, Gives}
-use Rattle.command_steps.specs.BufferSteps.{IsBuffered}
+use Rattle.command_steps.specs.BufferSteps.{IsBuffered, KeepsPassed}
 use Rattle.command_steps.specs.Inlined.{Means}
 use Rattle.command_steps.specs.Steps.{IsTextOf, most_of_text}
 
 -- this is the typed form of the program, or of the program with a buffer on the channel that is named, which has the
--- shape of the grammar
+-- shape of the grammar and keeps what the first one passes
 pub record IsBufferedForm (tree : ProgramTree) (chan : Option (List ℕ)) (program : TypedProgram) : Type 0 where
   pub made : ProgramTree
   pub buffered : IsBuffered tree chan made
+  pub keeps : KeepsPassed tree chan made
   pub shaped : IsShaped made
   pub form : program ≡ typed_form made
 

@@ -15,7 +15,7 @@ use Rattle.command_answers.specs.declared.status.Status.TheVariants.{TooLarge}
 use Rattle.command_answers.specs.Answers.{Given, Gives, Answer, refuses, writes}
 use Rattle.command_answers.specs.Lines.{nodes_line}
 use Rattle.command_answers.specs.Replies.{Halts}
-use Rattle.command_steps.specs.BufferSteps.{FromBuffer, IsBuffered, has_channel}
+use Rattle.command_steps.specs.BufferSteps.{FromBuffer, IsBuffered, KeepsPassed, has_channel}
 use Rattle.command_steps.specs.HeldBuffered.{IsBufferedFrom}
 use Rattle.command_steps.specs.Inlined.{AreShaped, IsFormOf, Means}
 use Rattle.command_steps.specs.Steps.{FromChecks, IsTextOf, Never, accepted, most_of_nodes, most_of_text}
@@ -60,7 +60,7 @@ module _ (c : AskedCompilation) (program : ProgramTree) (p : TypedProgram) (from
   module _ (bodies : Bodies p) (has : HasBodies program c.buffer bodies) where
     net_answers : (a : Answer) → CompilesNet c.reset bodies a → CompilesProgram c program a
     net_answers a net =
-        accepted from.means from.accepted (has_channel from.is.made from.is.buffered
+        accepted from.means from.accepted (has_channel from.is.made from.is.buffered from.is.keeps
         (subst (λ (q : TypedProgram). CompilesForm c program q a) from.is.form (record { bodies = bodies; has = has; net = net })))
 
     pub text_answers : (s : List ℕ) → IsTextWith c.reset bodies s → CompilesProgram c program (writes Done s)
@@ -109,12 +109,16 @@ module _ (program : ProgramTree) (buffer : Option (List ℕ)) (not : ¬ IsCopied
     plain = f.plain;
     means = f.means;
     accepted = f.accepted;
-    is = record { made = f.plain; buffered = as_it_is buffer not; shaped = shaped f.plain f.means; form = f.form };
+    is = record { made = f.plain; buffered = as_it_is buffer not; keeps = none_kept buffer not; shaped = shaped f.plain f.means; form = f.form };
   }
     where
       as_it_is : (o : Option (List ℕ)) → ¬ IsCopied program o → IsBuffered f.plain o f.plain
       as_it_is None apart = refl
       as_it_is (Some chan) apart = absurd (apart tt)
+
+      none_kept : (o : Option (List ℕ)) → ¬ IsCopied program o → KeepsPassed f.plain o f.plain
+      none_kept None apart = tt
+      none_kept (Some chan) apart = absurd (apart tt)
 
 -- ---- of the file
 
@@ -152,5 +156,6 @@ faithful_file c given text program gives short read written is =
             spells = spells;
           };
           shaped = is.from.is.shaped;
+          keeps = is.from.is.keeps;
           faithful = faithful;
         })

@@ -11,7 +11,7 @@ use Rattle.command_answers.specs.declared.answer.Ending.TheVariants.{Done}
 use Rattle.command_answers.specs.declared.status.Status.TheVariants.{TooLarge}
 use Rattle.command_answers.specs.Answers.{Given, Gives, Answer, writes, refuses}
 use Rattle.command_answers.specs.Lines.{nodes_line}
-use Rattle.command_steps.specs.BufferSteps.{FromBuffer, IsBuffered}
+use Rattle.command_steps.specs.BufferSteps.{FromBuffer, IsBuffered, KeepsPassed}
 use Rattle.command_steps.specs.HeldBuffered.{IsBufferedFrom}
 use Rattle.command_steps.specs.Inlined.{Means}
 use Rattle.command_words.specs.CompileWords.{AskedCompilation}
@@ -72,10 +72,11 @@ pub record IsFaithfulTo (c : AskedCompilation) (program : ProgramTree) (written 
   pub faithful : IsFaithful c.reset bodies
 
 -- what is written is the one text of the net of such a text's program, or of that with the buffer, which has the shape
--- of the grammar; and this net carries that program, and keeps pace with it
+-- of the grammar, and keeps what it passes without the buffer; and this net carries that program, and keeps pace with it
 pub record IsFaithfulFile (c : AskedCompilation) (given : Given) (written : List ℕ) : Type 0 where
   pub file : IsFileCompiled c given written
   pub shaped : IsShaped file.made
+  pub keeps : KeepsPassed file.plain c.buffer file.made
   pub faithful : IsFaithful c.reset file.bodies
 
 -- the file holds what is to be compiled: a text within the limit that reads as a program; the one that it means is

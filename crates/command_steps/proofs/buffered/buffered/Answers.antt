@@ -6,6 +6,7 @@ pub returns-in-None-clause-goes_on : goal.returns-in-None-clause-goes_on
 returns-in-None-clause-goes_on c = rw c.in-None.is (record {
   made = program_tree c.args.program.now;
   buffered = refl;
+  keeps = tt;
   shaped = c.requires.shaped;
   form = c.requires.form;
 })

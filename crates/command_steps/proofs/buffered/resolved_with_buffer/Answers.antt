@@ -13,6 +13,11 @@ returns c =
     ok_in c.resolved.result _ _ (λ disjoint form. record {
       made = program_tree c.in_ok-made.made;
       buffered = record { inner = c.requires.inner; buffer = c.in_ok-made.ensures.buffer };
+      keeps = λ has. record {
+        typed = c.in_ok-made.ensures.typed has;
+        keeps = c.in_ok-made.ensures.keeps has;
+        accepted = c.in_ok-made.ensures.accepted;
+      };
       shaped = c.in_ok-made.ensures.shaped;
       form = form;
     }) c.resolved.ensures
