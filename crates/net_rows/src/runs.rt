@@ -91,16 +91,16 @@ fn moves(
 }
 
 /// The net and the script of the case, or None where a text is refused.
-pub fn read(alloc: Global, below: &NetBench) -> Result<Option<(Net, Script)>, AllocError>
+pub fn read(alloc: Global, bench: &NetBench) -> Result<Option<(Net, Script)>, AllocError>
     ensures { IfOk result (λ read. IfSome read (λ r. IsScript (net_channels r.0) r.1)) }
 {
-    let Some(net) = net_of(alloc, below) else {
+    let Some(net) = net_of(alloc, bench) else {
         return Ok(None);
     };
-    if below.script.len() > MOST_OF_SCRIPT {
+    if bench.script.len() > MOST_OF_SCRIPT {
         return Ok(None);
     }
-    match script_of(alloc, &net, &below.script) {
+    match script_of(alloc, &net, &bench.script) {
         Ok(script) => Ok(Some((net, script))),
         Err(_) => Ok(None),
     }
@@ -165,14 +165,14 @@ fn put_run(
 /// The run of so many moves at most, which the line gives, where it gives a number.
 pub fn moved(
     alloc: Global,
-    below: &NetBench,
+    bench: &NetBench,
     line: &str,
     page: &mut String,
 ) -> Result<bool, AllocError> {
     let Ok(most) = line.parse::<u32>() else {
         return Ok(false);
     };
-    match read(alloc, below)? {
+    match read(alloc, bench)? {
         Some((net, script)) => put_run(alloc, net, script, most, page)?,
         None => page.push_str("no run\n")?,
     }

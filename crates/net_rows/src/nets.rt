@@ -14,11 +14,11 @@ use std::fmt::Write;
 const MOST: usize = 268_435_456;
 
 /// The net of the rule file, or None where it is refused.
-pub fn net_of(alloc: Global, below: &NetBench) -> Option<Net> {
-    if below.net.len() > MOST {
+pub fn net_of(alloc: Global, bench: &NetBench) -> Option<Net> {
+    if bench.net.len() > MOST {
         return None;
     }
-    read_net(alloc, &below.net).ok()
+    read_net(alloc, &bench.net).ok()
 }
 
 /// The nodes, each behind a blank.
@@ -116,11 +116,11 @@ fn put_first(alloc: Global, net: &Net, page: &mut String) -> Result<(), AllocErr
 /// What the word asks of the net: to show it, its readers, or what is high and enabled at first.
 pub fn tell_net(
     alloc: Global,
-    below: &NetBench,
+    bench: &NetBench,
     word: &str,
     page: &mut String,
 ) -> Result<(), AllocError> {
-    match net_of(alloc, below) {
+    match net_of(alloc, bench) {
         Some(net) => match word {
             "show-net" => put_net(page, &net),
             "readers" => put_fan(alloc, &net, page),

@@ -1,6 +1,6 @@
 use Rattle.std.proofs.Common.{refl}
-use Rattle.chp_rows.proofs.WorkedSelection.{selection_is}
-use Rattle.chp_rows.proofs.cells.selection.Goals as goal
+use Rattle.net_rows.proofs.WorkedSelection.{selection_is}
+use Rattle.net_rows.proofs.cells.selection.Goals as goal
 
 pub returns : goal.returns
 returns c =

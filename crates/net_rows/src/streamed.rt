@@ -1,6 +1,7 @@
 //! Rule files that are given out in pieces.
 
 use crate::reading::accepted;
+use case_text::CaseFiles;
 use net_compose::{NetError, translate};
 use net_stream::Streamer;
 use prs_file::print_net;
@@ -103,5 +104,24 @@ pub fn stream(alloc: Global, text: &[u8], page: &mut String) -> Result<(), Alloc
     match accepted(alloc, text) {
         Some(program) => compare_both(alloc, &program, page),
         None => page.push_str("no program\n"),
+    }
+}
+
+/// The rule file of the program that the text is. None where it is refused, or has too many nodes.
+fn rule_file(alloc: Global, text: &[u8]) -> Result<Option<Vec<u8>>, AllocError> {
+    match accepted(alloc, text) {
+        Some(program) => printed(alloc, &program, false),
+        None => Ok(None),
+    }
+}
+
+/// Adds the rule file of the program that the last file is, as a file without a name. Whether there is such a program.
+pub fn circuit(alloc: Global, files: &mut CaseFiles) -> Result<bool, AllocError> {
+    match rule_file(alloc, files.last())? {
+        Some(text) => files
+            .begin(alloc, "")
+            .and(files.append(&text))
+            .and(Ok(true)),
+        None => Ok(false),
     }
 }

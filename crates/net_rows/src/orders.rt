@@ -66,14 +66,14 @@ fn go(
 /// The simulation by the scheduler, or None where a text is refused.
 fn simulate(
     alloc: Global,
-    below: &NetBench,
+    bench: &NetBench,
     seed: u64,
     steps: u32,
     picker: &mut Box<dyn Picker>,
 ) -> Result<Option<Simulated>, AllocError>
     requires { steps ≤ 1000000 }
 {
-    let Some((net, script)) = read(alloc, below)? else {
+    let Some((net, script)) = read(alloc, bench)? else {
         return Ok(None);
     };
     let earlier = picker.log().len();
@@ -166,11 +166,11 @@ fn follows(
 /// The same of a run of the case's net under its script.
 fn go_by_age(
     alloc: Global,
-    below: &NetBench,
+    bench: &NetBench,
     picks: &[usize],
     longest: bool,
 ) -> Result<bool, AllocError> {
-    match read(alloc, below)? {
+    match read(alloc, bench)? {
         Some((net, script)) => {
             follows(alloc, &mut Run::new(alloc, net, script)?, picks, longest)
         }
@@ -182,14 +182,14 @@ fn go_by_age(
 /// whether it chooses the same again.
 fn tell_picks(
     alloc: Global,
-    below: &NetBench,
+    bench: &NetBench,
     order: &str,
     picks: &[usize],
     again: &[usize],
     page: &mut String,
 ) -> Result<(), AllocError> {
-    let oldest = go_by_age(alloc, below, picks, true)?;
-    let newest = go_by_age(alloc, below, picks, false)?;
+    let oldest = go_by_age(alloc, bench, picks, true)?;
+    let newest = go_by_age(alloc, bench, picks, false)?;
     write!(page, "{order}: {} picks, oldest {oldest}", picks.len())?;
     writeln!(page, ", newest {newest}, the same again {}", picks == again)
 }
@@ -198,7 +198,7 @@ fn tell_picks(
 /// first simulation, or None where a text is refused.
 fn simulate_twice(
     alloc: Global,
-    below: &NetBench,
+    bench: &NetBench,
     seed: u64,
     steps: u32,
     picker: &mut Box<dyn Picker>,
@@ -206,13 +206,13 @@ fn simulate_twice(
 ) -> Result<Option<Simulated>, AllocError>
     requires { steps ≤ 1000000 }
 {
-    let Some(run) = simulate(alloc, below, seed, steps, picker)? else {
+    let Some(run) = simulate(alloc, bench, seed, steps, picker)? else {
         return Ok(None);
     };
-    let Some(again) = simulate(alloc, below, seed, steps, picker)? else {
+    let Some(again) = simulate(alloc, bench, seed, steps, picker)? else {
         return Ok(None);
     };
-    tell_picks(alloc, below, picker.name(), &run.picks, &again.picks, page)?;
+    tell_picks(alloc, bench, picker.name(), &run.picks, &again.picks, page)?;
     Ok(Some(run))
 }
 
@@ -230,7 +230,7 @@ fn all_differ(earlier: &[Simulated], run: &Simulated) -> bool {
 /// whether all results are the same, and whether all choices differ.
 fn compare(
     alloc: Global,
-    below: &NetBench,
+    bench: &NetBench,
     seed: u64,
     steps: u32,
     pickers: &mut Vec<Box<dyn Picker>>,
@@ -241,7 +241,7 @@ fn compare(
     let mut earlier: Vec<Simulated> = Vec::new(alloc);
     let (mut agree, mut differ) = (true, true);
     for picker in pickers.iter_mut() {
-        let Some(run) = simulate_twice(alloc, below, seed, steps, picker, page)? else {
+        let Some(run) = simulate_twice(alloc, bench, seed, steps, picker, page)? else {
             return Ok(false);
         };
         agree = agree && all_agree(&earlier, &run);
@@ -269,7 +269,7 @@ fn limits_of(line: &str) -> Option<(u64, u32)>
 /// Compares the four schedulers, where the line gives a seed and the most moves.
 pub fn orders(
     alloc: Global,
-    below: &NetBench,
+    bench: &NetBench,
     line: &str,
     page: &mut String,
 ) -> Result<bool, AllocError> {
@@ -281,5 +281,5 @@ pub fn orders(
     pickers.push(Box::new(alloc, Oldest::new(alloc))?)?;
     pickers.push(Box::new(alloc, Newest::new(alloc))?)?;
     pickers.push(Box::new(alloc, Random::new(alloc))?)?;
-    compare(alloc, below, seed, steps, &mut pickers, page)
+    compare(alloc, bench, seed, steps, &mut pickers, page)
 }

@@ -1,8 +1,8 @@
 use Rattle.std.proofs.Common.{◌≢◌, ◌≤◌, List, sym, subst, ◌∙◌}
 use Rattle.std.specs.Prelude.{All, AllPairs}
 use Rattle.chp_base.specs.declared.channel.Channel.{Channel}
-use Rattle.chp_rows.proofs.ScriptChannels.{script_distinct, script_wide}
-use Rattle.chp_rows.proofs.runs.script_of.Goals as goal
+use Rattle.net_rows.proofs.ScriptChannels.{script_distinct, script_wide}
+use Rattle.net_rows.proofs.runs.script_of.Goals as goal
 
 pub read_script-requires-clause-distinct : goal.read_script-requires-clause-distinct
 read_script-requires-clause-distinct c =

@@ -47,14 +47,14 @@ fn put_offers(page: &mut String, net: &Net, script: &Script) -> Result<(), Alloc
 }
 
 /// What the script says of each channel of the net, or the number and the line of the cause for which it is refused.
-pub fn offers(alloc: Global, below: &NetBench, page: &mut String) -> Result<(), AllocError> {
-    let Some(net) = net_of(alloc, below) else {
+pub fn offers(alloc: Global, bench: &NetBench, page: &mut String) -> Result<(), AllocError> {
+    let Some(net) = net_of(alloc, bench) else {
         return page.push_str("no net\n");
     };
-    if below.script.len() > MOST_OF_SCRIPT {
+    if bench.script.len() > MOST_OF_SCRIPT {
         return page.push_str("too long\n");
     }
-    match script_of(alloc, &net, &below.script) {
+    match script_of(alloc, &net, &bench.script) {
         Ok(script) => put_offers(page, &net, &script),
         Err(ScriptError::Refused { fault, line }) => {
             writeln!(page, "{} at line {line}", fault.number())

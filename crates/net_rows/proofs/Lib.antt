@@ -1,0 +1,4 @@
+pub mod ProgramChannels
+pub mod ScriptChannels
+pub mod Tested
+pub mod WorkedSelection
