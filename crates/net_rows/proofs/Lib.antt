@@ -1,3 +1,4 @@
+pub mod MadeNets
 pub mod ProgramChannels
 pub mod ScriptChannels
 pub mod Tested

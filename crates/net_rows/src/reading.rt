@@ -1,17 +1,24 @@
 //! What a text is read as.
 
-ghost use Rattle.std.specs.Prelude.{◌≤◌, length, IfOk};
+ghost use Rattle.std.specs.Prelude.{◌≡◌, ◌≤◌, length, IfOk, IfSome, OnOk};
 ghost use Rattle.chp_syntax.specs.Shape.{IsShaped};
 ghost use Rattle.chp_syntax.specs.View.{program_tree};
+ghost use Rattle.width_check.specs.Accepted.{IsAccepted};
+ghost use Rattle.width_check.specs.Form.{typed_form};
+ghost use Rattle.width_check.specs.Typed.{program_of};
+ghost use Rattle.call_merge.specs.CallFaults.{MeetsCalling};
+ghost use Rattle.call_merge.specs.Inlining.{IsInlined};
+ghost use Rattle.call_compose.specs.Inlined.{AreInlined};
 
 use crate::printer::put_program;
+use call_merge::{CallError, inline};
 use case_text::put_bytes;
 use chp_base::TextError;
 use chp_syntax::{Program, Token, TokenKind, parse, tokens};
 use sharing_check::{Disjoint, share};
 use std::alloc::{AllocError, Global};
 use std::fmt::Write;
-use width_check::{Typed, is_call_free, resolve};
+use width_check::{is_call_free, resolve};
 
 /// The most bytes of a program text.
 const MOST: usize = 262_144;
@@ -24,31 +31,65 @@ fn parsed(alloc: Global, text: &[u8]) -> Result<Box<Program>, TextError>
     Ok(Box::new(alloc, parse(alloc, text)?)?)
 }
 
-/// The program with its names resolved, where it has neither procedures nor calls.
-fn resolved(alloc: Global, program: &Program) -> Option<Typed>
+/// The program that the text is. `None` where the text is too long or refused, or memory runs out.
+pub fn program_of_text(alloc: Global, text: &[u8]) -> Option<Box<Program>>
+    ensures { IfSome result (λ program. IsShaped (program_tree program.value)) }
+{
+    if text.len() > MOST {
+        return None;
+    }
+    match parsed(alloc, text) {
+        Ok(program) => Some(program),
+        Err(_) => None,
+    }
+}
+
+/// The program with its names resolved, where it is accepted and has neither procedures nor calls.
+pub fn checked(alloc: Global, program: &Program) -> Option<Disjoint>
     requires { IsShaped (program_tree program.now) }
+    ensures accepted { IfSome result (λ _. IsAccepted (program_tree program.now)) }
+    ensures form { IfSome result (λ disjoint. program_of disjoint ≡ typed_form (program_tree program.now)) }
 {
     if program.decls.len() > MOST || !is_call_free(program) {
         return None;
     }
-    resolve(alloc, program).ok()
-}
-
-/// The program that the text is, with its names resolved.
-fn typed_of(alloc: Global, text: &[u8]) -> Option<Typed>
-    requires { length text.now ≤ 262144 }
-{
-    let program = parsed(alloc, text).ok()?;
-    resolved(alloc, &program)
+    let Ok(typed) = resolve(alloc, program) else {
+        return None;
+    };
+    match share(alloc, typed) {
+        Ok(disjoint) => Some(disjoint),
+        Err(_) => None,
+    }
 }
 
 /// The accepted program that the text is. `None` where the text is too long or refused, has procedures or calls, or
 /// memory runs out.
 pub fn accepted(alloc: Global, text: &[u8]) -> Option<Disjoint> {
-    if text.len() > MOST {
-        return None;
+    let program = program_of_text(alloc, text)?;
+    checked(alloc, &program)
+}
+
+/// The program in which each call is its procedure's body.
+fn merged(alloc: Global, program: &Program) -> Result<Box<Program>, CallError>
+    requires few { length program.now.procs.items ≤ 300000 }
+    requires shaped { IsShaped (program_tree program.now) }
+    ensures inlined { IfOk result (λ plain. IsInlined (program_tree program.now) (program_tree plain.value)) }
+    ensures meets { OnOk result (MeetsCalling (program_tree program.now)) }
+    ensures shaped { IfOk result (λ plain. IsShaped (program_tree plain.value)) }
+{
+    Ok(Box::new(alloc, inline(alloc, program)?)?)
+}
+
+/// The same with its names resolved, where it is accepted. `None` where something is refused, or memory runs out.
+pub fn inlined(alloc: Global, program: &Program) -> Option<Disjoint>
+    requires few { length program.now.procs.items ≤ 300000 }
+    requires shaped { IsShaped (program_tree program.now) }
+    ensures { IfSome result (λ disjoint. AreInlined (program_tree program.now) (program_of disjoint)) }
+{
+    match merged(alloc, program) {
+        Ok(plain) => checked(alloc, &plain),
+        Err(_) => None,
     }
-    share(alloc, typed_of(alloc, text)?).ok()
 }
 
 fn put_refusal(page: &mut String, error: &TextError) -> Result<(), AllocError> {
