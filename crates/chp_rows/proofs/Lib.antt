@@ -1,3 +1,0 @@
-pub mod ScriptChannels
-pub mod Tested
-pub mod WorkedSelection

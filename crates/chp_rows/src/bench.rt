@@ -1,8 +1,7 @@
-//! What a case sets out: files, and devices with their planned faults; below the commands a net, a script and rules.
+//! What a case sets out: files, and devices with their planned faults.
 
-use case_text::{bytes_of, numbers_of};
+use case_text::{CaseFiles, numbers_of};
 use chp_edge::{MemShelf, MemSink};
-use prs_core::Rules;
 use std::alloc::{AllocError, Global};
 
 /// A sink to be made: what it takes in a call, what it has room for, and the numbers of the calls that fail.
@@ -44,80 +43,23 @@ impl Plan {
     }
 }
 
-/// The text of a rule file, the text of a script, and the rules that cells have written.
-#[derive(Drop)]
-pub struct NetBench {
-    pub net: Vec<u8>,
-    pub script: Vec<u8>,
-    pub rules: Rules,
-}
-
-impl NetBench {
-    fn new(alloc: Global) -> Result<NetBench, AllocError> {
-        Ok(NetBench {
-            net: Vec::new(alloc),
-            script: Vec::new(alloc),
-            rules: Rules::new(alloc, 0)?,
-        })
-    }
-}
-
 /// What a case has set out so far.
 #[derive(Drop)]
 pub struct Bench {
-    files: Vec<(String, Vec<u8>)>,
+    pub files: CaseFiles,
     failing: Vec<u64>,
     pub out: Plan,
     pub say: Plan,
-    pub below: NetBench,
 }
 
 impl Bench {
-    pub fn new(alloc: Global) -> Result<Bench, AllocError> {
-        let below = NetBench::new(alloc)?;
-        Ok(Bench {
-            files: Vec::new(alloc),
+    pub fn new(alloc: Global) -> Bench {
+        Bench {
+            files: CaseFiles::new(alloc),
             failing: Vec::new(alloc),
             out: Plan::wide(alloc),
             say: Plan::wide(alloc),
-            below,
-        })
-    }
-
-    /// Adds a file of this name after the others, with the text that may follow the name. True: any line can begin one.
-    pub fn begin_file(&mut self, alloc: Global, line: &str) -> Result<bool, AllocError> {
-        let (name, text) = line.split_once(' ').unwrap_or((line, ""));
-        let file = (name.to_string(alloc)?, bytes_of(alloc, text)?);
-        self.files.push(file)?;
-        Ok(true)
-    }
-
-    /// Appends to the last file.
-    pub fn append(&mut self, bytes: &[u8]) -> Result<(), AllocError> {
-        if let Some(file) = self.files.last_mut() {
-            file.1.extend_from_slice(bytes)?;
         }
-        Ok(())
-    }
-
-    /// The bytes of the last file.
-    pub fn last(&self) -> &[u8] {
-        match self.files.last() {
-            Some(file) => &file.1,
-            None => &[],
-        }
-    }
-
-    /// The last file is the rule file of what is below the commands.
-    pub fn take_net(&mut self, alloc: Global) -> Result<bool, AllocError> {
-        self.below.net = Vec::from_slice(alloc, self.last())?;
-        Ok(true)
-    }
-
-    /// The last file is the script there.
-    pub fn take_script(&mut self, alloc: Global) -> Result<bool, AllocError> {
-        self.below.script = Vec::from_slice(alloc, self.last())?;
-        Ok(true)
     }
 
     /// The calls of the shelf that fail, and whether these words are numbers.
@@ -139,7 +81,7 @@ impl Bench {
     /// A shelf of the files.
     pub fn shelf(&self, alloc: Global) -> Result<MemShelf, AllocError> {
         let mut files = Vec::new(alloc);
-        for file in &self.files {
+        for file in self.files.list() {
             let text = Vec::from_slice(alloc, &file.1)?;
             files.push((file.0.clone()?, text))?;
         }

@@ -75,7 +75,7 @@ pub fn count_drops(
     let drops = Rc::new(alloc, Cell::new(0))?;
     let mut peers: Vec<Box<dyn Peer>> = Vec::new(alloc);
     peers.push(Box::new(alloc, Dropped::new(alloc, drops.clone()?))?)?;
-    if !give_up(alloc, bench.last(), peers)? {
+    if !give_up(alloc, bench.files.last(), peers)? {
         return writeln!(page, "? no rule file");
     }
     writeln!(page, "given up: {}", drops.get())?;

@@ -54,7 +54,7 @@ pub fn read_surely(
     limit: usize,
     page: &mut String,
 ) -> Result<(), AllocError> {
-    let mut shelf = SureShelf::new(Vec::from_slice(alloc, bench.last())?);
+    let mut shelf = SureShelf::new(Vec::from_slice(alloc, bench.files.last())?);
     put_read(alloc, &mut shelf, "any", limit, page)
 }
 

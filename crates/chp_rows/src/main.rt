@@ -1,39 +1,26 @@
-//! Worked cases that no command shows, or only over devices in memory. They are in data/, and the output that they must
-//! give in the file stdout; docs/TESTS.md says how they are written.
+//! Worked cases over devices in memory. They are in data/, and the output that they must give in the file stdout;
+//! docs/TESTS.md says how they are written.
 #![tactic(auto)]
 
 mod bench;
 mod cases;
-mod cells;
 mod drops;
 mod edge;
-mod names;
-mod nets;
-mod orders;
 mod peers;
 mod pickers;
-mod printer;
-mod reading;
-mod rounds;
 mod run;
-mod runs;
-mod scripts;
-mod streamed;
 
 use bench::Bench;
 use cases::obey;
 use std::{fs, io};
 
-const TOPICS: [&str; 13] = [
-    "texts", "stream", "edge", "shelves", "sinks", "picks", "rounds", "devices", "names",
-    "scripts", "cells", "nets", "ages",
-];
+const TOPICS: [&str; 5] = ["edge", "shelves", "sinks", "picks", "devices"];
 
 fn main(rt: HostRuntime) -> io::Result<()> {
     let mut page = String::new(rt.alloc());
     for topic in TOPICS {
         let cases = fs::read_to_string(&rt, topic)?;
-        let mut bench = Bench::new(rt.alloc())?;
+        let mut bench = Bench::new(rt.alloc());
         for line in cases.lines() {
             obey(&rt, &mut bench, line, &mut page)?;
         }

@@ -28,7 +28,7 @@ struct Ran {
 fn text_to_go_by(alloc: Global, bench: &Bench) -> Result<Vec<u8>, AllocError>
     ensures { IfOk result (λ text. 0 < length text.items) }
 {
-    let last = bench.last();
+    let last = bench.files.last();
     if last.is_empty() {
         Vec::from_slice(alloc, b"-")
     } else {
@@ -180,7 +180,7 @@ pub fn run_surely(
     line: &str,
     page: &mut String,
 ) -> Result<(), AllocError> {
-    let mut shelf = SureShelf::new(Vec::from_slice(alloc, bench.last())?);
+    let mut shelf = SureShelf::new(Vec::from_slice(alloc, bench.files.last())?);
     put_all(page, line, &command(alloc, bench, line, &mut shelf)?)
 }
 
@@ -196,8 +196,10 @@ pub fn keep(
     if ran.status != Status::Done {
         put_all(page, line, &ran)?;
     }
-    bench.begin_file(alloc, name)?;
-    bench.append(ran.out.written())
+    bench
+        .files
+        .begin(alloc, name)
+        .and(bench.files.append(ran.out.written()))
 }
 
 /// Whether a further order has the report of the first one, and whether it chose as one before it did.

@@ -1,5 +1,0 @@
-use Rattle.std.proofs.Common.{◌≡◌}
-use Rattle.chp_rows.proofs.runs.moves.Given as goal
-
-abbrev pub invariant-loop-move : goal.invariant-loop-move
-invariant-loop-move l = l.run.net ≡ l.initial.run.net

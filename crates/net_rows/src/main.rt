@@ -1,0 +1,36 @@
+//! Worked cases of the calls below the top call: texts, rule files in pieces, rounds, names, scripts, cells, nets and their
+//! runs. They are in data/, and the output that they must give in the file stdout; docs/TESTS.md says how they are written.
+#![tactic(auto)]
+
+mod bench;
+mod cases;
+mod cells;
+mod names;
+mod nets;
+mod orders;
+mod printer;
+mod reading;
+mod rounds;
+mod runs;
+mod scripts;
+mod streamed;
+
+use bench::NetBench;
+use cases::obey;
+use std::{fs, io};
+
+const TOPICS: [&str; 8] = [
+    "texts", "stream", "rounds", "names", "scripts", "cells", "nets", "ages",
+];
+
+fn main(rt: HostRuntime) -> io::Result<()> {
+    let mut page = String::new(rt.alloc());
+    for topic in TOPICS {
+        let cases = fs::read_to_string(&rt, topic)?;
+        let mut bench = NetBench::new(rt.alloc())?;
+        for line in cases.lines() {
+            obey(rt.alloc(), &mut bench, line, &mut page)?;
+        }
+    }
+    rt.print(page)
+}
