@@ -40,6 +40,14 @@ impl Adversary {
         }
     }
 
+    /// Whether it got a seed since it last chose.
+    fn is_seeded_now(&self) -> bool {
+        match self.seeded {
+            Some((_, at)) => at == self.log.len(),
+            None => false,
+        }
+    }
+
     /// The index of its choice from a list of so many entries.
     fn choose(&self, count: usize) -> usize
         requires { 0 < count }
@@ -82,6 +90,10 @@ impl Picker for Adversary {
     }
 
     fn make_room(&mut self, picks: u32, _node_count: u32) -> Result<(), AllocError> {
+        // a call gives the seed first
+        if !self.is_seeded_now() {
+            return Err(AllocError);
+        }
         self.log.reserve_exact(picks as usize)
     }
 
