@@ -66,7 +66,8 @@ module _ {P : Type 0} (f : P → PeerValue) (xs ys : List P) (which : ℕ) (with
 
   -- the device keeps its name
   pub run_keeps : ((k : ℕ) → (k ≡ which → ⊥) → slice_get ys k ≡ slice_get xs k) → KeepsPeers (Some which) (peered_by (map f xs) (map f ys))
-  run_keeps stay = kept_peers f xs ys which (λ k other. stay k (λ same. other (ap (λ n. Some n) (sym same)))) (named new_there.0 old_there.0 new_there.1 old_there.1 (along_named s.net _ (f old_there.0) the_run.noted))
+  run_keeps stay = kept_peers f xs ys which (λ k other. stay k (λ same. other (ap (λ n. Some n) (sym same))))
+      (named new_there.0 old_there.0 new_there.1 old_there.1 (along_named s.net _ (f old_there.0) the_run.noted))
       (λ p q here there. some_of _ there (some_of _ here noted))
     where
       named : (q p : P) → slice_get ys which ≡ Some q → slice_get xs which ≡ Some p → (f q).name ≡ (f p).name →

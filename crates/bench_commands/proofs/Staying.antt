@@ -154,7 +154,8 @@ module _ {B : Type 0} {Order : B → Type 0} {D : Type 0} {Device : D → Type 0
   }
 
   -- at places that are known by names
-  pub stay_named : (place which : Option ℕ) (k l : ℕ) (os qs : List (DynBox B Global Order)) (ps rs : List (DynBox D Global Device)) → place ≡ Some k → which ≡ Some l →
+  pub stay_named : (place which : Option ℕ) (k l : ℕ) (os qs : List (DynBox B Global Order)) (ps rs : List (DynBox D Global Device)) →
+      place ≡ Some k → which ≡ Some l →
       StayHandedIn order peer (Some k) (Some l) os qs ps rs → StayHandedIn order peer place which os qs ps rs
   stay_named place which k l os qs ps rs at there stay =
       subst (λ o. StayHandedIn order peer o which os qs ps rs) (sym at) (subst (λ o. StayHandedIn order peer (Some k) o os qs ps rs) (sym there) stay)

@@ -20,8 +20,8 @@ handed_over order peer orders_before orders_after peers_before peers_after = rec
   peers = peered_over peer peers_before peers_after;
 }
 
--- All objects are still there, each in its place, with its name, and its log has at most grown. Each order but the one at
--- the first place, and each device but the one at the second, if these are asked for, is as it was.
+-- All objects are still there, each in its place, with its name, and its log has at most grown. Each order but the one
+-- at the first place, and each device but the one at the second, if these are asked for, is as it was.
 pub record StayHandedIn {B : Type 0} {Order : B → Type 0} {D : Type 0} {Device : D → Type 0}
     (order : DynBox B Global Order → OrderState) (peer : DynBox D Global Device → PeerValue) (place which : Option ℕ)
     (orders_before orders_after : List (DynBox B Global Order))

@@ -22,8 +22,8 @@ peered_over peer before after = peered_by (map peer before) (map peer after)
 abbrev pub peer_named : List PeerValue → (name : List ℕ) → Option ℕ
 peer_named peers name = position (λ (p : PeerValue). bytes_eq p.name name) peers
 
--- All have their names still, and each but the one at the place that is asked for, if any is, is as it was. The notes of
--- each before are a prefix of those after.
+-- All have their names still, and each but the one at the place that is asked for, if any is, is as it was. The notes
+-- of each before are a prefix of those after.
 pub record KeepsPeers (asked : Option ℕ) (peers : Peered) : Type 0 where
   pub names : map (λ (p : PeerValue). p.name) peers.after ≡ map (λ (p : PeerValue). p.name) peers.before
   pub others : (place : ℕ) → asked ≢ Some place → slice_get peers.after place ≡ slice_get peers.before place

@@ -42,8 +42,8 @@ BenchedFollows b given handed p f =
     FollowsRounds p f.net (script_by f.net notes) (bench_start f.net)
     (bench_moves f.net notes (growth f.benched.was.log f.benched.is.log)) against.ran.end
 
--- where it reports rest, no run under that script has more moves than the one that was made, and each one that rests has
--- as many, of each node as many
+-- where it reports rest, no run under that script has more moves than the one that was made, and each one that rests
+-- has as many, of each node as many
 abbrev pub BenchedEndsAll : (b : AskedBench) (given : Given) (handed : HandedIn) → {answer : Answer} →
     IsFileBenched b given handed answer → Type 0
 BenchedEndsAll b given handed f = let against = f.benched.against in

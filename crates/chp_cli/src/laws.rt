@@ -145,8 +145,8 @@ pub fn carried_runs_agree()
 /// that state, and each run that rests has as many moves, of each node as many. So it is of a run on a bench, under the
 /// script of all that the device offered and took.
 pub fn carried_runs_have_one_length()
-    ensures simulated { (s : AskedRun) (given : Given) (played : Played) (p : TypedProgram) → HoldsCarrying given s.net p →
-        (answer : Answer) (f : IsFileSimulated s given played answer) → EndsAllAtRest s given played answer f }
+    ensures simulated { (s : AskedRun) (given : Given) (played : Played) (p : TypedProgram) →
+        HoldsCarrying given s.net p → (answer : Answer) (f : IsFileSimulated s given played answer) → EndsAllAtRest s given played answer f }
     ensures benched { (b : AskedBench) (given : Given) (handed : HandedIn) (p : TypedProgram) →
         HoldsCarrying given b.net p → (answer : Answer) (f : IsFileBenched b given handed answer) →
         BenchedEndsAll b given handed f }

@@ -151,8 +151,8 @@ fn run<'a, S: Shelf, K: Sink>(
 ///
 /// The rule file that `compile` writes, with status 0, is the one text of a net that carries the program of a text
 /// within the limit, with `--buffer` the program with the buffer, and keeps pace with it; the program with the buffer
-/// keeps what passes without. This text is the file's where the shelf is observable; and that it is this rule file which
-/// was written is said where the output is. What `run` answers with `--buffer` is so of such a program too.
+/// keeps what passes without. This text is the file's where the shelf is observable; and that it is this rule file
+/// which was written is said where the output is. What `run` answers with `--buffer` is so of such a program too.
 ///
 /// A run of a rule file that `compile` wrote, by an order, by delays or written as a wave, finds no hazard under any
 /// script, and compared with its own program it agrees. Compared with that or with none it ends well, but for a fault

@@ -32,8 +32,8 @@ pub record IsPlayedAt (place : ℕ) (played : Played) : Type 0 where
   pub log : (was : OrderState) → slice_get played.before place ≡ Some was →
       order.log ≡ was.log ++ growth was.log order.log
 
--- All keep their names, and all except the one at the index that is asked for, if any, are unchanged. Each log before is
--- a prefix of the one after.
+-- All keep their names, and all except the one at the index that is asked for, if any, are unchanged. Each log before
+-- is a prefix of the one after.
 pub record KeepsOrders (asked : Option ℕ) (played : Played) : Type 0 where
   pub names : map (λ (o : OrderState). o.name) played.after ≡ map (λ (o : OrderState). o.name) played.before
   pub others : (place : ℕ) → asked ≢ Some place → slice_get played.after place ≡ slice_get played.before place

@@ -420,7 +420,7 @@ pub step : {P : Type 0} (known : P → PeerValue) (net : NetValue) (s later : St
     (known mid).spare + free_on s.net later.script (now_of later) ≤ (known is).spare + free_on s.net s.script (now_of s) + 2 →
     (extra : List Note) × AreAt (length picks + 1) extra × IsDriven known net steps (picks ++ p ∷ []) (notes ++ extra) was is later brought
 step known net s later steps picks notes was mid is last brought p n at is_net d few goes within here made moment noted offered spare =
-    subst (λ (w : NetValue). (extra : List Note) × AreAt (length picks + 1) extra × IsDriven known w steps (picks ++ p ∷ []) (notes ++ extra) was is later brought)
-    d.net_is
+    subst (λ (w : NetValue). (extra : List Note) × AreAt (length picks + 1) extra
+    × IsDriven known w steps (picks ++ p ∷ []) (notes ++ extra) was is later brought) d.net_is
     (step_here known s later steps picks notes was mid is last brought p n at (subst (λ (w : NetValue). IsNet w) (sym d.net_is) is_net)
     (subst (λ (w : NetValue). IsDriven known w steps picks notes was mid s last) (sym d.net_is) d) few goes within here made moment noted offered spare)

@@ -55,7 +55,8 @@ bench_enabled net notes picks = enabled_moves net (script_after net notes (lengt
 
 -- this holds of what stands at a place in two lists
 abbrev pub BothAt : {P : Type 0} → (before after : List P) → (place : ℕ) → (P → P → Type 0) → Type 0
-BothAt before after place Holds = IfSome (slice_get before place) (λ was. IfSome (slice_get after place) (λ is. Holds was is))
+BothAt before after place Holds =
+    IfSome (slice_get before place) (λ was. IfSome (slice_get after place) (λ is. Holds was is))
 
 -- A run on a bench, by what a scheduler chose and a device noted in it.
 pub record IsBenchRun {P : Type 0} (known : P → PeerValue) (s : SetupValue) (picks : List ℕ) (notes : List Note)

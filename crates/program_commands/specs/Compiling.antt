@@ -71,8 +71,8 @@ pub record IsFaithfulTo (c : AskedCompilation) (program : ProgramTree) (written 
   pub spells : NetText written (net_for c.reset bodies)
   pub faithful : IsFaithful c.reset bodies
 
--- what is written is the one text of the net of such a text's program, or of that with the buffer, which has the shape
--- of the grammar, and keeps what it passes without the buffer; and this net carries that program, and keeps pace with it
+-- What is written is the one text of the net of such a text's program, or of that with the buffer, which has the shape
+-- of the grammar, and keeps what passes without the buffer; and this net carries that program, and keeps pace with it.
 pub record IsFaithfulFile (c : AskedCompilation) (given : Given) (written : List ℕ) : Type 0 where
   pub file : IsFileCompiled c given written
   pub shaped : IsShaped file.made

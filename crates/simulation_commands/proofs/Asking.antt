@@ -36,7 +36,8 @@ module _ {P : Type 0} (known : P → PickerValue) where
 
   pub asks_at : (run : AskedRun) (given : Given) (place : ℕ) (net : NetValue) (script : List OfferValue) (before after : List P)
       → HoldsNet given run.net net → HoldsScript given run.script (net_channels net) script
-      → IsAskedAt known place (simulated_enabled (simulation_for net script run.steps run.power)) run.seed before after → AsksAt known run given place before after
+      → IsAskedAt known place (simulated_enabled (simulation_for net script run.steps run.power)) run.seed before after
+      → AsksAt known run given place before after
   asks_at run given place net script before after holds told asked = record {
     s = simulation_for net script run.steps run.power;
     files = record { net = holds; script = told; steps = refl; high = refl };

@@ -49,10 +49,10 @@ ran_value s before now end = record {
   passed = passed_in s.net (start_at s) (picked_moves s before now);
 }
 
--- Objects in boxes are still there, each in its place: each but the one at the index that is asked for, if any is, is as
--- it was, and that one is of the kind that it was, by its table of methods.
-pub record SameObjects {B : Type 0} {Object : B → Type 0} (asked : Option ℕ) (before after : List (DynBox B Global Object)) :
-    Type 0 where
+-- Objects in boxes are still there, each in its place: each but the one at the index that is asked for, if any is, is
+-- as it was, and that one is of the kind that it was, by its table of methods.
+pub record SameObjects {B : Type 0} {Object : B → Type 0} (asked : Option ℕ)
+    (before after : List (DynBox B Global Object)) : Type 0 where
   pub kinds : map (λ box. box.vtable) after ≡ map (λ box. box.vtable) before
   pub others : (place : ℕ) → asked ≢ Some place → slice_get after place ≡ slice_get before place
 

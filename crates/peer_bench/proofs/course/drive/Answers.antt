@@ -29,8 +29,8 @@ loop-made-init g c =
       steps = ap (λ (v : SetupValue). v.steps) c.setup.view_is;
       net = subst (λ (v : SetupValue). IsNet v.net) c.setup.view_is here;
       driven = begins _ _ c.args.setup stage c.ask_if.new.stage c.setup.inside.steps c.in_reset-is_in_reset.result c.ask_if.ensures.asked.0 c.args.peer.now
-          c.ask_if.new.peer c.args.picker.now c.first_hazard-hazard.result _ here c.setup.view_is c.setup.invariant c.in_reset-is_in_reset.ensures c.ask_if.ensures.stage
-          c.ask_if.ensures.asked.1 c.ask_if.ensures.offered c.ask_if.ensures.room c.requires.room c.first_hazard-hazard.ensures.hazard
+          c.ask_if.new.peer c.args.picker.now c.first_hazard-hazard.result _ here c.setup.view_is c.setup.invariant c.in_reset-is_in_reset.ensures
+          c.ask_if.ensures.stage c.ask_if.ensures.asked.1 c.ask_if.ensures.offered c.ask_if.ensures.room c.requires.room c.first_hazard-hazard.ensures.hazard
           c.net-kept.ensures.script;
       spare = omega arith;
       name = refl;
@@ -56,8 +56,8 @@ ran-requires-2 g c =
     let ended : end_with c.loop-made.hazard (moves_now c.loop-made.stage) true ≡ Some c.last_end-end.result =
     ap (λ (xs : List ℕ). end_with c.loop-made.hazard xs true) (sym c.moves-2.ensures) ∙ c.last_end-end.ensures in
     let spent : (c.loop-made.made == c.args.setup.steps) ≡ true = eq-eqb _ _ (omega (arith, i.steps, c.loop-made-test.false)) in
-    let fin = over _ _ c.args.setup _ _ c.loop-made.made c.loop-made.made _ _ _ _ c.loop-made.stage c.loop-made.hazard true c.last_end-end.result i.net i.driven refl
-    spent ended in
+    let fin = over _ _ c.args.setup _ _ c.loop-made.made c.loop-made.made _ _ _ _ c.loop-made.stage c.loop-made.hazard true c.last_end-end.result i.net i.driven
+    refl spent ended in
     subst (λ (w : NetValue). IsEndIn w c.last_end-end.result) (sym fin.net) fin.within
 
 pub choose-place-requires-clause-list : goal.choose-place-requires-clause-list
@@ -166,8 +166,8 @@ returns g c =
     ap (λ (xs : List ℕ). end_with c.loop-made.hazard xs true) (sym c.moves-2.ensures) ∙ c.last_end-end.ensures in
     let all : c.setup.inside.steps ≡ c.loop-made.made = omega (arith, c.loop-made-test.false, c.loop-made.auto.made-end) in
     let spent : (c.loop-made.made == c.args.setup.steps) ≡ true = eq-eqb _ _ (omega (arith, i.steps, all)) in
-    let fin = over _ _ c.args.setup _ _ c.loop-made.made c.setup.inside.steps _ _ _ _ c.loop-made.stage c.loop-made.hazard true c.last_end-end.result i.net i.driven
-    all spent ended in
+    let fin = over _ _ c.args.setup _ _ c.loop-made.made c.setup.inside.steps _ _ _ _ c.loop-made.stage c.loop-made.hazard true c.last_end-end.result i.net
+    i.driven all spent ended in
     record {
       log = fin.log;
       noted = fin.noted;

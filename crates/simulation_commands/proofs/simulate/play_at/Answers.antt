@@ -18,4 +18,5 @@ returns-clause-objects g c = objects_at _ _ c.index_mut.result.now _ c.requires.
 
 pub returns-clause-asked : goal.returns-clause-asked
 returns-clause-asked g c =
-    ok_in c.play.result _ _ (λ ran through. asked_at _ (simulated_enabled c.args.sim) c.args.seed _ _ _ _ c.requires.place c.index_mut.ensures.value through) c.play.ensures.asked
+    ok_in c.play.result _ _ (λ ran through. asked_at _ (simulated_enabled c.args.sim) c.args.seed _ _ _ _ c.requires.place c.index_mut.ensures.value through)
+    c.play.ensures.asked
