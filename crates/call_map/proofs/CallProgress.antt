@@ -1,9 +1,9 @@
 -- The net with shared bodies makes progress with the program where the net with copies does, with at most twice as many
--- moves and one more for each procedure.
+-- moves.
 --
 -- A: the net with shared bodies; B: the net with copies; S: how they are numbered; P: the program; most: how many moves of B
 -- there are at most for so many steps; k: a number of steps; c: the configuration after them; ns: a run of A.
-use Rattle.std.proofs.Common.{ℕ, ◌+◌, ◌*◌, ◌<◌, ◌≤◌, Bool, List, length, None, sym, ap, ◌∙◌, arith}
+use Rattle.std.proofs.Common.{ℕ, ◌*◌, ◌<◌, ◌≤◌, Bool, List, length, None, sym, ap, ◌∙◌, arith}
 use Rattle.prs_core.specs.declared.wires.Wires.{Wires}
 use Rattle.prs_core.specs.Nets.{RulesValue, NetValue, net_of}
 use Rattle.env_script.specs.Scripts.{OfferValue, IsScript}
@@ -40,7 +40,7 @@ module _ (names more_names : List (List ℕ)) (first more_first : List Bool) (ru
       (keep : (script : List OfferValue) → IsScript P.channels script → CopiesKeepAlong B S script)
       (progresses : ProgressesFrom B P most more_first) where
     abbrev more_most : ℕ → ℕ
-    more_most k = 2 * most k + S.procs
+    more_most k = 2 * most k
 
     along : (script : List OfferValue) → IsScript P.channels script → (ns : List ℕ) → IsRun A script (begin_at A first) ns
         → IsMirrored A B S script ns

@@ -8,6 +8,7 @@ mod MapMoved
 mod MapOwed
 mod MapWent
 mod MapStable
+mod MapCaughtUp
 mod MapRuns
 pub mod LayerMoves
 mod MapBegins

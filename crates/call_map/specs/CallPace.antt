@@ -1,5 +1,5 @@
 -- The net with shared bodies keeps pace with its program, and comes to rest where that does.
-use Rattle.std.specs.Prelude.{ℕ, ◌+◌, ◌*◌, ◌≤◌, Bool, List, length}
+use Rattle.std.specs.Prelude.{ℕ, ◌*◌, ◌≤◌, Bool, List}
 use Rattle.reset_net.specs.Resets.{reset_of}
 use Rattle.env_script.specs.Runs.{IsPowered}
 use Rattle.net_compose.specs.Translation.{translation}
@@ -8,10 +8,9 @@ use Rattle.net_compose.specs.Progress.{ProgressesFrom, most_moves}
 use Rattle.net_compose.specs.Time.{HasLayers}
 use Rattle.call_map.specs.CallNet.{CallProgram, IsCallProgram, inlined_program, call_count, call_names, call_net}
 
--- For each move of the net with copies there is at most one more, a call's request or the answer of a body; and at the
--- end at most one of each procedure whose move of that net is still to come.
+-- for each move of the net with copies there is at most one more, a call's request or the answer of a body
 abbrev pub call_most_moves : CallProgram → (m : ℕ) → ℕ
-call_most_moves C m = 2 * most_moves (inlined_program C) m + length C.procs
+call_most_moves C m = 2 * most_moves (inlined_program C) m
 
 -- every run from the net's first values makes progress with the program with copies
 abbrev pub SharedBodiesProgress : Type 0
