@@ -1,27 +1,30 @@
--- Each run of a net with shared bodies, from its first values.
+-- Each run of a net with shared bodies, from its first values. Beside it goes a run of the net with copies that has also made
+-- what is owed.
 --
 -- A: the net with shared bodies; B: the net with copies; S: how they are numbered; st: a state of a net; ns: a run.
-use Rattle.std.proofs.Common.{◌≡◌, ℕ, ◌≤◌, Bool, true, false, List, [], ◌∷◌, ◌++◌, None, refl, sym, ap, ◌∙◌, subst, arith}
+use Rattle.std.proofs.Common.{◌≡◌, ℕ, ◌≤◌, Bool, true, false, List, [], ◌∷◌, ◌++◌, None, refl, sym, ap, ◌∙◌, subst, arith, length-append}
 use Rattle.prs_core.specs.declared.wires.Wires.{Wires}
 use Rattle.prs_core.specs.Nets.{RulesValue, NetValue, net_of}
 use Rattle.prs_core.specs.Moves.{high}
 use Rattle.env_script.specs.Scripts.{OfferValue}
-use Rattle.env_script.specs.Runs.{RunState, move_enabled, moved, IsRun, after, begin_at, IsApart, IsSafeMove, IsSafeRun}
+use Rattle.env_script.specs.Runs.{RunState, move_enabled, moved, IsRun, after, begin_at, IsAtRest, IsApart, IsSafeMove, IsSafeRun}
+use Rattle.env_script.proofs.Overtakes.{after_on, run_on}
 use Rattle.call_map.specs.Shared.{plainly, Sharing, SharesBodies, CopiesKeep, IsSafeAt}
 use Rattle.call_map.specs.Carrying.{CopiesKeepAlong, SafeAlong, IsMirrored, SharedRuns}
+use Rattle.call_map.proofs.Truths.{true_false}
 use Rattle.call_map.proofs.MapStates.{Mapping}
-use Rattle.call_map.proofs.MapCounts.{few_owed}
-use Rattle.call_map.proofs.MapRuns.{mirror, tells_first, rest_there, past_still}
+use Rattle.call_map.proofs.MapCaughtUp.{caught_up}
+use Rattle.call_map.proofs.MapRuns.{mirror, tells_first, none_first, rest_there, past_still}
 
 module _ (net : NetValue) (script : List OfferValue) where
-  run_on : (ns : List ℕ) (st : RunState) (n : ℕ) → IsRun net script st ns → move_enabled net script (after net st ns) n ≡ true
-      → IsRun net script st (ns ++ n ∷ [])
-  run_on [] st n run on = (on, tt)
-  run_on (m ∷ ns) st n run on = (run.0, run_on ns (moved net st m) n run.1 on)
+  -- what holds after two runs holds after both in one
+  joined : (P : RunState → Type 0) (st : RunState) (xs ys : List ℕ) → P (after net (after net st xs) ys) → P (after net st (xs ++ ys))
+  joined P st xs ys = subst P (sym (after_on net script st xs ys))
 
-  after_on : (ns : List ℕ) (st : RunState) (n : ℕ) → after net st (ns ++ n ∷ []) ≡ moved net (after net st ns) n
-  after_on [] st n = refl
-  after_on (m ∷ ns) st n = after_on ns (moved net st m) n
+  -- at rest nothing more is made
+  rests_on : (st : RunState) (ns : List ℕ) → IsRun net script st ns → IsAtRest net script st → IsAtRest net script (after net st ns)
+  rests_on st [] run rest = rest
+  rests_on st (n ∷ ns) run rest = absurd (true_false (move_enabled net script st n) run.0 (rest n))
 
   apart_last : (ns : List ℕ) (st : RunState) → IsSafeRun net script st ns → IsApart net (after net st ns)
   apart_last [] st safe = safe
@@ -38,14 +41,15 @@ module _ (net : NetValue) (script : List OfferValue) where
   pub reached_next : (st : RunState) (n : ℕ) → Reached st → move_enabled net script st n ≡ true → Reached (moved net st n)
   reached_next st n r on = (
     r.0 ++ n ∷ [],
-    run_on r.0 (begin_at net net.first) n r.1 (ap (λ x. move_enabled net script x n) r.2 ∙ on),
-    after_on r.0 (begin_at net net.first) n ∙ ap (λ x. moved net x n) r.2,
+    run_on net script (begin_at net net.first) r.0 (n ∷ []) r.1 (ap (λ x. move_enabled net script x n) r.2 ∙ on, tt),
+    after_on net script (begin_at net net.first) r.0 (n ∷ []) ∙ ap (λ x. moved net x n) r.2,
   )
 
   pub reached_safe : SafeAlong net script → (st : RunState) → Reached st → IsSafeAt net script st
   reached_safe all st r = subst (IsSafeAt net script) r.2 (record {
     apart = apart_last r.0 (begin_at net net.first) (all r.0 r.1);
-    each = λ n on. safe_last r.0 (begin_at net net.first) n (all (r.0 ++ n ∷ []) (run_on r.0 (begin_at net net.first) n r.1 on));
+    each = λ n on. safe_last r.0 (begin_at net net.first) n
+        (all (r.0 ++ n ∷ []) (run_on net script (begin_at net net.first) r.0 (n ∷ []) r.1 (on, tt)));
   })
 
   pub reached_keeps : (S : Sharing) → CopiesKeepAlong net S script → (st : RunState) → Reached st → CopiesKeep net S script st
@@ -82,22 +86,30 @@ module _ (names more_names : List (List ℕ)) (first more_first : List Bool) (ru
 
     pub mirrored : (ns : List ℕ) → IsRun A script (begin_at A first) ns → IsMirrored A B S script ns
     mirrored ns run =
-        let begins = tells_first mapping ([], tt, refl) in
-        let r = mirror mapping ns S.one_call (begin_at A first) (begin_at B more_first) begins run in
+        let here = after A (begin_at A first) ns in
+        let there = begin_at B more_first in
+        let r = mirror mapping ns S.one_call (begin_at A first) there (tells_first mapping ([], tt, refl)) run in
+        let far = after B there r.moves in
         let last = r.last in
-        let count = r.many in
-        let owes = few_owed mapping r.more (after A (begin_at A first) ns) (after B (begin_at B more_first) r.moves) last in
+        let more = caught_up mapping r.more here far last in
+        let lengths = length-append r.moves more.moves in
+        let made = more.count in
+        let none = none_first mapping in
+        let few = r.few in
+        let many = r.many in
         record {
-          moves = r.moves;
-          few = r.few;
-          many = omega (arith, count, owes);
-          run = r.run;
-          passed = last.histories;
+          moves = r.moves ++ more.moves;
+          few = omega (arith, few, none, lengths, made);
+          many = omega (arith, many, lengths, made);
+          run = run_on B script there r.moves more.moves r.run more.run;
+          passed = joined B script (λ x. here.histories ≡ x.histories) there r.moves more.moves (last.histories ∙ sym more.histories);
           plain = λ k h.
               let z = is.low_plain k h in
-              ap (high (after A (begin_at A first) ns).values) (sym z.1)
-              ∙ (sym (last.shows (plainly k) z.0 tt) ∙ ap (high (after B (begin_at B more_first) r.moves).values) z.2);
-          rest = rest_there mapping r.more (after A (begin_at A first) ns) (after B (begin_at B more_first) r.moves) last;
+              joined B script (λ x. high here.values k ≡ high x.values k) there r.moves more.moves
+              (ap (high here.values) (sym z.1)
+              ∙ (sym (last.shows (plainly k) z.0 tt) ∙ (sym (more.plain k z.0) ∙ ap (high (after B far more.moves).values) z.2)));
+          rest = λ still. joined B script (IsAtRest B script) there r.moves more.moves
+              (rests_on B script far more.moves more.run (rest_there mapping r.more here far last still));
           safe = r.is_safe;
         }
 

@@ -1,9 +1,9 @@
 -- The net with shared bodies makes progress with the program where the net with copies does, with at most twice as many
--- moves and one more for each procedure.
+-- moves.
 --
 -- A: the net with shared bodies; B: the net with copies; S: how they are numbered; P: the program; most: how many moves of B
 -- there are at most for so many steps; k: a number of steps; c: the configuration after them; ns: a run of A.
-use Rattle.std.proofs.Common.{ℕ, ◌+◌, ◌*◌, ◌<◌, ◌≤◌, Bool, List, length, None, sym, ap, ◌∙◌, arith}
+use Rattle.std.proofs.Common.{ℕ, ◌*◌, ◌<◌, ◌≤◌, Bool, List, length, None, sym, ap, ◌∙◌, arith}
 use Rattle.prs_core.specs.declared.wires.Wires.{Wires}
 use Rattle.prs_core.specs.Nets.{RulesValue, NetValue, net_of}
 use Rattle.env_script.specs.Scripts.{OfferValue, IsScript}
@@ -14,7 +14,7 @@ use Rattle.handshake_expand.specs.Named.{node_names}
 use Rattle.net_compose.specs.Translation.{translation, composed, first_values, wires_from}
 use Rattle.net_compose.specs.Points.{TranslationCarries}
 use Rattle.net_compose.specs.PartNumbers.{TranslationTakesTurns}
-use Rattle.net_compose.specs.Progress.{IsLevel, KeepsPace, WhereItRests, ProgressesFrom, TranslationProgresses, most_moves}
+use Rattle.net_compose.specs.Progress.{IsLevel, KeepsPace, WhereItRests, ProgressesFrom, TranslationProgresses, PlainTranslationProgresses}
 use Rattle.net_compose.proofs.RunsOn.{goes_on}
 use Rattle.call_map.specs.Shared.{Sharing, SharesBodies}
 use Rattle.call_map.specs.Carrying.{CopiesKeepAlong, SafeAlong, IsMirrored}
@@ -27,6 +27,7 @@ use Rattle.call_map.proofs.CallShared.{is_shared}
 use Rattle.call_map.proofs.CallFirsts.{firsts_fit}
 use Rattle.call_map.proofs.CallCarries.{points_keep}
 use Rattle.call_map.proofs.CallTurns.{length_after, points_kept}
+use Rattle.call_map.proofs.CopiesProgress.{copies_progress}
 
 module _ (names more_names : List (List ℕ)) (first more_first : List Bool) (rules more_rules : RulesValue) (ws : List Wires) (S : Sharing) where
   abbrev A : NetValue
@@ -40,7 +41,7 @@ module _ (names more_names : List (List ℕ)) (first more_first : List Bool) (ru
       (keep : (script : List OfferValue) → IsScript P.channels script → CopiesKeepAlong B S script)
       (progresses : ProgressesFrom B P most more_first) where
     abbrev more_most : ℕ → ℕ
-    more_most k = 2 * most k + S.procs
+    more_most k = 2 * most k
 
     along : (script : List OfferValue) → IsScript P.channels script → (ns : List ℕ) → IsRun A script (begin_at A first) ns
         → IsMirrored A B S script ns
@@ -84,17 +85,17 @@ module _ (names more_names : List (List ℕ)) (first more_first : List Bool) (ru
     }
 
 -- what is assumed here are laws of translations
-module _ (carries : TranslationCarries) (turning : TranslationTakesTurns) (ends : TranslationProgresses) where
+module _ (carries : TranslationCarries) (turning : TranslationTakesTurns) (ends : TranslationProgresses) (plain_ends : PlainTranslationProgresses) where
   pub all_progress : SharedBodiesProgress
-  all_progress C is t names =
+  all_progress C is t most bound names =
       let P = inlined_program C in
       let facts = call_facts C is t in
       let net = translation P in
       let each = carries P t in
       shared_progresses names (node_names P) (call_firsts C) (first_values P) (call_composed C) (composed P) (wires_from P 0 C.channels)
-      (sharing C facts) (is_shared C facts names (call_firsts C) (firsts_fit C facts is.unread)) (omega arith) P (most_moves P)
+      (sharing C facts) (is_shared C facts names (call_firsts C) (firsts_fit C facts is.unread)) (omega arith) P most
       (λ script fits ns run. (each.runs script fits ns run).safe)
       (λ script fits ns run. points_keep C facts script (after net (begin_at net net.first) ns)
       (points_kept C facts is.unread is.apart script (after net (begin_at net net.first) ns) (length_after net (begin_at net net.first) ns)
       (turning P t script fits ns run)))
-      (ends P t)
+      (copies_progress ends plain_ends P t most bound)

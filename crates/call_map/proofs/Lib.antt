@@ -8,6 +8,7 @@ mod MapMoved
 mod MapOwed
 mod MapWent
 mod MapStable
+mod MapCaughtUp
 mod MapRuns
 pub mod LayerMoves
 mod MapBegins
@@ -42,6 +43,7 @@ mod CallLiterals
 mod CallWithin
 mod CallHolds
 mod CallReset
+pub mod CopiesProgress
 mod CallProgress
 mod CallLayers
 mod CallExamples

@@ -1,18 +1,18 @@
 -- How many moves the net with copies is owed: one of each procedure whose request differs from its call's, or whose answer
--- does. A move that is none there adds one, any other takes one away at most.
+-- does. A move that is none there adds one, any other takes away one or none.
 --
--- M, A, S, cur, st, far: as in MapStates; c: a call; p, q: procedures; s: the node of A that moves; f, g: what each number
--- from 0 on counts for.
+-- M, A, S, cur, st, far: as in MapStates; c: a call; p, q: procedures; s: the node of A that moves; to: the node of B that does;
+-- f, g: what each number from 0 on counts for.
 use Rattle.std.proofs.Common.{◌≡◌, ◌≢◌, ℕ, zero, suc, ◌+◌, ◌<◌, ◌≤◌, Bool, true, false, refl, sym, ap, ◌∙◌, subst, arith, ⊎_elim}
 use Rattle.std.specs.Prelude.{not}
 use Rattle.std.proofs.lemmas.Bool.{cases_eq}
 use Rattle.prs_core.specs.Nets.{NetValue}
 use Rattle.env_script.specs.Runs.{RunState, moved}
-use Rattle.call_map.specs.Shared.{Here, plain, asks, answers, enters, body, IsHere, body_end}
-use Rattle.call_map.proofs.Truths.{not_not}
-use Rattle.call_map.proofs.MapNodes.{level, asking, giving, v}
-use Rattle.call_map.proofs.MapStates.{Mapping, shared_net, PhaseOf, Tells, within_end}
-use Rattle.call_map.proofs.MapEnabled.{same_here}
+use Rattle.call_map.specs.Shared.{Here, plain, asks, answers, enters, body, There, IsHere, body_end}
+use Rattle.call_map.proofs.Truths.{not_not, true_false}
+use Rattle.call_map.proofs.MapNodes.{level, asking, giving, v, back, never_asks, never_result}
+use Rattle.call_map.proofs.MapStates.{Mapping, shared_net, may, PhaseOf, Tells, within_end}
+use Rattle.call_map.proofs.MapEnabled.{same_here, enters_even, answers_even, others_idle}
 
 abbrev pub sum_below : (ℕ → ℕ) → (count : ℕ) → ℕ
 sum_below f zero = 0
@@ -60,10 +60,10 @@ module _ (f g : ℕ → ℕ) where
         below : (q : ℕ) → q < n → q ≡ n → ⊥
         below q less e = omega (arith, less, e)
 
-sum_few : (f : ℕ → ℕ) (n : ℕ) → ((q : ℕ) → q < n → f q ≤ 1) → sum_below f n ≤ n
-sum_few f zero h = omega arith
-sum_few f (suc n) h =
-    let a = sum_few f n (λ q l. h q (omega (arith, l))) in
+pub sum_none : (f : ℕ → ℕ) (n : ℕ) → ((q : ℕ) → q < n → f q ≡ 0) → sum_below f n ≡ 0
+sum_none f zero h = refl
+sum_none f (suc n) h =
+    let a = sum_none f n (λ q l. h q (omega (arith, l))) in
     let b = h n (omega arith) in
     omega (arith, a, b)
 
@@ -173,9 +173,6 @@ module _ (M : Mapping) where
     of_proc : (p : ℕ) → p < S.procs → owed st (cur p) ≤ 1
     of_proc p l = let z = t.current p l in owed_few st (cur p) far (t.phase (cur p) z.0 (ap cur z.1))
 
-    pub few_owed : all_owed cur st ≤ S.procs
-    few_owed = sum_few (λ p. owed st (cur p)) S.procs of_proc
-
   module _ (cur : ℕ → ℕ) (st far : RunState) (t : Tells M cur st far) (s : Here) (h : IsHere S s) where
     abbrev next : RunState
     next = moved A st (S.here s)
@@ -189,8 +186,45 @@ module _ (M : Mapping) where
         (λ q l ne. let e = ap (owed next) (o.others q ne) ∙ other_owes q l ne in omega (arith, e))
         (let a = o.before in let b = o.since in omega (arith, a, b))
 
+    pub only_one_owed : (more : ℕ → ℕ) → OwesOne cur more st s → all_owed more next ≤ suc (all_owed cur st)
+    only_one_owed more o =
+        sum_one (λ p. owed next (more p)) (λ p. owed st (cur p)) (proc_at s) S.procs
+        (λ q l ne. let e = ap (owed next) (o.others q ne) ∙ other_owes q l ne in omega (arith, e))
+        (λ l. let a = o.since in omega (arith, a))
+
     pub one_less_owed : all_owed cur st ≤ suc (all_owed cur next)
     one_less_owed =
         sum_one (λ p. owed st (cur p)) (λ p. owed next (cur p)) (proc_at s) S.procs
         (λ q l ne. let e = other_owes q l ne in omega (arith, e))
         (λ l. let e = of_proc cur st far t (proc_at s) l in omega (arith, e))
+
+  -- a move that is one there
+  module _ (cur : ℕ → ℕ) (st far later : RunState) (t : Tells M cur st far) (to : There) (h : IsHere S (back S to)) (on : may M st (back S to) ≡ true)
+      (tells : Tells M cur (moved A st (S.here (back S to))) later) where
+    abbrev gone : RunState
+    gone = moved A st (S.here (back S to))
+
+    others_stay : (z : Here) → IsHere S z → z ≢ back S to → v S gone z ≡ v S st z
+    others_stay z hz ne = same_here M st (back S to) z h hz ne
+
+    owes_no_more : (c : ℕ) → c < S.calls → cur (S.of c) ≡ c → owed gone c ≤ owed st c
+    owes_no_more c l now = by (t.phase c l now) (owed_few gone c later (tells.phase c l now))
+      where
+        by : PhaseOf M st far c → owed gone c ≤ 1 → owed gone c ≤ owed st c
+        by (asking rq dq aq o) few = let e = asking_owes st c rq (dq ∙ sym aq) in omega (arith, e, few)
+        by (giving rq dq aq o) few =
+            let e = giving_owes st c rq (dq ∙ (sym (not_not (v S st (enters (S.of c)))) ∙ ap not (sym aq))) in
+            omega (arith, e, few)
+        by (level rq da) few =
+            let asks_is = others_stay (asks c) l (λ e. never_asks S to c (sym e)) in
+            let enters_is = others_stay (enters (S.of c)) (is.of_below c l)
+            (λ e. true_false (may M st (back S to)) on (ap (may M st) (sym e) ∙ enters_even M st c l (others_idle M cur st far t c now) rq)) in
+            let end_is = others_stay (body_end S c) (is.of_below c l, within_end M c l) (λ e. never_result S to (S.of c) (sym e)) in
+            let answers_is = others_stay (answers c) l (λ e. true_false (may M st (back S to)) on (ap (may M st) (sym e) ∙ answers_even M st c l da)) in
+            let e = level_owes gone c (asks_is ∙ (rq ∙ sym enters_is)) (end_is ∙ (da ∙ sym answers_is)) in
+            omega (arith, e)
+
+    pub no_more_owed : all_owed cur gone ≤ all_owed cur st
+    no_more_owed =
+        sum_grows (λ p. owed gone (cur p)) (λ p. owed st (cur p)) S.procs
+        (λ p l. let z = t.current p l in owes_no_more (cur p) z.0 (ap cur z.1))

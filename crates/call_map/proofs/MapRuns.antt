@@ -1,5 +1,5 @@
--- Each run of a net with shared bodies is a run of the net with copies, of no more moves, and of half as many at least but for
--- what is owed; it is safe, and rests only where the other rests.
+-- Each run of a net with shared bodies is a run of the net with copies, which with what is owed has no more moves, and half as
+-- many at least; it is safe, and rests only where the other rests.
 --
 -- M, A, B, S, cur, st, far: as in MapStates; ns: the nodes that move, in order; c: a call; x: a node of its body.
 use Rattle.std.proofs.Common.{◌≡◌, ◌≢◌, ℕ, ◌+◌, ◌*◌, ◌<◌, ◌≤◌, ◌==◌, Bool, true, false, List, [], ◌∷◌, length, refl, sym, ap, ◌∙◌, subst, arith, ⊎_elim, None}
@@ -14,7 +14,7 @@ use Rattle.call_map.proofs.MapNodes.{level, asking, giving, v, u, end, back_at, 
 use Rattle.call_map.proofs.MapStates.{Mapping, shared_net, copies_net, may, may_there, PhaseOf, Tells, within_end, passed, body_alike, alike}
 use Rattle.call_map.proofs.MapGuards.{env_none, plain_same, asks_same, body_same}
 use Rattle.call_map.proofs.MapEnabled.{giving_alike, all_low, enters_owed, answers_owed, others_idle}
-use Rattle.call_map.proofs.MapCounts.{all_owed, one_more_owed, one_less_owed}
+use Rattle.call_map.proofs.MapCounts.{sum_none, owed, all_owed, level_owes, one_more_owed, only_one_owed, one_less_owed, no_more_owed}
 use Rattle.call_map.proofs.MapMoved.{Went, goes, stays}
 use Rattle.call_map.proofs.MapWent.{at_proc, went}
 use Rattle.call_map.proofs.MapStable.{stable, no_fault}
@@ -179,16 +179,22 @@ module _ (M : Mapping) where
   -- a run of the shared net as a run of the net with copies
   pub record Mirrored (cur : ℕ → ℕ) (st far : RunState) (ns : List ℕ) : Type 0 where
     pub moves : List ℕ
-    pub few : length moves ≤ length ns
     pub run : IsRun B script far moves
     pub more : ℕ → ℕ
     pub last : Tells M more (after A st ns) (after B far moves)
+    pub few : length moves + all_owed M more (after A st ns) ≤ length ns + all_owed M cur st
     pub many : length ns + all_owed M cur st ≤ 2 * length moves + all_owed M more (after A st ns)
     pub is_safe : IsSafeRun A script st ns
 
+  fewer_owed : (cur : ℕ → ℕ) (st far later : RunState) → Tells M cur st far → (to : There) (s : Here) → back S to ≡ s → IsHere S s → may M st s ≡ true
+      → Tells M cur (moved A st (S.here s)) later → all_owed M cur (moved A st (S.here s)) ≤ all_owed M cur st
+  fewer_owed cur st far later t to s e =
+      subst (λ z. IsHere S z → may M st z ≡ true → Tells M cur (moved A st (S.here z)) later → all_owed M cur (moved A st (S.here z)) ≤ all_owed M cur st) e
+      (λ h on tells. no_more_owed M cur st far later t to h on tells)
+
   pub mirror : (ns : List ℕ) (cur : ℕ → ℕ) (st far : RunState) → Tells M cur st far → IsRun A script st ns → Mirrored cur st far ns
   mirror [] cur st far t run =
-      record { moves = []; few = omega arith; run = tt; more = cur; last = t; many = omega arith; is_safe = apart_here cur st far t }
+      record { moves = []; run = tt; more = cur; last = t; few = omega arith; many = omega arith; is_safe = apart_here cur st far t }
   mirror (n ∷ ns) cur st far t run =
       let b = found cur st far t n run.0 in
       subst (λ k. (move_enabled A script st k ≡ true) → IsRun A script (moved A st k) ns → Mirrored cur st far (k ∷ ns)) b.2
@@ -201,12 +207,13 @@ module _ (M : Mapping) where
           let f = r.few in
           let m = r.many in
           let owes = one_less_owed M cur st far t s h in
+          let fewer = fewer_owed cur st far (moved B far (S.there to)) t to s is_s h on tells in
           record {
             moves = S.there to ∷ r.moves;
-            few = omega (arith, f);
             run = (far_on, r.run);
             more = r.more;
             last = r.last;
+            few = omega (arith, f, fewer);
             many = omega (arith, m, owes);
             is_safe = (apart_here cur st far t, safe_move cur st far t s h on, r.is_safe);
           }
@@ -215,12 +222,13 @@ module _ (M : Mapping) where
           let f = r.few in
           let m = r.many in
           let owes = one_more_owed M cur st far t s h more owing in
+          let only = only_one_owed M cur st far t s h more owing in
           record {
             moves = r.moves;
-            few = omega (arith, f);
             run = r.run;
             more = r.more;
             last = r.last;
+            few = omega (arith, f, only);
             many = omega (arith, m, owes);
             is_safe = (apart_here cur st far t, safe_move cur st far t s h on, r.is_safe);
           }
@@ -253,3 +261,12 @@ module _ (M : Mapping) where
       blank (plainly k) h off = absurd off
       blank (asked c) h off = is.first_asked c h
       blank (copied c x) h off = is.first_copied c x h.0 h.1
+
+  pub none_first : all_owed M S.one_call (begin_at A firsts) ≡ 0
+  none_first =
+      sum_none (λ p. owed M (begin_at A firsts) (S.one_call p)) S.procs
+      (λ p l. let z = is.called p l in
+      level_owes M (begin_at A firsts) (S.one_call p) (is.first_asks (S.one_call p) z.0
+      ∙ sym (is.first_enters (S.of (S.one_call p)) (is.of_below (S.one_call p) z.0)))
+      (is.first_body (S.of (S.one_call p)) (end S (S.one_call p)) (is.of_below (S.one_call p) z.0) (within_end M (S.one_call p) z.0)
+      ∙ sym (is.first_answers (S.one_call p) z.0)))

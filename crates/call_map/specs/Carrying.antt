@@ -1,5 +1,5 @@
 -- A net whose calls share bodies carries what the net with copies carries.
-use Rattle.std.specs.Prelude.{ℕ, ◌+◌, ◌*◌, ◌<◌, Bool, List, None, ◌≡◌, length, ◌≤◌}
+use Rattle.std.specs.Prelude.{ℕ, ◌*◌, ◌<◌, Bool, List, None, ◌≡◌, length, ◌≤◌}
 use Rattle.prs_core.specs.declared.wires.Wires.{Wires}
 use Rattle.prs_core.specs.Nets.{RulesValue, NetValue, net_of}
 use Rattle.prs_core.specs.Moves.{high}
@@ -20,12 +20,12 @@ abbrev pub SafeAlong : NetValue → List OfferValue → Type 0
 SafeAlong B script = (ns : List ℕ) → IsRun B script (begin_at B B.first) ns → IsSafeRun B script (begin_at B B.first) ns
 
 -- A run of the net with shared bodies, seen beside one of the net with copies, of no more moves, and of half as many at
--- least, but for one of each procedure: the same has passed, the nodes with low numbers, wires among them, have the
--- same values, and where the one net is at rest the other is. And the run is safe.
+-- least: the same has passed, the nodes with low numbers, wires among them, have the same values, and where the one net
+-- is at rest the other is. And the run is safe.
 pub record IsMirrored (A B : NetValue) (S : Sharing) (script : List OfferValue) (ns : List ℕ) : Type 0 where
   pub moves : List ℕ
   pub few : length moves ≤ length ns
-  pub many : length ns ≤ 2 * length moves + S.procs
+  pub many : length ns ≤ 2 * length moves
   pub run : IsRun B script (begin_at B B.first) moves
   pub passed : (after A (begin_at A A.first) ns).histories ≡ (after B (begin_at B B.first) moves).histories
   pub plain : (k : ℕ) → k < S.low

@@ -12,8 +12,8 @@ use net_compose::laws::{carries, carries_reset, parts_in_turns, runs_end, runs_e
 /// Law: let one net be another one with one body for all calls of a procedure in place of a copy for each call, and let
 /// that other net be free of hazards, and each copy keep its handshake there. Then each run of the one is a run of the
 /// other, of no more moves, that passes the same; it is free of hazards, and where the one is at rest the other is. It
-/// has at most twice as many moves as that run, and one more for each procedure. This holds for any numbering of the
-/// nodes and mentions no particular program; to read it, `CallNet.antt` isn't needed.
+/// has at most twice as many moves as that run. This holds for any numbering of the nodes and mentions no particular
+/// program; to read it, `CallNet.antt` isn't needed.
 pub fn shared_runs()
     ensures { SharedRuns }
 {}
@@ -70,9 +70,10 @@ pub fn shared_bodies_carry_reset()
 }
 
 /// Law: that net keeps pace with the program in which each call is a copy. What a run of it has passed, some run of the
-/// program has passed, of m steps, and it has at most twice as many moves as the net with copies may have by then, and
-/// one more for each procedure. Where the program comes to rest, each run of the net goes on to one at rest, which has
-/// passed all that the program has. `Shared.antt` and `Carrying.antt` aren't needed to read this.
+/// program has passed, of m steps, and it has at most twice as many moves as the net with copies may have by then, also
+/// where no assignment reads its own target and that net may have fewer. Where the program comes to rest, each run of
+/// the net goes on to one at rest, which has passed all that the program has. `Shared.antt` and `Carrying.antt` aren't
+/// needed to read this.
 pub fn shared_bodies_progress()
     ensures { SharedBodiesProgress }
 {
