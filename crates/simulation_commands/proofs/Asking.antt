@@ -4,7 +4,7 @@ use Rattle.std.proofs.lemmas.Option.{slice_get-get_or}
 use Rattle.env_script.specs.Environment.{net_channels}
 use Rattle.env_script.specs.Scripts.{OfferValue}
 use Rattle.event_sim.specs.Asking.{PickerValue, IsAskedAlong}
-use Rattle.event_sim.specs.Simulating.{growth}
+use Rattle.event_sim.specs.Simulating.{SimValue, growth}
 use Rattle.prs_core.specs.Nets.{NetValue}
 use Rattle.command_answers.specs.Answers.{Given}
 use Rattle.command_steps.specs.Held.{HoldsNet, HoldsScript}
@@ -33,6 +33,12 @@ module _ {P : Type 0} (known : P → PickerValue) where
     holds = get_same xs place x within;
     through = through;
   }
+
+  -- the same simulation
+  pub asked_as : (place seed : ℕ) (before after : List P) (s t : SimValue) → s ≡ t → IsAskedAt known place (simulated_enabled s) seed before after
+      → IsAskedAt known place (simulated_enabled t) seed before after
+  asked_as place seed before after s t same asked =
+      subst (λ (r : SimValue). IsAskedAt known place (simulated_enabled r) seed before after) same asked
 
   pub asks_at : (run : AskedRun) (given : Given) (place : ℕ) (net : NetValue) (script : List OfferValue) (before after : List P)
       → HoldsNet given run.net net → HoldsScript given run.script (net_channels net) script

@@ -1,8 +1,13 @@
-use Rattle.std.proofs.Common.{◌≡◌, arith, ap}
+use Rattle.std.proofs.Common.{◌≡◌, ◌∙◌, List, None, arith, ap}
+use Rattle.env_script.specs.Scripts.{OfferValue}
+use Rattle.prs_core.specs.Nets.{NetValue}
 use Rattle.net_compose.specs.Translation.{translation}
 use Rattle.width_check.specs.Typed.{program_of as typed_of}
 use Rattle.command_answers.specs.declared.answer.Ending.TheVariants.{Done}
 use Rattle.command_answers.specs.Answers.{writes}
+use Rattle.simulation_commands.proofs.Asking.{asked_as}
+use Rattle.simulation_commands.specs.Simulating.{simulation_for}
+use Rattle.grown_commands.specs.Summing.{most_of_summed_moves}
 use Rattle.simulation_commands.proofs.Keeping.{still_at}
 use Rattle.command_steps.proofs.Stopping.{passed_on}
 use Rattle.grown_commands.proofs.Summed.{script_of_net}
@@ -46,9 +51,12 @@ returns-in-Ok-summary_text-clause-answered g c =
 
 pub returns-in-Ok-summary_text-clause-asked : goal.returns-in-Ok-summary_text-clause-asked
 returns-in-Ok-summary_text-clause-asked g c =
-    let net_is : c.in_ok-net.net ≡ translation (typed_of c.in_ok-program.program) = c.in_ok-net.ensures.net in
+    let p = typed_of c.in_ok-program.program in
     record {
-      program = typed_of c.in_ok-program.program;
+      program = p;
       read = c.in_ok-program.ensures.read;
-      asked = rw (net_is, c.in-Ok.ensures) at c.in-Ok-run_summed.ensures.asked;
+      asked = asked_as _ _ _ _ _ (simulation_for c.in_ok-net.net c.in-Ok.script most_of_summed_moves None) _
+          (ap (λ (net : NetValue). simulation_for net c.in-Ok.script most_of_summed_moves None) c.in_ok-net.ensures.net
+          ∙ ap (λ (script : List OfferValue). simulation_for (translation p) script most_of_summed_moves None) c.in-Ok.ensures)
+          c.in-Ok-run_summed.ensures.asked;
     }

@@ -7,6 +7,7 @@ use Rattle.prs_core.specs.Nets.{NetValue}
 use Rattle.width_check.specs.Typed.{program_of as typed_of}
 use Rattle.command_answers.specs.Replies.{told_answer}
 use Rattle.run_reports.specs.RunReporting.{IsReported}
+use Rattle.simulation_commands.proofs.Asking.{asked_as}
 use Rattle.simulation_commands.proofs.Keeping.{still_at}
 use Rattle.command_words.proofs.Results.{ok_in}
 use Rattle.simulation_commands.proofs.simulate.report_at.Goals as goal
@@ -35,4 +36,5 @@ returns-clause-answered g c =
 
 pub returns-clause-asked : goal.returns-clause-asked
 returns-clause-asked g c =
-    ok_in c.reported.result _ _ (λ output is. rw (← c.in_ok-sim.ensures) c.in_ok-ran.ensures.asked) c.reported.ensures
+    ok_in c.reported.result _ _
+    (λ output is. asked_as _ _ _ _ _ c.in_ok-sim.sim _ c.in_ok-sim.ensures c.in_ok-ran.ensures.asked) c.reported.ensures
