@@ -21,12 +21,13 @@ use Rattle.width_check.specs.Typing.{IsTyped, IsProcess, AreProcesses, AreChoice
 use Rattle.width_check.proofs.Least.{in_rest}
 use Rattle.chp_meaning.specs.Halves.{ReadsNoTarget}
 use Rattle.reset_net.specs.Resets.{reset_of}
+use Rattle.env_script.specs.Runs.{IsPowered}
 use Rattle.net_compose.specs.Carries.{Carries, CarriesReset}
 use Rattle.net_compose.specs.Points.{IsTranslated}
 use Rattle.net_compose.specs.Progress.{ProgressesFrom}
 use Rattle.call_map.specs.Calling.{Called, calling, atom, turned, abreast, chosen, looped, Calleds, no_calleds, and_called, CalledChoices, no_called, or_called, inlined, inlined_each, inlined_choices}
-use Rattle.call_map.specs.CallNet.{SharedBodiesCarry, SharedBodiesHold, SharedBodiesCarryReset, inlined_program, call_net, call_names}
-use Rattle.call_map.specs.CallPace.{SharedBodiesProgress, SharedBodiesProgressReset, call_most_moves}
+use Rattle.call_map.specs.CallNet.{SharedBodiesCarry, SharedBodiesHold, SharedBodiesCarryReset, inlined_program, call_count, call_net, call_names}
+use Rattle.call_map.specs.CallPace.{IsMost, SharedBodiesProgress, SharedBodiesProgressReset, call_most_moves}
 use Rattle.call_map.specs.CallsApart.{Calls, OneCalls, ChoiceCalls}
 use Rattle.call_merge.specs.CallSplits.{own_readers, split_procedures, own_names, all_own_readers, all_uses, all_names, program_names, AreOwnVars}
 use Rattle.call_merge.specs.CallSites.{all_calls}
@@ -180,15 +181,20 @@ calls_carried_reset form carry p r h meets shaped accepted few =
     (carry (call_program p h.vars) (calls_asked form p r h meets shaped accepted) (copies_typed form p r h shaped accepted) few)
 
 pub calls_progress : FormIsTyped → SharedBodiesProgress → CallsProgress
-calls_progress form progress p r h meets shaped accepted names =
+calls_progress form progress p r h meets shaped accepted =
     let C = call_program p h.vars in
-    let net = call_net C names in
-    subst (λ (t : TypedProgram). ProgressesFrom net t (call_most_moves C) net.first) (calls_alike p h.vars ∙ sym (ap typed_form h.tree))
-    (progress C (calls_asked form p r h meets shaped accepted) (copies_typed form p r h shaped accepted) names)
+    subst
+    (λ (t : TypedProgram). (most : ℕ → ℕ) → IsMost t most → (names : List (List ℕ))
+    → ProgressesFrom (call_net C names) t (call_most_moves most) (call_net C names).first)
+    (calls_alike p h.vars ∙ sym (ap typed_form h.tree))
+    (progress C (calls_asked form p r h meets shaped accepted) (copies_typed form p r h shaped accepted))
 
 pub calls_progress_reset : FormIsTyped → SharedBodiesProgressReset → CallsProgressReset
-calls_progress_reset form progress p r h meets shaped accepted few values powered =
+calls_progress_reset form progress p r h meets shaped accepted =
     let C = call_program p h.vars in
-    subst (λ (t : TypedProgram). ProgressesFrom (reset_of (call_net C (call_names C))) t (call_most_moves C) values)
+    let net = reset_of (call_net C (call_names C)) in
+    subst
+    (λ (t : TypedProgram). (most : ℕ → ℕ) → IsMost t most → call_count C ≤ 65536 → (values : List Bool) → IsPowered net values
+    → ProgressesFrom net t (call_most_moves most) values)
     (calls_alike p h.vars ∙ sym (ap typed_form h.tree))
-    (progress C (calls_asked form p r h meets shaped accepted) (copies_typed form p r h shaped accepted) few values powered)
+    (progress C (calls_asked form p r h meets shaped accepted) (copies_typed form p r h shaped accepted))

@@ -10,7 +10,7 @@ use Rattle.env_script.specs.Runs.{IsPowered}
 use Rattle.net_compose.specs.Carries.{Carries, CarriesReset}
 use Rattle.net_compose.specs.Progress.{ProgressesFrom}
 use Rattle.call_map.specs.CallNet.{IsCallProgram, call_net, call_count, call_names}
-use Rattle.call_map.specs.CallPace.{call_most_moves}
+use Rattle.call_map.specs.CallPace.{IsMost, call_most_moves}
 use Rattle.call_merge.specs.CallFaults.{MeetsCalling}
 use Rattle.call_merge.specs.Inlining.{IsInlined}
 use Rattle.call_compose.specs.CalledForm.{call_program}
@@ -40,13 +40,14 @@ CallsCarriedReset = (p r : ProgramTree) (h : IsInlined p r) → MeetsCalling p �
 -- It keeps pace with that program, and so it does with a reset node.
 abbrev pub CallsProgress : Type 0
 CallsProgress = (p r : ProgramTree) (h : IsInlined p r) → MeetsCalling p → IsShaped r → IsAccepted r
-    → (names : List (List ℕ)) → ProgressesFrom (call_net (call_program p h.vars) names) (typed_form r)
-    (call_most_moves (call_program p h.vars)) (call_net (call_program p h.vars) names).first
+    → (most : ℕ → ℕ) → IsMost (typed_form r) most → (names : List (List ℕ))
+    → ProgressesFrom (call_net (call_program p h.vars) names) (typed_form r) (call_most_moves most)
+    (call_net (call_program p h.vars) names).first
 
 abbrev pub CallsProgressReset : Type 0
 CallsProgressReset = (p r : ProgramTree) (h : IsInlined p r) → MeetsCalling p → IsShaped r → IsAccepted r
-    → call_count (call_program p h.vars) ≤ 65536
+    → (most : ℕ → ℕ) → IsMost (typed_form r) most → call_count (call_program p h.vars) ≤ 65536
     → (values : List Bool)
     → IsPowered (reset_of (call_net (call_program p h.vars) (call_names (call_program p h.vars)))) values
     → ProgressesFrom (reset_of (call_net (call_program p h.vars) (call_names (call_program p h.vars)))) (typed_form r)
-    (call_most_moves (call_program p h.vars)) values
+    (call_most_moves most) values

@@ -14,7 +14,7 @@ use Rattle.handshake_expand.specs.Named.{node_names}
 use Rattle.net_compose.specs.Translation.{translation, composed, first_values, wires_from}
 use Rattle.net_compose.specs.Points.{TranslationCarries}
 use Rattle.net_compose.specs.PartNumbers.{TranslationTakesTurns}
-use Rattle.net_compose.specs.Progress.{IsLevel, KeepsPace, WhereItRests, ProgressesFrom, TranslationProgresses, most_moves}
+use Rattle.net_compose.specs.Progress.{IsLevel, KeepsPace, WhereItRests, ProgressesFrom, TranslationProgresses, PlainTranslationProgresses}
 use Rattle.net_compose.proofs.RunsOn.{goes_on}
 use Rattle.call_map.specs.Shared.{Sharing, SharesBodies}
 use Rattle.call_map.specs.Carrying.{CopiesKeepAlong, SafeAlong, IsMirrored}
@@ -27,6 +27,7 @@ use Rattle.call_map.proofs.CallShared.{is_shared}
 use Rattle.call_map.proofs.CallFirsts.{firsts_fit}
 use Rattle.call_map.proofs.CallCarries.{points_keep}
 use Rattle.call_map.proofs.CallTurns.{length_after, points_kept}
+use Rattle.call_map.proofs.CopiesProgress.{copies_progress}
 
 module _ (names more_names : List (List ℕ)) (first more_first : List Bool) (rules more_rules : RulesValue) (ws : List Wires) (S : Sharing) where
   abbrev A : NetValue
@@ -84,17 +85,17 @@ module _ (names more_names : List (List ℕ)) (first more_first : List Bool) (ru
     }
 
 -- what is assumed here are laws of translations
-module _ (carries : TranslationCarries) (turning : TranslationTakesTurns) (ends : TranslationProgresses) where
+module _ (carries : TranslationCarries) (turning : TranslationTakesTurns) (ends : TranslationProgresses) (plain_ends : PlainTranslationProgresses) where
   pub all_progress : SharedBodiesProgress
-  all_progress C is t names =
+  all_progress C is t most bound names =
       let P = inlined_program C in
       let facts = call_facts C is t in
       let net = translation P in
       let each = carries P t in
       shared_progresses names (node_names P) (call_firsts C) (first_values P) (call_composed C) (composed P) (wires_from P 0 C.channels)
-      (sharing C facts) (is_shared C facts names (call_firsts C) (firsts_fit C facts is.unread)) (omega arith) P (most_moves P)
+      (sharing C facts) (is_shared C facts names (call_firsts C) (firsts_fit C facts is.unread)) (omega arith) P most
       (λ script fits ns run. (each.runs script fits ns run).safe)
       (λ script fits ns run. points_keep C facts script (after net (begin_at net net.first) ns)
       (points_kept C facts is.unread is.apart script (after net (begin_at net net.first) ns) (length_after net (begin_at net net.first) ns)
       (turning P t script fits ns run)))
-      (ends P t)
+      (copies_progress ends plain_ends P t most bound)

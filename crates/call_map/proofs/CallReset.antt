@@ -24,5 +24,6 @@ call_net_resets resets carries holds C is t small =
 
 pub call_net_progresses : ((net : NetValue) (p : TypedProgram) (most : ℕ → ℕ) → ResetProgresses net p most) → SharedBodiesProgress → SharedBodiesHold
     → SharedBodiesProgressReset
-call_net_progresses resets progresses holds C is t small =
-    resets (call_net C (call_names C)) (inlined_program C) (call_most_moves C) (progresses C is t (call_names C)) (holds C is t small) refl (free C)
+call_net_progresses resets progresses holds C is t most bound small =
+    resets (call_net C (call_names C)) (inlined_program C) (call_most_moves most) (progresses C is t most bound (call_names C)) (holds C is t small) refl
+    (free C)

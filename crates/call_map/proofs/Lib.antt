@@ -43,6 +43,7 @@ mod CallLiterals
 mod CallWithin
 mod CallHolds
 mod CallReset
+pub mod CopiesProgress
 mod CallProgress
 mod CallLayers
 mod CallExamples

@@ -70,9 +70,10 @@ pub fn shared_bodies_carry_reset()
 }
 
 /// Law: that net keeps pace with the program in which each call is a copy. What a run of it has passed, some run of the
-/// program has passed, of m steps, and it has at most twice as many moves as the net with copies may have by then.
-/// Where the program comes to rest, each run of the net goes on to one at rest, which has passed all that the program
-/// has. `Shared.antt` and `Carrying.antt` aren't needed to read this.
+/// program has passed, of m steps, and it has at most twice as many moves as the net with copies may have by then, also
+/// where no assignment reads its own target and that net may have fewer. Where the program comes to rest, each run of
+/// the net goes on to one at rest, which has passed all that the program has. `Shared.antt` and `Carrying.antt` aren't
+/// needed to read this.
 pub fn shared_bodies_progress()
     ensures { SharedBodiesProgress }
 {

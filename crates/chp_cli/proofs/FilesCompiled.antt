@@ -9,14 +9,13 @@ use Rattle.env_script.specs.Environment.{net_channels}
 use Rattle.handshake_expand.specs.Layout.{nodes_of}
 use Rattle.net_compose.specs.Carries.{ResetCarries}
 use Rattle.net_compose.specs.Points.{IsTranslated, TranslationCarries}
-use Rattle.net_compose.specs.Progress.{ResetProgresses, TranslationProgresses, most_moves}
+use Rattle.net_compose.specs.Progress.{ResetProgresses, TranslationProgresses, PlainTranslationProgresses}
 use Rattle.net_compose.specs.Translation.{translation, hidden_high, vars_high}
 use Rattle.net_compose.proofs.NamesFree.{names_free}
 use Rattle.net_compose.proofs.Sizes.{first_length}
 use Rattle.call_map.specs.CallNet.{all_sites, call_count, inlined_program}
 use Rattle.call_compose.specs.Placing.{shared_of}
 use Rattle.prs_core.specs.Nets.{NetValue, IsNet}
-use Rattle.reset_net.proofs.Whole.{reset_is_net}
 use Rattle.width_check.specs.Accepted.{IsAccepted}
 use Rattle.width_check.specs.Faults.{naming_faults, HasNone}
 use Rattle.width_check.specs.Form.{channels_of, vars_of, process_form, typed_form}
@@ -30,6 +29,7 @@ use Rattle.command_words.specs.CompileWords.{AskedCompilation}
 use Rattle.program_commands.specs.Bodies.{Bodies, copied, copies_of, shared, counted_with, net_for, net_with, nodes_with, IsFaithful, NetCarries, SharedNetsAreFaithful}
 use Rattle.program_commands.specs.Compiling.{IsFaithfulFile}
 use Rattle.program_commands.proofs.BodyCounts.{few_nodes, few_shared}
+use Rattle.program_commands.proofs.Promised.{plain_faithful, reset_faithful}
 use Rattle.chp_cli.specs.Simulated.{HoldsCompiled}
 
 -- a file that holds what `compile` writes is as is promised of what it writes
@@ -64,20 +64,14 @@ are_translated is_typed given file p h =
 
 module _ (is_typed : (t : ProgramTree) → IsShaped t → HasNone t naming_faults → IsTyped (channels_of t.decls) (vars_of t.decls) (process_form t.decls t.body))
     (whole : (p : TypedProgram) → IsTyped p.channels p.vars p.body → nodes_of p ≤ 65536 → IsNet (translation p))
-    (carry : TranslationCarries) (progress : TranslationProgresses) (carry_reset : (net : NetValue) (p : TypedProgram) → ResetCarries net p)
-    (progress_reset : (net : NetValue) (p : TypedProgram) (most : ℕ → ℕ) → ResetProgresses net p most) (faithful : SharedNetsAreFaithful) where
+    (carry : TranslationCarries) (ends : TranslationProgresses) (plain_ends : PlainTranslationProgresses)
+    (carry_reset : (net : NetValue) (p : TypedProgram) → ResetCarries net p)
+    (end_reset : (net : NetValue) (p : TypedProgram) (most : ℕ → ℕ) → ResetProgresses net p most) (faithful : SharedNetsAreFaithful) where
   copies_promised : (reset : Bool) (p : TypedProgram) → IsTranslated p → nodes_of p ≤ 65536 → IsFaithful reset (copies_of p)
-  copies_promised false p is few =
-      let net = whole p is.typed few in
-      record { plain = net; kept = net; carries = carry p is; progresses = progress p is }
+  copies_promised false p is few = plain_faithful ends plain_ends p is (whole p is.typed few) (carry p is)
   copies_promised true p is few =
       let net = whole p is.typed few in
-      record {
-        plain = net;
-        kept = reset_is_net (translation p) net refl (names_free p);
-        carries = carry_reset (translation p) p (carry p is) net refl net.most (names_free p);
-        progresses = progress_reset (translation p) p (most_moves p) (progress p is) net refl (names_free p);
-      }
+      reset_faithful ends plain_ends end_reset p is net (carry_reset (translation p) p (carry p is) net refl net.most (names_free p))
 
   promised : (reset : Bool) {p : TypedProgram} (bodies : Bodies p) → IsTranslated p → counted_with bodies ≤ most_of_nodes → IsFaithful reset bodies
   promised reset {p} copied is few = copies_promised reset p is (few_nodes (copies_of p) few)

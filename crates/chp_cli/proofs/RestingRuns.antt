@@ -23,13 +23,14 @@ use Rattle.chp_meaning.specs.Rounds.{rounds}
 use Rattle.chp_meaning.specs.Steps.{Configuration}
 use Rattle.prs_file.specs.Spelling.{NetText}
 use Rattle.reset_net.specs.Resets.{reset_of}
-use Rattle.net_compose.specs.Progress.{RestsAfter, IsLevel}
+use Rattle.net_compose.specs.Progress.{RestsAfter, IsLevel, most_moves}
 use Rattle.net_compose.specs.Time.{HasPassed}
 use Rattle.net_pace.specs.Lasting.{HasLasted}
 use Rattle.net_pace.specs.Pace.{TimedPace, TimedPaceReset}
 use Rattle.net_compose.proofs.HalvedCarried.{scaled}
 use Rattle.net_compose.proofs.OnceEach.{run_length}
 use Rattle.command_answers.specs.Answers.{Given, Answer}
+use Rattle.call_map.specs.CallPace.{IsMost, always}
 use Rattle.program_commands.specs.Bodies.{Bodies, copied, shared, IsFaithful, NetCarries, NetProgresses, net_for, net_with, sweeps_with}
 use Rattle.command_steps.specs.Orders.{Played}
 use Rattle.chp_cli.specs.Resting.{RestsInTime, TimedRests, delays_for, most_in_run}
@@ -62,21 +63,23 @@ Powered = (net : NetValue) (high : Bool) → IsNet net → IsSome net.reset → 
 abbrev RunsWithin : Bool → {p : TypedProgram} → Bodies p → NetValue → Type 0
 RunsWithin reset {p} bodies n =
     (script : List OfferValue) (high : Bool) (ns : List ℕ) → IsNet n → IsScript p.channels script → IsRun n script (begin_at n (power_of n high)) ns
-    → (m : ℕ) (c : Configuration) → RestsAfter p script m c → length ns ≤ most_in_run reset bodies m
+    → (most : ℕ → ℕ) (m : ℕ) (c : Configuration) → IsMost p most → RestsAfter p script m c → length ns ≤ most_in_run reset bodies most m
 
 runs_within : Powered → (reset : Bool) {p : TypedProgram} (bodies : Bodies p) → NetCarries reset bodies → NetProgresses reset bodies
     → RunsWithin reset bodies (net_for reset bodies)
-runs_within powered false copied carries progresses script high ns net fits run m c over = progresses.bounded script fits m c over ns run
-runs_within powered false (shared h) carries progresses script high ns net fits run m c over = progresses.bounded script fits m c over ns run
-runs_within powered true bodies carries progresses script high ns net fits run m c over =
+runs_within powered false copied carries progresses script high ns net fits run most m c bound over =
+    (progresses most bound).bounded script fits m c over ns run
+runs_within powered false (shared h) carries progresses script high ns net fits run most m c bound over =
+    (progresses most bound).bounded script fits m c over ns run
+runs_within powered true bodies carries progresses script high ns net fits run most m c bound over =
     let n = net_for true bodies in
     let values = power_of n high in
     let up : IsPowered n values = powered n high net refl in
     let long : length n.first ≡ suc (length (net_with bodies).first) = length-append (net_with bodies).first (true ∷ []) ∙ omega arith in
     let count = firsts_counted bodies in
     let all = run_length n script (length (net_with bodies).first) long net (begin_at n values) ns run (carries.runs script fits values up ns run).1 in
-    let most = (progresses values up).bounded script fits m c over ns run in
-    omega (arith, all, count, most)
+    let few = (progresses most bound values up).bounded script fits m c over ns run in
+    omega (arith, all, count, few)
 
 abbrev RestsLevel : TypedProgram → NetValue → Type 0
 RestsLevel p n =
@@ -85,11 +88,13 @@ RestsLevel p n =
     → IsLevel (after n (begin_at n (power_of n high)) ns) c
 
 rests_level : Powered → (reset : Bool) {p : TypedProgram} (bodies : Bodies p) → NetProgresses reset bodies → RestsLevel p (net_for reset bodies)
-rests_level powered false copied progresses script high ns net fits run m c over = progresses.level script fits m c over ns run
-rests_level powered false (shared h) progresses script high ns net fits run m c over = progresses.level script fits m c over ns run
-rests_level powered true bodies progresses script high ns net fits run m c over =
+rests_level powered false {p} copied progresses script high ns net fits run m c over =
+    (progresses (most_moves p) always).level script fits m c over ns run
+rests_level powered false {p} (shared h) progresses script high ns net fits run m c over =
+    (progresses (most_moves p) always).level script fits m c over ns run
+rests_level powered true {p} bodies progresses script high ns net fits run m c over =
     let n = net_for true bodies in
-    (progresses (power_of n high) (powered n high net refl)).level script fits m c over ns run
+    (progresses (most_moves p) always (power_of n high) (powered n high net refl)).level script fits m c over ns run
 
 -- ---- a timed run of it
 
@@ -131,20 +136,21 @@ module _ (powered : Powered) (law : (net : NetValue) (script : List OfferValue) 
         subst (λ cs. IsScript cs script) (same_channels holds.reset holds.bodies it.carries)
         (subst (λ n. IsScript (net_channels n) script) (sym same) suits)
 
-    file_within : (m : ℕ) (c : Configuration) → RestsAfter p script m c → length ns ≤ most_in_run holds.reset holds.bodies m
+    file_within : (most : ℕ → ℕ) (m : ℕ) (c : Configuration) → IsMost p most → RestsAfter p script m c
+        → length ns ≤ most_in_run holds.reset holds.bodies most m
     file_within =
         subst (RunsWithin holds.reset holds.bodies) same (runs_within powered holds.reset holds.bodies it.carries it.progresses) script high ns is.kept
         fits run
 
     file_rests : (steps : ℕ) (end : End) → EndsSo net script steps (begin_at net (power_of net high)) ns end
         → RestsInTime holds.reset holds.bodies net script steps (begin_at net (power_of net high)) ns end
-    file_rests steps end ended m c over few =
+    file_rests steps end ended most m c bound over few =
         let st = begin_at net (power_of net high) in
         let safe = all_safe powered net p script high is.kept suits (file_carries (carry given file p holds) held is) in
         let calm : last_hazard net script st ns ≡ None = safe_calm net script (λ st m is_safe. (law net script st m is.kept).0 is_safe) st ns (safe ns run) in
         let so : calm_end (enabled_moves net script (after net st ns)) (length ns == steps) ≡ Some end =
         sym (ap (λ h. end_with h (enabled_moves net script (after net st ns)) (length ns == steps)) calm) ∙ ended.ended in
-        let within = file_within m c over in
+        let within = file_within most m c bound over in
         let r = calm_rest (enabled_moves net script (after net st ns)) (length ns) steps end (omega (arith, within, few)) so in (
           r.0,
           subst (RestsLevel p) same (rests_level powered holds.reset holds.bodies it.progresses) script high ns is.kept fits run m c over
@@ -170,12 +176,12 @@ module _ (powered : Powered) (law : (net : NetValue) (script : List OfferValue) 
         → TimedRests holds.reset holds.bodies (timed_value net script steps delays high) ms r.end time
     file_timed given file p holds rules net held is script suits high steps delays ms r time ran = record {
       rests = file_rests given file p holds rules net held is script suits high (moved_nodes ms) ran.run steps r.end ran.ends;
-      in_time = λ longest m c few over.
-          let within = file_within given file p holds rules net held is script suits high (moved_nodes ms) ran.run m c over in
+      in_time = λ longest most m c few bound over.
+          let within = file_within given file p holds rules net held is script suits high (moved_nodes ms) ran.run most m c bound over in
           let count = length-map ms (λ (x : NotedMove). x.node) in
           let soon = in_time longest (timed_value net script steps delays high) ms r time few ran in
-          let most = scaled (length ms) (most_in_run holds.reset holds.bodies m) longest (omega (arith, within, count)) in
-          omega (arith, soon, most);
+          let all = scaled (length ms) (most_in_run holds.reset holds.bodies most m) longest (omega (arith, within, count)) in
+          omega (arith, soon, all);
       keeps_up = λ longest k slow lasted.
           subst (PassesInTime holds.reset holds.bodies) (same given file p holds rules net held is script suits high (moved_nodes ms) ran.run)
           (passes_in_time powered holds.reset holds.bodies (paced given file p holds) (reset_paced given file p holds)) script high longest delays ms is.kept

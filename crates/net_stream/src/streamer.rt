@@ -8,6 +8,7 @@ ghost use Rattle.width_check.specs.Typed.{program_of};
 ghost use Rattle.handshake_expand.specs.Layout.{node_count, nodes_of};
 ghost use Rattle.net_compose.specs.Carries.{Carries, CarriesReset};
 ghost use Rattle.net_compose.specs.Errors.{IfTooMany};
+ghost use Rattle.net_compose.specs.Points.{IsTranslated};
 ghost use Rattle.net_compose.specs.Progress.{Progresses, ProgressesReset};
 ghost use Rattle.net_compose.specs.Translation.{translation};
 
@@ -43,6 +44,7 @@ impl Model for Streamer {
 fn stream_program(alloc: Global, program: &Disjoint, reset: bool) -> Result<Streamer, NetError>
     ensures text { IfOk result (λ s. NetText s (if reset then reset_of (translation (program_of program.now))
         else translation (program_of program.now))) }
+    ensures translated { OnOk result (IsTranslated (program_of program.now)) }
     ensures carries { OnOk result (Carries (translation (program_of program.now)) (program_of program.now)) }
     ensures progresses { OnOk result (Progresses (translation (program_of program.now)) (program_of program.now)) }
     ensures net { OnOk result (IsNet (translation (program_of program.now))) }
@@ -79,6 +81,7 @@ impl Streamer {
     /// program. A program whose circuit has more than 65,536 nodes is refused with their number.
     pub fn new(alloc: Global, program: &Disjoint) -> Result<Streamer, NetError>
         ensures text { IfOk result (λ s. NetText s (translation (program_of program.now))) }
+        ensures translated { OnOk result (IsTranslated (program_of program.now)) }
         ensures carries { OnOk result (Carries (translation (program_of program.now)) (program_of program.now)) }
         ensures progresses { OnOk result (Progresses (translation (program_of program.now)) (program_of program.now)) }
         ensures net { OnOk result (IsNet (translation (program_of program.now))) }
@@ -92,6 +95,7 @@ impl Streamer {
     /// The same with a reset node: that net carries the program from every power-up state.
     pub fn new_reset(alloc: Global, program: &Disjoint) -> Result<Streamer, NetError>
         ensures text { IfOk result (λ s. NetText s (reset_of (translation (program_of program.now)))) }
+        ensures translated { OnOk result (IsTranslated (program_of program.now)) }
         ensures carries { OnOk result
             (CarriesReset (reset_of (translation (program_of program.now))) (program_of program.now)) }
         ensures progresses { OnOk result

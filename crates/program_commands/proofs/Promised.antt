@@ -7,17 +7,20 @@ use Rattle.net_compose.specs.Carries.{Carries, CarriesReset}
 use Rattle.net_compose.specs.declared.net.NetError.{NetError}
 use Rattle.net_compose.specs.declared.net.NetError.TheVariants.{NoMemory, TooManyNodes}
 use Rattle.net_compose.specs.Errors.{IfTooMany}
-use Rattle.net_compose.specs.Progress.{Progresses, ProgressesFrom, ProgressesReset}
+use Rattle.net_compose.specs.Points.{IsTranslated}
+use Rattle.net_compose.specs.Progress.{ProgressesFrom, ResetProgresses, TranslationProgresses, PlainTranslationProgresses}
 use Rattle.net_compose.specs.Translation.{translation}
 use Rattle.net_compose.proofs.NamesFree.{names_free, some_names_free}
 use Rattle.prs_core.specs.Nets.{IsNet, NetValue}
 use Rattle.prs_file.specs.Spelling.{NetText, spelling}
 use Rattle.reset_net.specs.Resets.{reset_of}
+use Rattle.env_script.specs.Runs.{IsPowered}
 use Rattle.reset_net.proofs.Whole.{reset_is_net}
 use Rattle.width_check.specs.Processes.{TypedProgram}
 use Rattle.call_map.specs.Calling.{called_size}
 use Rattle.call_map.specs.CallNet.{call_count, call_names, call_net, inlined_program, procs_size}
-use Rattle.call_map.specs.CallPace.{call_most_moves}
+use Rattle.call_map.specs.CallPace.{IsMost, call_most_moves}
+use Rattle.call_map.proofs.CopiesProgress.{copies_progress}
 use Rattle.call_compose.specs.CallsCarried.{CallsCarried, CallsCarriedReset, CallsHold, CallsProgress, CallsProgressReset}
 use Rattle.call_compose.specs.Inlined.{AreInlined}
 use Rattle.call_compose.specs.Placing.{shared_of}
@@ -28,17 +31,18 @@ use Rattle.program_commands.proofs.BodyCounts.{shared_few, shared_many}
 
 -- with copies
 
-pub plain_faithful : (p : TypedProgram) → IsNet (translation p) → Carries (translation p) p → Progresses (translation p) p → IsFaithful false (copies_of p)
-plain_faithful p net carries progresses = record { plain = net; kept = net; carries = carries; progresses = progresses }
+module _ (ends : TranslationProgresses) (plain_ends : PlainTranslationProgresses) where
+  pub plain_faithful : (p : TypedProgram) → IsTranslated p → IsNet (translation p) → Carries (translation p) p → IsFaithful false (copies_of p)
+  plain_faithful p is net carries = record { plain = net; kept = net; carries = carries; progresses = copies_progress ends plain_ends p is }
 
-pub reset_faithful : (p : TypedProgram) → IsNet (translation p) → CarriesReset (reset_of (translation p)) p → ProgressesReset (reset_of (translation p)) p
-    → IsFaithful true (copies_of p)
-reset_faithful p net carries progresses = record {
-  plain = net;
-  kept = reset_is_net (translation p) net refl (names_free p);
-  carries = carries;
-  progresses = progresses;
-}
+  pub reset_faithful : ((net : NetValue) (p : TypedProgram) (most : ℕ → ℕ) → ResetProgresses net p most)
+      → (p : TypedProgram) → IsTranslated p → IsNet (translation p) → CarriesReset (reset_of (translation p)) p → IsFaithful true (copies_of p)
+  reset_faithful resets p is net carries = record {
+    plain = net;
+    kept = reset_is_net (translation p) net refl (names_free p);
+    carries = carries;
+    progresses = λ most bound. resets (translation p) p most (copies_progress ends plain_ends p is most bound) net refl (names_free p);
+  }
 
 -- with shared bodies
 
@@ -52,8 +56,11 @@ shared_faithful hold carry carry_reset progress progress_reset false program p h
       kept = whole;
       carries = subst (λ (q : TypedProgram). Carries net q) (sym h.typed)
           (carry program h.tree h.inlined h.meets h.shaped h.accepted (call_names C));
-      progresses = subst (λ (q : TypedProgram). ProgressesFrom net q (call_most_moves C) net.first) (sym h.typed)
-          (progress program h.tree h.inlined h.meets h.shaped h.accepted (call_names C));
+      progresses =
+          subst
+          (λ (q : TypedProgram). (most : ℕ → ℕ) → IsMost q most → ProgressesFrom net q (call_most_moves most) net.first)
+          (sym h.typed)
+          (λ most bound. progress program h.tree h.inlined h.meets h.shaped h.accepted most bound (call_names C));
     }
 shared_faithful hold carry carry_reset progress progress_reset true program p h few =
     let C = shared_of h in
@@ -65,27 +72,31 @@ shared_faithful hold carry carry_reset progress progress_reset true program p h 
       kept = reset_is_net net whole refl (some_names_free P (procs_size P C.procs + (2 + called_size C.procs P C.body)));
       carries = subst (λ (q : TypedProgram). CarriesReset (reset_of net) q) (sym h.typed)
           (carry_reset program h.tree h.inlined h.meets h.shaped h.accepted few);
-      progresses = λ values powered.
-          subst (λ (q : TypedProgram). ProgressesFrom (reset_of net) q (call_most_moves C) values) (sym h.typed)
-          (progress_reset program h.tree h.inlined h.meets h.shaped h.accepted few values powered);
+      progresses =
+          subst
+          (λ (q : TypedProgram). (most : ℕ → ℕ) → IsMost q most → (values : List Bool) → IsPowered (reset_of net) values
+          → ProgressesFrom (reset_of net) q (call_most_moves most) values)
+          (sym h.typed)
+          (λ most bound. progress_reset program h.tree h.inlined h.meets h.shaped h.accepted most bound few);
     }
 
 -- ---- what is promised of streamers
 
-module _ (p : TypedProgram) where
+module _ (ends : TranslationProgresses) (plain_ends : PlainTranslationProgresses) (p : TypedProgram) where
   pub plain_text : {E : Type 0} (r : Result (List ℕ) E) → OnOk r (nodes_of p ≤ 65536) → IfOk r (λ s. NetText s (translation p)) → OnOk r (IsNet (translation p))
-      → OnOk r (Carries (translation p) p) → OnOk r (Progresses (translation p) p) → IfOk r (IsTextWith false (copies_of p))
-  plain_text (Ok s) few spells net carries progresses =
-      record { few = counted_few p few; spells = spells; faithful = plain_faithful p net carries progresses }
-  plain_text (Err e) few spells net carries progresses = tt
+      → OnOk r (Carries (translation p) p) → OnOk r (IsTranslated p) → IfOk r (IsTextWith false (copies_of p))
+  plain_text (Ok s) few spells net carries is =
+      record { few = counted_few p few; spells = spells; faithful = plain_faithful ends plain_ends p is net carries }
+  plain_text (Err e) few spells net carries is = tt
 
-  pub reset_text : {E : Type 0} (r : Result (List ℕ) E) → OnOk r (nodes_of p ≤ 65536) → IfOk r (λ s. NetText s (reset_of (translation p)))
-      → OnOk r (IsNet (translation p)) → OnOk r (CarriesReset (reset_of (translation p)) p) → OnOk r (ProgressesReset (reset_of (translation p)) p)
-      → IfOk r (IsTextWith true (copies_of p))
-  reset_text (Ok s) few spells net carries progresses =
-      record { few = counted_few p few; spells = spells; faithful = reset_faithful p net carries progresses }
-  reset_text (Err e) few spells net carries progresses = tt
+  pub reset_text : ((net : NetValue) (p : TypedProgram) (most : ℕ → ℕ) → ResetProgresses net p most) → {E : Type 0} (r : Result (List ℕ) E)
+      → OnOk r (nodes_of p ≤ 65536) → IfOk r (λ s. NetText s (reset_of (translation p))) → OnOk r (IsNet (translation p))
+      → OnOk r (CarriesReset (reset_of (translation p)) p) → OnOk r (IsTranslated p) → IfOk r (IsTextWith true (copies_of p))
+  reset_text resets (Ok s) few spells net carries is =
+      record { few = counted_few p few; spells = spells; faithful = reset_faithful ends plain_ends resets p is net carries }
+  reset_text resets (Err e) few spells net carries is = tt
 
+module _ (p : TypedProgram) where
   pub copied_over : (r : Result (List ℕ) NetError) → IfErr r (IfTooMany (λ count. count ≡ node_count p)) → IfErr r (IfTooMany (λ count. 65536 < nodes_of p))
       → IfErr r (IfTooMany (IsOver (copies_of p)))
   copied_over (Ok s) is many = tt

@@ -4,11 +4,11 @@ use Rattle.chp_syntax.specs.Trees.{ProgramTree}
 use Rattle.env_script.specs.Runs.{IsPowered}
 use Rattle.handshake_expand.specs.Layout.{capped, node_count, nodes_of}
 use Rattle.net_compose.specs.Carries.{Carries, CarriesReset}
-use Rattle.net_compose.specs.Progress.{ProgressesFrom, most_moves}
+use Rattle.net_compose.specs.Progress.{ProgressesFrom}
 use Rattle.net_compose.specs.Time.{sweeps_for_round}
 use Rattle.net_compose.specs.Translation.{translation}
 use Rattle.call_map.specs.CallNet.{call_count, call_names, call_net}
-use Rattle.call_map.specs.CallPace.{call_most_moves}
+use Rattle.call_map.specs.CallPace.{IsMost, call_most_moves}
 use Rattle.call_compose.specs.Inlined.{AreInlined}
 use Rattle.call_compose.specs.Placing.{shared_of}
 use Rattle.prs_core.specs.Nets.{NetValue, IsNet}
@@ -46,10 +46,10 @@ abbrev pub counted_with : {p : TypedProgram} → Bodies p → ℕ
 counted_with {p} copied = node_count p
 counted_with {p} (shared h) = max (capped (call_count (shared_of h))) (node_count p)
 
--- the most moves of its runs by so many steps of the program
-abbrev pub most_with : {p : TypedProgram} → Bodies p → ℕ → ℕ
-most_with {p} copied = most_moves p
-most_with (shared h) = call_most_moves (shared_of h)
+-- the most moves of its runs by so many steps of the program, where those of the net with copies are given
+abbrev pub most_with : {p : TypedProgram} → Bodies p → (most : ℕ → ℕ) → ℕ → ℕ
+most_with copied most = most
+most_with (shared h) most = call_most_moves most
 
 -- enough sweeps for what a round of the program passes
 abbrev pub sweeps_with : {p : TypedProgram} → Bodies p → ℕ
@@ -74,11 +74,13 @@ abbrev pub NetCarries : (reset : Bool) → {p : TypedProgram} → Bodies p → T
 NetCarries false {p} bodies = Carries (net_for false bodies) p
 NetCarries true {p} bodies = CarriesReset (net_for true bodies) p
 
--- and keeps pace with it: where the program comes to rest, so do its runs
+-- and keeps pace with it, within each bound: where the program comes to rest, so do its runs
 abbrev pub NetProgresses : (reset : Bool) → {p : TypedProgram} → Bodies p → Type 0
-NetProgresses false {p} bodies = ProgressesFrom (net_for false bodies) p (most_with bodies) (net_for false bodies).first
-NetProgresses true {p} bodies = (values : List Bool) → IsPowered (net_for true bodies) values →
-    ProgressesFrom (net_for true bodies) p (most_with bodies) values
+NetProgresses false {p} bodies = (most : ℕ → ℕ) → IsMost p most →
+    ProgressesFrom (net_for false bodies) p (most_with bodies most) (net_for false bodies).first
+NetProgresses true {p} bodies = (most : ℕ → ℕ) → IsMost p most →
+    (values : List Bool) → IsPowered (net_for true bodies) values →
+    ProgressesFrom (net_for true bodies) p (most_with bodies most) values
 
 -- The net is one that a rule file can hold, as it also is without a reset node; and it carries the program, and keeps
 -- pace with it.

@@ -27,6 +27,7 @@ use command_steps::{
 };
 use command_words::Compilation;
 use net_compose::NetError;
+use net_compose::laws::{runs_end, runs_end_reset};
 use net_stream::Streamer;
 use sharing_check::Disjoint;
 use std::alloc::Global;
@@ -56,6 +57,8 @@ fn copied_streamer(alloc: Global, program: &Disjoint, reset: bool) -> Result<Str
     ensures made { IfOk result (IsTextWith reset (copies_of (typed_of program.now))) }
     ensures too_many { IfErr result (IfTooMany (IsOver (copies_of (typed_of program.now)))) }
 {
+    runs_end();
+    runs_end_reset();
     if reset {
         Streamer::new_reset(alloc, program)
     } else {
