@@ -185,7 +185,7 @@ calls_progress form progress p r h meets shaped accepted =
     let C = call_program p h.vars in
     subst
     (λ (t : TypedProgram). (most : ℕ → ℕ) → IsMost t most → (names : List (List ℕ))
-        → ProgressesFrom (call_net C names) t (call_most_moves most) (call_net C names).first)
+    → ProgressesFrom (call_net C names) t (call_most_moves most) (call_net C names).first)
     (calls_alike p h.vars ∙ sym (ap typed_form h.tree))
     (progress C (calls_asked form p r h meets shaped accepted) (copies_typed form p r h shaped accepted))
 
@@ -195,6 +195,6 @@ calls_progress_reset form progress p r h meets shaped accepted =
     let net = reset_of (call_net C (call_names C)) in
     subst
     (λ (t : TypedProgram). (most : ℕ → ℕ) → IsMost t most → call_count C ≤ 65536 → (values : List Bool) → IsPowered net values
-        → ProgressesFrom net t (call_most_moves most) values)
+    → ProgressesFrom net t (call_most_moves most) values)
     (calls_alike p h.vars ∙ sym (ap typed_form h.tree))
     (progress C (calls_asked form p r h meets shaped accepted) (copies_typed form p r h shaped accepted))

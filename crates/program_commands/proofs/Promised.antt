@@ -75,7 +75,7 @@ shared_faithful hold carry carry_reset progress progress_reset true program p h 
       progresses =
           subst
           (λ (q : TypedProgram). (most : ℕ → ℕ) → IsMost q most → (values : List Bool) → IsPowered (reset_of net) values
-              → ProgressesFrom (reset_of net) q (call_most_moves most) values)
+          → ProgressesFrom (reset_of net) q (call_most_moves most) values)
           (sym h.typed)
           (λ most bound. progress_reset program h.tree h.inlined h.meets h.shaped h.accepted most bound few);
     }
