@@ -10,4 +10,8 @@ pub mod Ends
 pub mod Handed
 pub mod CompiledRuns
 pub mod ServedRuns
+pub mod Unplaced
+pub mod UnplacedForms
+pub mod UnplacedMeanings
+pub mod LaidOut
 pub use Rattle.chp_edge.specs.Faults
