@@ -26,7 +26,7 @@ use Rattle.chp_cli.specs.UnplacedForms.{unplaced_formula, unplaced_formulas, unp
 -- expressions: widths, sizes, what is read
 
 mutual
-  width_same : (e : Formula) → width_of (unplaced_formula e) ≡ width_of e
+  pub width_same : (e : Formula) → width_of (unplaced_formula e) ≡ width_of e
   width_same (constant width v) = refl
   width_same (reading var high low at) = refl
   width_same (joined parts) = widths_same parts
@@ -34,7 +34,7 @@ mutual
   width_same (chained e more) = width_same e
   width_same (compared op e f) = refl
 
-  widths_same : (parts : Formulas) → widths_of (unplaced_formulas parts) ≡ widths_of parts
+  pub widths_same : (parts : Formulas) → widths_of (unplaced_formulas parts) ≡ widths_of parts
   widths_same no_parts = refl
   widths_same (and_part e more) =
       let first = width_same e in

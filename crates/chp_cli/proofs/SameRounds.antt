@@ -5,30 +5,15 @@ use Rattle.std.proofs.Common.{◌≡◌, ℕ, zero, suc, Bool, true, false, List
 use Rattle.std.specs.Prelude.{if◌then◌else◌, ◌==◌, slice_index, filter, fold, unwrap_or, is_some, option_map, Option, Some, None}
 use Rattle.env_script.specs.Scripts.{OfferValue, gives, takes, nothing, offer_at, is_over}
 use Rattle.width_check.specs.Processes.{Formula, constant, reading, joined, inverted, chained, compared, Formulas, no_parts, and_part, Operations, no_operations, and_operation, Process, skipping, assigning, sending, receiving, in_turn, side_by_side, choosing, repeating, Processes, no_members, and_member, Choices, no_choices, and_choice, TypedProgram}
-use Rattle.width_check.specs.Values.{width_of, widths_of, operated, value, joined_value, chained_value}
+use Rattle.width_check.specs.Values.{width_of, operated, value, joined_value, chained_value}
 use Rattle.chp_meaning.specs.Terms.{Term, finished, active, in_sequence, in_parallel, Terms, no_branches, and_branch, is_finished, all_finished, together, opened, opened_turn, opened_each, followed, Place, here, in_first, in_branch, statement_at, branch_at, with_left, with_branch, places, branch_places}
 use Rattle.chp_meaning.specs.Steps.{Configuration, value_in, open_branches, one_fewer, leaving, storing, passing, offering, start_of}
 use Rattle.chp_meaning.specs.Rounds.{Waiting, waits_on, or_later, receiver_among, receiver_on, communicated, sent, received, chosen, stepped, step_at, is_enabled, enabled_places, taken, round, rounds_from, rounds}
 use Rattle.chp_cli.specs.UnplacedForms.{unplaced_formula, unplaced_formulas, unplaced_operations, unplaced_process, unplaced_processes, unplaced_choices, unplaced_form, AreFormedAlike}
 use Rattle.chp_cli.specs.UnplacedMeanings.{MeanTheSame}
+use Rattle.chp_cli.proofs.SameNets.{width_same, widths_same}
 
 -- values
-
-mutual
-  width_same : (e : Formula) → width_of (unplaced_formula e) ≡ width_of e
-  width_same (constant width v) = refl
-  width_same (reading var high low at) = refl
-  width_same (joined parts) = widths_same parts
-  width_same (inverted e) = width_same e
-  width_same (chained e more) = width_same e
-  width_same (compared op e f) = refl
-
-  widths_same : (parts : Formulas) → widths_of (unplaced_formulas parts) ≡ widths_of parts
-  widths_same no_parts = refl
-  widths_same (and_part e more) =
-      let first = width_same e in
-      let rest = widths_same more in
-      rw (first, rest) refl
 
 mutual
   value_same : (store : ℕ → ℕ) (e : Formula) → value store (unplaced_formula e) ≡ value store e
