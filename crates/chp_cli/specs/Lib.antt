@@ -11,4 +11,8 @@ pub mod Handed
 pub mod Shown
 pub mod CompiledRuns
 pub mod ServedRuns
+pub mod Unplaced
+pub mod UnplacedForms
+pub mod UnplacedMeanings
+pub mod LaidOut
 pub use Rattle.chp_edge.specs.Faults

@@ -28,11 +28,20 @@ ghost use Rattle.simulation_commands.specs.Timing.{SimulatesTimed};
 ghost use Rattle.chp_cli.specs.TracedFiles.{IsFileTraced, TracedFollows, TracedRests};
 ghost use Rattle.command_words.specs.WavesWords.{AskedWaves};
 ghost use Rattle.simulation_commands.specs.Tracing.{Traces};
+ghost use Rattle.chp_cli.specs.LaidOut.{LaidOutsAreCompared, MeansAlike};
+ghost use Rattle.chp_cli.specs.Unplaced.{AreLaidOutAlike};
+ghost use Rattle.chp_cli.specs.UnplacedForms.{AreFormedAlike};
+ghost use Rattle.chp_cli.specs.UnplacedMeanings.{MeanTheSame};
+ghost use Rattle.chp_syntax.specs.Trees.{ProgramTree};
+ghost use Rattle.command_steps.specs.Inlined.{Means};
+ghost use Rattle.handshake_expand.specs.Layout.{nodes_of};
+ghost use Rattle.net_compose.specs.Translation.{translation};
+ghost use Rattle.width_check.specs.Accepted.{IsAccepted};
 ghost use Rattle.width_check.specs.Form.{typed_form};
 ghost use Rattle.width_check.specs.Processes.{TypedProgram};
 
 use call_compose::{calls_asked, calls_typed};
-use command_steps::laws::meant_buffers_are_right;
+use command_steps::laws::{meant_buffers_are_right, meant_programs_are_shaped};
 use delay_script::laws::timed_runs_end_in_time;
 use event_sim::laws::{passed_are_histories, power_is_powered, safe_moves_bring_no_hazard};
 use net_compose::laws::{carries, carries_reset, runs_end, runs_end_reset, whole_nets};
@@ -319,4 +328,29 @@ pub fn compiled_runs_rest()
     shared_bodies_keep_time();
     calls_asked();
     calls_typed();
+}
+
+/// Law: places don't matter. Of two programs that are the same but for places, where their things stand in a text, both
+/// are accepted or neither is (`accepted`), and with procedures both mean a program or neither does, and what they mean
+/// is the same but for places (`meant`). The typed forms of both, which keep places for the reports of faults, are the
+/// same but for places too (`formed`). And two typed programs that are so mean the same, round by round, under every
+/// script (`meaning`), and have one net, of as many nodes (`net`).
+pub fn places_do_not_matter()
+    ensures accepted { (p q : ProgramTree) → AreLaidOutAlike p q → IsAccepted p → IsAccepted q }
+    ensures meant { (p q : ProgramTree) → AreLaidOutAlike p q → (plain : ProgramTree) → Means p plain →
+        MeansAlike q plain }
+    ensures formed { (p q : ProgramTree) → AreLaidOutAlike p q → AreFormedAlike (typed_form p) (typed_form q) }
+    ensures meaning { (p q : TypedProgram) → AreFormedAlike p q → MeanTheSame p q }
+    ensures net { (p q : TypedProgram) → AreFormedAlike p q →
+        (translation p ≡ translation q) × (nodes_of p ≡ nodes_of q) }
+{}
+
+/// Law: so a rule file may be compared with its program laid out differently. What `compile` wrote from a text, without
+/// a buffer, on a shelf on which another file holds a text that is the same program but for places, procedures or not:
+/// there is one program that this text means and for which `compile` writes that rule file. So by the clause `agreed`
+/// of `chp_main` a run of that file, compared with that text, never ends with `Differs`.
+pub fn laid_outs_are_compared()
+    ensures { LaidOutsAreCompared }
+{
+    meant_programs_are_shaped();
 }

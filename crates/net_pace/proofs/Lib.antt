@@ -1,7 +1,9 @@
 pub mod SweepLemmas
 pub mod TimedKept
+pub mod EndlessSweeps
 pub mod ResetSweeps
 pub mod ResetKept
+pub mod ValuesKept
 pub mod SweepLayers
 pub mod SharedKept
 pub mod RoundParts

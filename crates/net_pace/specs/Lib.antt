@@ -1,3 +1,4 @@
+pub mod Endless
 pub mod HalvedRounds
 pub mod Lasting
 pub mod Pace

@@ -1,7 +1,7 @@
 //! How soon the net of a program passes what the program passes, whatever moves first: in sweeps and in delays.
 #![tactic(auto)]
 
-ghost use Rattle.std.specs.Prelude.{◌≡◌, ◌≤◌, ◌*◌, ℕ, None};
+ghost use Rattle.std.specs.Prelude.{◌≡◌, ◌≤◌, ◌*◌, ℕ, List, None};
 ghost use Rattle.prs_core.specs.Nets.{NetValue, IsNet};
 ghost use Rattle.reset_net.specs.Resets.{reset_of};
 ghost use Rattle.width_check.specs.Processes.{TypedProgram};
@@ -12,6 +12,9 @@ ghost use Rattle.net_compose.specs.Carries.{Carries};
 ghost use Rattle.net_compose.specs.Points.{IsTranslated};
 ghost use Rattle.net_compose.specs.Time.{KeepsTime, sweeps_for_round};
 ghost use Rattle.call_map.specs.CallNet.{CallProgram, IsCallProgram, inlined_program, call_count, call_names, call_net};
+ghost use Rattle.env_script.specs.Scripts.{OfferValue};
+ghost use Rattle.env_script.specs.Runs.{RunState};
+ghost use Rattle.net_pace.specs.Endless.{NoNodeWaits, NoValueWaits, NoValueWaitsReset, SweepsEnd};
 ghost use Rattle.net_pace.specs.HalvedRounds.{TwoRoundsForOne};
 ghost use Rattle.net_pace.specs.Pace.{TimedPace, KeepsTimeReset, TimedPaceReset};
 
@@ -108,4 +111,55 @@ pub fn keeps_timed_pace_reset()
     reset_runs();
     plain_nets_keep_time();
     keeps_time();
+}
+
+/// Law: in a run of a net that never ends each sweep ends, whenever it begins, if no enabled node waits for ever.
+pub fn sweeps_end()
+    ensures { (net : NetValue) (script : List OfferValue) (st : RunState) (nodes : ℕ → ℕ) → IsNet net →
+        NoNodeWaits net script st nodes → SweepsEnd net script st nodes }
+{}
+
+/// Law: no value on a channel waits for ever because others go on. Where n rounds of a program pass a value on a
+/// channel under a script, behind k others, its net passes it there behind as many, in whatever order the nodes switch:
+/// each run has passed it that begins with so many sweeps for each of the n rounds; each run passes it that never ends,
+/// and in which each sweep ends (which is all that is assumed of the order); and each timed run has passed it whose
+/// last move comes later than as many times the longest delay, or which rests. In the net with copies these are
+/// 2 · (2 nodes + 1) sweeps for each round, where bodies are shared twice as many, and nodes are those of the net with
+/// copies (`shared`); and in any net as many in which it keeps time (`net`).
+pub fn no_value_waits()
+    ensures copied { (p : TypedProgram) → IsTranslated p → nodes_of p ≤ 65536 →
+        NoValueWaits (translation p) p (2 * sweeps_for_round p) }
+    ensures shared { (C : CallProgram) → IsCallProgram C → IsTranslated (inlined_program C) →
+        nodes_of (inlined_program C) ≤ 65536 → call_count C ≤ 65536 →
+        NoValueWaits (call_net C (call_names C)) (inlined_program C) (2 * (2 * sweeps_for_round (inlined_program C))) }
+    ensures net { (net : NetValue) (p : TypedProgram) (sweeps : ℕ) → Carries net p → KeepsTime net p sweeps →
+        NoValueWaits net p sweeps }
+{
+    carries();
+    keeps_time();
+    keeps_timed_pace();
+    shared_bodies_carry();
+    shared_bodies_keep_time();
+}
+
+/// Law: nor does one with a reset node, from every power-up state, in two sweeps more: for the nets with copies and
+/// with shared bodies, and for any net that keeps time without the reset node.
+pub fn no_value_waits_reset()
+    ensures copied { (p : TypedProgram) → IsTranslated p → nodes_of p ≤ 65536 →
+        NoValueWaitsReset (reset_of (translation p)) p (2 * sweeps_for_round p) }
+    ensures shared { (C : CallProgram) → IsCallProgram C → IsTranslated (inlined_program C) →
+        nodes_of (inlined_program C) ≤ 65536 → call_count C ≤ 65536 →
+        NoValueWaitsReset (reset_of (call_net C (call_names C))) (inlined_program C)
+        (2 * (2 * sweeps_for_round (inlined_program C))) }
+    ensures net { (net : NetValue) (p : TypedProgram) (sweeps : ℕ) → IsNet net → net.reset ≡ None → Carries net p →
+        KeepsTime net p sweeps → NoValueWaitsReset (reset_of net) p sweeps }
+{
+    carries();
+    whole_nets();
+    keeps_time();
+    keeps_time_reset();
+    keeps_timed_pace_reset();
+    shared_bodies_carry();
+    shared_bodies_hold();
+    shared_bodies_keep_time();
 }
