@@ -155,7 +155,8 @@ pub fn carried_runs_agree()
 /// script of all that the device offered and took.
 pub fn carried_runs_have_one_length()
     ensures simulated { (s : AskedRun) (given : Given) (played : Played) (p : TypedProgram) →
-        HoldsCarrying given s.net p → (answer : Answer) (f : IsFileSimulated s given played answer) → EndsAllAtRest s given played answer f }
+        HoldsCarrying given s.net p → (answer : Answer) (f : IsFileSimulated s given played answer) →
+        EndsAllAtRest s given played answer f }
     ensures benched { (b : AskedBench) (given : Given) (handed : HandedIn) (p : TypedProgram) →
         HoldsCarrying given b.net p → (answer : Answer) (f : IsFileBenched b given handed answer) →
         BenchedEndsAll b given handed f }
