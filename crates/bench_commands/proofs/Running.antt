@@ -174,7 +174,7 @@ module _ {P : Type 0} (f : P → PeerValue) (xs ys : List P) (which : ℕ) (item
       ∙ (ap (λ n. Some n) name
       ∙ sym (ap (option_map (λ x. (f x).name)) is_item)))
       (λ was is held holds. notes_same (f was).log (f is).log (ap (λ x. (f x).log) (one_of (get_same xs which ready within) holds)
-      ∙ log ∙ ap (λ x. (f x).log) (one_of is_item held)))
+      ∙ log ∙ ap (λ x. (f x).log) (one_of held is_item)))
     where
       is_item : slice_get xs which ≡ Some item
       is_item = slice_get-get_or xs which item within ∙ ap (λ y. Some y) (sym there)

@@ -97,7 +97,7 @@ module _ {P : Type 0} (f : P → PeerValue) where
         where
           by_item : (o : Option P) → slice_get zs k ≡ o → (z : P) × ((slice_get zs k ≡ Some z) × (f z ≡ v))
           by_item None none = absurd (cc (slice_get-map f zs k, ap (option_map f) none, there))
-          by_item (Some z) some = (z, some, cc (slice_get-map f zs k, ap (option_map f) some, there))
+          by_item (Some z) some = (z, (some, cc (slice_get-map f zs k, ap (option_map f) some, there)))
 
       logs : (i : ℕ) (was is : PeerValue) → slice_get (map f xs) i ≡ Some was → slice_get (map f ys) i ≡ Some is → (i ≡ k) ⊎ (i ≢ k) →
           is.log ≡ was.log ++ noted_since was.log is.log
