@@ -1,10 +1,10 @@
 //! The program: the top call over the files and the standard streams of the system.
 #![tactic(auto)]
 
-ghost use Rattle.std.specs.Prelude.{◌≡◌, ◌∷◌, [], codes, map, IfOk};
+ghost use Rattle.std.specs.Prelude.{◌≡◌, ◌∷◌, [], codes, map};
 
 use chp_cli::{Players, Status, chp_main};
-use chp_edge::{ErrSink, FileShelf, OutSink, Sink, write_all};
+use chp_edge::{ErrSink, FileShelf, OutSink, Shelf, Sink, write_all};
 use event_sim::{Lowest, Newest, Oldest, Picker, Random};
 use peer_bench::{Echo, Peer, Ramp};
 use std::alloc::{AllocError, Global};
@@ -24,42 +24,25 @@ fn words<R: Env + AllocGlobal>(rt: &R) -> Result<Vec<String>, AllocError> {
     words.collect(rt.alloc())
 }
 
-/// The four orders.
-fn orders(alloc: Global) -> Result<Vec<Box<dyn Picker>>, AllocError>
-    ensures { IfOk result (λ orders. map (λ order. name order) orders.items ≡
-        codes "lowest" ∷ codes "oldest" ∷ codes "newest" ∷ codes "random" ∷ []) }
+/// The top call with what every call is handed in: the four orders and the two devices, in this order.
+fn call_with<S: Shelf, K: Sink, W: Sink>(
+    alloc: Global,
+    words: &[String],
+    shelf: &mut S,
+    out: &mut K,
+    say: &mut W,
+    players: Players,
+) -> Status
+    requires orders { map (λ order. (⟦<dyn Picker as Picker>⟧ order.vtable).name order.value) players.orders.items ≡
+        codes "lowest" ∷ codes "oldest" ∷ codes "newest" ∷ codes "random" ∷ [] }
+    requires peers { map (λ peer. (⟦<dyn Peer as Peer>⟧ peer.vtable).name peer.value) players.peers.items ≡
+        codes "ramp" ∷ codes "echo" ∷ [] }
 {
-    let mut orders: Vec<Box<dyn Picker>> = Vec::new(alloc);
-    orders.push(Box::new(alloc, Lowest::new(alloc))?)?;
-    orders.push(Box::new(alloc, Oldest::new(alloc))?)?;
-    orders.push(Box::new(alloc, Newest::new(alloc))?)?;
-    orders.push(Box::new(alloc, Random::new(alloc))?)?;
-    Ok(orders)
+    let mut players = players;
+    chp_main(alloc, words, shelf, out, say, &mut players)
 }
 
-/// The two devices.
-fn peers(alloc: Global) -> Result<Vec<Box<dyn Peer>>, AllocError>
-    ensures { IfOk result (λ peers. map (λ peer. name peer) peers.items ≡ codes "ramp" ∷ codes "echo" ∷ []) }
-{
-    let mut peers: Vec<Box<dyn Peer>> = Vec::new(alloc);
-    peers.push(Box::new(alloc, Ramp::new(alloc))?)?;
-    peers.push(Box::new(alloc, Echo::new(alloc))?)?;
-    Ok(peers)
-}
-
-/// What each call is handed in: the four orders and the two devices.
-fn players(alloc: Global) -> Result<Players, AllocError>
-    ensures orders { IfOk result (λ players. map (λ order. (⟦<dyn Picker as Picker>⟧ order.vtable).name order.value)
-        players.orders.items ≡ codes "lowest" ∷ codes "oldest" ∷ codes "newest" ∷ codes "random" ∷ []) }
-    ensures peers { IfOk result (λ players. map (λ peer. (⟦<dyn Peer as Peer>⟧ peer.vtable).name peer.value)
-        players.peers.items ≡ codes "ramp" ∷ codes "echo" ∷ []) }
-{
-    let orders = orders(alloc)?;
-    let peers = peers(alloc)?;
-    Ok(Players { orders, peers })
-}
-
-/// Runs the words over real files and these sinks.
+/// Runs the words over real files and these sinks, with the four orders and the two devices.
 fn run_words<R: AllocGlobal + Files, K: Sink, W: Sink>(
     rt: &R,
     words: &[String],
@@ -67,9 +50,17 @@ fn run_words<R: AllocGlobal + Files, K: Sink, W: Sink>(
     say: &mut W,
 ) -> Result<Status, AllocError> {
     let alloc = rt.alloc();
-    let mut players = players(alloc)?;
+    let mut orders: Vec<Box<dyn Picker>> = Vec::new(alloc);
+    orders.push(Box::new(alloc, Lowest::new(alloc))?)?;
+    orders.push(Box::new(alloc, Oldest::new(alloc))?)?;
+    orders.push(Box::new(alloc, Newest::new(alloc))?)?;
+    orders.push(Box::new(alloc, Random::new(alloc))?)?;
+    let mut peers: Vec<Box<dyn Peer>> = Vec::new(alloc);
+    peers.push(Box::new(alloc, Ramp::new(alloc))?)?;
+    peers.push(Box::new(alloc, Echo::new(alloc))?)?;
+    let players = Players { orders, peers };
     let mut shelf = FileShelf::new(rt);
-    Ok(chp_main(alloc, words, &mut shelf, out, say, &mut players))
+    Ok(call_with(alloc, words, &mut shelf, out, say, players))
 }
 
 /// Runs the words, or says out of memory where there is none for the arguments of a call.
