@@ -66,8 +66,7 @@ pub fn one_answer()
 /// the file's where the shelf is observable: of this program itself, where it has neither procedures nor calls. What it
 /// means is accepted. Of a text with procedures it is the net in which all calls of a procedure share one body. Where a
 /// buffer is asked for, it is that of what the program means with the buffer, in which each call has a copy of its own.
-/// (That the buffer keeps what passes is the law `meant_buffers_are_right`, and that the net carries the program a
-/// clause of the call that compiles.)
+/// (That the buffer keeps what passes, and that the net carries the program, are clauses of the call that compiles.)
 pub fn compiled_right()
     ensures { (c : AskedCompilation) (given : Given) (end : Ending) (text : List ℕ) →
         Compiles c given (writes end text) → IsFileCompiled c given text }
@@ -346,10 +345,10 @@ pub fn places_do_not_matter()
         (translation p ≡ translation q) × (nodes_of p ≡ nodes_of q) }
 {}
 
-/// Law: so a rule file may be compared with its program laid out differently. What `compile` wrote from a text, without
-/// a buffer, on a shelf on which another file holds a text that is the same program but for places, procedures or not:
-/// there is one program that this text means and for which `compile` writes that rule file. So by the clause `agreed`
-/// of `chp_main` a run of that file, compared with that text, never ends with `Differs`.
+/// Law: so a rule file may be compared with its program laid out differently. Let `compile` have written it from a
+/// text, without a buffer, and let another file hold a text that is the same program but for places, procedures or not.
+/// Then of some one program the one file is the rule file that `compile` writes, and the other one holds its text. So
+/// by the clause `agreed` of `chp_main` a run of that file, compared with that text, never ends with `Differs`.
 pub fn laid_outs_are_compared()
     ensures { LaidOutsAreCompared }
 {

@@ -156,20 +156,21 @@ fn run<'a, S: Shelf, K: Sink>(
 ///
 /// A run of a rule file that `compile` wrote, by an order, by delays or written as a wave, finds no hazard under any
 /// script, and compared with its own program it agrees. Compared with that or with none it ends well, but for a fault
-/// of a device or where memory runs out, if the other files that it wants hold a script of the program's channels and
-/// delays of the net's nodes within their limits, if its order is there, and the net has a reset node where a power is
-/// asked for: such a rule file is never too long. So does one on a bench, if its order and its device are there. On
-/// each channel it passes a prefix of what as many rounds of the program as it has moves pass under the script, and
-/// where it reports rest all that the program passes. Where one by an order reports rest, no order makes more moves.
-/// Where its program comes to rest under the script, so does the run, if the limit is high enough. With delays of at
-/// most some time it does so no later than the most moves at that time each; and where its last move comes later than 2
-/// · (2 nodes + 1) of these times for each of n rounds of the program, with a reset node two more, or it rests, it has
-/// passed what these rounds pass. (Where calls share bodies, twice as many for each round, by the nodes of the net in
-/// which each call has a copy.)
+/// of the shelf or of the output or where memory runs out, if the other files that it wants hold a script of the
+/// program's channels and delays of the net's nodes within their limits, if its order is there, and the net has a reset
+/// node where a power is asked for: such a rule file is never too long. So does one on a bench, if its order and its
+/// device are there. What follows is so where the report was written whole. On each channel the run passes a prefix of
+/// what as many rounds of the program as it has moves pass under the script, and where it reports rest all that the
+/// program passes. Where one by an order reports rest, no order makes more moves. Where its program comes to rest under
+/// the script, so does the run, if the limit is high enough. With delays of at most some time it does so no later than
+/// the most moves at that time each; and where its last move comes later than 2 · (2 nodes + 1) of these times for each
+/// of n rounds of the program, with a reset node two more, or it rests, it has passed what these rounds pass. (Where
+/// calls share bodies, twice as many for each round, by the nodes of the net in which each call has a copy.)
 ///
-/// A run of a rule file that `compile` wrote on a bench finds no hazard against whatever device. What has passed is a
-/// prefix of what its program passes under the script of all that the device offered and took, and all of it where it
-/// reports rest; then no order makes more moves under that script.
+/// A run of a rule file that `compile` wrote on a bench finds no hazard against whatever device. Where its report was
+/// written whole, what has passed is a prefix of what its program passes under the script of the device's notes, of all
+/// that it offered and as many acceptances as it was ready for, and all of it where the report says rest; then no order
+/// makes more moves under that script.
 ///
 /// Where `simulate`, `bench` or `grow --sum` writes all of its report, the order that it asks for got its seed, and was
 /// then asked before each move of the run with the list of all moves that are enabled; its picks are the new entries of

@@ -214,7 +214,8 @@ pub fn stream(alloc: Global, text: &[u8], page: &mut String) -> Result<(), Alloc
     }
 }
 
-/// The rule file of the program that the text is. None where it is refused, or has too many nodes.
+/// The rule file of the program that the text is. None where it is refused, has procedures or calls, or too many nodes,
+/// or where memory runs out while it is read.
 fn rule_file(alloc: Global, text: &[u8]) -> Result<Option<Vec<u8>>, AllocError> {
     match accepted(alloc, text) {
         Some(program) => printed(alloc, translate(alloc, &program), false),
