@@ -22,15 +22,16 @@ pub record WithNotesOf (net : NetValue) (peers : Peered) (which : ℕ) (Holds : 
   pub holds : Holds (bench_enabled net (notes_grown was is))
 
 -- the order at the one place was asked with these lists, in a run of the file's net against the device at the other
-pub record AsksBenchAt {O P : Type 0} (seen : O → PickerValue) (peer : P → PeerValue) (b : AskedBench) (given : Given)
-    (place which : ℕ) (orders_before orders_after : List O) (peers_before peers_after : List P) : Type 0 where
+pub record AsksBenchAt {O P K : Type 0} (seen : O → PickerValue K) (peer : P → PeerValue) (b : AskedBench)
+    (given : Given) (place which : ℕ) (orders_before orders_after : List O)
+    (peers_before peers_after : List P) : Type 0 where
   pub net : NetValue
   pub held : HoldsNet given b.net net
   pub asked : WithNotesOf net (peered_over peer peers_before peers_after) which
       (λ enabled. IsAskedAt seen place enabled b.seed orders_before orders_after)
 
 -- these are the first order and the first device of the wanted names
-pub record AsksBench {O P : Type 0} (seen : O → PickerValue) (peer : P → PeerValue) (b : AskedBench) (given : Given)
+pub record AsksBench {O P K : Type 0} (seen : O → PickerValue K) (peer : P → PeerValue) (b : AskedBench) (given : Given)
     (orders_before orders_after : List O) (peers_before peers_after : List P) : Type 0 where
   pub place : ℕ
   pub which : ℕ

@@ -16,8 +16,8 @@ order_seen order box = order_state ((order box).name box.value) ((order box).log
 
 -- what is known of it as a scheduler
 abbrev pub picker_seen : {B : Type 0} {Order : B → Type 0} →
-    ((box : DynBox B Global Order) → PickerMembers (Order box.vtable)) → DynBox B Global Order → PickerValue
-picker_seen order box = picker_value ((order box).name box.value) ((order box).log box.value)
+    ((box : DynBox B Global Order) → PickerMembers (Order box.vtable)) → DynBox B Global Order → PickerValue B
+picker_seen order box = picker_value box.vtable ((order box).name box.value) ((order box).log box.value)
     ((order box).spare box.value) ((order box).nodes box.value) ((order box).seeded box.value)
     ((order box).choice box.value)
 

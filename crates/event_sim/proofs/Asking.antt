@@ -7,11 +7,11 @@ use Rattle.event_sim.specs.Simulating.{growth}
 use Rattle.event_sim.specs.Asking.{PickerValue, IsPick, IsAskedAlong}
 use Rattle.event_sim.proofs.Finishing.{growth_is}
 
-pub asked_none : {P : Type 0} (known : P → PickerValue) (enabled : List ℕ → List ℕ) (was : P) →
+pub asked_none : {P K : Type 0} (known : P → PickerValue K) (enabled : List ℕ → List ℕ) (was : P) →
     IsAskedAlong known enabled [] was was
 asked_none known enabled was = record { after_picks = λ k. was; first = refl; last = refl; each = λ k below. absurd (omega arith) }
 
-pub asked_more : {P : Type 0} (known : P → PickerValue) (enabled : List ℕ → List ℕ) (picks : List ℕ) (p : ℕ) (was mid is : P) →
+pub asked_more : {P K : Type 0} (known : P → PickerValue K) (enabled : List ℕ → List ℕ) (picks : List ℕ) (p : ℕ) (was mid is : P) →
     IsAskedAlong known enabled picks was mid → IsPick (enabled picks) p (known mid) (known is) →
     IsAskedAlong known enabled (picks ++ p ∷ []) was is
 asked_more {P} known enabled picks p was mid is asked pick = record {
@@ -52,7 +52,7 @@ asked_more {P} known enabled picks p was mid is asked pick = record {
         here = rw (front, one picks, early (length picks) (omega arith), asked.last, at_end) pick
 
 -- only the lists count that some of the picks lead to
-pub asked_alike : {P : Type 0} (known : P → PickerValue) (enabled others : List ℕ → List ℕ) (picks : List ℕ) (was is : P) →
+pub asked_alike : {P K : Type 0} (known : P → PickerValue K) (enabled others : List ℕ → List ℕ) (picks : List ℕ) (was is : P) →
     ((k : ℕ) → k < length picks → enabled (take k picks) ≡ others (take k picks)) → IsAskedAlong known enabled picks was is →
     IsAskedAlong known others picks was is
 asked_alike known enabled others picks was is same asked = record {
@@ -64,14 +64,14 @@ asked_alike known enabled others picks was is same asked = record {
 }
 
 -- no pick yet
-pub asked_not : {P : Type 0} (known : P → PickerValue) (enabled : List ℕ → List ℕ) (log : List ℕ) (was : P) →
+pub asked_not : {P K : Type 0} (known : P → PickerValue K) (enabled : List ℕ → List ℕ) (log : List ℕ) (was : P) →
     IsAskedAlong known enabled (growth log log) was was
 asked_not known enabled log was =
     subst (λ (picks : List ℕ). IsAskedAlong known enabled picks was was) (sym (growth_is log log [] (sym (append-nil log))))
     (asked_none known enabled was)
 
 -- one more, where the log has grown by these picks
-pub asked_on : {P : Type 0} (known : P → PickerValue) (enabled : List ℕ → List ℕ) (before now later picks : List ℕ) (p : ℕ)
+pub asked_on : {P K : Type 0} (known : P → PickerValue K) (enabled : List ℕ → List ℕ) (before now later picks : List ℕ) (p : ℕ)
     (was mid is : P) → now ≡ before ++ picks → later ≡ now ++ p ∷ [] → IsAskedAlong known enabled (growth before now) was mid →
     IsPick (enabled picks) p (known mid) (known is) → IsAskedAlong known enabled (growth before later) was is
 asked_on known enabled before now later picks p was mid is grown more asked pick =

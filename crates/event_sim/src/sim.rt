@@ -148,7 +148,7 @@ impl Sim {
         ensures log { log picker.new ≡ log picker.old ++ growth (log picker.old) (log picker.new) }
         ensures picks { ArePicks self.net self.script (start_at self) (growth (log picker.old) (log picker.new)) }
         ensures asked { IsAskedAlong
-            (λ p. picker_value (name p) (log p) (spare p) (nodes p) (seeded p) (choice p))
+            (λ p. picker_value p.vtable (name p) (log p) (spare p) (nodes p) (seeded p) (choice p))
             (enabled_after self.net self.script (start_at self)) (growth (log picker.old) (log picker.new))
             picker.old picker.new }
         ensures run { IsRun self.net self.script (start_at self) (picked_moves self (log picker.old) (log picker.new)) }

@@ -26,7 +26,7 @@ grow_order false orders = None
 grow_order true orders = place_named orders summing_order
 
 -- a summary asks it in the run that it reports
-abbrev pub AsksGrown : (sum : Bool) → {P : Type 0} → (known : P → PickerValue) → Growth → (before after : List P) →
+abbrev pub AsksGrown : (sum : Bool) → {P K : Type 0} → (known : P → PickerValue K) → Growth → (before after : List P) →
     Type 0
 AsksGrown false known growth before after = Unit {0}
 AsksGrown true known growth before after = AsksSum known growth before after

@@ -77,14 +77,14 @@ Summarizes growth played = FromOrder played summing_order (SumsUp growth played)
 -- ---- with which lists of moves the order is asked
 
 -- the order at this place, in the run of the net of the program that the text of the numbers reads as
-pub record AsksSumAt {P : Type 0} (known : P → PickerValue) (growth : Growth) (place : ℕ) (before after : List P) :
+pub record AsksSumAt {P K : Type 0} (known : P → PickerValue K) (growth : Growth) (place : ℕ) (before after : List P) :
     Type 0 where
   pub program : TypedProgram
   pub read : IsProgramOf (generated_text growth.seed growth.stages) program
   pub asked : IsAskedAt known place (simulated_enabled (summed_run growth program)) 0 before after
 
 -- it is the first one of its name
-pub record AsksSum {P : Type 0} (known : P → PickerValue) (growth : Growth) (before after : List P) : Type 0 where
+pub record AsksSum {P K : Type 0} (known : P → PickerValue K) (growth : Growth) (before after : List P) : Type 0 where
   pub place : ℕ
   pub named : place_named (map (λ p. order_of_picker (known p)) before) summing_order ≡ Some place
   pub asked : AsksSumAt known growth place before after

@@ -42,7 +42,7 @@ pub fn grow<'a>(
         (map (λ order. order_state (name order) (log order) (seeded order)) orders.new.items))
         (told_answer output)) }
     ensures asked { IfOk result (λ output. AsksGrown growth.now.sum
-        (λ p. picker_value (name p) (log p) (spare p) (nodes p) (seeded p) (choice p))
+        (λ p. picker_value p.vtable (name p) (log p) (spare p) (nodes p) (seeded p) (choice p))
         growth.now orders.old.items orders.new.items) }
     ensures stopped { IfErr result (Halts (Grows growth.now (played_by
         (map (λ order. order_state (name order) (log order) (seeded order)) orders.old.items)

@@ -140,7 +140,7 @@ fn run_summed(
         (map (λ order. order_state (name order) (log order) (seeded order)) orders.new.items))
         place 0 (simulation_for net script most_of_summed_moves None) ran) }
     ensures asked { IfOk result (λ ran. IsAskedAt
-        (λ p. picker_value (name p) (log p) (spare p) (nodes p) (seeded p) (choice p))
+        (λ p. picker_value p.vtable (name p) (log p) (spare p) (nodes p) (seeded p) (choice p))
         place (simulated_enabled (simulation_for net script most_of_summed_moves None)) 0
         orders.old.items orders.new.items) }
     ensures played { IsPlayedAt place (played_by
@@ -170,7 +170,7 @@ fn sum_up_at<'a>(
         (map (λ order. order_state (name order) (log order) (seeded order)) orders.new.items))
         place (told_answer output)) }
     ensures asked { IfOk result (λ output. AsksSumAt
-        (λ p. picker_value (name p) (log p) (spare p) (nodes p) (seeded p) (choice p))
+        (λ p. picker_value p.vtable (name p) (log p) (spare p) (nodes p) (seeded p) (choice p))
         growth.now place orders.old.items orders.new.items) }
     ensures stopped { IfErr result (λ stop. stop ≡ Stop.NoMemory) }
     ensures played { IsPlayedAt place (played_by
@@ -209,7 +209,7 @@ pub fn sum_up<'a>(
         (map (λ order. order_state (name order) (log order) (seeded order)) orders.new.items))
         (told_answer output)) }
     ensures asked { IfOk result (λ output. AsksSum
-        (λ p. picker_value (name p) (log p) (spare p) (nodes p) (seeded p) (choice p))
+        (λ p. picker_value p.vtable (name p) (log p) (spare p) (nodes p) (seeded p) (choice p))
         growth.now orders.old.items orders.new.items) }
     ensures stopped { IfErr result (Halts (Summarizes growth.now (played_by
         (map (λ order. order_state (name order) (log order) (seeded order)) orders.old.items)

@@ -154,8 +154,9 @@ begun {P} known s now steps asks on more was is last net unasked on_is asks_is s
     by_asks true e asked = asked_quiet known s.net (now_of now) 0 [] more was is asked
     by_asks false e asked = absurd (cc e)
 
-pub begins : {P Q : Type 0} (known : P → PeerValue) (seen : Q → PickerValue) (v : SetupValue) (s now : StageValue) (steps : ℕ) (on : Bool) (more : List Note)
-    (was is : P) (chooser : Q) (last : Option Hazard) (log : List ℕ) → IsNet s.net → record { net = s.net; steps = steps } ≡ v → IsUnasked s steps →
+pub begins : {P Q K : Type 0} (known : P → PeerValue) (seen : Q → PickerValue K) (v : SetupValue) (s now : StageValue) (steps : ℕ) (on : Bool)
+    (more : List Note) (was is : P) (chooser : Q) (last : Option Hazard) (log : List ℕ) → IsNet s.net → record { net = s.net; steps = steps } ≡ v →
+    IsUnasked s steps →
     on ≡ in_reset s.net.reset (high s.values) → now ≡ record s { script = now.script } →
     IsAskedByIf (not on) known s.net (now_of s) 0 s.script now.script more was is → AreOffered now.script (now_of now) →
     (known is).spare + free_on s.net s.script (now_of s) ≡ (known was).spare + free_on now.net now.script (now_of now) →

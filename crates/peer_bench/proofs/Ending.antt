@@ -35,7 +35,7 @@ use Rattle.peer_bench.proofs.Underway.{IsDriven, IsMade, goes_calm, moves_count,
 
 -- A scheduler's log has grown by so many picks, and these have led to the stage. It was asked before each of these moves with the list of those that
 -- were enabled.
-pub record HasDriven {P Q : Type 0} (known : P → PeerValue) (seen : Q → PickerValue) (net : NetValue) (steps : ℕ) (before now : List ℕ) (count : ℕ)
+pub record HasDriven {P Q K : Type 0} (known : P → PeerValue) (seen : Q → PickerValue K) (net : NetValue) (steps : ℕ) (before now : List ℕ) (count : ℕ)
     (was is : P) (at_first chooser : Q) (stage : StageValue) (last : Option Hazard) : Type 0 where
   pub picks : List ℕ
   pub notes : List Note
@@ -44,7 +44,7 @@ pub record HasDriven {P Q : Type 0} (known : P → PeerValue) (seen : Q → Pick
   pub driven : IsDriven known net steps picks notes was is stage last
   pub asked : IsAskedAlong seen (bench_enabled net notes) picks at_first chooser
 
-pub has_begun : {P Q : Type 0} (known : P → PeerValue) (seen : Q → PickerValue) (net : NetValue) (steps : ℕ) (log : List ℕ) (notes : List Note)
+pub has_begun : {P Q K : Type 0} (known : P → PeerValue) (seen : Q → PickerValue K) (net : NetValue) (steps : ℕ) (log : List ℕ) (notes : List Note)
     (was is : P) (chooser : Q) (stage : StageValue) (last : Option Hazard) → IsDriven known net steps [] notes was is stage last →
     HasDriven known seen net steps log log 0 was is chooser chooser stage last
 has_begun known seen net steps log notes was is chooser stage last d = record {
@@ -56,7 +56,7 @@ has_begun known seen net steps log notes was is chooser stage last d = record {
   asked = asked_none seen (bench_enabled net notes) chooser;
 }
 
-pub goes_on : {P Q : Type 0} (known : P → PeerValue) (seen : Q → PickerValue) (net : NetValue) (s next : StageValue) (steps : ℕ) (before now log : List ℕ)
+pub goes_on : {P Q K : Type 0} (known : P → PeerValue) (seen : Q → PickerValue K) (net : NetValue) (s next : StageValue) (steps : ℕ) (before now log : List ℕ)
     (count : ℕ) (was mid is : P) (at_first chooser picked : Q) (last brought : Option Hazard) (p n at : ℕ) → IsNet net →
     HasDriven known seen net steps before now count was mid at_first chooser s last → log ≡ now ++ p ∷ [] →
     IsPick (moves_now s) p (seen chooser) (seen picked) →
@@ -119,7 +119,7 @@ pub record IsReady {P : Type 0} (known : P → PeerValue) (stage : StageValue) (
   pub rails : AreRailsHeld stage.net stage.script (now_of stage)
   pub spare : free_on stage.net stage.script (now_of stage) + 3 ≤ (known is).spare
 
-pub is_ready : {P Q : Type 0} (known : P → PeerValue) (seen : Q → PickerValue) (net : NetValue) (steps : ℕ) (before now : List ℕ) (count : ℕ) (was is : P)
+pub is_ready : {P Q K : Type 0} (known : P → PeerValue) (seen : Q → PickerValue K) (net : NetValue) (steps : ℕ) (before now : List ℕ) (count : ℕ) (was is : P)
     (at_first chooser : Q) (stage : StageValue) (last : Option Hazard) →
     HasDriven known seen net steps before now count was is at_first chooser stage last → count < steps → end_with last (moves_now stage) false ≡ None →
     IsReady known stage is
@@ -186,7 +186,7 @@ drop_front : (xs ys : List Note) → drop (length xs) (xs ++ ys) ≡ ys
 drop_front [] ys = refl
 drop_front (x ∷ xs) ys = drop_front xs ys
 
-pub record IsOver {P Q : Type 0} (known : P → PeerValue) (seen : Q → PickerValue) (s : SetupValue) (before now : List ℕ) (count : ℕ) (was is : P)
+pub record IsOver {P Q K : Type 0} (known : P → PeerValue) (seen : Q → PickerValue K) (s : SetupValue) (before now : List ℕ) (count : ℕ) (was is : P)
     (at_first chooser : Q) (stage : StageValue) (end : End) : Type 0 where
   pub log : now ≡ before ++ growth before now
   pub noted : (known is).log ≡ (known was).log ++ noted_since (known was).log (known is).log
@@ -197,7 +197,7 @@ pub record IsOver {P Q : Type 0} (known : P → PeerValue) (seen : Q → PickerV
   pub within : IsEndIn s.net end
   pub asked : IsAskedAlong seen (bench_enabled s.net (noted_since (known was).log (known is).log)) (growth before now) at_first chooser
 
-pub over : {P Q : Type 0} (known : P → PeerValue) (seen : Q → PickerValue) (s : SetupValue) (before now : List ℕ) (count total : ℕ) (was is : P)
+pub over : {P Q K : Type 0} (known : P → PeerValue) (seen : Q → PickerValue K) (s : SetupValue) (before now : List ℕ) (count total : ℕ) (was is : P)
     (at_first chooser : Q) (stage : StageValue) (last : Option Hazard) (spent : Bool) (end : End) → IsNet s.net →
     HasDriven known seen s.net s.steps before now count was is at_first chooser stage last → total ≡ count → (count == s.steps) ≡ spent →
     end_with last (moves_now stage) spent ≡ Some end → IsOver known seen s before now total was is at_first chooser stage end

@@ -90,7 +90,7 @@ impl Bench {
             ((⟦<dyn Peer as Peer>⟧ is.vtable).log is.value) ((⟦<dyn Peer as Peer>⟧ is.vtable).spare is.value)
             (due is) (willing is)) result.ran) }
         ensures asked { BothAt self.peers.items result.peers.items self.which
-            (λ was is. IsAskedAlong (λ p. picker_value ((⟦<dyn Picker as Picker>⟧ p.vtable).name p.value)
+            (λ was is. IsAskedAlong (λ p. picker_value p.vtable ((⟦<dyn Picker as Picker>⟧ p.vtable).name p.value)
             ((⟦<dyn Picker as Picker>⟧ p.vtable).log p.value) ((⟦<dyn Picker as Picker>⟧ p.vtable).spare p.value)
             (nodes p) (seeded p) (choice p))
             (bench_enabled self.setup.net (noted_since ((⟦<dyn Peer as Peer>⟧ was.vtable).log was.value)

@@ -184,7 +184,7 @@ pub(crate) fn drive(setup: Setup, picker: &mut Box<dyn Picker>, peer: &mut Box<d
         (noted_since ((⟦<dyn Peer as Peer>⟧ peer.old.vtable).log peer.old.value)
         ((⟦<dyn Peer as Peer>⟧ peer.new.vtable).log peer.new.value))
         peer.old peer.new result }
-    ensures asked { IsAskedAlong (λ p. picker_value ((⟦<dyn Picker as Picker>⟧ p.vtable).name p.value)
+    ensures asked { IsAskedAlong (λ p. picker_value p.vtable ((⟦<dyn Picker as Picker>⟧ p.vtable).name p.value)
         ((⟦<dyn Picker as Picker>⟧ p.vtable).log p.value) ((⟦<dyn Picker as Picker>⟧ p.vtable).spare p.value)
         (nodes p) (seeded p) (choice p))
         (bench_enabled setup.net (noted_since ((⟦<dyn Peer as Peer>⟧ peer.old.vtable).log peer.old.value)

@@ -13,12 +13,14 @@ use Rattle.simulation_commands.specs.Asked.{AsksAt, IsAskedAt, IsAskedThrough, s
 use Rattle.simulation_commands.specs.Simulating.{simulation_for}
 use Rattle.simulation_commands.proofs.Keeping.{get_same}
 
-module _ {P : Type 0} (known : P → PickerValue) where
-  pub asked_through : (enabled : List ℕ → List ℕ) (seed : ℕ) (was ready is : P) → (known ready).seeded ≡ Some (seed, length (known was).log)
-      → (known ready).log ≡ (known was).log → IsAskedAlong known enabled (growth (known ready).log (known is).log) ready is
+module _ {P K : Type 0} (known : P → PickerValue K) where
+  pub asked_through : (enabled : List ℕ → List ℕ) (seed : ℕ) (was ready is : P) → (known ready).kind ≡ (known was).kind
+      → (known ready).seeded ≡ Some (seed, length (known was).log) → (known ready).log ≡ (known was).log
+      → IsAskedAlong known enabled (growth (known ready).log (known is).log) ready is
       → IsAskedThrough known enabled seed was is
-  asked_through enabled seed was ready is seeded same asked = record {
+  asked_through enabled seed was ready is alike seeded same asked = record {
     ready = ready;
+    kind = alike;
     log = same;
     seeded = seeded;
     asked = subst (λ (log : List ℕ). IsAskedAlong known enabled (growth log (known is).log) ready is) same asked;

@@ -82,7 +82,7 @@ fn play(picker: &mut Box<dyn Picker>, sim: Sim, seed: u64, room: Room) -> Result
         (order_state (name picker.new) (log picker.new) (seeded picker.new)) ran.end) }
     ensures led { IfOk result (λ ran. ran ≡ ran_value sim (log picker.old) (log picker.new) ran.end) }
     ensures asked { IfOk result (λ ran. IsAskedThrough
-        (λ p. picker_value (name p) (log p) (spare p) (nodes p) (seeded p) (choice p))
+        (λ p. picker_value p.vtable (name p) (log p) (spare p) (nodes p) (seeded p) (choice p))
         (simulated_enabled sim) seed picker.old picker.new) }
     ensures name { name picker.new ≡ name picker.old }
     ensures grown { log picker.new ≡ log picker.old ++ growth (log picker.old) (log picker.new) }
@@ -108,7 +108,7 @@ pub fn play_at(
         (map (λ order. order_state (name order) (log order) (seeded order)) orders.new.items))
         place seed sim ran) }
     ensures asked { IfOk result (λ ran. IsAskedAt
-        (λ p. picker_value (name p) (log p) (spare p) (nodes p) (seeded p) (choice p))
+        (λ p. picker_value p.vtable (name p) (log p) (spare p) (nodes p) (seeded p) (choice p))
         place (simulated_enabled sim) seed orders.old.items orders.new.items) }
     ensures played { IsPlayedAt place (played_by
         (map (λ order. order_state (name order) (log order) (seeded order)) orders.old.items)
@@ -138,7 +138,7 @@ fn report_at(
         place run.now.seed (simulation_for net script run.now.steps run.now.power)
         (λ ran. IsReported script None ran (option_map typed_of program.now)) (told_answer output)) }
     ensures asked { IfOk result (λ output. IsAskedAt
-        (λ p. picker_value (name p) (log p) (spare p) (nodes p) (seeded p) (choice p))
+        (λ p. picker_value p.vtable (name p) (log p) (spare p) (nodes p) (seeded p) (choice p))
         place (simulated_enabled (simulation_for net script run.now.steps run.now.power)) run.now.seed
         orders.old.items orders.new.items) }
     ensures played { IsPlayedAt place (played_by
@@ -172,7 +172,7 @@ fn simulate_at<'a, S: Shelf>(
         (map (λ order. order_state (name order) (log order) (seeded order)) orders.new.items))
         place (told_answer output)) }
     ensures asked { IfOk result (λ output. AsksAt
-        (λ p. picker_value (name p) (log p) (spare p) (nodes p) (seeded p) (choice p))
+        (λ p. picker_value p.vtable (name p) (log p) (spare p) (nodes p) (seeded p) (choice p))
         (run_asked run.now) (given_by (S.tells shelf.old) (S.holds shelf.old)) place
         orders.old.items orders.new.items) }
     ensures stopped { IfErr result (Stops (SimulatesAt (run_asked run.now)
@@ -217,7 +217,7 @@ pub fn simulate<'a, S: Shelf>(
         (map (λ order. order_state (name order) (log order) (seeded order)) orders.new.items))
         (told_answer output)) }
     ensures asked { IfOk result (λ output. AsksOrder
-        (λ p. picker_value (name p) (log p) (spare p) (nodes p) (seeded p) (choice p))
+        (λ p. picker_value p.vtable (name p) (log p) (spare p) (nodes p) (seeded p) (choice p))
         (run_asked run.now) (given_by (S.tells shelf.old) (S.holds shelf.old))
         orders.old.items orders.new.items) }
     ensures stopped { IfErr result (Stops (Simulates (run_asked run.now)

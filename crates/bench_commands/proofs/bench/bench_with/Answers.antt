@@ -50,7 +50,8 @@ returns-clause-asked g c =
     ok_in c.report_on.result _ _
     (λ output w. prepared_asked _ c.args.peers.now.items c.report_on.new.peers.items c.args.which c.index_mut.result.now c.make_ready.new.peer
     c.requires.which c.index_mut.ensures.value e.name e.log e.due e.willing _ _ _
-    (λ enabled along. asked_through _ enabled c.args.asked.now.seed _ _ _ c.prepare.ensures.seeded c.prepare.ensures.log along) w) c.report_on.ensures.asked
+    (λ enabled along. asked_through _ enabled c.args.asked.now.seed _ _ _ c.prepare.ensures.kind c.prepare.ensures.seeded
+    c.prepare.ensures.log along) w) c.report_on.ensures.asked
 
 pub returns-clause-grown : goal.returns-clause-grown
 returns-clause-grown g c = log_after _ _ _ c.prepare.ensures.log c.report_on.ensures.grown

@@ -20,7 +20,7 @@ sums_halt : (growth : Growth) (played : Played) (stop : Stop) → growth.sum ≡
 sums_halt growth played stop wanted =
     halts_in (Summarizes growth played) (Grows growth played) (λ answer is. sums growth played answer wanted is) stop
 
-sums_ask : {P : Type 0} (known : P → PickerValue) (growth : Growth) (before after : List P) → growth.sum ≡ true → AsksSum known growth before after →
+sums_ask : {P K : Type 0} (known : P → PickerValue K) (growth : Growth) (before after : List P) → growth.sum ≡ true → AsksSum known growth before after →
     AsksGrown growth.sum known growth before after
 sums_ask known growth before after wanted is = subst (λ sum. AsksGrown sum known growth before after) (sym wanted) is
 

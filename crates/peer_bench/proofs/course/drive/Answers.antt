@@ -120,6 +120,7 @@ loop-made-preserved g c =
       driven = goes_on _ _ c.args.setup.net c.loop-made.stage c.make-hazard.new.stage c.args.setup.steps _ _ _ c.loop-made.made _ _ _ _ _
           c.choose-place.new.picker c.loop-made.hazard c.make-hazard.result p (get_or xs p 0) (c.loop-made.made + 1) i.net i.driven
           c.choose-place.ensures.log (record {
+            kind = c.choose-place.ensures.kind;
             choice = c.choose-place.ensures.choice ∙ ap (mid.choice c.loop-made.picker.value) c.moves-in-None.ensures;
             log = c.choose-place.ensures.log;
             spare = c.choose-place.ensures.spare;

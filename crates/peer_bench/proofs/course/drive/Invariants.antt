@@ -15,7 +15,7 @@ invariant-loop-made g l =
       driven : HasDriven (λ p. let q = goal.Peer-dyn g (p.vtable, p.value) in
           peer_value (q.name p.value) (q.log p.value) (q.spare p.value) (q.due p.value) (q.willing p.value))
           (λ p. let q = goal.Picker-dyn g (p.vtable, p.value) in
-          picker_value (q.name p.value) (q.log p.value) (q.spare p.value) (q.nodes p.value) (q.seeded p.value) (q.choice p.value)) l.fn.setup.net
+          picker_value p.vtable (q.name p.value) (q.log p.value) (q.spare p.value) (q.nodes p.value) (q.seeded p.value) (q.choice p.value)) l.fn.setup.net
           l.fn.setup.steps (first.log l.fn.picker.value) (now.log l.picker.value) l.made l.fn.peer l.peer l.fn.picker l.picker l.stage l.hazard;
       spare : now.spare l.picker.value + l.made ≡ first.spare l.fn.picker.value;
       name : now.name l.picker.value ≡ first.name l.fn.picker.value;

@@ -16,7 +16,9 @@ returns-clause-led g c =
     run_led c.args.sim _ _ _ c.run.result c.prepare.ensures.log e.net e.moves e.done e.passed
 
 pub returns-clause-asked : goal.returns-clause-asked
-returns-clause-asked g c = asked_through _ (simulated_enabled c.args.sim) c.args.seed _ _ _ c.prepare.ensures.seeded c.prepare.ensures.log c.run.ensures.asked
+returns-clause-asked g c =
+    let ready = c.prepare.ensures in
+    asked_through _ (simulated_enabled c.args.sim) c.args.seed _ _ _ ready.kind ready.seeded ready.log c.run.ensures.asked
 
 pub returns-clause-grown : goal.returns-clause-grown
 returns-clause-grown g c = log_after _ _ _ c.prepare.ensures.log c.run.ensures.log

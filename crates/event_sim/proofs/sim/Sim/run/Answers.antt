@@ -100,6 +100,7 @@ loop-made-preserved g c =
       asked = asked_on _ (enabled_after c.args.self.net c.args.self.script (start_at c.args.self)) (first.log c.args.picker.now.value)
           (mid.log c.loop-made.picker.value) (later.log c.choose-place.new.picker.value) i.picked.picks p c.args.picker.now c.loop-made.picker
           c.choose-place.new.picker i.picked.grown c.choose-place.ensures.log i.asked (record {
+            kind = c.choose-place.ensures.kind;
             choice = c.choose-place.ensures.choice ∙ ap (mid.choice c.loop-made.picker.value) (c.moves-in-None.ensures ∙ listed);
             log = c.choose-place.ensures.log;
             spare = c.choose-place.ensures.spare;

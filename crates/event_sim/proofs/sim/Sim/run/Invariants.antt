@@ -14,8 +14,9 @@ invariant-loop-made g l =
       net : IsNet l.fn.self.net;
       picked : HasPicked l.fn.self (first.log l.fn.picker.value) (now.log l.picker.value) l.made l.stage l.hazard;
       asked : IsAskedAlong (λ p. let q = goal.Picker-dyn g (p.vtable, p.value) in
-          picker_value (q.name p.value) (q.log p.value) (q.spare p.value) (q.nodes p.value) (q.seeded p.value) (q.choice p.value))
-          (enabled_after l.fn.self.net l.fn.self.script (start_at l.fn.self)) (growth (first.log l.fn.picker.value) (now.log l.picker.value)) l.fn.picker l.picker;
+          picker_value p.vtable (q.name p.value) (q.log p.value) (q.spare p.value) (q.nodes p.value) (q.seeded p.value) (q.choice p.value))
+          (enabled_after l.fn.self.net l.fn.self.script (start_at l.fn.self))
+          (growth (first.log l.fn.picker.value) (now.log l.picker.value)) l.fn.picker l.picker;
       spare : now.spare l.picker.value + l.made ≡ first.spare l.fn.picker.value;
       name : now.name l.picker.value ≡ first.name l.fn.picker.value;
       nodes : now.nodes l.picker.value ≡ first.nodes l.fn.picker.value;
