@@ -27,7 +27,8 @@ use Rattle.command_steps.specs.Steps.{a_file, a_net}
 use Rattle.command_words.specs.BenchWords.{AskedBench}
 use Rattle.grown_commands.proofs.SafeRuns.{all_safe}
 use Rattle.run_reports.specs.RunReporting.{ending_for}
-use Rattle.chp_cli.specs.BenchedFiles.{BenchedEndsAll, BenchedFollows, IsFileBenched}
+use Rattle.chp_cli.specs.BenchedFiles.{IsFileBenched, benched_run}
+use Rattle.chp_cli.specs.MadeRuns.{EndsAllAtRest, FollowsRounds}
 use Rattle.chp_cli.specs.Simulated.{HoldsCarrying, HoldsCompiled}
 use Rattle.chp_cli.proofs.CalmRuns.{file_carries, reported_calm}
 use Rattle.chp_cli.proofs.RoundsFollowed.{followed, meets_sharing}
@@ -64,7 +65,7 @@ module _ (powered : (net : NetValue) (high : Bool) → IsNet net → IsSome net.
       (all_safe powered f.net p _ false f.file.kept run.suits (file_carries holds f.held f.file))))
 
   pub benched_ends : (b : AskedBench) (given : Given) (handed : HandedIn) (p : TypedProgram) → HoldsCarrying given b.net p → (answer : Answer)
-      (f : IsFileBenched b given handed answer) → BenchedEndsAll b given handed f
+      (f : IsFileBenched b given handed answer) → EndsAllAtRest (benched_run b f)
   benched_ends b given handed p holds answer f =
       let run = f.benched.against.run.run in
       run.one_length (all_safe powered f.net p _ false f.file.kept run.suits (file_carries holds f.held f.file))
@@ -75,9 +76,9 @@ module _ (powered : (net : NetValue) (high : Bool) → IsNet net → IsSome net.
       IsAtRest s.net (script_by s.net notes) (after s.net (bench_start s.net) (bench_moves s.net notes picks)))
       → ((given : Given) (file : List ℕ) (p : TypedProgram) → HoldsCompiled given file p → HoldsCarrying given file p)
       → (b : AskedBench) (given : Given) (handed : HandedIn) (p : TypedProgram) → HoldsCompiled given b.net p → (answer : Answer)
-      (f : IsFileBenched b given handed answer) → BenchedFollows b given handed p f
+      (f : IsFileBenched b given handed answer) → FollowsRounds p (benched_run b f)
   benched_follow hold rests carry b given handed p holds answer f =
       let against = f.benched.against in
       let run = against.run.run in
       followed powered hold f.net p _ false f.file.kept (meets_sharing holds) run.suits (file_carries (carry given b.net p holds) f.held f.file) _ run.run
-      against.ran.end (λ still. rests (setup_for f.net b.steps) _ _ _ _ against.ran f.file.kept run still)
+      b.steps against.ran.end None (λ still. rests (setup_for f.net b.steps) _ _ _ _ against.ran f.file.kept run still)

@@ -26,7 +26,8 @@ use Rattle.command_answers.specs.Answers.{Given, Answer, writes}
 use Rattle.command_steps.specs.Orders.{Played}
 use Rattle.run_reports.specs.RunReporting.{IsReported, alone, hazardous, compared, ending_against, ending_for}
 use Rattle.command_steps.specs.RunSteps.{an_order, has_power, a_script}
-use Rattle.chp_cli.specs.Simulated.{IsFileSimulated, HoldsCarrying, EndsAllAtRest}
+use Rattle.chp_cli.specs.MadeRuns.{EndsAllAtRest}
+use Rattle.chp_cli.specs.Simulated.{IsFileSimulated, HoldsCarrying, simulated_run}
 use Rattle.command_words.specs.SimulateWords.{AskedRun}
 use Rattle.simulation_commands.specs.Simulating.{Simulates, simulation_for}
 use Rattle.command_steps.specs.Steps.{IsFileOf, a_file, a_net}
@@ -114,7 +115,7 @@ module _ (powered : (net : NetValue) (high : Bool) → IsNet net → IsSome net.
   pub carried_no_hazard : (end : Ending) (text : List ℕ) → IsFileSimulated s given played (writes end text) → end ≢ Hazardous
   carried_no_hazard end text f = reported_calm f.script None _ f.program end text f.written (carried_calm _ f)
 
-  pub carried_ends : (a : Answer) (f : IsFileSimulated s given played a) → EndsAllAtRest s given played a f
+  pub carried_ends : (a : Answer) (f : IsFileSimulated s given played a) → EndsAllAtRest (simulated_run s f)
   carried_ends a f = λ rest.
       let sim = simulation_for f.net f.script s.steps s.power in
       let moves = picked_moves sim f.run.was.log f.run.is.log in

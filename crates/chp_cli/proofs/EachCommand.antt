@@ -1,12 +1,16 @@
 -- What goes by cases over the commands: that each has at most one answer, with which statuses it ends where it is served, and what has to
 -- be shown of runs alone.
-use Rattle.std.proofs.Common.{◌≡◌, ◌∙◌, true, Option, Some, None, sym}
+use Rattle.std.proofs.Common.{◌≡◌, ◌∙◌, ℕ, true, List, Option, Some, None, refl, subst, sym}
 use Rattle.bench_commands.specs.HandedIn.{HandedIn}
 use Rattle.chp_base.specs.declared.fault.Fault.{Fault}
 use Rattle.chp_cli.specs.Commands.{EndsServed, IsAnswer, IsToServe}
-use Rattle.chp_cli.specs.CompiledRuns.{RunsCompiled}
-use Rattle.chp_cli.specs.ServedRuns.{IsCompiledToServe}
-use Rattle.chp_cli.specs.Simulated.{HoldsCompiled}
+use Rattle.chp_cli.specs.BenchedFiles.{IsFileBenched, benched_run}
+use Rattle.chp_cli.specs.CompiledRuns.{Reports, net_file}
+use Rattle.chp_cli.specs.MadeRuns.{MadeRun}
+use Rattle.chp_cli.specs.ServedRuns.{CompiledServe}
+use Rattle.chp_cli.specs.Simulated.{HoldsCompiled, IsFileSimulated, simulated_run}
+use Rattle.chp_cli.specs.TimedFiles.{IsFileTimed, timed_run}
+use Rattle.chp_cli.specs.TracedFiles.{IsFileTraced, traced_run}
 use Rattle.chp_syntax.specs.Trees.{ProgramTree}
 use Rattle.command_answers.specs.Answers.{Given, Answer, OneAnswer, status_of}
 use Rattle.command_steps.specs.Orders.{Played}
@@ -36,6 +40,9 @@ use Rattle.simulation_commands.proofs.WaveSteps.{unwaves_once}
 use Rattle.command_steps.proofs.OneAnswers.{file_once, program_once, net_once, nodes_once, buffer_once}
 use Rattle.program_commands.proofs.Counted.{report_once}
 use Rattle.program_commands.proofs.OneWritten.{form_once, migrate_once}
+
+one_file : {x y : List ℕ} → Some x ≡ Some y → x ≡ y
+one_file same = cc same
 
 -- ---- each has at most one answer
 
@@ -86,32 +93,56 @@ module _ (no_fault : (program : ProgramTree) (f : Fault) → IsAccepted program 
 
 module _ (given : Given) (p : TypedProgram) where
   -- what is to be shown of each command that makes one (P) is to be shown of these
-  pub each_run : (P : Option Asked → Type 0) → ((s : AskedRun) → HoldsCompiled given s.net p → P (Some (simulates s)))
-      → ((t : AskedTiming) → HoldsCompiled given t.net p → P (Some (times t))) → ((b : AskedBench) → HoldsCompiled given b.net p → P (Some (benches b)))
-      → ((w : AskedWaves) → HoldsCompiled given w.net p → P (Some (traces w))) → (asked : Option Asked) → RunsCompiled asked given p → P asked
-  each_run P run timing bench wave None h = absurd h
-  each_run P run timing bench wave (Some (simulates s)) h = run s h
-  each_run P run timing bench wave (Some (times t)) h = timing t h
-  each_run P run timing bench wave (Some (benches b)) h = bench b h
-  each_run P run timing bench wave (Some (traces w)) h = wave w h
-  each_run P run timing bench wave (Some (compiles c)) h = absurd h
-  each_run P run timing bench wave (Some (migrates net)) h = absurd h
-  each_run P run timing bench wave (Some (checks file)) h = absurd h
-  each_run P run timing bench wave (Some (expands file)) h = absurd h
-  each_run P run timing bench wave (Some (unwaves file)) h = absurd h
-  each_run P run timing bench wave (Some (runs r)) h = absurd h
-  each_run P run timing bench wave (Some (grows growth)) h = absurd h
+  pub each_run : (P : Option Asked → (file : List ℕ) → HoldsCompiled given file p → Type 0)
+      → ((s : AskedRun) (h : HoldsCompiled given s.net p) → P (Some (simulates s)) s.net h)
+      → ((t : AskedTiming) (h : HoldsCompiled given t.net p) → P (Some (times t)) t.net h)
+      → ((b : AskedBench) (h : HoldsCompiled given b.net p) → P (Some (benches b)) b.net h)
+      → ((w : AskedWaves) (h : HoldsCompiled given w.net p) → P (Some (traces w)) w.net h)
+      → (asked : Option Asked) (file : List ℕ) → net_file asked ≡ Some file → (h : HoldsCompiled given file p) → P asked file h
+  each_run P run timing bench wave None file made = absurd (cc made)
+  each_run P run timing bench wave (Some (simulates s)) file made =
+      subst (λ (x : List ℕ). (h : HoldsCompiled given x p) → P (Some (simulates s)) x h) (one_file made) (run s)
+  each_run P run timing bench wave (Some (times t)) file made =
+      subst (λ (x : List ℕ). (h : HoldsCompiled given x p) → P (Some (times t)) x h) (one_file made) (timing t)
+  each_run P run timing bench wave (Some (benches b)) file made =
+      subst (λ (x : List ℕ). (h : HoldsCompiled given x p) → P (Some (benches b)) x h) (one_file made) (bench b)
+  each_run P run timing bench wave (Some (traces w)) file made =
+      subst (λ (x : List ℕ). (h : HoldsCompiled given x p) → P (Some (traces w)) x h) (one_file made) (wave w)
+  each_run P run timing bench wave (Some (compiles c)) file made = absurd (cc made)
+  each_run P run timing bench wave (Some (migrates net)) file made = absurd (cc made)
+  each_run P run timing bench wave (Some (checks x)) file made = absurd (cc made)
+  each_run P run timing bench wave (Some (expands x)) file made = absurd (cc made)
+  each_run P run timing bench wave (Some (unwaves x)) file made = absurd (cc made)
+  each_run P run timing bench wave (Some (runs r)) file made = absurd (cc made)
+  each_run P run timing bench wave (Some (grows growth)) file made = absurd (cc made)
 
-  pub runs_compiled : (handed : HandedIn) (asked : Option Asked) → IsCompiledToServe asked given handed p → RunsCompiled asked given p
-  runs_compiled handed None h = absurd h
-  runs_compiled handed (Some (simulates s)) h = h.holds
-  runs_compiled handed (Some (times t)) h = h.holds
-  runs_compiled handed (Some (benches b)) h = h.holds
-  runs_compiled handed (Some (traces w)) h = h.holds
-  runs_compiled handed (Some (compiles c)) h = absurd h
-  runs_compiled handed (Some (migrates net)) h = absurd h
-  runs_compiled handed (Some (checks file)) h = absurd h
-  runs_compiled handed (Some (expands file)) h = absurd h
-  runs_compiled handed (Some (unwaves file)) h = absurd h
-  runs_compiled handed (Some (runs r)) h = absurd h
-  runs_compiled handed (Some (grows growth)) h = absurd h
+  -- what it is served with has such a file
+  pub run_compiled : (handed : HandedIn) (asked : Option Asked) → CompiledServe asked given handed p
+      → (file : List ℕ) × (net_file asked ≡ Some file) × HoldsCompiled given file p
+  run_compiled handed None h = absurd h
+  run_compiled handed (Some (simulates s)) h = (s.net, refl, h.holds)
+  run_compiled handed (Some (times t)) h = (t.net, refl, h.holds)
+  run_compiled handed (Some (benches b)) h = (b.net, refl, h.holds)
+  run_compiled handed (Some (traces w)) h = (w.net, refl, h.holds)
+  run_compiled handed (Some (compiles c)) h = absurd h
+  run_compiled handed (Some (migrates net)) h = absurd h
+  run_compiled handed (Some (checks file)) h = absurd h
+  run_compiled handed (Some (expands file)) h = absurd h
+  run_compiled handed (Some (unwaves file)) h = absurd h
+  run_compiled handed (Some (runs r)) h = absurd h
+  run_compiled handed (Some (grows growth)) h = absurd h
+
+  -- what is to be shown of each run that is reported (P) is to be shown of the runs of these reports
+  module _ (handed : HandedIn) where
+    pub each_report : (P : (file : List ℕ) → HoldsCompiled given file p → MadeRun → Type 0)
+        → ((s : AskedRun) (h : HoldsCompiled given s.net p) (a : Answer) (f : IsFileSimulated s given handed.orders a) → P s.net h (simulated_run s f))
+        → ((t : AskedTiming) (h : HoldsCompiled given t.net p) (a : Answer) (f : IsFileTimed t given a) → P t.net h (timed_run t f))
+        → ((b : AskedBench) (h : HoldsCompiled given b.net p) (a : Answer) (f : IsFileBenched b given handed a) → P b.net h (benched_run b f))
+        → ((w : AskedWaves) (h : HoldsCompiled given w.net p) (a : Answer) (f : IsFileTraced w given a) → P w.net h (traced_run w f))
+        → (asked : Option Asked) (file : List ℕ) → net_file asked ≡ Some file → (h : HoldsCompiled given file p) → (a : Answer) (run : MadeRun)
+        → Reports asked given handed a run → P file h run
+    each_report P run timing bench wave = each_run (λ asked file h. (a : Answer) (r : MadeRun) → Reports asked given handed a r → P file h r)
+        (λ s h a r is. subst (P s.net h) is.1 (run s h a is.0))
+        (λ t h a r is. subst (P t.net h) is.1 (timing t h a is.0))
+        (λ b h a r is. subst (P b.net h) is.1 (bench b h a is.0))
+        (λ w h a r is. subst (P w.net h) is.1 (wave w h a is.0))

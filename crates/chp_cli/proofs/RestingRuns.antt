@@ -7,14 +7,23 @@ use Rattle.prs_core.specs.Nets.{NetValue, IsNet}
 use Rattle.env_script.specs.Environment.{net_channels}
 use Rattle.env_script.specs.Scripts.{OfferValue, IsScript}
 use Rattle.env_script.specs.Runs.{RunState, IsRun, IsAtRest, IsApart, IsSafeMove, IsPowered, after, begin_at, moved}
+use Rattle.env_script.specs.declared.hazard.Hazard.{Hazard}
 use Rattle.env_script.specs.Hazards.{hazard_of}
+use Rattle.env_script.specs.OneLength.{AllSafe}
 use Rattle.event_sim.specs.declared.ran.End.{End}
-use Rattle.event_sim.specs.declared.ran.End.TheVariants.{AtRest}
+use Rattle.event_sim.specs.declared.ran.End.TheVariants.{AtRest, Spent}
 use Rattle.event_sim.specs.Ends.{calm_end, end_with, last_hazard, EndsSo}
 use Rattle.event_sim.specs.Following.{enabled_moves, power_of}
-use Rattle.event_sim.specs.Simulating.{RanValue, picked_moves, start_at}
+use Rattle.event_sim.specs.Simulating.{RanValue, growth, picked_moves, start_at}
 use Rattle.event_sim.proofs.Following.{picked_run}
 use Rattle.event_sim.proofs.Ranges.{rests}
+use Rattle.peer_bench.specs.declared.note.Note.{Note}
+use Rattle.peer_bench.specs.Asking.{PeerValue}
+use Rattle.peer_bench.specs.Benches.{SetupValue, IsBenchRun, bench_moves, bench_start}
+use Rattle.peer_bench.specs.Growing.{script_by}
+use Rattle.bench_commands.specs.HandedIn.{HandedIn}
+use Rattle.bench_commands.specs.OnBench.{notes_grown, setup_for}
+use Rattle.command_words.specs.BenchWords.{AskedBench}
 use Rattle.delay_script.specs.declared.noted.NotedMove.{NotedMove}
 use Rattle.delay_script.specs.DelayTables.{DelayTable, TakesAtMost}
 use Rattle.delay_script.specs.TimedRuns.{TimedValue, IsTimedRan, IsTimedRun, moved_nodes, timed_value}
@@ -33,13 +42,15 @@ use Rattle.command_answers.specs.Answers.{Given, Answer}
 use Rattle.call_map.specs.CallPace.{IsMost, always}
 use Rattle.program_commands.specs.Bodies.{Bodies, copied, shared, IsFaithful, NetCarries, NetProgresses, net_for, net_with, sweeps_with}
 use Rattle.command_steps.specs.Orders.{Played}
-use Rattle.chp_cli.specs.Resting.{RestsInTime, TimedRests, delays_for, most_in_run}
-use Rattle.chp_cli.specs.Simulated.{IsFileSimulated, HoldsCarrying, HoldsCompiled, SimulatedRests}
+use Rattle.chp_cli.specs.BenchedFiles.{IsFileBenched, benched_run}
+use Rattle.chp_cli.specs.MadeRuns.{MadeRun, Timing, made_run}
+use Rattle.chp_cli.specs.Resting.{KeepsPaceWith, KeepsUp, LastsAtMost, RestsInTime, delays_for, most_in_run}
+use Rattle.chp_cli.specs.Simulated.{IsFileSimulated, HoldsCarrying, HoldsCompiled, simulated_run}
 use Rattle.command_words.specs.SimulateWords.{AskedRun, AskedTiming}
 use Rattle.simulation_commands.specs.Simulating.{power_or_low, simulation_for}
 use Rattle.command_steps.specs.Steps.{IsFileOf}
-use Rattle.chp_cli.specs.TimedFiles.{IsFileTimed, TimedRunRests}
-use Rattle.chp_cli.specs.TracedFiles.{IsFileTraced, TracedRests}
+use Rattle.chp_cli.specs.TimedFiles.{IsFileTimed, timed_run}
+use Rattle.chp_cli.specs.TracedFiles.{IsFileTraced, traced_run}
 use Rattle.command_words.specs.WavesWords.{AskedWaves}
 use Rattle.grown_commands.proofs.SafeRuns.{all_safe, safe_calm}
 use Rattle.chp_cli.proofs.CalmRuns.{file_carries, at_rest}
@@ -142,27 +153,79 @@ module _ (powered : Powered) (law : (net : NetValue) (script : List OfferValue) 
         subst (RunsWithin holds.reset holds.bodies) same (runs_within powered holds.reset holds.bodies it.carries it.progresses) script high ns is.kept
         fits run
 
-    file_rests : (steps : ℕ) (end : End) → EndsSo net script steps (begin_at net (power_of net high)) ns end
-        → RestsInTime holds.reset holds.bodies net script steps (begin_at net (power_of net high)) ns end
-    file_rests steps end ended most m c bound over few =
+    file_level : (m : ℕ) (c : Configuration) → RestsAfter p script m c → IsAtRest net script (after net (begin_at net (power_of net high)) ns)
+        → IsLevel (after net (begin_at net (power_of net high)) ns) c
+    file_level = subst (RestsLevel p) same (rests_level powered holds.reset holds.bodies it.progresses) script high ns is.kept fits run
+
+    file_rests : (steps : ℕ) (end : End) (timing : Option Timing) → EndsSo net script steps (begin_at net (power_of net high)) ns end
+        → RestsInTime holds.reset holds.bodies (made_run net script (begin_at net (power_of net high)) ns steps end timing)
+    file_rests steps end timing ended most m c bound over few =
         let st = begin_at net (power_of net high) in
         let safe = all_safe powered net p script high is.kept suits (file_carries (carry given file p holds) held is) in
         let calm : last_hazard net script st ns ≡ None = safe_calm net script (λ st m is_safe. (law net script st m is.kept).0 is_safe) st ns (safe ns run) in
         let so : calm_end (enabled_moves net script (after net st ns)) (length ns == steps) ≡ Some end =
         sym (ap (λ h. end_with h (enabled_moves net script (after net st ns)) (length ns == steps)) calm) ∙ ended.ended in
         let within = file_within most m c bound over in
-        let r = calm_rest (enabled_moves net script (after net st ns)) (length ns) steps end (omega (arith, within, few)) so in (
-          r.0,
-          subst (RestsLevel p) same (rests_level powered holds.reset holds.bodies it.progresses) script high ns is.kept fits run m c over
-              (rests net script (after net st ns) is.kept r.1),
-        )
+        let r = calm_rest (enabled_moves net script (after net st ns)) (length ns) steps end (omega (arith, within, few)) so in
+        (r.0, file_level m c over (rests net script (after net st ns) is.kept r.1))
 
   pub simulated_rests : (s : AskedRun) (given : Given) (played : Played) (p : TypedProgram) (holds : HoldsCompiled given s.net p)
-      → (answer : Answer) (f : IsFileSimulated s given played answer) → SimulatedRests s given played p holds f
+      → (answer : Answer) (f : IsFileSimulated s given played answer) → KeepsPaceWith holds.reset holds.bodies (simulated_run s f)
   simulated_rests s given played p holds answer f =
-      let sim = simulation_for f.net f.script s.steps s.power in
-      file_rests given s.net p holds f.rules f.net f.held f.file f.script f.told_is.kept sim.high (picked_moves sim f.run.was.log f.run.is.log)
-      (picked_run f.net f.script (start_at sim) _ f.run.run.picks) s.steps f.ran.end f.run.run.ends
+      let sim = simulation_for f.net f.script s.steps s.power in record {
+        rests = file_rests given s.net p holds f.rules f.net f.held f.file f.script f.told_is.kept sim.high (picked_moves sim f.run.was.log f.run.is.log)
+            (picked_run f.net f.script (start_at sim) _ f.run.run.picks) s.steps f.ran.end None f.run.run.ends;
+        timed = tt;
+      }
+
+  -- ---- on a bench
+
+  not_spent : (last : Option Hazard) (xs : List ℕ) → end_with last xs false ≡ Some Spent → ⊥
+  not_spent None [] ended = cc ended
+  not_spent None (x ∷ xs) ended = cc ended
+  not_spent (Some (Hazard.BothWays n)) [] ended = cc ended
+  not_spent (Some (Hazard.BothWays n)) (x ∷ xs) ended = cc ended
+  not_spent (Some (Hazard.Unstable n)) [] ended = cc ended
+  not_spent (Some (Hazard.Unstable n)) (x ∷ xs) ended = cc ended
+  not_spent (Some (Hazard.Protocol c)) [] ended = cc ended
+  not_spent (Some (Hazard.Protocol c)) (x ∷ xs) ended = cc ended
+
+  rest_or_spent : (last : Option Hazard) (xs : List ℕ) (l steps : ℕ) (e : End) → l < steps → end_with last xs (l == steps) ≡ Some e
+      → (e ≡ AtRest) ⊎ (e ≡ Spent) → e ≡ AtRest
+  rest_or_spent last xs l steps e less ended (inl rest) = rest
+  rest_or_spent last xs l steps e less ended (inr spent) = absurd (not_spent last xs (ap (end_with last xs) (sym short) ∙ ended ∙ ap (λ x. Some x) spent))
+    where
+      short : (l == steps) ≡ false
+      short = grind (arith, nat_tests)
+
+  pub benched_rests : ((s : SetupValue) (picks : List ℕ) (notes : List Note) (was is : PeerValue) (ran : RanValue) → IsNet s.net →
+      IsBenchRun (λ p. p) s picks notes was is ran → AllSafe s.net (script_by s.net notes) (bench_start s.net) → (ran.end ≡ AtRest) ⊎ (ran.end ≡ Spent))
+      → ((s : SetupValue) (picks : List ℕ) (notes : List Note) (was is : PeerValue) (ran : RanValue) → IsNet s.net →
+      IsBenchRun (λ p. p) s picks notes was is ran → ran.end ≡ AtRest →
+      IsAtRest s.net (script_by s.net notes) (after s.net (bench_start s.net) (bench_moves s.net notes picks)))
+      → (b : AskedBench) (given : Given) (handed : HandedIn) (p : TypedProgram) (holds : HoldsCompiled given b.net p) → (answer : Answer)
+      → (f : IsFileBenched b given handed answer) → KeepsPaceWith holds.reset holds.bodies (benched_run b f)
+  benched_rests calm resting b given handed p holds answer f = record {
+    rests = λ most m c bound over few.
+        let within = file_within given b.net p holds f.rules f.net f.held f.file script run.suits false moves run.run most m c bound over in
+        let rest = rest_or_spent _ _ (length moves) b.steps against.ran.end (omega (arith, within, few)) run.ends.ended ends in (
+          rest,
+          file_level given b.net p holds f.rules f.net f.held f.file script run.suits false moves run.run m c over
+              (resting (setup_for f.net b.steps) _ _ _ _ against.ran f.file.kept run rest),
+        );
+    timed = tt;
+  }
+    where
+      against = f.benched.against
+      notes = notes_grown against.peer_was against.peer_is
+      script = script_by f.net notes
+      moves = bench_moves f.net notes (growth f.benched.was.log f.benched.is.log)
+      run = against.run.run
+
+      ends : (against.ran.end ≡ AtRest) ⊎ (against.ran.end ≡ Spent)
+      ends =
+          calm (setup_for f.net b.steps) _ _ _ _ against.ran f.file.kept run
+          (all_safe powered f.net p script false f.file.kept run.suits (file_carries (carry given b.net p holds) f.held f.file))
 
   -- ---- timed
 
@@ -173,24 +236,33 @@ module _ (powered : Powered) (law : (net : NetValue) (script : List OfferValue) 
         → given.files file ≡ Some rules → IsFileOf rules net → (script : List OfferValue) → IsScript (net_channels net) script
         → (high : Bool) (steps : ℕ) (delays : DelayTable) (ms : List NotedMove) (r : RanValue) (time : ℕ)
         → IsTimedRan (timed_value net script steps delays high) ms r time
-        → TimedRests holds.reset holds.bodies (timed_value net script steps delays high) ms r.end time
+        → KeepsPaceWith holds.reset holds.bodies
+        (made_run net script (begin_at net (power_of net high)) (moved_nodes ms) steps r.end (Some (record { delays = delays; time = time })))
     file_timed given file p holds rules net held is script suits high steps delays ms r time ran = record {
-      rests = file_rests given file p holds rules net held is script suits high (moved_nodes ms) ran.run steps r.end ran.ends;
-      in_time = λ longest most m c few bound over.
-          let within = file_within given file p holds rules net held is script suits high (moved_nodes ms) ran.run most m c bound over in
-          let count = length-map ms (λ (x : NotedMove). x.node) in
-          let soon = in_time longest (timed_value net script steps delays high) ms r time few ran in
-          let all = scaled (length ms) (most_in_run holds.reset holds.bodies most m) longest (omega (arith, within, count)) in
-          omega (arith, soon, all);
-      keeps_up = λ longest k slow lasted.
-          subst (PassesInTime holds.reset holds.bodies) (same given file p holds rules net held is script suits high (moved_nodes ms) ran.run)
-          (passes_in_time powered holds.reset holds.bodies (paced given file p holds) (reset_paced given file p holds)) script high longest delays ms is.kept
-          (fits given file p holds rules net held is script suits high (moved_nodes ms) ran.run) slow ran.timed k
-          (has_lasted (delays_for holds.reset holds.bodies k * longest) lasted);
+      rests = file_rests given file p holds rules net held is script suits high (moved_nodes ms) ran.run steps r.end _ ran.ends;
+      timed = record { lasts = lasts; keeps_up = keeps_up };
     }
       where
         st : RunState
         st = begin_at net (power_of net high)
+
+        the_run : MadeRun
+        the_run = made_run net script st (moved_nodes ms) steps r.end (Some (record { delays = delays; time = time }))
+
+        lasts : LastsAtMost holds.reset holds.bodies the_run (record { delays = delays; time = time })
+        lasts = λ longest most m c few bound over.
+          let within = file_within given file p holds rules net held is script suits high (moved_nodes ms) ran.run most m c bound over in
+          let count = length-map ms (λ (x : NotedMove). x.node) in
+          let soon = in_time longest (timed_value net script steps delays high) ms r time few ran in
+          let all = scaled (length ms) (most_in_run holds.reset holds.bodies most m) longest (omega (arith, within, count)) in
+          omega (arith, soon, all)
+
+        keeps_up : KeepsUp holds.reset holds.bodies the_run (record { delays = delays; time = time })
+        keeps_up = λ longest k slow lasted.
+          subst (PassesInTime holds.reset holds.bodies) (same given file p holds rules net held is script suits high (moved_nodes ms) ran.run)
+          (passes_in_time powered holds.reset holds.bodies (paced given file p holds) (reset_paced given file p holds)) script high longest delays ms is.kept
+          (fits given file p holds rules net held is script suits high (moved_nodes ms) ran.run) slow ran.timed k
+          (has_lasted (delays_for holds.reset holds.bodies k * longest) lasted)
 
         has_lasted : (late : ℕ) → (late < time) ⊎ (r.end ≡ AtRest) → HasLasted net script st ms late
         has_lasted late (inl after_it) = inl (subst (λ t. late < t) ran.time after_it)
@@ -198,13 +270,13 @@ module _ (powered : Powered) (law : (net : NetValue) (script : List OfferValue) 
             inr (at_rest net script st (moved_nodes ms) steps r.end is.kept ran.ends rest)
 
     pub timed_rests : (t : AskedTiming) (given : Given) (p : TypedProgram) (holds : HoldsCompiled given t.net p) (answer : Answer)
-        → (f : IsFileTimed t given answer) → TimedRunRests t given p holds f
+        → (f : IsFileTimed t given answer) → KeepsPaceWith holds.reset holds.bodies (timed_run t f)
     timed_rests t given p holds answer f =
         file_timed given t.net p holds f.rules f.net f.held f.file f.script f.told_is.kept (power_or_low t.power) t.steps f.delays f.timed.moves f.timed.ran
         f.timed.time f.timed.run
 
     pub traced_rests : (w : AskedWaves) (given : Given) (p : TypedProgram) (holds : HoldsCompiled given w.net p) (answer : Answer)
-        → (f : IsFileTraced w given answer) → TracedRests w given p holds f
+        → (f : IsFileTraced w given answer) → KeepsPaceWith holds.reset holds.bodies (traced_run w f)
     traced_rests w given p holds answer f =
         file_timed given w.net p holds f.rules f.net f.held f.file f.script f.told_is.kept false w.steps f.delays f.traced.moves f.traced.ran f.traced.time
         f.traced.run

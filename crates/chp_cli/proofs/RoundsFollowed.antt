@@ -21,10 +21,10 @@ use Rattle.command_steps.specs.Orders.{Played}
 use Rattle.command_words.specs.SimulateWords.{AskedRun, AskedTiming}
 use Rattle.command_words.specs.WavesWords.{AskedWaves}
 use Rattle.simulation_commands.specs.Simulating.{power_or_low, simulation_for}
-use Rattle.chp_cli.specs.Followed.{FollowsRounds}
-use Rattle.chp_cli.specs.Simulated.{HoldsCarrying, HoldsCompiled, IsFileSimulated, SimulatedFollows}
-use Rattle.chp_cli.specs.TimedFiles.{IsFileTimed, TimedFollows}
-use Rattle.chp_cli.specs.TracedFiles.{IsFileTraced, TracedFollows}
+use Rattle.chp_cli.specs.MadeRuns.{FollowsRounds, Timing, made_run}
+use Rattle.chp_cli.specs.Simulated.{HoldsCarrying, HoldsCompiled, IsFileSimulated, simulated_run}
+use Rattle.chp_cli.specs.TimedFiles.{IsFileTimed, timed_run}
+use Rattle.chp_cli.specs.TracedFiles.{IsFileTraced, traced_run}
 use Rattle.chp_cli.proofs.AgreeingRuns.{follows, since_few}
 use Rattle.chp_cli.proofs.CalmRuns.{at_rest, file_carries}
 
@@ -59,36 +59,37 @@ module _ (powered : (net : NetValue) (high : Bool) → IsNet net → IsSome net.
 
   pub followed : (n : NetValue) (p : TypedProgram) (script : List OfferValue) (high : Bool) → IsNet n → MeetsSharing p.body
       → IsScript (net_channels n) script → ((n.reset ≡ None) × Carries n p) ⊎ CarriesReset n p → (ns : List ℕ)
-      → IsRun n script (begin_at n (power_of n high)) ns → (end : End) → (end ≡ AtRest → IsAtRest n script (after n (begin_at n (power_of n high)) ns))
-      → FollowsRounds p n script (begin_at n (power_of n high)) ns end
-  followed n p script high net sharing suits carries ns run end resting = record {
+      → IsRun n script (begin_at n (power_of n high)) ns → (steps : ℕ) (end : End) (timing : Option Timing)
+      → (end ≡ AtRest → IsAtRest n script (after n (begin_at n (power_of n high)) ns))
+      → FollowsRounds p (made_run n script (begin_at n (power_of n high)) ns steps end timing)
+  followed n p script high net sharing suits carries ns run steps end timing resting = record {
     prefix = follows hold powered n p script high net sharing suits carries ns run;
     rest = λ still. settled n p script high net suits carries ns run (resting still);
   }
 
   module _ (carry : (given : Given) (file : List ℕ) (p : TypedProgram) → HoldsCompiled given file p → HoldsCarrying given file p) where
     pub simulated_follow : (s : AskedRun) (given : Given) (played : Played) (p : TypedProgram) → HoldsCompiled given s.net p → (answer : Answer)
-        → (f : IsFileSimulated s given played answer) → SimulatedFollows s given played p f
+        → (f : IsFileSimulated s given played answer) → FollowsRounds p (simulated_run s f)
     simulated_follow s given played p holds answer f =
         let sim = simulation_for f.net f.script s.steps s.power in
         let moves = picked_moves sim f.run.was.log f.run.is.log in
         followed f.net p f.script sim.high f.file.kept (meets_sharing holds) f.told_is.kept (file_carries (carry given s.net p holds) f.held f.file) moves
-        (picked_run f.net f.script (start_at sim) _ f.run.run.picks) f.ran.end
+        (picked_run f.net f.script (start_at sim) _ f.run.run.picks) s.steps f.ran.end None
         (at_rest f.net f.script (start_at sim) moves s.steps f.ran.end f.file.kept f.run.run.ends)
 
     pub timed_follow : (t : AskedTiming) (given : Given) (p : TypedProgram) → HoldsCompiled given t.net p → (answer : Answer)
-        → (f : IsFileTimed t given answer) → TimedFollows t given p f
+        → (f : IsFileTimed t given answer) → FollowsRounds p (timed_run t f)
     timed_follow t given p holds answer f =
         let high = power_or_low t.power in
         let ms = moved_nodes f.timed.moves in
         followed f.net p f.script high f.file.kept (meets_sharing holds) f.told_is.kept (file_carries (carry given t.net p holds) f.held f.file) ms
-        f.timed.run.run f.timed.ran.end
+        f.timed.run.run t.steps f.timed.ran.end _
         (at_rest f.net f.script (begin_at f.net (power_of f.net high)) ms t.steps f.timed.ran.end f.file.kept f.timed.run.ends)
 
     pub traced_follow : (w : AskedWaves) (given : Given) (p : TypedProgram) → HoldsCompiled given w.net p → (answer : Answer)
-        → (f : IsFileTraced w given answer) → TracedFollows w given p f
+        → (f : IsFileTraced w given answer) → FollowsRounds p (traced_run w f)
     traced_follow w given p holds answer f =
         let ms = moved_nodes f.traced.moves in
         followed f.net p f.script false f.file.kept (meets_sharing holds) f.told_is.kept (file_carries (carry given w.net p holds) f.held f.file) ms
-        f.traced.run.run f.traced.ran.end
+        f.traced.run.run w.steps f.traced.ran.end _
         (at_rest f.net f.script (begin_at f.net (power_of f.net false)) ms w.steps f.traced.ran.end f.file.kept f.traced.run.ends)

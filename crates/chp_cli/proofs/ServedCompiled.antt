@@ -15,8 +15,8 @@ use Rattle.command_words.specs.CommandWords.{Asked, simulates, times, benches, t
 use Rattle.chp_cli.specs.Commands.{EndsServed, EndsUncompared, IsToServe}
 use Rattle.command_words.specs.SimulateWords.{AskedRun, AskedTiming}
 use Rattle.command_words.specs.WavesWords.{AskedWaves}
-use Rattle.chp_cli.specs.CompiledRuns.{IsComparedWith, RunsCompiled}
-use Rattle.chp_cli.specs.ServedRuns.{IsCompiledToBench, IsCompiledToSimulate, IsCompiledToTime, IsCompiledToTrace, IsCompiledToServe, net_held}
+use Rattle.chp_cli.specs.CompiledRuns.{IsComparedWith, net_file}
+use Rattle.chp_cli.specs.ServedRuns.{IsCompiledToBench, IsCompiledToSimulate, IsCompiledToTime, IsCompiledToTrace, CompiledServe, net_held}
 use Rattle.command_steps.specs.FileContents.{IsRuleFile, IsScriptFile}
 use Rattle.chp_cli.specs.Serving.{IsToBench, IsToSimulate, IsToTime, IsToTrace}
 use Rattle.chp_cli.specs.Simulated.{HoldsCompiled}
@@ -122,15 +122,15 @@ module _ (given : Given) (handed : HandedIn) (p : TypedProgram) (told : given.te
   or_memory done (inr is) = inr is
 
   abbrev EndsWell : Option Asked → Type 0
-  EndsWell asked = IsCompiledToServe asked given handed p → IsComparedWith asked given p
+  EndsWell asked = CompiledServe asked given handed p → IsComparedWith asked given p
       → ((command : Asked) → asked ≡ Some command → IsToServe command given handed → EndsServed command s ⊎ (s ≡ NoMemory)) → (s ≡ Done) ⊎ (s ≡ NoMemory)
 
   pub compiled_done : ((r : AskedRun) → IsToReferTo given r.against → IsCompiledToSimulate r given handed.orders p → IsToSimulate r given handed.orders)
       → ((t : AskedTiming) → IsToReferTo given t.against → IsCompiledToTime t given p → IsToTime t given)
       → ((b : AskedBench) → IsCompiledToBench b given handed p → IsToBench b given handed)
       → ((w : AskedWaves) → IsCompiledToTrace w given p → IsToTrace w given)
-      → (asked : Option Asked) → RunsCompiled asked given p → EndsWell asked
-  compiled_done run timing bench wave = each_run given p EndsWell
+      → (asked : Option Asked) (file : List ℕ) → net_file asked ≡ Some file → HoldsCompiled given file p → EndsWell asked
+  compiled_done run timing bench wave = each_run given p (λ asked file h. EndsWell asked)
       (λ r holds h refers ends. or_memory (λ w. whole_done s w calm same) (ends (simulates r) refl (run r (referable given told r.against p refers) h)))
       (λ t holds h refers ends. or_memory (λ w. whole_done s w calm same) (ends (times t) refl (timing t (referable given told t.against p refers) h)))
       (λ b holds h alone ends. or_memory (λ e. uncompared_done s e calm) (ends (benches b) refl (bench b h)))

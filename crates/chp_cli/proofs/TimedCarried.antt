@@ -8,6 +8,7 @@ use Rattle.prs_core.specs.Nets.{NetValue, IsNet}
 use Rattle.env_script.specs.Scripts.{OfferValue}
 use Rattle.env_script.specs.Runs.{RunState, IsApart, IsPowered, IsSafeMove, after, begin_at, history_at, moved}
 use Rattle.env_script.specs.Hazards.{hazard_of}
+use Rattle.env_script.proofs.Fronts.{ends_all}
 use Rattle.event_sim.specs.Following.{power_of}
 use Rattle.event_sim.specs.Passing.{passed_in, values_through}
 use Rattle.event_sim.specs.Simulating.{RanValue}
@@ -23,16 +24,17 @@ use Rattle.command_answers.specs.Answers.{Given, Answer, writes}
 use Rattle.command_steps.specs.References.{IsReferredTo}
 use Rattle.run_reports.specs.RunReporting.{ending_for}
 use Rattle.command_steps.specs.RunSteps.{has_power, a_script}
+use Rattle.chp_cli.specs.MadeRuns.{EndsAllAtRest}
 use Rattle.chp_cli.specs.Simulated.{HoldsCarrying}
 use Rattle.simulation_commands.specs.Simulating.{power_or_low}
 use Rattle.command_steps.specs.Steps.{a_file, a_net}
-use Rattle.chp_cli.specs.TimedFiles.{IsFileTimed}
+use Rattle.chp_cli.specs.TimedFiles.{IsFileTimed, timed_run}
 use Rattle.command_words.specs.SimulateWords.{AskedTiming}
 use Rattle.simulation_commands.specs.Timing.{SimulatesTimed, timing_for}
 use Rattle.command_steps.specs.DelaySteps.{delays_read}
 use Rattle.chp_cli.proofs.AgreeingRuns.{agrees, reported_done, same_reference}
 use Rattle.grown_commands.proofs.SafeRuns.{all_safe, run_calm}
-use Rattle.chp_cli.proofs.CalmRuns.{file_carries, reported_calm}
+use Rattle.chp_cli.proofs.CalmRuns.{at_rest, file_carries, reported_calm}
 use Rattle.command_steps.proofs.Referring.{reference_read}
 
 -- ---- what is reported
@@ -73,6 +75,14 @@ module _ (powered : (net : NetValue) (high : Bool) → IsNet net → IsSome net.
 
     pub timed_no_hazard : (end : Ending) (text : List ℕ) → IsFileTimed t given (writes end text) → end ≢ Hazard
     timed_no_hazard end text f = reported_calm f.script _ f.timed.ran f.program end text f.timed.written (timed_calm _ f)
+
+    pub timed_ends : (a : Answer) (f : IsFileTimed t given a) → EndsAllAtRest (timed_run t f)
+    timed_ends a f = λ rest.
+        let st = timed_start (timing_for t f.net f.script f.delays) in
+        let moves = moved_nodes f.timed.moves in
+        ends_all f.net f.script st f.file.kept
+        (all_safe powered f.net p f.script (power_or_low t.power) f.file.kept f.told_is.kept (file_carries holds f.held f.file)) moves f.timed.run.run
+        (at_rest f.net f.script st moves t.steps f.timed.ran.end f.file.kept f.timed.run.ends rest)
 
     module _ (hold : (p : TypedProgram) (script : List OfferValue) → MeetsSharing p.body → RoundsHold p script)
         (passed : (net : NetValue) (values : List Bool) (ns : List ℕ) (c : ℕ) → IsNet net → c < length net.channels →

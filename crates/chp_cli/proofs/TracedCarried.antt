@@ -7,20 +7,22 @@ use Rattle.prs_core.specs.Nets.{NetValue, IsNet}
 use Rattle.env_script.specs.Scripts.{OfferValue}
 use Rattle.env_script.specs.Runs.{RunState, IsApart, IsPowered, IsSafeMove, moved}
 use Rattle.env_script.specs.Hazards.{hazard_of}
+use Rattle.env_script.proofs.Fronts.{ends_all}
 use Rattle.event_sim.specs.Following.{power_of}
 use Rattle.width_check.specs.Processes.{TypedProgram}
 use Rattle.command_answers.specs.declared.answer.Ending.{Ending}
 use Rattle.command_answers.specs.declared.answer.Ending.TheVariants.{Hazard}
 use Rattle.command_answers.specs.Answers.{Given, Answer, writes}
 use Rattle.command_steps.specs.RunSteps.{a_script}
+use Rattle.chp_cli.specs.MadeRuns.{EndsAllAtRest}
 use Rattle.chp_cli.specs.Simulated.{HoldsCarrying}
 use Rattle.command_steps.specs.Steps.{a_file, a_net}
 use Rattle.command_steps.specs.DelaySteps.{delays_read, FromDelayFile, HoldsDelayFile}
-use Rattle.chp_cli.specs.TracedFiles.{IsFileTraced}
+use Rattle.chp_cli.specs.TracedFiles.{IsFileTraced, traced_run}
 use Rattle.command_words.specs.WavesWords.{AskedWaves}
 use Rattle.simulation_commands.specs.Tracing.{TracesNet, Traces, trace_for}
 use Rattle.grown_commands.proofs.SafeRuns.{all_safe, run_calm}
-use Rattle.chp_cli.proofs.CalmRuns.{file_carries}
+use Rattle.chp_cli.proofs.CalmRuns.{at_rest, file_carries}
 
 -- what is written comes from delays that the file says, if one is named
 delays_held : (given : Given) (file : Option (List ℕ)) (names : List (List ℕ)) (Next : DelayTable → Answer → Type 0) (end : Ending) (text : List ℕ) →
@@ -57,3 +59,12 @@ module _ (powered : (net : NetValue) (high : Bool) → IsNet net → IsSome net.
       (all_safe powered f.net p f.script false f.file.kept f.told_is.kept (file_carries holds f.held f.file)) f.traced.run.run f.traced.run.ends in
       let same = f.traced.written in
       λ e. cc (calm, same, e)
+
+  pub traced_ends : (w : AskedWaves) (given : Given) (p : TypedProgram) → HoldsCarrying given w.net p → (a : Answer) (f : IsFileTraced w given a)
+      → EndsAllAtRest (traced_run w f)
+  traced_ends w given p holds a f = λ rest.
+      let st = timed_start (trace_for w f.net f.script f.delays) in
+      let moves = moved_nodes f.traced.moves in
+      ends_all f.net f.script st f.file.kept
+      (all_safe powered f.net p f.script false f.file.kept f.told_is.kept (file_carries holds f.held f.file)) moves f.traced.run.run
+      (at_rest f.net f.script st moves w.steps f.traced.ran.end f.file.kept f.traced.run.ends rest)

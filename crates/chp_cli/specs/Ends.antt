@@ -9,14 +9,18 @@ use Rattle.bench_commands.specs.HandedIn.{HandedIn}
 use Rattle.command_words.specs.CommandWords.{Asked}
 use Rattle.peer_bench.specs.Asking.{PeerValue}
 use Rattle.chp_cli.specs.Commands.{IsAnswer, files_of, order_of, peer_of}
+use Rattle.chp_cli.specs.Settings.{Setting}
 use Rattle.command_answers.specs.Lines.{usage_line, read_line, write_line, no_memory_line}
 use Rattle.command_steps.specs.Orders.{OrderState}
 use Rattle.command_answers.specs.Statuses.{is_refusing}
 
 -- it is an answer of the command that is asked for
-abbrev pub AnswersTo : Option Asked → Given → HandedIn → Answer → Type 0
-AnswersTo None given handed answer = ⊥
-AnswersTo (Some command) given handed answer = IsAnswer command given handed answer
+abbrev pub AnswersAsked : Option Asked → Given → HandedIn → Answer → Type 0
+AnswersAsked None given handed answer = ⊥
+AnswersAsked (Some command) given handed answer = IsAnswer command given handed answer
+
+abbrev pub AnswersTo : Setting → Answer → Type 0
+AnswersTo s answer = AnswersAsked s.asked s.given s.handed answer
 
 -- the name is that of a file of the command that is asked for
 abbrev pub IsFile : Option Asked → (name : List ℕ) → Type 0
@@ -33,26 +37,22 @@ abbrev pub asked_peer : Option Asked → List PeerValue → Option ℕ
 asked_peer None peers = None
 asked_peer (Some command) peers = peer_of command peers
 
--- A call ends in one of these ways. The counts of faults are those of the shelf and of the output, before the call and
--- after it.
-pub data Ends (asked : Option Asked) (given : Given) (handed : HandedIn)
-    (read_before read_after put_before put_after : ℕ) :
-    Status → (appended line : List ℕ) → Type 0 where
+-- A call in this setting ends in one of these ways: with this status, when it has appended this to the output, and then
+-- says this line.
+pub data Ends (s : Setting) : Status → (appended line : List ℕ) → Type 0 where
   -- the words are no form of a command
-  formless : asked ≡ None → Ends asked given handed read_before read_after put_before put_after Usage [] usage_line
+  formless : s.asked ≡ None → Ends s Usage [] usage_line
   -- the command writes, and all was written
-  whole : (end : Ending) (text : List ℕ) → AnswersTo asked given handed (writes end text)
-      → Ends asked given handed read_before read_after put_before put_after (status_with end) text (line_with end)
+  whole : (end : Ending) (text : List ℕ) → AnswersTo s (writes end text)
+      → Ends s (status_with end) text (line_with end)
   -- it writes, and the output failed: less than the whole was written, a prefix of it
-  cut_off : (end : Ending) (text : List ℕ) (n : ℕ) → AnswersTo asked given handed (writes end text) → n < length text
-      → Rose put_before put_after
-      → Ends asked given handed read_before read_after put_before put_after Write (take n text) write_line
+  cut_off : (end : Ending) (text : List ℕ) (n : ℕ) → AnswersTo s (writes end text) → n < length text
+      → Rose s.put.before s.put.after → Ends s Write (take n text) write_line
   -- it refuses
-  refused : (status : Status) (line : List ℕ) → is_refusing status ≡ true →
-      AnswersTo asked given handed (refuses status line)
-      → Ends asked given handed read_before read_after put_before put_after status [] line
+  refused : (status : Status) (line : List ℕ) → is_refusing status ≡ true → AnswersTo s (refuses status line)
+      → Ends s status [] line
   -- a read fault of a file of the command: the shelf failed, or that the file isn't there is the command's answer
-  unread : (name : List ℕ) → IsFile asked name → IsReadFault read_before read_after given.tells (given.files name)
-      → Rose read_before read_after ⊎ AnswersTo asked given handed (misses name)
-      → Ends asked given handed read_before read_after put_before put_after Read [] (read_line name)
-  no_memory : Ends asked given handed read_before read_after put_before put_after NoMemory [] no_memory_line
+  unread : (name : List ℕ) → IsFile s.asked name
+      → IsReadFault s.read.before s.read.after s.given.tells (s.given.files name)
+      → Rose s.read.before s.read.after ⊎ AnswersTo s (misses name) → Ends s Read [] (read_line name)
+  no_memory : Ends s NoMemory [] no_memory_line

@@ -16,6 +16,7 @@ use Rattle.command_words.specs.SimulateWords.{AskedRun, AskedTiming}
 use Rattle.command_words.specs.WavesWords.{AskedWaves}
 use Rattle.program_commands.specs.Bodies.{net_for}
 use Rattle.command_steps.specs.FileContents.{HasDelays, IsDelayFile, IsScriptFile}
+use Rattle.chp_cli.specs.Settings.{Setting}
 use Rattle.chp_cli.specs.Simulated.{HoldsCompiled}
 
 -- the net whose rule file such a file holds
@@ -59,9 +60,12 @@ pub record IsCompiledToTrace (w : AskedWaves) (given : Given) (p : TypedProgram)
   pub slow : HasDelays given w.delays (net_held holds).names delays
 
 -- what a command that makes a run of such a file is served with, but for the program with which the run is compared
-abbrev pub IsCompiledToServe : Option Asked → Given → HandedIn → TypedProgram → Type 0
-IsCompiledToServe (Some (simulates s)) given handed p = IsCompiledToSimulate s given handed.orders p
-IsCompiledToServe (Some (times t)) given handed p = IsCompiledToTime t given p
-IsCompiledToServe (Some (benches b)) given handed p = IsCompiledToBench b given handed p
-IsCompiledToServe (Some (traces w)) given handed p = IsCompiledToTrace w given p
-IsCompiledToServe _ given handed p = ⊥
+abbrev pub CompiledServe : Option Asked → Given → HandedIn → TypedProgram → Type 0
+CompiledServe (Some (simulates s)) given handed p = IsCompiledToSimulate s given handed.orders p
+CompiledServe (Some (times t)) given handed p = IsCompiledToTime t given p
+CompiledServe (Some (benches b)) given handed p = IsCompiledToBench b given handed p
+CompiledServe (Some (traces w)) given handed p = IsCompiledToTrace w given p
+CompiledServe _ given handed p = ⊥
+
+abbrev pub IsCompiledToServe : Setting → TypedProgram → Type 0
+IsCompiledToServe s p = CompiledServe s.asked s.given s.handed p

@@ -1,9 +1,7 @@
--- What follows from what `simulate` answers.
-use Rattle.std.specs.Prelude.{◌≡◌, ◌≢◌, ◌⊎◌, ℕ, ◌≤◌, Bool, false, List, Option, Some, None}
+-- What follows from what `simulate` answers, and what a file holds that `compile` wrote.
+use Rattle.std.specs.Prelude.{◌≡◌, ◌⊎◌, ℕ, ◌≤◌, Bool, false, List, Option, Some, None}
 use Rattle.env_script.specs.Environment.{net_channels}
-use Rattle.env_script.specs.OneLength.{EndsAll}
 use Rattle.env_script.specs.Scripts.{OfferValue}
-use Rattle.event_sim.specs.declared.ran.End.TheVariants.{AtRest}
 use Rattle.event_sim.specs.Simulating.{RanValue, picked_moves, start_at}
 use Rattle.net_compose.specs.Carries.{Carries, CarriesReset}
 use Rattle.prs_core.specs.Nets.{NetValue, IsNet}
@@ -13,13 +11,10 @@ use Rattle.chp_syntax.specs.Trees.{ProgramTree}
 use Rattle.width_check.specs.Accepted.{IsAccepted}
 use Rattle.width_check.specs.Form.{typed_form}
 use Rattle.width_check.specs.Processes.{TypedProgram}
-use Rattle.command_answers.specs.declared.answer.Ending.{Ending}
-use Rattle.command_answers.specs.declared.answer.Ending.TheVariants.{Hazard}
-use Rattle.command_answers.specs.Answers.{Given, Answer, writes}
+use Rattle.command_answers.specs.Answers.{Given, Answer}
 use Rattle.program_commands.specs.Bodies.{Bodies, counted_with, net_for}
 use Rattle.command_steps.specs.Orders.{Played, place_named}
-use Rattle.chp_cli.specs.Followed.{FollowsRounds}
-use Rattle.chp_cli.specs.Resting.{RestsInTime}
+use Rattle.chp_cli.specs.MadeRuns.{MadeRun, made_run}
 use Rattle.command_steps.specs.References.{HoldsReference}
 use Rattle.run_reports.specs.RunReporting.{IsReported}
 use Rattle.command_steps.specs.RunSteps.{IsScriptOf, lacks_reset}
@@ -73,35 +68,9 @@ pub record HoldsCompiled (given : Given) (file : List ℕ) (p : TypedProgram) : 
   pub few : counted_with bodies ≤ most_of_nodes
   pub spells : NetText text (net_for reset bodies)
 
--- where it reports rest, no run from that state has more moves than the one that was made, and each one that rests has
--- as many, of each node as many
-abbrev pub EndsAllAtRest : (s : AskedRun) (given : Given) (played : Played) (answer : Answer) →
-    IsFileSimulated s given played answer → Type 0
-EndsAllAtRest s given played answer f = f.ran.end ≡ AtRest →
+-- the run that is reported
+abbrev pub simulated_run : (s : AskedRun) → {given : Given} {played : Played} {answer : Answer} →
+    IsFileSimulated s given played answer → MadeRun
+simulated_run s f =
     let sim = simulation_for f.net f.script s.steps s.power in
-    EndsAll f.net f.script (start_at sim) (picked_moves sim f.run.was.log f.run.is.log)
-
--- where the program comes to rest for which `compile` writes the rule file, the run does, if its limit is high enough
-abbrev pub SimulatedRests : (s : AskedRun) (given : Given) (played : Played) (p : TypedProgram) →
-    HoldsCompiled given s.net p → {answer : Answer} → IsFileSimulated s given played answer → Type 0
-SimulatedRests s given played p holds f =
-    let sim = simulation_for f.net f.script s.steps s.power in
-    RestsInTime holds.reset holds.bodies f.net f.script s.steps (start_at sim)
-    (picked_moves sim f.run.was.log f.run.is.log) f.ran.end
-
--- what has passed follows the rounds of the program for which `compile` writes the rule file, under the script
-abbrev pub SimulatedFollows : (s : AskedRun) (given : Given) (played : Played) (p : TypedProgram) → {answer : Answer} →
-    IsFileSimulated s given played answer → Type 0
-SimulatedFollows s given played p f =
-    let sim = simulation_for f.net f.script s.steps s.power in
-    FollowsRounds p f.net f.script (start_at sim) (picked_moves sim f.run.was.log f.run.is.log) f.ran.end
-
--- The report is that of a run without a hazard; where it says rest, no order makes more moves. The run follows the
--- rounds of a program for which `compile` writes this rule file; and where that comes to rest, so does the run, if its
--- limit is high enough.
-pub record IsCalmRun (s : AskedRun) (given : Given) (played : Played) (end : Ending) (report : List ℕ) : Type 0 where
-  pub run : IsFileSimulated s given played (writes end report)
-  pub calm : end ≢ Hazard
-  pub one_length : EndsAllAtRest s given played (writes end report) run
-  pub follows : (p : TypedProgram) → HoldsCompiled given s.net p → SimulatedFollows s given played p run
-  pub rests : (p : TypedProgram) (holds : HoldsCompiled given s.net p) → SimulatedRests s given played p holds run
+    made_run f.net f.script (start_at sim) (picked_moves sim f.run.was.log f.run.is.log) s.steps f.ran.end None

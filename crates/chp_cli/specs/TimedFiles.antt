@@ -1,19 +1,15 @@
 -- What follows from what `simulate` answers with delays.
-use Rattle.std.specs.Prelude.{◌≡◌, ◌≢◌, ℕ, false, List, Option, Some}
+use Rattle.std.specs.Prelude.{◌≡◌, ℕ, false, List, Option, Some}
 use Rattle.delay_script.specs.DelayTables.{DelayTable}
 use Rattle.delay_script.specs.TimedRuns.{moved_nodes, timed_start}
 use Rattle.env_script.specs.Environment.{net_channels}
 use Rattle.env_script.specs.Scripts.{OfferValue}
 use Rattle.prs_core.specs.Nets.{NetValue}
 use Rattle.width_check.specs.Processes.{TypedProgram}
-use Rattle.command_answers.specs.declared.answer.Ending.{Ending}
-use Rattle.command_answers.specs.declared.answer.Ending.TheVariants.{Hazard}
-use Rattle.command_answers.specs.Answers.{Given, Answer, writes}
+use Rattle.command_answers.specs.Answers.{Given, Answer}
 use Rattle.command_steps.specs.References.{HoldsReference}
-use Rattle.chp_cli.specs.Followed.{FollowsRounds}
-use Rattle.chp_cli.specs.Resting.{TimedRests}
+use Rattle.chp_cli.specs.MadeRuns.{MadeRun, made_run}
 use Rattle.command_steps.specs.RunSteps.{IsScriptOf, lacks_reset}
-use Rattle.chp_cli.specs.Simulated.{HoldsCompiled}
 use Rattle.command_steps.specs.Steps.{IsFileOf}
 use Rattle.command_words.specs.SimulateWords.{AskedTiming}
 use Rattle.command_steps.specs.DelaySteps.{AreDelaysOf}
@@ -39,26 +35,8 @@ pub record IsFileTimed (t : AskedTiming) (given : Given) (answer : Answer) : Typ
   pub referred : HoldsReference given t.against program
   pub timed : TimesNet (timing_for t net script delays) program answer
 
--- where the program comes to rest for which `compile` writes the rule file, the timed run does in time, if its limit is
--- high enough; and it keeps up with the rounds of that program
-abbrev pub TimedRunRests : (t : AskedTiming) (given : Given) (p : TypedProgram) → HoldsCompiled given t.net p →
-    {answer : Answer} → IsFileTimed t given answer → Type 0
-TimedRunRests t given p holds f =
-    TimedRests holds.reset holds.bodies (timing_for t f.net f.script f.delays) f.timed.moves f.timed.ran.end
-    f.timed.time
-
--- what has passed follows the rounds of that program
-abbrev pub TimedFollows : (t : AskedTiming) (given : Given) (p : TypedProgram) → {answer : Answer} →
-    IsFileTimed t given answer → Type 0
-TimedFollows t given p f =
-    FollowsRounds p f.net f.script (timed_start (timing_for t f.net f.script f.delays)) (moved_nodes f.timed.moves)
-    f.timed.ran.end
-
--- The report is that of a timed run without a hazard. The run follows the rounds of a program for which `compile`
--- writes this rule file; where that comes to rest, so does the run in time, if its limit is high enough; and it keeps
--- up with the rounds of that program.
-pub record IsCalmTiming (t : AskedTiming) (given : Given) (end : Ending) (report : List ℕ) : Type 0 where
-  pub run : IsFileTimed t given (writes end report)
-  pub calm : end ≢ Hazard
-  pub follows : (p : TypedProgram) → HoldsCompiled given t.net p → TimedFollows t given p run
-  pub rests : (p : TypedProgram) (holds : HoldsCompiled given t.net p) → TimedRunRests t given p holds run
+-- the run that is reported
+abbrev pub timed_run : (t : AskedTiming) → {given : Given} {answer : Answer} → IsFileTimed t given answer → MadeRun
+timed_run t f =
+    made_run f.net f.script (timed_start (timing_for t f.net f.script f.delays)) (moved_nodes f.timed.moves) t.steps
+    f.timed.ran.end (Some (record { delays = f.delays; time = f.timed.time }))

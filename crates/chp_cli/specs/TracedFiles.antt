@@ -1,18 +1,13 @@
 -- What follows from what `waves` answers.
-use Rattle.std.specs.Prelude.{◌≡◌, ◌≢◌, ℕ, List, Some}
+use Rattle.std.specs.Prelude.{◌≡◌, ℕ, List, Some}
 use Rattle.delay_script.specs.DelayTables.{DelayTable}
 use Rattle.delay_script.specs.TimedRuns.{moved_nodes, timed_start}
 use Rattle.env_script.specs.Environment.{net_channels}
 use Rattle.env_script.specs.Scripts.{OfferValue}
 use Rattle.prs_core.specs.Nets.{NetValue}
-use Rattle.width_check.specs.Processes.{TypedProgram}
-use Rattle.command_answers.specs.declared.answer.Ending.{Ending}
-use Rattle.command_answers.specs.declared.answer.Ending.TheVariants.{Hazard}
-use Rattle.command_answers.specs.Answers.{Given, Answer, writes}
-use Rattle.chp_cli.specs.Followed.{FollowsRounds}
-use Rattle.chp_cli.specs.Resting.{TimedRests}
+use Rattle.command_answers.specs.Answers.{Given, Answer}
+use Rattle.chp_cli.specs.MadeRuns.{MadeRun, made_run}
 use Rattle.command_steps.specs.RunSteps.{IsScriptOf}
-use Rattle.chp_cli.specs.Simulated.{HoldsCompiled}
 use Rattle.command_steps.specs.Steps.{IsFileOf}
 use Rattle.command_words.specs.WavesWords.{AskedWaves}
 use Rattle.command_steps.specs.DelaySteps.{HoldsDelayFile}
@@ -33,26 +28,8 @@ pub record IsFileTraced (w : AskedWaves) (given : Given) (answer : Answer) : Typ
   pub said_are : HoldsDelayFile given w.delays net.names delays
   pub traced : TracesNet (trace_for w net script delays) w.causes answer
 
--- where the program comes to rest for which `compile` writes the rule file, the timed run does in time, if its limit is
--- high enough; and it keeps up with the rounds of that program
-abbrev pub TracedRests : (w : AskedWaves) (given : Given) (p : TypedProgram) → HoldsCompiled given w.net p →
-    {answer : Answer} → IsFileTraced w given answer → Type 0
-TracedRests w given p holds f =
-    TimedRests holds.reset holds.bodies (trace_for w f.net f.script f.delays) f.traced.moves f.traced.ran.end
-    f.traced.time
-
--- what has passed follows the rounds of that program
-abbrev pub TracedFollows : (w : AskedWaves) (given : Given) (p : TypedProgram) → {answer : Answer} →
-    IsFileTraced w given answer → Type 0
-TracedFollows w given p f =
-    FollowsRounds p f.net f.script (timed_start (trace_for w f.net f.script f.delays)) (moved_nodes f.traced.moves)
-    f.traced.ran.end
-
--- The text is the wave of a timed run without a hazard, or the causes of its last move. The run follows the rounds of a
--- program for which `compile` writes this rule file; where that comes to rest, so does the run in time, if its limit is
--- high enough; and it keeps up with the rounds of that program.
-pub record IsCalmTrace (w : AskedWaves) (given : Given) (end : Ending) (text : List ℕ) : Type 0 where
-  pub run : IsFileTraced w given (writes end text)
-  pub calm : end ≢ Hazard
-  pub follows : (p : TypedProgram) → HoldsCompiled given w.net p → TracedFollows w given p run
-  pub rests : (p : TypedProgram) (holds : HoldsCompiled given w.net p) → TracedRests w given p holds run
+-- the run that is written
+abbrev pub traced_run : (w : AskedWaves) → {given : Given} {answer : Answer} → IsFileTraced w given answer → MadeRun
+traced_run w f =
+    made_run f.net f.script (timed_start (trace_for w f.net f.script f.delays)) (moved_nodes f.traced.moves) w.steps
+    f.traced.ran.end (Some (record { delays = f.delays; time = f.traced.time }))

@@ -14,18 +14,20 @@ ghost use Rattle.chp_cli.specs.Commands.{EndsServed, IsAnswer, IsToServe};
 ghost use Rattle.command_steps.specs.Orders.{Played};
 ghost use Rattle.bench_commands.specs.HandedIn.{HandedIn};
 ghost use Rattle.bench_commands.specs.OnBench.{Benches};
-ghost use Rattle.chp_cli.specs.BenchedFiles.{BenchedEndsAll, BenchedFollows, IsFileBenched};
+ghost use Rattle.chp_cli.specs.BenchedFiles.{IsFileBenched, benched_run};
 ghost use Rattle.command_words.specs.BenchWords.{AskedBench};
+ghost use Rattle.chp_cli.specs.MadeRuns.{EndsAllAtRest, FollowsRounds};
+ghost use Rattle.chp_cli.specs.Resting.{KeepsPaceWith};
 ghost use Rattle.chp_cli.specs.Serving.{IsToBench, IsToSimulate, IsToTime, IsToTrace};
 ghost use Rattle.chp_cli.specs.ServedRuns.{IsCompiledToBench, IsCompiledToSimulate, IsCompiledToTime, IsCompiledToTrace};
 ghost use Rattle.command_steps.specs.References.{IsReferredTo, IsToReferTo};
-ghost use Rattle.chp_cli.specs.Simulated.{EndsAllAtRest, HoldsCarrying, HoldsCompiled, IsFileSimulated, SimulatedFollows, SimulatedRests};
+ghost use Rattle.chp_cli.specs.Simulated.{HoldsCarrying, HoldsCompiled, IsFileSimulated, simulated_run};
 ghost use Rattle.command_words.specs.SimulateWords.{AskedRun, AskedTiming};
 ghost use Rattle.simulation_commands.specs.Simulating.{Simulates};
 ghost use Rattle.command_answers.specs.Statuses.{is_whole};
-ghost use Rattle.chp_cli.specs.TimedFiles.{IsFileTimed, TimedFollows, TimedRunRests};
+ghost use Rattle.chp_cli.specs.TimedFiles.{IsFileTimed, timed_run};
 ghost use Rattle.simulation_commands.specs.Timing.{SimulatesTimed};
-ghost use Rattle.chp_cli.specs.TracedFiles.{IsFileTraced, TracedFollows, TracedRests};
+ghost use Rattle.chp_cli.specs.TracedFiles.{IsFileTraced, traced_run};
 ghost use Rattle.command_words.specs.WavesWords.{AskedWaves};
 ghost use Rattle.simulation_commands.specs.Tracing.{Traces};
 ghost use Rattle.chp_cli.specs.LaidOut.{LaidOutsAreCompared, MeansAlike};
@@ -149,16 +151,20 @@ pub fn carried_runs_agree()
     safe_moves_bring_no_hazard();
 }
 
-/// Law: where the simulation of such a rule file reports rest, no order makes more moves of it under that script from
-/// that state, and each run that rests has as many moves, of each node as many. So it is of a run on a bench, under the
-/// script of all that the device offered and took.
+/// Law: where the simulation of such a rule file reports rest, by an order or by delays, no order makes more moves of it
+/// under that script from that state, and each run that rests has as many moves, of each node as many. So it is of a
+/// run on a bench, under the script of all that the device offered and took.
 pub fn carried_runs_have_one_length()
     ensures simulated { (s : AskedRun) (given : Given) (played : Played) (p : TypedProgram) →
         HoldsCarrying given s.net p → (answer : Answer) (f : IsFileSimulated s given played answer) →
-        EndsAllAtRest s given played answer f }
+        EndsAllAtRest (simulated_run s f) }
+    ensures timed { (t : AskedTiming) (given : Given) (p : TypedProgram) → HoldsCarrying given t.net p →
+        (answer : Answer) (f : IsFileTimed t given answer) → EndsAllAtRest (timed_run t f) }
+    ensures traced { (w : AskedWaves) (given : Given) (p : TypedProgram) → HoldsCarrying given w.net p →
+        (answer : Answer) (f : IsFileTraced w given answer) → EndsAllAtRest (traced_run w f) }
     ensures benched { (b : AskedBench) (given : Given) (handed : HandedIn) (p : TypedProgram) →
         HoldsCarrying given b.net p → (answer : Answer) (f : IsFileBenched b given handed answer) →
-        BenchedEndsAll b given handed f }
+        EndsAllAtRest (benched_run b f) }
 {
     power_is_powered();
     safe_moves_bring_no_hazard();
@@ -275,7 +281,7 @@ pub fn benched_runs_are_safe()
 /// the program passes under the script of all that the device offered and took, and where it reports rest all of it.
 pub fn benched_runs_follow()
     ensures { (b : AskedBench) (given : Given) (handed : HandedIn) (p : TypedProgram) → HoldsCompiled given b.net p →
-        (answer : Answer) (f : IsFileBenched b given handed answer) → BenchedFollows b given handed p f }
+        (answer : Answer) (f : IsFileBenched b given handed answer) → FollowsRounds p (benched_run b f) }
 {
     chp_meaning::laws::rounds_hold();
     power_is_powered();
@@ -289,11 +295,11 @@ pub fn benched_runs_follow()
 pub fn compiled_runs_follow()
     ensures simulated { (s : AskedRun) (given : Given) (played : Played) (p : TypedProgram) →
         HoldsCompiled given s.net p → (answer : Answer) (f : IsFileSimulated s given played answer) →
-        SimulatedFollows s given played p f }
+        FollowsRounds p (simulated_run s f) }
     ensures timed { (t : AskedTiming) (given : Given) (p : TypedProgram) → HoldsCompiled given t.net p →
-        (answer : Answer) (f : IsFileTimed t given answer) → TimedFollows t given p f }
+        (answer : Answer) (f : IsFileTimed t given answer) → FollowsRounds p (timed_run t f) }
     ensures traced { (w : AskedWaves) (given : Given) (p : TypedProgram) → HoldsCompiled given w.net p →
-        (answer : Answer) (f : IsFileTraced w given answer) → TracedFollows w given p f }
+        (answer : Answer) (f : IsFileTraced w given answer) → FollowsRounds p (traced_run w f) }
 {
     chp_meaning::laws::rounds_hold();
     power_is_powered();
@@ -302,7 +308,7 @@ pub fn compiled_runs_follow()
 
 /// Law: where a program goes no further after m steps under the script, a run of the rule file that `compile` wrote for
 /// it ends at rest, if its limit is above the most moves that its net makes till then: by whatever order it is made, or
-/// by whatever delays. It has passed what the program has, and `done` is high exactly where that has ended. Where no
+/// by whatever delays, and on a bench under the script of all that the device offered and took. It has passed what the program has, and `done` is high exactly where that has ended. Where no
 /// move takes longer than some time, the last one comes no later than the most moves at that time each; and a timed run
 /// whose last move comes later than 2 · (2 nodes + 1) of these times for each of n rounds of the program, with a reset
 /// node two more, or that rests, has passed all that these rounds pass. In a net with shared bodies it is twice as many
@@ -310,14 +316,21 @@ pub fn compiled_runs_follow()
 pub fn compiled_runs_rest()
     ensures simulated { (s : AskedRun) (given : Given) (played : Played) (p : TypedProgram)
         (holds : HoldsCompiled given s.net p) (answer : Answer) (f : IsFileSimulated s given played answer) →
-        SimulatedRests s given played p holds f }
+        KeepsPaceWith holds.reset holds.bodies (simulated_run s f) }
     ensures timed { (t : AskedTiming) (given : Given) (p : TypedProgram) (holds : HoldsCompiled given t.net p)
-        (answer : Answer) (f : IsFileTimed t given answer) → TimedRunRests t given p holds f }
+        (answer : Answer) (f : IsFileTimed t given answer) →
+        KeepsPaceWith holds.reset holds.bodies (timed_run t f) }
     ensures traced { (w : AskedWaves) (given : Given) (p : TypedProgram) (holds : HoldsCompiled given w.net p)
-        (answer : Answer) (f : IsFileTraced w given answer) → TracedRests w given p holds f }
+        (answer : Answer) (f : IsFileTraced w given answer) →
+        KeepsPaceWith holds.reset holds.bodies (traced_run w f) }
+    ensures benched { (b : AskedBench) (given : Given) (handed : HandedIn) (p : TypedProgram)
+        (holds : HoldsCompiled given b.net p) (answer : Answer) (f : IsFileBenched b given handed answer) →
+        KeepsPaceWith holds.reset holds.bodies (benched_run b f) }
 {
     power_is_powered();
     safe_moves_bring_no_hazard();
+    bench_runs_are_calm();
+    bench_rests_are_rests();
     files_as_promised();
     compiled_files_carry();
     timed_runs_end_in_time();

@@ -1,31 +1,30 @@
 //! The top call.
 
-ghost use Rattle.std.specs.Prelude.{◌≡◌, ◌≢◌, ℕ, List, [], None, Some, true, false, IfOk, IfErr, ◌⊎◌};
-ghost use Rattle.chp_edge.specs.Faults.{IsReadFault};
-ghost use Rattle.command_answers.specs.Answers.{Answer, status_of};
+ghost use Rattle.std.specs.Prelude.{◌≡◌, ℕ, List, Some, true, IfOk, IfErr};
+ghost use Rattle.command_answers.specs.Replies.{Stops, end_line, end_status, stop_status};
+ghost use Rattle.command_answers.specs.Statuses.{is_whole};
 ghost use Rattle.command_words.specs.CommandWords.{Asked, IsWithinBounds, asked, asked_by, compiles};
 ghost use Rattle.command_words.specs.CompileWords.{AskedCompilation};
-ghost use Rattle.chp_cli.specs.Commands.{EndsServed, IsAnswer, IsToServe, files_of};
-ghost use Rattle.chp_cli.specs.Ends.{AnswersTo, Ends, IsFile};
+ghost use Rattle.program_commands.specs.Compiling.{IsFaithfulFile};
+ghost use Rattle.program_commands.specs.RepliesTold.{reply_bytes, told_reply};
+ghost use Rattle.simulation_commands.specs.Simulating.{StaysUnasked};
+ghost use Rattle.chp_cli.specs.Commands.{IsAnswer, files_of};
+ghost use Rattle.chp_cli.specs.Ends.{Ends};
 ghost use Rattle.chp_cli.specs.Handed.{
-  Fails,
   IsAppended,
   KeepsShelf,
   KeepsSink,
-  NothingFails,
   StaysBut,
+  faults_put,
+  faults_read,
   given_of,
   handed_of,
+  objects,
+  shelf_use,
+  sink_use,
 };
+ghost use Rattle.chp_cli.specs.Promises.{Promises};
 ghost use Rattle.chp_cli.specs.Shown.{ShowsEnabled};
-ghost use Rattle.command_answers.specs.Replies.{Stops, end_line, end_status, stop_status};
-ghost use Rattle.program_commands.specs.Compiling.{IsFaithfulFile};
-ghost use Rattle.program_commands.specs.RepliesTold.{reply_bytes, told_reply};
-ghost use Rattle.chp_cli.specs.ServedRuns.{IsCompiledToServe};
-ghost use Rattle.chp_cli.specs.CompiledRuns.{IsComparedWith, IsSteady, RunsCompiled};
-ghost use Rattle.command_answers.specs.Statuses.{is_whole};
-ghost use Rattle.simulation_commands.specs.Simulating.{StaysUnasked};
-ghost use Rattle.width_check.specs.Processes.{TypedProgram};
 
 use crate::laws::{
     benched_right, benched_runs_are_safe, benched_runs_follow, carried_runs_agree,
@@ -62,18 +61,18 @@ fn answer<'a, S: Shelf>(
     command: &Command<'a>,
 ) -> Result<Reply, Stop<'a>>
     requires { IsWithinBounds command.now }
-    ensures answered { IfOk result (λ reply. IsAnswer (asked command.now) (given_of S.Shelf shelf.old)
-        (handed_of Picker-box Peer-box players.old players.new) (told_reply reply)) }
+    ensures answered { IfOk result (λ reply. IsAnswer (asked command.now) (given_of (shelf_use S.Shelf shelf.old
+        shelf.new)) (handed_of (objects Picker-box Peer-box players.old players.new)) (told_reply reply)) }
     ensures carried { IfOk result (λ reply. (c : AskedCompilation) → asked command.now ≡ compiles c →
-        IsFaithfulFile c (given_of S.Shelf shelf.old) (reply_bytes reply)) }
-    ensures shown { IfOk result (λ reply. ShowsEnabled Picker-box Peer-box (asked command.now)
-        (given_of S.Shelf shelf.old) players.old players.new) }
-    ensures stopped { IfErr result (Stops (IsAnswer (asked command.now) (given_of S.Shelf shelf.old)
-        (handed_of Picker-box Peer-box players.old players.new)) (files_of (asked command.now))
-        (given_of S.Shelf shelf.old) (S.faults shelf.old) (S.faults shelf.new)) }
-    ensures stay { StaysBut Picker-box Peer-box (Some (asked command.now)) players.old players.new }
+        IsFaithfulFile c (given_of (shelf_use S.Shelf shelf.old shelf.new)) (reply_bytes reply)) }
+    ensures shown { IfOk result (λ reply. ShowsEnabled (asked command.now) (given_of (shelf_use S.Shelf shelf.old
+        shelf.new)) (objects Picker-box Peer-box players.old players.new)) }
+    ensures stopped { IfErr result (Stops (IsAnswer (asked command.now) (given_of (shelf_use S.Shelf shelf.old
+        shelf.new)) (handed_of (objects Picker-box Peer-box players.old players.new))) (files_of (asked command.now))
+        (given_of (shelf_use S.Shelf shelf.old shelf.new)) (S.faults shelf.old) (S.faults shelf.new)) }
+    ensures stay { StaysBut (Some (asked command.now)) (objects Picker-box Peer-box players.old players.new) }
     ensures unasked { IfErr result (λ stop. StaysUnasked (stop_status stop) players.old players.new) }
-    ensures shelf { KeepsShelf S.Shelf shelf.old shelf.new }
+    ensures shelf { KeepsShelf (shelf_use S.Shelf shelf.old shelf.new) }
 {
     match command {
         Command::Compile(asked) => compile(alloc, shelf, asked),
@@ -109,19 +108,23 @@ fn run<'a, S: Shelf, K: Sink>(
     out: &mut K,
     players: &mut Players,
 ) -> End<'a>
-    ensures ended { (appended : List ℕ) × Ends (asked_by words.now) (given_of S.Shelf shelf.old)
-        (handed_of Picker-box Peer-box players.old players.new) (S.faults shelf.old) (S.faults shelf.new)
-        (K.faults out.old) (K.faults out.new) (end_status result) appended (end_line result)
-        × IsAppended K.Sink out.old out.new appended }
+    ensures ended { (appended : List ℕ) × Ends (record {
+      asked = asked_by words.now;
+      given = given_of (shelf_use S.Shelf shelf.old shelf.new);
+      handed = handed_of (objects Picker-box Peer-box players.old players.new);
+      read = faults_read (shelf_use S.Shelf shelf.old shelf.new);
+      put = faults_put (sink_use K.Sink out.old out.new);
+    }) (end_status result) appended (end_line result) × IsAppended (sink_use K.Sink out.old out.new) appended }
     ensures carried { (c : AskedCompilation) → asked_by words.now ≡ Some (compiles c) →
-        end_status result ≡ Status.Done → (file : List ℕ) × IsAppended K.Sink out.old out.new file
-        × IsFaithfulFile c (given_of S.Shelf shelf.old) file }
+        end_status result ≡ Status.Done → (file : List ℕ) × IsAppended (sink_use K.Sink out.old out.new) file
+        × IsFaithfulFile c (given_of (shelf_use S.Shelf shelf.old shelf.new)) file }
     ensures shown { (command : Asked) → asked_by words.now ≡ Some command → is_whole (end_status result) ≡ true →
-        ShowsEnabled Picker-box Peer-box command (given_of S.Shelf shelf.old) players.old players.new }
-    ensures stay { StaysBut Picker-box Peer-box (asked_by words.now) players.old players.new }
+        ShowsEnabled command (given_of (shelf_use S.Shelf shelf.old shelf.new))
+        (objects Picker-box Peer-box players.old players.new) }
+    ensures stay { StaysBut (asked_by words.now) (objects Picker-box Peer-box players.old players.new) }
     ensures unasked { StaysUnasked (end_status result) players.old players.new }
-    ensures shelf { KeepsShelf S.Shelf shelf.old shelf.new }
-    ensures out { KeepsSink K.Sink out.old out.new }
+    ensures shelf { KeepsShelf (shelf_use S.Shelf shelf.old shelf.new) }
+    ensures out { KeepsSink (sink_use K.Sink out.old out.new) }
 {
     let command = match command_in(alloc, words) {
         Ok(Some(command)) => command,
@@ -140,7 +143,8 @@ fn run<'a, S: Shelf, K: Sink>(
 }
 
 /// Runs the command that the words ask for: reads its files from the shelf, writes its output, and says one line where
-/// it doesn't end well. The output is written whole, or where it fails less than the whole, a prefix of it.
+/// it doesn't end well. The output is written whole, or where it fails less than the whole, a prefix of it; and so is
+/// the line. (Each field of `Promises` is one of these promises.)
 ///
 /// What is answered, written and said is the command's answer to its files, of which there is at most one where the
 /// shelf is observable, for the same orders and devices before and after. Three things may come between: the shelf
@@ -161,8 +165,8 @@ fn run<'a, S: Shelf, K: Sink>(
 /// node where a power is asked for: such a rule file is never too long. So does one on a bench, if its order and its
 /// device are there. What follows is so where the report was written whole. On each channel the run passes a prefix of
 /// what as many rounds of the program as it has moves pass under the script, and where it reports rest all that the
-/// program passes. Where one by an order reports rest, no order makes more moves. Where its program comes to rest under
-/// the script, so does the run, if the limit is high enough. With delays of at most some time it does so no later than
+/// program passes. Where it reports rest, no order makes more moves. Where its program comes to rest under the script,
+/// so does the run, if the limit is high enough. With delays of at most some time it does so no later than
 /// the most moves at that time each; and where its last move comes later than 2 · (2 nodes + 1) of these times for each
 /// of n rounds of the program, with a reset node two more, or it rests, it has passed what these rounds pass. (Where
 /// calls share bodies, twice as many for each round, by the nodes of the net in which each call has a copy.)
@@ -170,7 +174,8 @@ fn run<'a, S: Shelf, K: Sink>(
 /// A run of a rule file that `compile` wrote on a bench finds no hazard against whatever device. Where its report was
 /// written whole, what has passed is a prefix of what its program passes under the script of the device's notes, of all
 /// that it offered and as many acceptances as it was ready for, and all of it where the report says rest; then no order
-/// makes more moves under that script.
+/// makes more moves under that script. Where its program comes to rest under that script, so does the run, if the limit
+/// is high enough.
 ///
 /// Where `simulate`, `bench` or `grow --sum` writes all of its report, the order that it asks for got its seed, and was
 /// then asked before each move of the run with the list of all moves that are enabled; its picks are the new entries of
@@ -187,44 +192,14 @@ pub fn chp_main<S: Shelf, K: Sink, W: Sink>(
     say: &mut W,
     players: &mut Players,
 ) -> Status
-    ensures ended { (appended : List ℕ) × (line : List ℕ) × Ends (asked_by words.now) (given_of S.Shelf shelf.old)
-        (handed_of Picker-box Peer-box players.old players.new) (S.faults shelf.old) (S.faults shelf.new)
-        (K.faults out.old) (K.faults out.new) result appended line × IsAppended K.Sink out.old out.new appended
-        × (¬ Fails W.faults say.old say.new → IsAppended W.Sink say.old say.new line) }
-    ensures complete { (answer : Answer) → NothingFails S.Shelf shelf.old shelf.new K.Sink out.old out.new →
-        AnswersTo (asked_by words.now) (given_of S.Shelf shelf.old) (handed_of Picker-box Peer-box players.old
-        players.new) answer → (result ≡ status_of answer) ⊎ (result ≡ Status.NoMemory) }
-    ensures served { (command : Asked) → NothingFails S.Shelf shelf.old shelf.new K.Sink out.old out.new →
-        asked_by words.now ≡ Some command → IsToServe command (given_of S.Shelf shelf.old) (handed_of Picker-box
-        Peer-box players.old players.new) → EndsServed command result ⊎ (result ≡ Status.NoMemory) }
-    ensures compiled { (p : TypedProgram) → NothingFails S.Shelf shelf.old shelf.new K.Sink out.old out.new →
-        IsCompiledToServe (asked_by words.now) (given_of S.Shelf shelf.old) (handed_of Picker-box Peer-box
-        players.old players.new) p → IsComparedWith (asked_by words.now) (given_of S.Shelf shelf.old) p →
-        (result ≡ Status.Done) ⊎ (result ≡ Status.NoMemory) }
-    ensures usage { result ≡ Status.Usage → asked_by words.now ≡ None }
-    ensures read { result ≡ Status.Read → (name : List ℕ) × IsFile (asked_by words.now) name
-        × IsReadFault (S.faults shelf.old) (S.faults shelf.new) (S.tells shelf.old) (S.holds shelf.old name) }
-    ensures write { result ≡ Status.Write → Fails K.faults out.old out.new }
-    ensures silent { is_whole result ≡ false → result ≢ Status.Write → IsAppended K.Sink out.old out.new [] }
-    ensures stay { StaysBut Picker-box Peer-box (asked_by words.now) players.old players.new }
-    ensures unasked { StaysUnasked result players.old players.new }
-    ensures shown { (command : Asked) → asked_by words.now ≡ Some command → is_whole result ≡ true →
-        ShowsEnabled Picker-box Peer-box command (given_of S.Shelf shelf.old) players.old players.new }
-    ensures carried { (c : AskedCompilation) → asked_by words.now ≡ Some (compiles c) → result ≡ Status.Done →
-        (file : List ℕ) × IsAppended K.Sink out.old out.new file
-        × IsFaithfulFile c (given_of S.Shelf shelf.old) file }
-    ensures calm { (p : TypedProgram) → S.tells shelf.old ≡ true →
-        RunsCompiled (asked_by words.now) (given_of S.Shelf shelf.old) p → result ≢ Status.Hazard }
-    ensures agreed { (p : TypedProgram) → S.tells shelf.old ≡ true →
-        RunsCompiled (asked_by words.now) (given_of S.Shelf shelf.old) p →
-        IsComparedWith (asked_by words.now) (given_of S.Shelf shelf.old) p → result ≢ Status.Differs }
-    ensures steady { (p : TypedProgram) → S.tells shelf.old ≡ true →
-        RunsCompiled (asked_by words.now) (given_of S.Shelf shelf.old) p → is_whole result ≡ true →
-        (report : List ℕ) × IsAppended K.Sink out.old out.new report × IsSteady (asked_by words.now)
-        (given_of S.Shelf shelf.old) (handed_of Picker-box Peer-box players.old players.new) result report }
-    ensures shelf { KeepsShelf S.Shelf shelf.old shelf.new }
-    ensures out { KeepsSink K.Sink out.old out.new }
-    ensures say { KeepsSink W.Sink say.old say.new }
+    ensures promised { Promises (record {
+      asked = asked_by words.now;
+      shelf = shelf_use S.Shelf shelf.old shelf.new;
+      out = sink_use K.Sink out.old out.new;
+      say = sink_use W.Sink say.old say.new;
+      objects = objects Picker-box Peer-box players.old players.new;
+      status = result;
+    }) }
 {
     one_answer();
     serves_all();

@@ -1,11 +1,12 @@
 //! The line that is said of a command that didn't end well. It is written in pieces and takes no memory, and its
 //! faults change nothing else.
 
-ghost use Rattle.std.specs.Prelude.{◌≡◌, ◌≤◌, ◌++◌, true, OnOk, OnErr};
+ghost use Rattle.std.specs.Prelude.{◌≡◌, ℕ, ◌≤◌, ◌++◌, true, take, OnOk, OnErr};
 ghost use Rattle.std.specs.List.{flat_map};
 ghost use Rattle.chp_edge.specs.Faults.{Rose};
 ghost use Rattle.command_answers.specs.Lines.{refused_line, bad_file_line, too_long_line, nodes_line, forms_line, fault_name, has_two_places};
 ghost use Rattle.command_answers.specs.Replies.{refusal_line, stop_line, end_line};
+ghost use Rattle.command_answers.specs.Saying.{IsSaid};
 
 use crate::answer::{End, Ending, Refusal, Stop};
 use chp_base::{Fault, FaultCode};
@@ -19,6 +20,8 @@ fn put_pieces<W: Sink>(say: &mut W, pieces: &[&str]) -> Result<(), Failed>
     ensures whole { OnOk result (W.tells say.old ≡ true →
         W.written say.new ≡ W.written say.old ++ flat_map (λ piece. piece.now) pieces.now) }
     ensures failed { OnErr result (Rose (W.faults say.old) (W.faults say.new)) }
+    ensures prefix { OnErr result ((n : ℕ) × (W.tells say.old ≡ true →
+        W.written say.new ≡ W.written say.old ++ take n (flat_map (λ piece. piece.now) pieces.now))) }
 {
     for piece in pieces {
         write_all(say, piece.as_bytes())?;
@@ -26,12 +29,11 @@ fn put_pieces<W: Sink>(say: &mut W, pieces: &[&str]) -> Result<(), Failed>
     Ok(())
 }
 
-/// Says the pieces. Faults are ignored.
+/// Says the pieces, up to the first fault.
 fn say_pieces<W: Sink>(say: &mut W, pieces: &[&str])
     ensures faults { W.faults say.old ≤ W.faults say.new }
     ensures same { W.tells say.new ≡ W.tells say.old }
-    ensures said { W.tells say.old ≡ true → ¬ Rose (W.faults say.old) (W.faults say.new) →
-        W.written say.new ≡ W.written say.old ++ flat_map (λ piece. piece.now) pieces.now }
+    ensures said { IsSaid W.Sink say.old say.new (flat_map (λ piece. piece.now) pieces.now) }
 {
     let _ = put_pieces(say, pieces);
 }
@@ -84,8 +86,7 @@ fn names_two_places(code: FaultCode) -> bool
 fn say_refused_text<W: Sink>(say: &mut W, fault: &Fault)
     ensures faults { W.faults say.old ≤ W.faults say.new }
     ensures same { W.tells say.new ≡ W.tells say.old }
-    ensures said { W.tells say.old ≡ true → ¬ Rose (W.faults say.old) (W.faults say.new) →
-        W.written say.new ≡ W.written say.old ++ refused_line fault.now }
+    ensures said { IsSaid W.Sink say.old say.new (refused_line fault.now) }
 {
     let mut number = Buffer::new();
     let mut from = Buffer::new();
@@ -129,8 +130,7 @@ fn say_refused_text<W: Sink>(say: &mut W, fault: &Fault)
 fn say_bad_file<W: Sink>(say: &mut W, number: u8, name: &str, line: u32)
     ensures faults { W.faults say.old ≤ W.faults say.new }
     ensures same { W.tells say.new ≡ W.tells say.old }
-    ensures said { W.tells say.old ≡ true → ¬ Rose (W.faults say.old) (W.faults say.new) →
-        W.written say.new ≡ W.written say.old ++ bad_file_line number name.now line }
+    ensures said { IsSaid W.Sink say.old say.new (bad_file_line number name.now line) }
 {
     let mut cause = Buffer::new();
     let mut place = Buffer::new();
@@ -146,8 +146,7 @@ fn say_bad_file<W: Sink>(say: &mut W, number: u8, name: &str, line: u32)
 fn say_too_long<W: Sink>(say: &mut W, name: &str, limit: usize)
     ensures faults { W.faults say.old ≤ W.faults say.new }
     ensures same { W.tells say.new ≡ W.tells say.old }
-    ensures said { W.tells say.old ≡ true → ¬ Rose (W.faults say.old) (W.faults say.new) →
-        W.written say.new ≡ W.written say.old ++ too_long_line name.now limit }
+    ensures said { IsSaid W.Sink say.old say.new (too_long_line name.now limit) }
 {
     let mut most = Buffer::new();
     let most = most.format(limit);
@@ -158,8 +157,7 @@ fn say_too_long<W: Sink>(say: &mut W, name: &str, limit: usize)
 fn say_nodes<W: Sink>(say: &mut W, count: u64)
     ensures faults { W.faults say.old ≤ W.faults say.new }
     ensures same { W.tells say.new ≡ W.tells say.old }
-    ensures said { W.tells say.old ≡ true → ¬ Rose (W.faults say.old) (W.faults say.new) →
-        W.written say.new ≡ W.written say.old ++ nodes_line count }
+    ensures said { IsSaid W.Sink say.old say.new (nodes_line count) }
 {
     let mut number = Buffer::new();
     let number = number.format(count);
@@ -170,8 +168,7 @@ fn say_nodes<W: Sink>(say: &mut W, count: u64)
 fn say_forms<W: Sink>(say: &mut W, count: u64)
     ensures faults { W.faults say.old ≤ W.faults say.new }
     ensures same { W.tells say.new ≡ W.tells say.old }
-    ensures said { W.tells say.old ≡ true → ¬ Rose (W.faults say.old) (W.faults say.new) →
-        W.written say.new ≡ W.written say.old ++ forms_line count }
+    ensures said { IsSaid W.Sink say.old say.new (forms_line count) }
 {
     let mut number = Buffer::new();
     let number = number.format(count);
@@ -182,8 +179,7 @@ fn say_forms<W: Sink>(say: &mut W, count: u64)
 fn say_refusal<W: Sink>(say: &mut W, refusal: &Refusal)
     ensures faults { W.faults say.old ≤ W.faults say.new }
     ensures same { W.tells say.new ≡ W.tells say.old }
-    ensures said { W.tells say.old ≡ true → ¬ Rose (W.faults say.old) (W.faults say.new) →
-        W.written say.new ≡ W.written say.old ++ refusal_line refusal.now }
+    ensures said { IsSaid W.Sink say.old say.new (refusal_line refusal.now) }
 {
     match refusal {
         Refusal::Text(fault) => say_refused_text(say, fault),
@@ -207,8 +203,7 @@ fn say_refusal<W: Sink>(say: &mut W, refusal: &Refusal)
 fn say_stop<W: Sink>(say: &mut W, stop: &Stop)
     ensures faults { W.faults say.old ≤ W.faults say.new }
     ensures same { W.tells say.new ≡ W.tells say.old }
-    ensures said { W.tells say.old ≡ true → ¬ Rose (W.faults say.old) (W.faults say.new) →
-        W.written say.new ≡ W.written say.old ++ stop_line stop.now }
+    ensures said { IsSaid W.Sink say.old say.new (stop_line stop.now) }
 {
     match stop {
         Stop::Refused(refusal) => say_refusal(say, refusal),
@@ -221,8 +216,7 @@ fn say_stop<W: Sink>(say: &mut W, stop: &Stop)
 pub fn tell<W: Sink>(say: &mut W, end: &End)
     ensures faults { W.faults say.old ≤ W.faults say.new }
     ensures same { W.tells say.new ≡ W.tells say.old }
-    ensures said { W.tells say.old ≡ true → ¬ Rose (W.faults say.old) (W.faults say.new) →
-        W.written say.new ≡ W.written say.old ++ end_line end.now }
+    ensures said { IsSaid W.Sink say.old say.new (end_line end.now) }
 {
     match end {
         End::Whole(Ending::Done) => {}

@@ -1,7 +1,7 @@
 //! The lines of a case.
 
 use crate::bench::NetBench;
-use crate::cells::{emit, put_again, put_rules, put_select};
+use crate::cells::{emit, put_again, put_expression, put_rules, put_select};
 use crate::names::{bits, name, symbols};
 use crate::nets::tell_net;
 use crate::orders::orders;
@@ -10,6 +10,7 @@ use crate::rounds::rounds_within;
 use crate::runs::moved;
 use crate::scripts::offers;
 use crate::streamed::{circuit, stream};
+use crate::waves::unwave;
 use case_text::is_spelled;
 use prs_core::Rules;
 use std::alloc::{AllocError, Global};
@@ -52,6 +53,7 @@ fn tell(
         "show" => show(alloc, text, page),
         "tokens" => show_tokens(alloc, text, page),
         "stream" => stream(alloc, text, page),
+        "unwave" => unwave(alloc, text, page),
         "rounds-within" => return rounds_within(alloc, text, rest, page),
         _ => return Ok(false),
     };
@@ -75,6 +77,7 @@ fn tell_below(
         "written" => put_rules(page, &bench.rules),
         "selection" => put_select(alloc, page),
         "repetition" => put_again(alloc, page),
+        "expression" => put_expression(alloc, page),
         "show-net" | "readers" | "first" => tell_net(alloc, bench, word, page),
         "moves" => return moved(alloc, bench, rest, page),
         "orders" => return orders(alloc, bench, rest, page),

@@ -9,9 +9,12 @@ use cell_parallel::emit_tree;
 use cell_select::{AgainPorts, SelectPorts, emit_again, emit_select};
 use cell_sequence::{QPorts, emit_loop, emit_q, emit_skip};
 use cell_variable::{emit_or, emit_variable, emit_write_site};
+use chp_base::Span;
+use function_blocks::emit_expr;
 use prs_core::{Guard, Rules, Term};
 use std::alloc::{AllocError, Global};
 use std::fmt::Write;
+use width_check::TExpr;
 
 fn pass_below(nodes: &[u32], count: u32) -> bool
     ensures { result ≡ list_all (λ node. nat_lt node count) nodes.now }
@@ -249,6 +252,23 @@ pub fn put_again(alloc: Global, page: &mut String) -> Result<(), AllocError> {
     let ports = repetition(alloc)?;
     let mut rules = Rules::new(alloc, 24)?;
     emit_again(alloc, &ports, &mut rules)?;
+    put_rules(page, &rules)
+}
+
+/// The rails and the rules of the expression that reads a variable of one bit, whose block begins at node 3, under the
+/// request 2, with its own nodes from 8 on.
+pub fn put_expression(alloc: Global, page: &mut String) -> Result<(), AllocError> {
+    let read = TExpr::Read {
+        var: 0,
+        high: 0,
+        low: 0,
+        at: Span { from: 0, to: 1 },
+    };
+    let mut rules = Rules::new(alloc, 10)?;
+    let rails = emit_expr(alloc, &read, 2, 8, &[3], &mut rules)?;
+    for rail in &rails {
+        writeln!(page, "rail {rail}")?;
+    }
     put_rules(page, &rules)
 }
 

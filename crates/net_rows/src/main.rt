@@ -1,5 +1,5 @@
 //! Worked cases of the calls below the top call: texts, rule files in pieces, rounds, names, scripts, cells, nets and
-//! their runs. They are in data/, and the output that they must give in the file stdout; docs/TESTS.md says how they
+//! their runs, and waves. They are in data/, and the output that they must give in the file stdout; docs/TESTS.md says how they
 //! are written.
 #![tactic(auto)]
 
@@ -15,13 +15,14 @@ mod rounds;
 mod runs;
 mod scripts;
 mod streamed;
+mod waves;
 
 use bench::NetBench;
 use cases::obey;
 use std::{fs, io};
 
-const TOPICS: [&str; 8] = [
-    "texts", "stream", "rounds", "names", "scripts", "cells", "nets", "ages",
+const TOPICS: [&str; 9] = [
+    "texts", "stream", "rounds", "names", "scripts", "cells", "nets", "ages", "waves",
 ];
 
 fn main(rt: HostRuntime) -> io::Result<()> {

@@ -24,7 +24,7 @@ returns-in-Err-clause-ended g c = ([], no_memory, λ told. sym (append-nil _))
 pub returns-in-Err-answer-clause-ended : goal.returns-in-Err-answer-clause-ended
 returns-in-Err-answer-clause-ended g c =
     let named : asked_by c.args.words.now ≡ Some (asked c.in-Ok-Some.command) = search rules in
-    ([], stopped_ends _ _ _ _ _ _ _ (asked c.in-Ok-Some.command) named c.in-Err-answer.stop c.in-Err-answer.ensures.stopped, λ told. sym (append-nil _))
+    ([], stopped_ends _ (asked c.in-Ok-Some.command) named c.in-Err-answer.stop c.in-Err-answer.ensures.stopped, λ told. sym (append-nil _))
 
 pub returns-in-Ok-write-clause-ended : goal.returns-in-Ok-write-clause-ended
 returns-in-Ok-write-clause-ended g c =
@@ -32,7 +32,7 @@ returns-in-Ok-write-clause-ended g c =
     let reply = c.in-Ok.reply in
     let bytes = reply_bytes reply in (
       bytes,
-      rw c.end-end.ensures (whole (reply_end reply) bytes (answers_of _ _ _ (asked c.in-Ok-Some.command) (told_reply reply) named c.in-Ok.ensures.answered)),
+      rw c.end-end.ensures (whole (reply_end reply) bytes (answers_of _ (asked c.in-Ok-Some.command) (told_reply reply) named c.in-Ok.ensures.answered)),
       c.in-Ok-write.ensures.whole,
     )
 
@@ -44,7 +44,7 @@ returns-clause-ended g c =
     let bytes = reply_bytes reply in
     let prefix = c.in-Err-write.ensures.prefix in (
       take prefix.0 bytes,
-      cut_off (reply_end reply) bytes prefix.0 (answers_of _ _ _ (asked c.in-Ok-Some.command) (told_reply reply) named c.in-Ok.ensures.answered)
+      cut_off (reply_end reply) bytes prefix.0 (answers_of _ (asked c.in-Ok-Some.command) (told_reply reply) named c.in-Ok.ensures.answered)
           prefix.1 c.in-Err-write.ensures.failed,
       prefix.2,
     )

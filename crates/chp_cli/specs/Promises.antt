@@ -1,0 +1,104 @@
+-- What is promised of a call of `chp_main`: each field is a promise.
+use Rattle.std.specs.Prelude.{◌≡◌, ◌≢◌, ◌⊎◌, ℕ, true, false, List, [], Option, None, Some}
+use Rattle.width_check.specs.Processes.{TypedProgram}
+use Rattle.command_answers.specs.declared.status.Status.{Status}
+use Rattle.command_answers.specs.declared.status.Status.TheVariants as status
+use Rattle.command_answers.specs.Answers.{Answer, Given, status_of}
+use Rattle.bench_commands.specs.HandedIn.{HandedIn}
+use Rattle.command_answers.specs.Saying.{IsSaid}
+use Rattle.command_answers.specs.Statuses.{is_whole}
+use Rattle.command_words.specs.CommandWords.{Asked, compiles}
+use Rattle.command_words.specs.CompileWords.{AskedCompilation}
+use Rattle.program_commands.specs.Compiling.{IsFaithfulFile}
+use Rattle.simulation_commands.specs.Simulating.{StaysUnasked}
+use Rattle.chp_cli.specs.Commands.{EndsServed, IsToServe}
+use Rattle.chp_cli.specs.CompiledRuns.{IsComparedWith, IsReportOf, RunsCompiled}
+use Rattle.chp_cli.specs.Ends.{AnswersTo, Ends, IsFile}
+use Rattle.chp_cli.specs.Handed.{Fails, FailsToRead, IsAppended, KeepsShelf, KeepsSink, NothingFails, Objects, ShelfUse, SinkUse, StaysBut, faults_put, faults_read, given_of, handed_of}
+use Rattle.chp_cli.specs.MadeRuns.{EndsAllAtRest, FollowsRounds, MadeRun}
+use Rattle.chp_cli.specs.Resting.{KeepsPaceWith}
+use Rattle.chp_cli.specs.ServedRuns.{IsCompiledToServe}
+use Rattle.chp_cli.specs.Settings.{Setting}
+use Rattle.chp_cli.specs.Shown.{ShowsEnabled}
+
+-- What a call was given, before it and after it, the command that its words ask for, if they are one's form, and the
+-- status that it returned.
+pub record Call (S K W : Type 0) {B : Type 0} (Order : B → Type 0) {D : Type 0} (Device : D → Type 0) : Type 0 where
+  pub asked : Option Asked
+  pub shelf : ShelfUse S
+  pub out : SinkUse K
+  pub say : SinkUse W
+  pub objects : Objects Order Device
+  pub status : Status
+
+abbrev pub given : {S K W B D : Type 0} {Order : B → Type 0} {Device : D → Type 0} → Call S K W Order Device → Given
+given call = given_of call.shelf
+
+abbrev pub handed : {S K W B D : Type 0} {Order : B → Type 0} {Device : D → Type 0} → Call S K W Order Device →
+    HandedIn
+handed call = handed_of call.objects
+
+abbrev pub setting : {S K W B D : Type 0} {Order : B → Type 0} {Device : D → Type 0} → Call S K W Order Device →
+    Setting
+setting call = record {
+  asked = call.asked;
+  given = given call;
+  handed = handed call;
+  read = faults_read call.shelf;
+  put = faults_put call.out;
+}
+
+-- it is so, or memory ran out
+abbrev pub OrNoMemory : Status → Type 0 → Type 0
+OrNoMemory ended Is = Is ⊎ (ended ≡ status.NoMemory)
+
+-- the command makes a run of the rule file that `compile` writes for the program, and this text is its report
+pub record IsReported {S K W B D : Type 0} {Order : B → Type 0} {Device : D → Type 0} (call : Call S K W Order Device)
+    (p : TypedProgram) (text : List ℕ) (run : MadeRun) : Type 0 where
+  pub compiled : RunsCompiled (setting call) p
+  pub report : IsReportOf (setting call) call.status text run
+
+pub record Promises {S K W B D : Type 0} {Order : B → Type 0} {Device : D → Type 0} (call : Call S K W Order Device) :
+    Type 0 where
+  -- it ends in a way of `Ends`, which says what is appended to the output and which line is said
+  pub ended : (appended : List ℕ) × (line : List ℕ) × Ends (setting call) call.status appended line
+      × IsAppended call.out appended × IsSaid call.say.members call.say.before call.say.after line
+  -- where no device fails, its status is that of the command's answer;
+  pub complete : (answer : Answer) → NothingFails call.shelf call.out → AnswersTo (setting call) answer →
+      OrNoMemory call.status (call.status ≡ status_of answer)
+  -- where besides the command is given what it is to be served with, it doesn't refuse;
+  pub served : (command : Asked) → NothingFails call.shelf call.out → call.asked ≡ Some command →
+      IsToServe command (given call) (handed call) → OrNoMemory call.status (EndsServed command call.status)
+  -- and where it is given what a run of a file that `compile` wrote is to be served with, it ends well
+  pub compiled : (p : TypedProgram) → NothingFails call.shelf call.out → IsCompiledToServe (setting call) p →
+      IsComparedWith call.asked (given call) p → OrNoMemory call.status (call.status ≡ status.Done)
+  -- the words are no form of a command; a file of the command can't be read; the output failed
+  pub usage : call.status ≡ status.Usage → call.asked ≡ None
+  pub read : call.status ≡ status.Read → (name : List ℕ) × IsFile call.asked name × FailsToRead call.shelf name
+  pub write : call.status ≡ status.Write → Fails call.out
+  -- nothing is appended where neither all is written nor the output failed
+  pub silent : is_whole call.status ≡ false → call.status ≢ status.Write → IsAppended call.out []
+  -- all orders and devices are there, and none was used but the one that is asked for; none at all by a refusal
+  pub stay : StaysBut call.asked call.objects
+  pub unasked : StaysUnasked call.status call.objects.before call.objects.after
+  -- before each move of the run that is reported the order is shown all enabled moves
+  pub shown : (command : Asked) → call.asked ≡ Some command → is_whole call.status ≡ true →
+      ShowsEnabled command (given call) call.objects
+  -- what `compile` wrote is the rule file of a net that carries the program of its file, and keeps pace with it
+  pub carried : (c : AskedCompilation) → call.asked ≡ Some (compiles c) → call.status ≡ status.Done →
+      (file : List ℕ) × IsAppended call.out file × IsFaithfulFile c (given call) file
+  -- a run of such a file finds no hazard; it agrees with its program; and where all is written that is its report
+  pub calm : (p : TypedProgram) → RunsCompiled (setting call) p → call.status ≢ status.Hazard
+  pub agreed : (p : TypedProgram) → RunsCompiled (setting call) p → IsComparedWith call.asked (given call) p →
+      call.status ≢ status.Differs
+  pub reported : (p : TypedProgram) → RunsCompiled (setting call) p → is_whole call.status ≡ true →
+      (text : List ℕ) × (run : MadeRun) × IsAppended call.out text × IsReported call p text run
+  -- no order makes a run longer that ended at rest; a run passes what its program passes; and it keeps pace with that
+  pub longest : (p : TypedProgram) (text : List ℕ) (run : MadeRun) → IsReported call p text run → EndsAllAtRest run
+  pub follows : (p : TypedProgram) (text : List ℕ) (run : MadeRun) → IsReported call p text run → FollowsRounds p run
+  pub keeps_pace : (p : TypedProgram) (text : List ℕ) (run : MadeRun) (is : IsReported call p text run) →
+      KeepsPaceWith is.compiled.holds.reset is.compiled.holds.bodies run
+  -- each device is as observable as it was, and holds what it held; the count of its faults hasn't fallen
+  pub shelf : KeepsShelf call.shelf
+  pub out : KeepsSink call.out
+  pub say : KeepsSink call.say
