@@ -29,7 +29,7 @@ pub record RunsCompiled (s : Setting) (p : TypedProgram) : Type 0 where
   pub made : net_file s.asked ≡ Some file
   pub holds : HoldsCompiled s.given file p
 
--- it compares the run with this program, or with none
+-- it compares the run with this program, or with none, as `bench` and `waves` do
 abbrev pub IsComparedWith : Option Asked → Given → TypedProgram → Type 0
 IsComparedWith (Some (simulates s)) given p = IsReferredTo given s.against p
 IsComparedWith (Some (times t)) given p = IsReferredTo given t.against p

@@ -1,4 +1,5 @@
--- What a call does to what it is given: a shelf, sinks, orders and devices, each seen by the ghost members of its trait.
+-- What a call does to what it is given: a shelf, sinks, orders and devices, each seen by the ghost members of its
+-- trait.
 use Rattle.std.specs.Prelude.{◌≡◌, ℕ, ◌≤◌, ◌++◌, true, List, Option, map}
 use Rattle.std.specs.declared.alloc.Global.{Global}
 use Rattle.std.specs.declared.dyn_box.DynBox.{DynBox}

@@ -21,8 +21,8 @@ use Rattle.chp_cli.specs.ServedRuns.{IsCompiledToServe}
 use Rattle.chp_cli.specs.Settings.{Setting}
 use Rattle.chp_cli.specs.Shown.{ShowsEnabled}
 
--- What a call was given, before it and after it, the command that its words ask for, if they are one's form, and the
--- status that it returned.
+-- A call: the command that its words ask for, if they are one's form; the shelf, the output and where the line is said,
+-- and the orders and the devices that are handed in, each before it and after it; and the status that it returned.
 pub record Call (S K W : Type 0) {B : Type 0} (Order : B → Type 0) {D : Type 0} (Device : D → Type 0) : Type 0 where
   pub asked : Option Asked
   pub shelf : ShelfUse S
@@ -48,57 +48,66 @@ setting call = record {
   put = faults_put call.out;
 }
 
--- it is so, or memory ran out
+-- It is so, or the status is that of want of memory, for which no cause is asked: it may come at any point.
 abbrev pub OrNoMemory : Status → Type 0 → Type 0
 OrNoMemory ended Is = Is ⊎ (ended ≡ status.NoMemory)
 
--- the command makes a run of the rule file that `compile` writes for the program, and this text is its report
-pub record IsReported {S K W B D : Type 0} {Order : B → Type 0} {Device : D → Type 0} (call : Call S K W Order Device)
-    (p : TypedProgram) (text : List ℕ) (run : MadeRun) : Type 0 where
-  pub compiled : RunsCompiled (setting call) p
+-- The command makes a run of a rule file that `compile` writes for the program, and this text is the report of this
+-- run; that it was appended to the output is said apart.
+pub record Reported {S K W B D : Type 0} {Order : B → Type 0} {Device : D → Type 0}
+    (call : Call S K W Order Device) (p : TypedProgram) (text : List ℕ) (run : MadeRun) : Type 0 where
+  pub runs : RunsCompiled (setting call) p
   pub report : IsReportOf (setting call) call.status text run
 
 pub record Promises {S K W B D : Type 0} {Order : B → Type 0} {Device : D → Type 0} (call : Call S K W Order Device) :
     Type 0 where
-  -- it ends in a way of `Ends`, which says what is appended to the output and which line is said
+  -- it ends in a way of `Ends`, which says what is appended to the output and which line is said; of that a prefix is
+  -- said, and all of it where no fault came
   pub ended : (appended : List ℕ) × (line : List ℕ) × Ends (setting call) call.status appended line
       × IsAppended call.out appended × IsSaid call.say.members call.say.before call.say.after line
-  -- where no device fails, its status is that of the command's answer;
+  -- Let the shelf be observable, and let neither it nor the output fail: its status is that of an answer of the
+  -- command to the files, with the orders and devices as they were and as they are now, if there is one;
   pub complete : (answer : Answer) → NothingFails call.shelf call.out → AnswersTo (setting call) answer →
       OrNoMemory call.status (call.status ≡ status_of answer)
-  -- where besides the command is given what it is to be served with, it doesn't refuse;
+  -- where the command is given what it is to be served with, it doesn't refuse;
   pub served : (command : Asked) → NothingFails call.shelf call.out → call.asked ≡ Some command →
       IsToServe command (given call) (handed call) → OrNoMemory call.status (EndsServed command call.status)
-  -- and where it is given what a run of a file that `compile` wrote is to be served with, it ends well
+  -- and where it is given what a run of a file that `compile` wrote is to be served with, it ends well, if it is to
+  -- compare that run with the file's program or with none
   pub compiled : (p : TypedProgram) → NothingFails call.shelf call.out → IsCompiledToServe (setting call) p →
       IsComparedWith call.asked (given call) p → OrNoMemory call.status (call.status ≡ status.Done)
-  -- the words are no form of a command; a file of the command can't be read; the output failed
+  -- with these statuses the words are no form of a command; a file of the command isn't there or the shelf failed; the
+  -- output failed
   pub usage : call.status ≡ status.Usage → call.asked ≡ None
   pub read : call.status ≡ status.Read → (name : List ℕ) × IsFile call.asked name × FailsToRead call.shelf name
   pub write : call.status ≡ status.Write → Fails call.out
-  -- nothing is appended where neither all is written nor the output failed
+  -- nothing is appended but where all is written or the output failed
   pub silent : is_whole call.status ≡ false → call.status ≢ status.Write → IsAppended call.out []
-  -- all orders and devices are there, and none was used but the one that is asked for; none at all by a refusal
+  -- all orders and devices are there, and none was used but the ones that are asked for; and these weren't, where the
+  -- words are no form, a file can't be read or it refuses
   pub stay : StaysBut call.asked call.objects
   pub unasked : StaysUnasked call.status call.objects.before call.objects.after
-  -- before each move of the run that is reported the order is shown all enabled moves
+  -- where all is written, the order that was asked for got its seed, and before each move of the run the list of all
+  -- enabled moves
   pub shown : (command : Asked) → call.asked ≡ Some command → is_whole call.status ≡ true →
       ShowsEnabled command (given call) call.objects
   -- what `compile` wrote is the rule file of a net that carries the program of its file, and keeps pace with it
   pub carried : (c : AskedCompilation) → call.asked ≡ Some (compiles c) → call.status ≡ status.Done →
       (file : List ℕ) × IsAppended call.out file × IsFaithfulFile c (given call) file
-  -- a run of such a file finds no hazard; it agrees with its program; and where all is written that is its report
+  -- of a run of a file that holds the net of a program, as each one does that `compile` wrote: it finds no hazard; it
+  -- agrees with that program; and what is written whole is the report of a run
   pub calm : (p : TypedProgram) → RunsCompiled (setting call) p → call.status ≢ status.Hazard
   pub agreed : (p : TypedProgram) → RunsCompiled (setting call) p → IsComparedWith call.asked (given call) p →
       call.status ≢ status.Differs
   pub reported : (p : TypedProgram) → RunsCompiled (setting call) p → is_whole call.status ≡ true →
-      (text : List ℕ) × (run : MadeRun) × IsAppended call.out text × IsReported call p text run
-  -- no order makes a run longer that ended at rest; a run passes what its program passes; and it keeps pace with that
-  pub longest : (p : TypedProgram) (text : List ℕ) (run : MadeRun) → IsReported call p text run → EndsAllAtRest run
-  pub follows : (p : TypedProgram) (text : List ℕ) (run : MadeRun) → IsReported call p text run → FollowsRounds p run
-  pub keeps_pace : (p : TypedProgram) (text : List ℕ) (run : MadeRun) (is : IsReported call p text run) →
-      KeepsPaceWith is.compiled.holds.reset is.compiled.holds.bodies run
-  -- each device is as observable as it was, and holds what it held; the count of its faults hasn't fallen
+      (text : List ℕ) × (run : MadeRun) × IsAppended call.out text × Reported call p text run
+  -- of each run of which a text is the report: no order makes it longer where it ended at rest; it passes a prefix of
+  -- what its program passes, and at rest all; and it comes to rest where that does, and keeps up with it
+  pub longest : (p : TypedProgram) (text : List ℕ) (run : MadeRun) → Reported call p text run → EndsAllAtRest run
+  pub follows : (p : TypedProgram) (text : List ℕ) (run : MadeRun) → Reported call p text run → FollowsRounds p run
+  pub keeps_pace : (p : TypedProgram) (text : List ℕ) (run : MadeRun) (is : Reported call p text run) →
+      KeepsPaceWith is.runs.holds.reset is.runs.holds.bodies run
+  -- the shelf holds what it held; it and both sinks are as observable as they were, and no count of faults has fallen
   pub shelf : KeepsShelf call.shelf
   pub out : KeepsSink call.out
   pub say : KeepsSink call.say

@@ -9,8 +9,8 @@ pub record Counts : Type 0 where
   pub before : ℕ
   pub after : ℕ
 
--- The command that the words ask for, if they are one's form; what the shelf gives; what is handed in; and the faults of
--- the shelf and of the output.
+-- The command that the words ask for, if they are one's form; what the shelf gives; what is handed in; and the faults
+-- of the shelf and of the output.
 pub record Setting : Type 0 where
   pub asked : Option Asked
   pub given : Given

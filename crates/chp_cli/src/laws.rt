@@ -151,8 +151,8 @@ pub fn carried_runs_agree()
     safe_moves_bring_no_hazard();
 }
 
-/// Law: where the simulation of such a rule file reports rest, by an order or by delays, no order makes more moves of it
-/// under that script from that state, and each run that rests has as many moves, of each node as many. So it is of a
+/// Law: where the simulation of such a rule file reports rest, by an order or by delays, no order makes more moves of
+/// it under that script from that state, and each run that rests has as many moves, of each node as many. So it is of a
 /// run on a bench, under the script of all that the device offered and took.
 pub fn carried_runs_have_one_length()
     ensures simulated { (s : AskedRun) (given : Given) (played : Played) (p : TypedProgram) →
@@ -308,11 +308,12 @@ pub fn compiled_runs_follow()
 
 /// Law: where a program goes no further after m steps under the script, a run of the rule file that `compile` wrote for
 /// it ends at rest, if its limit is above the most moves that its net makes till then: by whatever order it is made, or
-/// by whatever delays, and on a bench under the script of all that the device offered and took. It has passed what the program has, and `done` is high exactly where that has ended. Where no
-/// move takes longer than some time, the last one comes no later than the most moves at that time each; and a timed run
-/// whose last move comes later than 2 · (2 nodes + 1) of these times for each of n rounds of the program, with a reset
-/// node two more, or that rests, has passed all that these rounds pass. In a net with shared bodies it is twice as many
-/// for each round, and the nodes are those of the net with copies.
+/// by whatever delays, and on a bench under the script of all that the device offered and took. It has passed what the
+/// program has, and `done` is high exactly where that has ended. Where no move takes longer than some time, the last
+/// one comes no later than the most moves at that time each; and a timed run whose last move comes later than
+/// 2 · (2 nodes + 1) of these times for each of n rounds of the program, with a reset node two more, or that rests, has
+/// passed all that these rounds pass. In a net with shared bodies it is twice as many for each round, and the nodes are
+/// those of the net with copies.
 pub fn compiled_runs_rest()
     ensures simulated { (s : AskedRun) (given : Given) (played : Played) (p : TypedProgram)
         (holds : HoldsCompiled given s.net p) (answer : Answer) (f : IsFileSimulated s given played answer) →

@@ -71,8 +71,8 @@ Halts IsAnswer (Refused refusal) = IsAnswer (refusing refusal)
 Halts IsAnswer (Unread name) = ⊥
 Halts IsAnswer NoMemory = Unit {0}
 
--- a file of the command can't be read: a read fault of that very file, at which the count of faults rose, or else this
--- is an answer of the command
+-- a file of the command can't be read: the shelf's count of faults rose, or it holds no file of that name, and then
+-- this is an answer of the command
 pub record IsUnread (IsAnswer : Answer → Type 0) (files : List (List ℕ)) (given : Given) (before after : ℕ)
     (name : List ℕ) : Type 0 where
   pub own : Contains files name

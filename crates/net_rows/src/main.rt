@@ -1,6 +1,6 @@
 //! Worked cases of the calls below the top call: texts, rule files in pieces, rounds, names, scripts, cells, nets and
-//! their runs, and waves. They are in data/, and the output that they must give in the file stdout; docs/TESTS.md says how they
-//! are written.
+//! their runs, and waves. They are in data/, and the output that they must give in the file stdout; docs/TESTS.md says
+//! how they are written.
 #![tactic(auto)]
 
 mod bench;

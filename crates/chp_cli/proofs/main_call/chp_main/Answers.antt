@@ -71,19 +71,19 @@ returns-clause-promised g c =
           (λ r end text are. c.simulated_right.ensures r _ _ runs.tells end text are) (λ t end text are. c.timed_right.ensures t _ runs.tells end text are)
           (λ b end text are. c.benched_right.ensures b _ _ runs.tells end text are) (λ w end text are. c.traced_right.ensures w _ runs.tells end text are)
           ends (ap is_whole (sym same) ∙ whole) in
-          (appended, run, put, record { compiled = runs; report = record { end = is.end; ended = same ∙ is.ended; reports = is.reports } });
+          (appended, run, put, record { runs = runs; report = record { end = is.end; ended = same ∙ is.ended; reports = is.reports } });
       longest = λ p text run is.
           each_report s.given p s.handed (λ file h r. EndsAllAtRest r) (λ r h a f. one_length.simulated r _ _ p (carry _ p h) a f)
           (λ t h a f. one_length.timed t _ p (carry _ p h) a f) (λ b h a f. one_length.benched b _ _ p (carry _ p h) a f)
-          (λ w h a f. one_length.traced w _ p (carry _ p h) a f) s.asked is.compiled.file is.compiled.made is.compiled.holds _ run is.report.reports;
+          (λ w h a f. one_length.traced w _ p (carry _ p h) a f) s.asked is.runs.file is.runs.made is.runs.holds _ run is.report.reports;
       follows = λ p text run is.
           each_report s.given p s.handed (λ file h r. FollowsRounds p r) (λ r h a f. follow.simulated r _ _ p h a f) (λ t h a f. follow.timed t _ p h a f)
-          (λ b h a f. c.benched_runs_follow.ensures b _ _ p h a f) (λ w h a f. follow.traced w _ p h a f) s.asked is.compiled.file is.compiled.made
-          is.compiled.holds _ run is.report.reports;
+          (λ b h a f. c.benched_runs_follow.ensures b _ _ p h a f) (λ w h a f. follow.traced w _ p h a f) s.asked is.runs.file is.runs.made
+          is.runs.holds _ run is.report.reports;
       keeps_pace = λ p text run is.
           each_report s.given p s.handed (λ file h r. KeepsPaceWith h.reset h.bodies r) (λ r h a f. rest.simulated r _ _ p h a f)
-          (λ t h a f. rest.timed t _ p h a f) (λ b h a f. rest.benched b _ _ p h a f) (λ w h a f. rest.traced w _ p h a f) s.asked is.compiled.file
-          is.compiled.made is.compiled.holds _ run is.report.reports;
+          (λ t h a f. rest.timed t _ p h a f) (λ b h a f. rest.benched b _ _ p h a f) (λ w h a f. rest.traced w _ p h a f) s.asked is.runs.file
+          is.runs.made is.runs.holds _ run is.report.reports;
       shelf = c.run-end.ensures.shelf;
       out = c.run-end.ensures.out;
       say = record { same = c.tell.ensures.same; counted = c.tell.ensures.faults };
