@@ -6,7 +6,7 @@ use Rattle.command_answers.specs.declared.status.Status.TheVariants as status
 use Rattle.command_answers.specs.Answers.{Answer, Given, status_of}
 use Rattle.bench_commands.specs.HandedIn.{HandedIn}
 use Rattle.command_answers.specs.Saying.{IsSaid}
-use Rattle.command_answers.specs.Statuses.{is_whole}
+use Rattle.command_answers.specs.Statuses.{has_output, is_whole}
 use Rattle.command_words.specs.CommandWords.{Asked, compiles}
 use Rattle.command_words.specs.CompileWords.{AskedCompilation}
 use Rattle.program_commands.specs.Compiling.{IsFaithfulFile}
@@ -61,19 +61,19 @@ pub record Reported {S K W B D : Type 0} {Order : B → Type 0} {Device : D → 
 
 pub record Promises {S K W B D : Type 0} {Order : B → Type 0} {Device : D → Type 0} (call : Call S K W Order Device) :
     Type 0 where
-  -- it ends in a way of `Ends`, which says what is appended to the output and which line is said; of that a prefix is
-  -- said, and all of it where no fault came
+  -- it ends in a way of `Ends`, which says what is appended to the output and which line is said; of the line a prefix
+  -- is said, and all of it where no fault came. (What a sink took is said where its bytes are observable.)
   pub ended : (appended : List ℕ) × (line : List ℕ) × Ends (setting call) call.status appended line
       × IsAppended call.out appended × IsSaid call.say.members call.say.before call.say.after line
-  -- Let the shelf be observable, and let neither it nor the output fail: its status is that of an answer of the
-  -- command to the files, with the orders and devices as they were and as they are now, if there is one;
+  -- Let the shelf be observable, and let neither it nor the output fail: its status is that of the answer of the command
+  -- to the files, with the orders and devices as they were and as they are now, if there is one; or it is `NoMemory`;
   pub complete : (answer : Answer) → NothingFails call.shelf call.out → AnswersTo (setting call) answer →
       OrNoMemory call.status (call.status ≡ status_of answer)
-  -- where the command is given what it is to be served with, it doesn't refuse;
+  -- where the command is given what it is to be served with, it doesn't refuse, but for that;
   pub served : (command : Asked) → NothingFails call.shelf call.out → call.asked ≡ Some command →
       IsToServe command (given call) (handed call) → OrNoMemory call.status (EndsServed command call.status)
-  -- and where it is given what a run of a file that `compile` wrote is to be served with, it ends well, if it is to
-  -- compare that run with the file's program or with none
+  -- and where it is given what a run of a file that `compile` wrote is to be served with, it ends well, but for that, if
+  -- it is to compare that run with the file's program or with none
   pub compiled : (p : TypedProgram) → NothingFails call.shelf call.out → IsCompiledToServe (setting call) p →
       IsComparedWith call.asked (given call) p → OrNoMemory call.status (call.status ≡ status.Done)
   -- with these statuses the words are no form of a command; a file of the command isn't there or the shelf failed; the
@@ -87,11 +87,12 @@ pub record Promises {S K W B D : Type 0} {Order : B → Type 0} {Device : D → 
   -- words are no form, a file can't be read or it refuses
   pub stay : StaysBut call.asked call.objects
   pub unasked : StaysUnasked call.status call.objects.before call.objects.after
-  -- where all is written, the order that was asked for got its seed, and before each move of the run the list of all
-  -- enabled moves
-  pub shown : (command : Asked) → call.asked ≡ Some command → is_whole call.status ≡ true →
+  -- where there was an output, also one that failed, the order that was asked for got its seed, and before each move of
+  -- the run the list of all enabled moves
+  pub shown : (command : Asked) → call.asked ≡ Some command → has_output call.status ≡ true →
       ShowsEnabled command (given call) call.objects
-  -- what `compile` wrote is the rule file of a net that carries the program of its file, and keeps pace with it
+  -- what `compile` wrote is the rule file of a net that carries the program of its file, with the buffer if one is asked
+  -- for, and keeps pace with it (the file's where the shelf is observable, else that of some text)
   pub carried : (c : AskedCompilation) → call.asked ≡ Some (compiles c) → call.status ≡ status.Done →
       (file : List ℕ) × IsAppended call.out file × IsFaithfulFile c (given call) file
   -- of a run of a file that holds the net of a program, as each one does that `compile` wrote: it finds no hazard; it
@@ -101,8 +102,9 @@ pub record Promises {S K W B D : Type 0} {Order : B → Type 0} {Device : D → 
       call.status ≢ status.Differs
   pub reported : (p : TypedProgram) → RunsCompiled (setting call) p → is_whole call.status ≡ true →
       (text : List ℕ) × (run : MadeRun) × IsAppended call.out text × Reported call p text run
-  -- of each run of which a text is the report: no order makes it longer where it ended at rest; it passes a prefix of
-  -- what its program passes, and at rest all; and it comes to rest where that does, and keeps up with it
+  -- of each run of which a text is the report: from its start, under its script, no order makes it longer where it
+  -- ended at rest; it passes a prefix of what its program passes, and at rest all; and it comes to rest where that
+  -- does, if its limit is high enough, and keeps up with it by time
   pub longest : (p : TypedProgram) (text : List ℕ) (run : MadeRun) → Reported call p text run → EndsAllAtRest run
   pub follows : (p : TypedProgram) (text : List ℕ) (run : MadeRun) → Reported call p text run → FollowsRounds p run
   pub keeps_pace : (p : TypedProgram) (text : List ℕ) (run : MadeRun) (is : Reported call p text run) →

@@ -2,7 +2,7 @@
 
 ghost use Rattle.std.specs.Prelude.{◌≡◌, ℕ, List, Some, true, IfOk, IfErr};
 ghost use Rattle.command_answers.specs.Replies.{Stops, end_line, end_status, stop_status};
-ghost use Rattle.command_answers.specs.Statuses.{is_whole};
+ghost use Rattle.command_answers.specs.Statuses.{has_output};
 ghost use Rattle.command_words.specs.CommandWords.{Asked, IsWithinBounds, asked, asked_by, compiles};
 ghost use Rattle.command_words.specs.CompileWords.{AskedCompilation};
 ghost use Rattle.program_commands.specs.Compiling.{IsFaithfulFile};
@@ -118,7 +118,7 @@ fn run<'a, S: Shelf, K: Sink>(
     ensures carried { (c : AskedCompilation) → asked_by words.now ≡ Some (compiles c) →
         end_status result ≡ Status.Done → (file : List ℕ) × IsAppended (sink_use K.Sink out.old out.new) file
         × IsFaithfulFile c (given_of (shelf_use S.Shelf shelf.old shelf.new)) file }
-    ensures shown { (command : Asked) → asked_by words.now ≡ Some command → is_whole (end_status result) ≡ true →
+    ensures shown { (command : Asked) → asked_by words.now ≡ Some command → has_output (end_status result) ≡ true →
         ShowsEnabled command (given_of (shelf_use S.Shelf shelf.old shelf.new))
         (objects Picker-box Peer-box players.old players.new) }
     ensures stay { StaysBut (asked_by words.now) (objects Picker-box Peer-box players.old players.new) }
@@ -143,13 +143,14 @@ fn run<'a, S: Shelf, K: Sink>(
 }
 
 /// Runs the command that the words ask for: reads its files from the shelf, writes its output, and says one line where
-/// it doesn't end well. The output is written whole, or where it fails less than the whole, a prefix of it; and so is
-/// the line. (Each field of `Promises` is one of these promises.)
+/// it doesn't end well, with names as the words have them. The output is written whole, or where it fails less than the
+/// whole, a prefix of it; and so is the line. What a sink took is said where its bytes are observable. (Each field of
+/// `Promises` is one of these promises.)
 ///
 /// What is answered, written and said is the command's answer to its files, of which there is at most one where the
 /// shelf is observable, for the same orders and devices before and after. Three things may come between: the shelf
-/// fails at a file of the command (`Read`), the output fails before its end (`Write`), or it is out of memory
-/// (`NoMemory`), which may come at any point and has a status of its own. Where the files hold what the command is
+/// fails, which is told of a file of the command (`Read`), the output fails before its end (`Write`), or it is out of
+/// memory (`NoMemory`), which may come at any point and has a status of its own, for which no cause is asked. Where the files hold what the command is
 /// served with, and the order and the device that it asks for are there, the answer is to write. All that is said of
 /// files here and below is so where the shelf is observable, but for what comes next.
 ///
@@ -177,8 +178,8 @@ fn run<'a, S: Shelf, K: Sink>(
 /// makes more moves under that script. Where its program comes to rest under that script, so does the run, if the limit
 /// is high enough.
 ///
-/// Where `simulate`, `bench` or `grow --sum` writes all of its report, the order that it asks for got its seed, and was
-/// then asked before each move of the run with the list of all moves that are enabled; its picks are the new entries of
+/// Where `simulate`, `bench` or `grow --sum` writes its report, all of it or a part, the order that it asks for got its
+/// seed, and was then asked before each move of the run with the list of all moves that are enabled; its picks are the new entries of
 /// its log.
 ///
 /// All handed-in orders and devices are still there, each in its place: each is of the kind that it was, with its name,

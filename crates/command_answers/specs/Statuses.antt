@@ -25,6 +25,11 @@ is_whole Hazard = true
 is_whole Differs = true
 is_whole _ = false
 
+-- the statuses with which an answer was written, also a part of one
+abbrev pub has_output : Status → Bool
+has_output Write = true
+has_output status = is_whole status
+
 -- the statuses with which a command refuses
 abbrev pub is_refusing : Status → Bool
 is_refusing RefusedText = true

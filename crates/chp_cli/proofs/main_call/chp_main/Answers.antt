@@ -1,7 +1,7 @@
 use Rattle.std.proofs.Common.{◌≢◌, ◌∙◌, ◌++◌, ap, sym}
 use Rattle.command_answers.specs.declared.status.Status.TheVariants as status
 use Rattle.command_answers.specs.Replies.{end_line}
-use Rattle.command_answers.specs.Statuses.{is_whole}
+use Rattle.command_answers.specs.Statuses.{has_output, is_whole}
 use Rattle.width_check.specs.Processes.{TypedProgram}
 use Rattle.chp_cli.specs.CompiledRuns.{IsComparedWith, RunsCompiled}
 use Rattle.chp_cli.specs.MadeRuns.{EndsAllAtRest, FollowsRounds}
@@ -62,7 +62,7 @@ returns-clause-promised g c =
           put told ∙ ap (λ xs. g.K.Sink.written c.args.out.now ++ xs) none;
       stay = c.run-end.ensures.stay;
       unasked = rw same c.run-end.ensures.unasked;
-      shown = λ command named whole. c.run-end.ensures.shown command named (ap is_whole (sym same) ∙ whole);
+      shown = λ command named output. c.run-end.ensures.shown command named (ap has_output (sym same) ∙ output);
       carried = λ compilation named done. c.run-end.ensures.carried compilation named (sym same ∙ done);
       calm = calm;
       agreed = agreed;

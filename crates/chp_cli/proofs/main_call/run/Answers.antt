@@ -2,13 +2,13 @@ use Rattle.std.proofs.Common.{◌≡◌, ◌≢◌, [], Some, None, true, rules,
 use Rattle.command_words.specs.CommandWords.{asked, asked_by, compiles}
 use Rattle.command_answers.specs.declared.answer.Stop.{Stop}
 use Rattle.command_answers.specs.declared.answer.Stop.TheVariants as stopped
-use Rattle.command_answers.specs.declared.status.Status.TheVariants.{Done}
+use Rattle.command_answers.specs.declared.status.Status.{Status}
+use Rattle.command_answers.specs.declared.status.Status.TheVariants.{Done, RefusedText, Usage, Read, Write, Hazard, NoMemory, TooLarge, BadFile, NoOrder, NoChannel, NoPeer, Differs}
 use Rattle.command_answers.specs.Replies.{refusal_status, stop_status}
 use Rattle.chp_cli.specs.Ends.{formless, whole, cut_off, no_memory}
 use Rattle.program_commands.specs.RepliesTold.{reply_bytes, reply_end, told_reply}
-use Rattle.command_answers.specs.Statuses.{is_whole}
+use Rattle.command_answers.specs.Statuses.{has_output, is_refusing}
 use Rattle.command_answers.proofs.StatusKinds.{no_refusal, refusing_status}
-use Rattle.chp_cli.proofs.Calm.{not_whole}
 use Rattle.chp_cli.proofs.Ending.{answers_of, stopped_ends}
 use Rattle.bench_commands.proofs.Staying.{all_stay}
 use Rattle.chp_cli.proofs.main_call.run.Goals as goal
@@ -64,17 +64,38 @@ returns-in-Ok-write-clause-carried g c = λ compilation named done.
     let same : asked c.in-Ok-Some.command ≡ compiles compilation = cc (own, named) in
     (reply_bytes c.in-Ok.reply, c.in-Ok-write.ensures.whole, c.in-Ok.ensures.carried compilation same)
 
--- nor is it all written where it stops
-stop_not_whole : (stop : Stop) → ¬ (is_whole (stop_status stop) ≡ true)
-stop_not_whole (stopped.Refused r) = not_whole (refusal_status r) (refusing_status r)
-stop_not_whole (stopped.Unread name) = λ w. cc
-stop_not_whole stopped.NoMemory = λ w. cc
+-- nor is there an output where it stops
+refuses_no_output : (status : Status) → is_refusing status ≡ true → ¬ (has_output status ≡ true)
+refuses_no_output Done r w = cc r
+refuses_no_output Hazard r w = cc r
+refuses_no_output Differs r w = cc r
+refuses_no_output Write r w = cc r
+refuses_no_output RefusedText r w = cc w
+refuses_no_output TooLarge r w = cc w
+refuses_no_output BadFile r w = cc w
+refuses_no_output NoOrder r w = cc w
+refuses_no_output NoChannel r w = cc w
+refuses_no_output NoPeer r w = cc w
+refuses_no_output Usage r w = cc w
+refuses_no_output Read r w = cc w
+refuses_no_output NoMemory r w = cc w
+
+no_output : (stop : Stop) → ¬ (has_output (stop_status stop) ≡ true)
+no_output (stopped.Refused r) = refuses_no_output (refusal_status r) (refusing_status r)
+no_output (stopped.Unread name) = λ w. cc
+no_output stopped.NoMemory = λ w. cc
 
 pub returns-in-Err-answer-clause-shown : goal.returns-in-Err-answer-clause-shown
-returns-in-Err-answer-clause-shown g c = λ command named whole. absurd (stop_not_whole c.in-Err-answer.stop whole)
+returns-in-Err-answer-clause-shown g c = λ command named output. absurd (no_output c.in-Err-answer.stop output)
+
+pub returns-clause-shown : goal.returns-clause-shown
+returns-clause-shown g c = λ command named output.
+    let own : asked_by c.args.words.now ≡ Some (asked c.in-Ok-Some.command) = search rules in
+    let same : asked c.in-Ok-Some.command ≡ command = cc (own, named) in
+    rw (← same) c.in-Ok.ensures.shown
 
 pub returns-in-Ok-write-clause-shown : goal.returns-in-Ok-write-clause-shown
-returns-in-Ok-write-clause-shown g c = λ command named whole.
+returns-in-Ok-write-clause-shown g c = λ command named output.
     let own : asked_by c.args.words.now ≡ Some (asked c.in-Ok-Some.command) = search rules in
     let same : asked c.in-Ok-Some.command ≡ command = cc (own, named) in
     rw (← same) c.in-Ok.ensures.shown
