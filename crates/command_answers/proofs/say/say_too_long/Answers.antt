@@ -1,7 +1,8 @@
-use Rattle.std.proofs.Common.{◌∙◌, ◌++◌, codes, ap}
+use Rattle.std.proofs.Common.{◌++◌, List, ℕ, codes, subst}
+use Rattle.command_answers.specs.Saying.{IsSaid}
 use Rattle.command_answers.proofs.say.say_too_long.Goals as goal
 
 pub returns-clause-said : goal.returns-clause-said
-returns-clause-said g c = λ told calm.
-    c.say_pieces.ensures.said told calm ∙ ap (λ digits. g.W.Sink.written c.args.say.now
-    ++ (codes "chp: 7 bytes " ++ (c.args.name.now ++ (codes " over " ++ (digits ++ codes "\n"))))) c.format-most.ensures.text
+returns-clause-said g c =
+    subst (λ (digits : List ℕ). IsSaid g.W.Sink c.args.say.now c.say_pieces.new.say (codes "chp: 7 bytes " ++ (c.args.name.now ++ (codes " over " ++ (digits ++ codes "\n"))))) c.format-most.ensures.text
+    c.say_pieces.ensures.said
