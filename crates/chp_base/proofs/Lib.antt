@@ -1,2 +1,2 @@
+pub mod NameKeyLemmas
 pub mod NameLemmas
-pub mod SymbolLemmas

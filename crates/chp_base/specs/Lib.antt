@@ -1,3 +1,4 @@
 pub mod Faults
+pub mod NameKeys
 pub mod Names
 pub mod Symbols

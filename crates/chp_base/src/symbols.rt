@@ -1,17 +1,20 @@
 //! Tables of names.
 
-ghost use Rattle.std.specs.Prelude.{◌≡◌, ◌++◌, ◌+◌, ◌-◌, ◌^◌, ◌<◌, List, [], ◌∷◌, length, slice_get, Some, IfOk, OnErr, IfSome, IfNone, Contains};
+ghost use Rattle.std.specs.Prelude.{◌≡◌, ◌++◌, ◌+◌, ◌-◌, ◌^◌, ◌<◌, ◌≤◌, List, [], ◌∷◌, length, slice_get, Some, IfOk, OnOk, OnErr, IfSome, IfNone, Contains};
 ghost use Rattle.std.proofs.Common.{ap};
 ghost use Rattle.std.specs.Cmp.{partial_equiv_from_equiv};
 ghost use Rattle.std.specs.Cmp.Lexicographic.{bytes_decides, nat_list_eq_equiv};
 ghost use Rattle.std.specs.Hash as fed;
 ghost use Rattle.std.specs.List.{IsDistinct};
 ghost use Rattle.std.specs.Str.{bytes_eq};
+ghost use Rattle.chp_base.specs.NameKeys.{packed, name_key};
+ghost use Rattle.chp_base.specs.Names.{IsNodeName};
 ghost use Rattle.chp_base.specs.Symbols.{IfFresh, IfKnown};
 
 use crate::name::Name;
-use indexmap::IndexSet;
+use indexmap::IndexMap;
 use std::alloc::{AllocError, Global};
+use std::collections::BTreeMap;
 use std::hash::{Hash, Hasher};
 use std::marker::Model;
 
@@ -48,22 +51,52 @@ pub enum Added {
     Known(u32),
 }
 
+/// The number whose digits to the base 256 are the bytes, the lowest first.
+fn packed(bytes: &[u8]) -> u128
+    requires { length bytes.now ≤ 16 }
+    ensures { result ≡ packed bytes.now }
+{
+    let mut number = 0;
+    for place in (0..bytes.len()).rev() {
+        number = 256 * number + u128::from(bytes[place]);
+    }
+    number
+}
+
+/// The first 16 bytes of the name as a number, and its others.
+fn name_key(name: &Name) -> (u128, u128)
+    ensures key { result ≡ name_key name.now }
+    ensures name { IsNodeName name.now }
+{
+    let bytes = name.bytes();
+    match bytes.split_at_checked(16) {
+        Some((first, others)) => (packed(first), packed(others)),
+        None => (packed(bytes), 0),
+    }
+}
+
 /// A table of names, seen as the list of its distinct names in the order in which they were added.
+///
+/// Whoever writes a text chooses its names. So the hash that keeps them is that of their places, and a name is found in
+/// the order of the names, as numbers: no choice of names makes it slow.
 #[derive(Drop)]
 pub struct Symbols {
-    names: IndexSet<Name>,
+    names: IndexMap<u32, Name>,
+    places: BTreeMap<(u128, u128), u32>,
 }
 
 impl Model for Symbols {
-    ghost use Rattle.std.specs.Prelude.{List, ℕ, ◌<◌, ◌^◌, length};
-    ghost use Rattle.std.specs.Str.{bytes_eq};
-    ghost use Rattle.indexmap.specs.IndexSet.{IsUnique};
+    ghost use Rattle.std.specs.Prelude.{List, ℕ, ◌<◌, ◌^◌, length, bytes_eq};
+    ghost use Rattle.std.specs.List.{IsDistinct};
+    ghost use Rattle.indexmap.specs.IndexMap.{values};
+    ghost use Rattle.chp_base.specs.NameKeys.{IsNumbered, IsPlaced};
 
     ghost Value = { List (List ℕ) };
 
-    ghost view = { λ s. s.names.keys };
+    ghost view = { λ s. values s.names };
 
-    ghost invariant = { λ s. IsUnique bytes_eq s.names × (length s.names.keys < 2 ^ 32) };
+    ghost invariant = { λ s. IsNumbered s.names × IsPlaced (values s.names) s.places × IsDistinct bytes_eq (values s.names)
+        × (length s.names.entries < 2 ^ 32) };
 }
 
 impl Symbols {
@@ -72,8 +105,25 @@ impl Symbols {
         ensures { result ≡ [] }
     {
         Symbols {
-            names: IndexSet::new(alloc),
+            names: IndexMap::new(alloc),
+            places: BTreeMap::new(alloc),
         }
+    }
+
+    /// Puts a new name behind the others. After want of memory the table is unchanged.
+    fn push(&mut self, name: Name) -> Result<u32, AllocError>
+        requires room { length self.old < 2 ^ 32 - 1 }
+        requires fresh { ¬ Contains self.old name }
+        ensures place { IfOk result (λ place. place ≡ length self.old) }
+        ensures pushed { OnOk result (self.new ≡ self.old ++ name ∷ []) }
+        ensures err { OnErr result (self.new ≡ self.old) }
+    {
+        let place = self.names.len() as u32;
+        let key = name_key(&name);
+        self.names.reserve(1)?;
+        self.places.insert(key, place)?;
+        self.names.insert(place, name)?;
+        Ok(place)
     }
 
     /// Adds the name, unless it is there. After want of memory the table is unchanged.
@@ -86,13 +136,11 @@ impl Symbols {
         ensures added { IfOk result (IfFresh (λ place. self.new ≡ self.old ++ name ∷ [])) }
         ensures err { OnErr result (self.new ≡ self.old) }
     {
-        let (place, fresh) = self.names.insert_full(name)?;
-        let place = place as u32;
-        Ok(if fresh {
-            Added::Fresh(place)
-        } else {
-            Added::Known(place)
-        })
+        if let Some(place) = self.find(&name) {
+            return Ok(Added::Known(place));
+        }
+        let place = self.push(name)?;
+        Ok(Added::Fresh(place))
     }
 
     /// The place of the name, or None where it isn't in the table.
@@ -101,7 +149,6 @@ impl Symbols {
         ensures none { IfNone result (¬ Contains self.now name.now) }
         ensures distinct { IsDistinct bytes_eq self.now }
     {
-        let place = self.names.get_index_of(name)?;
-        Some(place as u32)
+        self.places.get(&name_key(name)).copied()
     }
 }

@@ -1,10 +1,19 @@
-use Rattle.std.proofs.Common.{sym}
-use Rattle.chp_base.proofs.SymbolLemmas.{absent, found_at}
+use Rattle.std.proofs.Common.{◌≡◌, ◌∙◌, ap, subst, sym}
+use Rattle.std.specs.BTreeMap.{get}
+use Rattle.chp_base.specs.NameKeys.{key_cmp, place_at, IsPlaceIn}
+use Rattle.chp_base.proofs.NameKeyLemmas.{some_place, no_place}
 use Rattle.chp_base.proofs.symbols.Symbols.find.Goals as goal
+use Rattle.chp_base.proofs.symbols.Symbols.find.Goals.{After-copied}
 
-pub returns-in_err-place-clause-none : goal.returns-in_err-place-clause-none
-returns-in_err-place-clause-none c =
-    rw (c.from_residual.ensures, ← c.self.view_is) (absent c.args.name.now c.self.inside.names.keys (sym c.in_err-place.ensures.found))
+told : (c : After-copied) → IsPlaceIn c.args.self.now c.args.name.now c.copied.result
+told c =
+    let at : c.copied.result ≡ place_at c.self.inside.places c.args.name.now =
+    c.copied.ensures ∙ (c.get.ensures.value ∙ ap (get key_cmp c.self.inside.places) c.name_key.ensures.key) in
+    subst (λ names. IsPlaceIn names c.args.name.now c.copied.result) c.self.view_is
+    (subst (IsPlaceIn _ c.args.name.now) (sym at) (c.self.invariant.1 c.args.name.now c.name_key.ensures.name))
 
 pub returns-clause-some : goal.returns-clause-some
-returns-clause-some c = rw (← c.self.view_is) (found_at c.args.name.now c.self.inside.names.keys c.in_ok-place.place (sym c.in_ok-place.ensures.index))
+returns-clause-some c = some_place c.args.self.now c.args.name.now c.copied.result (told c)
+
+pub returns-clause-none : goal.returns-clause-none
+returns-clause-none c = no_place c.args.self.now c.args.name.now c.copied.result (told c)
