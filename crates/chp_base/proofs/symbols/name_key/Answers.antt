@@ -1,4 +1,4 @@
-use Rattle.std.proofs.Common.{◌≡◌, ◌≤◌, ℕ, ◌∙◌, ap, sym, take, drop, length, arith}
+use Rattle.std.proofs.Common.{◌≡◌, ◌≤◌, ◌∙◌, ap, sym, take, drop, length, arith}
 use Rattle.std.proofs.lemmas.List.{take_all, drop_all}
 use Rattle.chp_base.specs.NameKeys.{packed}
 use Rattle.chp_base.proofs.symbols.name_key.Goals as goal

@@ -1,4 +1,4 @@
-use Rattle.std.proofs.Common.{◌≡◌, ◌*◌, ◌-◌, ◌<◌, ◌≤◌, ◌^◌, drop, length}
+use Rattle.std.proofs.Common.{◌≡◌, ◌*◌, ◌-◌, ◌<◌, ◌^◌, drop}
 use Rattle.chp_base.specs.NameKeys.{packed}
 use Rattle.chp_base.proofs.symbols.packed.Given as goal
 
