@@ -5,7 +5,8 @@ use Rattle.command_answers.specs.declared.answer.Stop.{Stop}
 use Rattle.command_answers.specs.declared.answer.Stop.TheVariants as stopped
 use Rattle.command_answers.specs.declared.status.Status.{Status}
 use Rattle.command_answers.specs.declared.status.Status.TheVariants.{Usage, Read, Write, NoMemory}
-use Rattle.command_answers.specs.Answers.{Answer, writes, refuses, misses, OneAnswer, status_of}
+use Rattle.bench_commands.specs.HandedIn.{HandedIn}
+use Rattle.command_answers.specs.Answers.{Given, Answer, writes, refuses, misses, OneAnswer, status_of}
 use Rattle.command_words.specs.CommandWords.{Asked}
 use Rattle.chp_cli.specs.Commands.{EndsServed, IsAnswer, files_of}
 use Rattle.chp_cli.specs.Ends.{AnswersAsked, AnswersTo, IsFile, Ends, formless, whole, cut_off, refused, unread, no_memory}
@@ -14,9 +15,9 @@ use Rattle.command_answers.specs.Replies.{Stops, refusing, refusal_status, refus
 use Rattle.command_answers.specs.Statuses.{is_whole}
 use Rattle.command_answers.proofs.StatusKinds.{no_refusal, own_status, refusing_status, whole_status}
 
-pub answers_of : (s : Setting) (command : Asked) (answer : Answer) → s.asked ≡ Some command → IsAnswer command s.given s.handed answer →
-    AnswersTo s answer
-answers_of s command answer named is = subst (λ o. AnswersAsked o s.given s.handed answer) (sym named) is
+pub answers_of : (asked : Option Asked) (given : Given) (handed : HandedIn) (command : Asked) (answer : Answer) → asked ≡ Some command →
+    IsAnswer command given handed answer → AnswersAsked asked given handed answer
+answers_of asked given handed command answer named is = subst (λ o. AnswersAsked o given handed answer) (sym named) is
 
 -- and the other way round
 pub answer_of : (s : Setting) (command : Asked) (answer : Answer) → s.asked ≡ Some command → AnswersTo s answer →
@@ -24,7 +25,7 @@ pub answer_of : (s : Setting) (command : Asked) (answer : Answer) → s.asked �
 answer_of s command answer named are = subst (λ o. AnswersAsked o s.given s.handed answer) named are
 
 -- the setting in which a call ended
-pub setting_of : {s : Setting} {status : Status} {appended line : List ℕ} → Ends s status appended line → Setting
+abbrev pub setting_of : {s : Setting} {status : Status} {appended line : List ℕ} → Ends s status appended line → Setting
 setting_of {s} ends = s
 
 module _ (s : Setting) where
@@ -97,12 +98,12 @@ module _ (s : Setting) where
       → Stops (IsAnswer command s.given s.handed) (files_of command) s.given s.read.before s.read.after stop
       → Ends s (stop_status stop) [] (stop_line stop)
   stopped_ends command is (stopped.Refused r) stops =
-      refused (refusal_status r) (refusal_line r) (refusing_status r) (answers_of s command (refusing r) is stops)
+      refused (refusal_status r) (refusal_line r) (refusing_status r) (answers_of s.asked s.given s.handed command (refusing r) is stops)
   stopped_ends command is (stopped.Unread name) stops =
       unread name.now (subst (λ o. IsFile o name.now) (sym is) stops.own) stops.fault (missed stops.missed)
     where
       missed : Rose s.read.before s.read.after ⊎ IsAnswer command s.given s.handed (misses name.now)
           → Rose s.read.before s.read.after ⊎ AnswersTo s (misses name.now)
       missed (inl rose) = inl rose
-      missed (inr answer) = inr (answers_of s command (misses name.now) is answer)
+      missed (inr answer) = inr (answers_of s.asked s.given s.handed command (misses name.now) is answer)
   stopped_ends command is stopped.NoMemory stops = no_memory

@@ -1,5 +1,5 @@
 -- What is simulated of a compiled rule file ends at rest where its program comes to rest and the limit is high enough.
-use Rattle.std.proofs.Common.{◌≡◌, ◌∙◌, ◌↔◌, ◌⊎◌, inl, inr, ℕ, suc, ◌*◌, ◌<◌, ◌≤◌, ◌==◌, Bool, true, false, List, [], ◌∷◌, length, Some, None, refl, sym, ap, subst, arith}
+use Rattle.std.proofs.Common.{◌≡◌, ◌∙◌, ◌↔◌, ◌⊎◌, inl, inr, ℕ, suc, ◌*◌, ◌<◌, ◌≤◌, ◌==◌, Bool, true, false, List, [], ◌∷◌, length, Option, Some, None, refl, sym, ap, subst, arith}
 use Rattle.std.specs.Prelude.{IsSome}
 use Rattle.std.proofs.lemmas.Bool.Decides.{nat_tests}
 use Rattle.std.proofs.lemmas.List.{length-append, length-map}
@@ -205,27 +205,24 @@ module _ (powered : Powered) (law : (net : NetValue) (script : List OfferValue) 
       IsAtRest s.net (script_by s.net notes) (after s.net (bench_start s.net) (bench_moves s.net notes picks)))
       → (b : AskedBench) (given : Given) (handed : HandedIn) (p : TypedProgram) (holds : HoldsCompiled given b.net p) → (answer : Answer)
       → (f : IsFileBenched b given handed answer) → KeepsPaceWith holds.reset holds.bodies (benched_run b f)
-  benched_rests calm resting b given handed p holds answer f = record {
-    rests = λ most m c bound over few.
-        let within = file_within given b.net p holds f.rules f.net f.held f.file script run.suits false moves run.run most m c bound over in
-        let rest = rest_or_spent _ _ (length moves) b.steps against.ran.end (omega (arith, within, few)) run.ends.ended ends in (
-          rest,
-          file_level given b.net p holds f.rules f.net f.held f.file script run.suits false moves run.run m c over
-              (resting (setup_for f.net b.steps) _ _ _ _ against.ran f.file.kept run rest),
-        );
-    timed = tt;
-  }
-    where
-      against = f.benched.against
-      notes = notes_grown against.peer_was against.peer_is
-      script = script_by f.net notes
-      moves = bench_moves f.net notes (growth f.benched.was.log f.benched.is.log)
-      run = against.run.run
-
-      ends : (against.ran.end ≡ AtRest) ⊎ (against.ran.end ≡ Spent)
-      ends =
-          calm (setup_for f.net b.steps) _ _ _ _ against.ran f.file.kept run
-          (all_safe powered f.net p script false f.file.kept run.suits (file_carries (carry given b.net p holds) f.held f.file))
+  benched_rests calm resting b given handed p holds answer f =
+      let against = f.benched.against in
+      let run = against.run.run in
+      let notes = notes_grown against.peer_was against.peer_is in
+      let script = script_by f.net notes in
+      let moves = bench_moves f.net notes (growth f.benched.was.log f.benched.is.log) in
+      let ends = calm (setup_for f.net b.steps) _ _ _ _ against.ran f.file.kept run
+      (all_safe powered f.net p script false f.file.kept run.suits (file_carries (carry given b.net p holds) f.held f.file)) in
+      record {
+        rests = λ most m c bound over few.
+            let within = file_within given b.net p holds f.rules f.net f.held f.file script run.suits false moves run.run most m c bound over in
+            let rest = rest_or_spent _ _ (length moves) b.steps against.ran.end (omega (arith, within, few)) run.ends.ended ends in (
+              rest,
+              file_level given b.net p holds f.rules f.net f.held f.file script run.suits false moves run.run m c over
+                  (resting (setup_for f.net b.steps) _ _ _ _ against.ran f.file.kept run rest),
+            );
+        timed = tt;
+      }
 
   -- ---- timed
 
@@ -239,7 +236,8 @@ module _ (powered : Powered) (law : (net : NetValue) (script : List OfferValue) 
         → KeepsPaceWith holds.reset holds.bodies
         (made_run net script (begin_at net (power_of net high)) (moved_nodes ms) steps r.end (Some (record { delays = delays; time = time })))
     file_timed given file p holds rules net held is script suits high steps delays ms r time ran = record {
-      rests = file_rests given file p holds rules net held is script suits high (moved_nodes ms) ran.run steps r.end _ ran.ends;
+      rests = file_rests given file p holds rules net held is script suits high (moved_nodes ms) ran.run steps r.end
+          (Some (record { delays = delays; time = time })) ran.ends;
       timed = record { lasts = lasts; keeps_up = keeps_up };
     }
       where
@@ -251,23 +249,23 @@ module _ (powered : Powered) (law : (net : NetValue) (script : List OfferValue) 
 
         lasts : LastsAtMost holds.reset holds.bodies the_run (record { delays = delays; time = time })
         lasts = λ longest most m c few bound over.
-          let within = file_within given file p holds rules net held is script suits high (moved_nodes ms) ran.run most m c bound over in
-          let count = length-map ms (λ (x : NotedMove). x.node) in
-          let soon = in_time longest (timed_value net script steps delays high) ms r time few ran in
-          let all = scaled (length ms) (most_in_run holds.reset holds.bodies most m) longest (omega (arith, within, count)) in
-          omega (arith, soon, all)
-
-        keeps_up : KeepsUp holds.reset holds.bodies the_run (record { delays = delays; time = time })
-        keeps_up = λ longest k slow lasted.
-          subst (PassesInTime holds.reset holds.bodies) (same given file p holds rules net held is script suits high (moved_nodes ms) ran.run)
-          (passes_in_time powered holds.reset holds.bodies (paced given file p holds) (reset_paced given file p holds)) script high longest delays ms is.kept
-          (fits given file p holds rules net held is script suits high (moved_nodes ms) ran.run) slow ran.timed k
-          (has_lasted (delays_for holds.reset holds.bodies k * longest) lasted)
+            let within = file_within given file p holds rules net held is script suits high (moved_nodes ms) ran.run most m c bound over in
+            let count = length-map ms (λ (x : NotedMove). x.node) in
+            let soon = in_time longest (timed_value net script steps delays high) ms r time few ran in
+            let all = scaled (length ms) (most_in_run holds.reset holds.bodies most m) longest (omega (arith, within, count)) in
+            omega (arith, soon, all)
 
         has_lasted : (late : ℕ) → (late < time) ⊎ (r.end ≡ AtRest) → HasLasted net script st ms late
         has_lasted late (inl after_it) = inl (subst (λ t. late < t) ran.time after_it)
         has_lasted late (inr rest) =
             inr (at_rest net script st (moved_nodes ms) steps r.end is.kept ran.ends rest)
+
+        keeps_up : KeepsUp holds.reset holds.bodies the_run (record { delays = delays; time = time })
+        keeps_up = λ longest k slow lasted.
+            subst (PassesInTime holds.reset holds.bodies) (same given file p holds rules net held is script suits high (moved_nodes ms) ran.run)
+            (passes_in_time powered holds.reset holds.bodies (paced given file p holds) (reset_paced given file p holds)) script high longest delays ms is.kept
+            (fits given file p holds rules net held is script suits high (moved_nodes ms) ran.run) slow ran.timed k
+            (has_lasted (delays_for holds.reset holds.bodies k * longest) lasted)
 
     pub timed_rests : (t : AskedTiming) (given : Given) (p : TypedProgram) (holds : HoldsCompiled given t.net p) (answer : Answer)
         → (f : IsFileTimed t given answer) → KeepsPaceWith holds.reset holds.bodies (timed_run t f)

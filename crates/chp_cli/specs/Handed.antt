@@ -18,7 +18,7 @@ use Rattle.chp_cli.specs.declared.players.Players.{Players}
 
 -- ---- a shelf, before the call and after it, by the members of its trait
 
-pub record ShelfUse (S : Type 0) : Type 0 where
+pub record ShelfUse (S : Type 0) : Type 1 where
   pub members : ShelfMembers S
   pub before : S
   pub after : S
@@ -46,7 +46,7 @@ FailsToRead shelf name = IsReadFault (shelf.members.faults shelf.before) (shelf.
 
 -- ---- and a sink
 
-pub record SinkUse (K : Type 0) : Type 0 where
+pub record SinkUse (K : Type 0) : Type 1 where
   pub members : SinkMembers K
   pub before : K
   pub after : K
@@ -79,7 +79,7 @@ pub record NothingFails {S : Type 0} (shelf : ShelfUse S) {K : Type 0} (out : Si
 
 -- ---- orders and devices, each in a box, whose ghost members its table of methods brings
 
-pub record Objects {B : Type 0} (Order : B → Type 0) {D : Type 0} (Device : D → Type 0) : Type 0 where
+pub record Objects {B : Type 0} (Order : B → Type 0) {D : Type 0} (Device : D → Type 0) : Type 1 where
   pub order : (box : DynBox B Global Order) → PickerMembers (Order box.vtable)
   pub peer : (box : DynBox D Global Device) → PeerMembers (Device box.vtable)
   pub before : Players B D Order Device

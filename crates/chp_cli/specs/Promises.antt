@@ -23,7 +23,7 @@ use Rattle.chp_cli.specs.Shown.{ShowsEnabled}
 
 -- A call: the command that its words ask for, if they are one's form; the shelf, the output and where the line is said,
 -- and the orders and the devices that are handed in, each before it and after it; and the status that it returned.
-pub record Call (S K W : Type 0) {B : Type 0} (Order : B → Type 0) {D : Type 0} (Device : D → Type 0) : Type 0 where
+pub record Call (S K W : Type 0) {B : Type 0} (Order : B → Type 0) {D : Type 0} (Device : D → Type 0) : Type 1 where
   pub asked : Option Asked
   pub shelf : ShelfUse S
   pub out : SinkUse K
@@ -65,15 +65,15 @@ pub record Promises {S K W B D : Type 0} {Order : B → Type 0} {Device : D → 
   -- is said, and all of it where no fault came. (What a sink took is said where its bytes are observable.)
   pub ended : (appended : List ℕ) × (line : List ℕ) × Ends (setting call) call.status appended line
       × IsAppended call.out appended × IsSaid call.say.members call.say.before call.say.after line
-  -- Let the shelf be observable, and let neither it nor the output fail: its status is that of the answer of the command
-  -- to the files, with the orders and devices as they were and as they are now, if there is one; or it is `NoMemory`;
+  -- Let the shelf be observable, and let neither it nor the output fail: its status is that of the command's answer to
+  -- the files, with the orders and devices as they were and as they are now, if there is one; or it is `NoMemory`;
   pub complete : (answer : Answer) → NothingFails call.shelf call.out → AnswersTo (setting call) answer →
       OrNoMemory call.status (call.status ≡ status_of answer)
   -- where the command is given what it is to be served with, it doesn't refuse, but for that;
   pub served : (command : Asked) → NothingFails call.shelf call.out → call.asked ≡ Some command →
       IsToServe command (given call) (handed call) → OrNoMemory call.status (EndsServed command call.status)
-  -- and where it is given what a run of a file that `compile` wrote is to be served with, it ends well, but for that, if
-  -- it is to compare that run with the file's program or with none
+  -- and where it is given what a run of a file that `compile` wrote is to be served with, it ends well, but for that,
+  -- if it is to compare that run with the file's program or with none
   pub compiled : (p : TypedProgram) → NothingFails call.shelf call.out → IsCompiledToServe (setting call) p →
       IsComparedWith call.asked (given call) p → OrNoMemory call.status (call.status ≡ status.Done)
   -- with these statuses the words are no form of a command; a file of the command isn't there or the shelf failed; the
@@ -95,7 +95,7 @@ pub record Promises {S K W B D : Type 0} {Order : B → Type 0} {Device : D → 
   -- for, and keeps pace with it (the file's where the shelf is observable, else that of some text)
   pub carried : (c : AskedCompilation) → call.asked ≡ Some (compiles c) → call.status ≡ status.Done →
       (file : List ℕ) × IsAppended call.out file × IsFaithfulFile c (given call) file
-  -- of a run of a file that holds the net of a program, as each one does that `compile` wrote: it finds no hazard; it
+  -- of a run of a file that holds the net of a program, as each does that `compile` wrote: it finds no hazard; it
   -- agrees with that program; and what is written whole is the report of a run
   pub calm : (p : TypedProgram) → RunsCompiled (setting call) p → call.status ≢ status.Hazard
   pub agreed : (p : TypedProgram) → RunsCompiled (setting call) p → IsComparedWith call.asked (given call) p →

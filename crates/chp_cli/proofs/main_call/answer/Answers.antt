@@ -6,7 +6,6 @@ use Rattle.command_words.specs.CompileWords.{AskedCompilation, compilation_asked
 use Rattle.command_words.proofs.Results.{ok_in}
 use Rattle.program_commands.specs.Compiling.{IsFaithfulFile}
 use Rattle.program_commands.specs.RepliesTold.{reply_bytes}
-use Rattle.chp_cli.specs.Handed.{given_of}
 use Rattle.command_answers.specs.Answers.{Given, given_by}
 use Rattle.grown_commands.specs.Growing.{Grows}
 use Rattle.command_steps.specs.Orders.{Played}
@@ -25,7 +24,7 @@ returns-in-Compile-clause-answered g c = rw c.in-Compile.is c.compile.ensures.an
 
 pub returns-in-Compile-clause-carried : goal.returns-in-Compile-clause-carried
 returns-in-Compile-clause-carried g c =
-    let given = given_of g.S.Shelf c.args.shelf.now in
+    let given = given_by (g.S.Shelf.tells c.args.shelf.now) (g.S.Shelf.holds c.args.shelf.now) in
     let own : asked c.args.command.now ≡ compiles (compilation_asked c.in-Compile.asked) = rw c.in-Compile.is refl in
     ok_in c.compile.result _ _
     (λ reply is compilation named.

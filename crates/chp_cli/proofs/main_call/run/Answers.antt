@@ -32,7 +32,7 @@ returns-in-Ok-write-clause-ended g c =
     let reply = c.in-Ok.reply in
     let bytes = reply_bytes reply in (
       bytes,
-      rw c.end-end.ensures (whole (reply_end reply) bytes (answers_of _ (asked c.in-Ok-Some.command) (told_reply reply) named c.in-Ok.ensures.answered)),
+      rw c.end-end.ensures (whole (reply_end reply) bytes (answers_of _ _ _ (asked c.in-Ok-Some.command) (told_reply reply) named c.in-Ok.ensures.answered)),
       c.in-Ok-write.ensures.whole,
     )
 
@@ -44,7 +44,7 @@ returns-clause-ended g c =
     let bytes = reply_bytes reply in
     let prefix = c.in-Err-write.ensures.prefix in (
       take prefix.0 bytes,
-      cut_off (reply_end reply) bytes prefix.0 (answers_of _ (asked c.in-Ok-Some.command) (told_reply reply) named c.in-Ok.ensures.answered)
+      cut_off (reply_end reply) bytes prefix.0 (answers_of _ _ _ (asked c.in-Ok-Some.command) (told_reply reply) named c.in-Ok.ensures.answered)
           prefix.1 c.in-Err-write.ensures.failed,
       prefix.2,
     )
