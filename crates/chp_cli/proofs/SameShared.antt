@@ -12,7 +12,6 @@ use Rattle.chp_syntax.specs.Trees as plain
 use Rattle.chp_syntax.specs.Trees.{Statement, skips, assigns, sends, receives, follows, besides, selects, repeats, calls, Statements, Arms, no_arms, and_arm, Procedure, ProgramTree}
 use Rattle.prs_core.specs.Nets.{NodeRules}
 use Rattle.width_check.specs.declared.typed.Var.{Var}
-use Rattle.width_check.specs.Processes as typed
 use Rattle.width_check.specs.Processes.{Process, skipping, in_turn, side_by_side, choosing, repeating, member_count, choice_count, TypedProgram}
 use Rattle.handshake_expand.specs.Layout.{guards_size, size_of, root_request}
 use Rattle.handshake_expand.specs.Sites.{Sites}

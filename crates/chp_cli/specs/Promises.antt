@@ -91,8 +91,8 @@ pub record Promises {S K W B D : Type 0} {Order : B → Type 0} {Device : D → 
   -- the run the list of all enabled moves
   pub shown : (command : Asked) → call.asked ≡ Some command → has_output call.status ≡ true →
       ShowsEnabled command (given call) call.objects
-  -- what `compile` wrote is the rule file of a net that carries the program of its file, with the buffer if one is asked
-  -- for, and keeps pace with it (the file's where the shelf is observable, else that of some text)
+  -- what `compile` wrote is the rule file of a net that carries the program of its file, with the buffer if one is
+  -- asked for, and keeps pace with it (the file's where the shelf is observable, else that of some text)
   pub carried : (c : AskedCompilation) → call.asked ≡ Some (compiles c) → call.status ≡ status.Done →
       (file : List ℕ) × IsAppended call.out file × IsFaithfulFile c (given call) file
   -- of a run of a file that holds the net of a program, as each does that `compile` wrote: it finds no hazard; it

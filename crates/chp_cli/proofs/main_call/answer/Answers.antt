@@ -1,4 +1,4 @@
-use Rattle.std.proofs.Common.{◌≡◌, ℕ, List, [], refl, subst}
+use Rattle.std.proofs.Common.{◌≡◌, ℕ, [], refl, subst}
 use Rattle.command_answers.specs.declared.answer.Stop.{Stop}
 use Rattle.command_words.specs.declared.grow_words.Growth.{Growth}
 use Rattle.command_words.specs.CommandWords.{asked, compiles}
