@@ -1,4 +1,5 @@
 pub mod Holding
+pub mod Counted
 pub mod Liking
 pub mod Noting
 pub mod Passes

@@ -1,5 +1,5 @@
 -- What the two devices offer, by their notes. Both are always ready.
-use Rattle.std.specs.Prelude.{◌≡◌, ℕ, ◌+◌, ◌%◌, ◌^◌, ◌==◌, nat_lt, if◌then◌else◌, List, [], ◌∷◌, length, take, filter, count_by, Option, Some, None, option_map}
+use Rattle.std.specs.Prelude.{◌≡◌, ℕ, ◌+◌, ◌%◌, ◌^◌, ◌==◌, nat_lt, if◌then◌else◌, List, [], ◌∷◌, length, take, filter, count_by, Option, Some, None, option_map, slice_get}
 use Rattle.peer_bench.specs.declared.note.Note.{Note}
 use Rattle.peer_bench.specs.declared.note.Note.TheVariants.{Offered, Ready, Took}
 use Rattle.peer_bench.specs.Notes.{is_offer, is_offer_on}
@@ -11,6 +11,10 @@ up_to_ten chan log = length (take 10 (filter (is_offer_on chan) log))
 -- the numbers 0 to 9, one after the other, on each channel for itself
 abbrev pub ramp_due : List Note → (chan width : ℕ) → Option ℕ
 ramp_due log chan width = if up_to_ten chan log == 10 then None else Some (up_to_ten chan log % 2 ^ width)
+
+-- what a ramp keeps besides its notes: on each of the first channels, how many values it has offered there
+abbrev pub AreCounts : (log : List Note) → (counts : List ℕ) → Type 0
+AreCounts log counts = (chan n : ℕ) → slice_get counts chan ≡ Some n → n ≡ up_to_ten chan log
 
 -- what is held after these notes, where this was held before them: an offer removes it, and a value that is taken
 -- brings the next number
