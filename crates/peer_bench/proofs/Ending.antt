@@ -28,8 +28,10 @@ use Rattle.peer_bench.specs.Running.{Scripts, later, hazard_under}
 use Rattle.peer_bench.specs.Asking.{PeerValue}
 use Rattle.peer_bench.specs.Along.{NothingComes}
 use Rattle.peer_bench.specs.Steps.{IsMoveNoted, AreOffered, AreRailsHeld, free_on}
+use Rattle.peer_bench.specs.Sets.{IsQuiet}
 use Rattle.peer_bench.specs.Benches.{SetupValue, bench_start, bench_moves, bench_enabled, noted_since, IsBenchRun}
 use Rattle.peer_bench.proofs.Growth.{enabled_agree, script_now}
+use Rattle.peer_bench.proofs.Idle.{quiet_under}
 use Rattle.peer_bench.proofs.Placed.{ArePlaced, along_placed}
 use Rattle.peer_bench.proofs.Underway.{IsDriven, IsMade, goes_calm, moves_count, listed_now, end_now, step}
 
@@ -118,6 +120,7 @@ pub record IsReady {P : Type 0} (known : P → PeerValue) (stage : StageValue) (
   pub room : 1 ≤ stage.room
   pub rails : AreRailsHeld stage.net stage.script (now_of stage)
   pub spare : free_on stage.net stage.script (now_of stage) + 3 ≤ (known is).spare
+  pub quiet : in_reset stage.net.reset (high stage.values) ≡ false → IsQuiet stage.net stage.script (now_of stage) (known is)
 
 pub is_ready : {P Q K : Type 0} (known : P → PeerValue) (seen : Q → PickerValue K) (net : NetValue) (steps : ℕ) (before now : List ℕ) (count : ℕ) (was is : P)
     (at_first chooser : Q) (stage : StageValue) (last : Option Hazard) →
@@ -129,6 +132,8 @@ is_ready known seen net steps before now count was is at_first chooser stage las
   spare = let free : free_on stage.net stage.script (now_of stage) ≡ free_on net stage.script (now_of stage) =
       ap (λ (w : NetValue). free_on w stage.script (now_of stage)) h.driven.net_is in
       omega (arith, h.driven.spare, h.counted);
+  quiet = subst (λ (w : NetValue). in_reset w.reset (high stage.values) ≡ false → IsQuiet w stage.script (now_of stage) (known is)) (sym h.driven.net_is)
+      (λ low. quiet_under net (now_of stage) h.notes stage.script (known is) h.driven.stands (h.driven.quiet low));
 }
 
 -- the end

@@ -8,7 +8,9 @@ pub mod Quiet
 pub mod Known
 pub mod Room
 pub mod Suiting
+pub mod Ranges
 pub mod Turns
+pub mod Idle
 pub mod Unasked
 pub mod Counting
 pub mod Outside

@@ -1,14 +1,13 @@
 -- A run on a bench that is underway, and one more move of it.
 use Rattle.std.proofs.Common.{◌≡◌, ℕ, zero, suc, ◌+◌, ◌*◌, ◌<◌, ◌≤◌, Bool, true, false, List, [], ◌∷◌, ◌++◌, length, get_or, take, refl, sym, ap, subst, ◌∙◌, inl, inr, arith}
 use Rattle.std.specs.Prelude.{◌⊎◌, not, ◌&&◌, ◌||◌, ◌==◌, if◌then◌else◌, slice_get, Option, Some, None, option_to_list}
-use Rattle.std.proofs.lemmas.Bool.{ne_eqb, eq-eqb, cases_lt, or_parts, both_ways}
+use Rattle.std.proofs.lemmas.Bool.{ne_eqb, cases_lt, or_parts, both_ways}
 use Rattle.std.proofs.lemmas.List.{append-nil, append_assoc, length_push, length-set, length-take-le, take-append-le, take_all}
-use Rattle.std.proofs.lemmas.Option.{slice_get_within}
 use Rattle.chp_base.specs.declared.channel.Kind.{Kind}
 use Rattle.chp_base.specs.declared.channel.Kind.TheVariants.{In, Out, Chan}
 use Rattle.prs_core.specs.declared.wires.Wires.{Wires}
 use Rattle.prs_core.specs.Nets.{NetValue, IsNet}
-use Rattle.prs_core.specs.Moves.{high, fired}
+use Rattle.prs_core.specs.Moves.{high}
 use Rattle.env_script.specs.declared.hazard.Hazard.{Hazard}
 use Rattle.env_script.specs.Scripts.{OfferValue, offer_at, IsScript}
 use Rattle.env_script.specs.Environment.{in_reset, net_channels}
@@ -18,10 +17,8 @@ use Rattle.event_sim.specs.Following.{enabled_moves, move_at}
 use Rattle.event_sim.specs.Passing.{channel_acknowledged, completion, passed_in}
 use Rattle.event_sim.specs.Ends.{end_with}
 use Rattle.event_sim.specs.Stages.{StageValue, now_of, moves_now}
-use Rattle.event_sim.specs.Standings.{offered_count, is_low_ack, is_done, is_idle}
+use Rattle.event_sim.specs.Standings.{offered_count, is_idle}
 use Rattle.event_sim.proofs.Following.{after_more, passed_more, enabled_at}
-use Rattle.event_sim.proofs.HomeLemmas.{found_there, no_ack}
-use Rattle.event_sim.proofs.Near.{fired_agree}
 use Rattle.event_sim.proofs.Wholes.{safe_is_calm}
 use Rattle.peer_bench.specs.declared.note.Note.{Note}
 use Rattle.peer_bench.specs.declared.note.Note.TheVariants.{Took}
@@ -34,11 +31,11 @@ use Rattle.peer_bench.specs.Benches.{bench_start, bench_moves}
 use Rattle.peer_bench.proofs.Counting.{stands_moved, listed_like, hazard_like}
 use Rattle.peer_bench.proofs.Fitting.{more_fit}
 use Rattle.peer_bench.proofs.Growth.{AreAt, AreUntil, follow_more, follow_length, picks_more, hazard_more, follow_agree, picks_agree, end_agree, at_both, until_later, until_at, scripts_agree, script_now}
+use Rattle.peer_bench.proofs.Idle.{idle_moved}
 use Rattle.peer_bench.proofs.Liking.{StandsFor, like_number}
 use Rattle.peer_bench.proofs.Moments.{HasLogged, AskedOnIf, told_at, noted_logged, logged_both, told_stands, asked_on_if, noted_next}
-use Rattle.peer_bench.proofs.Outside.{home_of}
 use Rattle.peer_bench.proofs.Quiet.{asked_quiet}
-use Rattle.peer_bench.proofs.Rails.{completes_on, count_stays, at_place, ack_wire, rails_moved, rails_grow, offered_moved}
+use Rattle.peer_bench.proofs.Rails.{completes_on, rails_moved, rails_grow, offered_moved}
 use Rattle.peer_bench.proofs.Rising.{enabled_grows, run_grows, run_more, numbers_grow}
 
 -- so many picks and these notes have led to the stage
@@ -164,15 +161,6 @@ next_is known net steps picks notes extra was is stage last p node d at few goes
 
 -- nothing more is due where a move doesn't let the device be asked
 
-ack_found : (net : NetValue) (n c : ℕ) (w : Wires) → IsNet net → slice_get net.channels c ≡ Some w → n ≡ w.ack → channel_acknowledged net.channels n ≡ Some c
-ack_found net n c w is here same =
-    found_there net n c w (Some c) (λ (x : Wires). n == x.ack) (home_of net n c w is within (at_place net.channels c w here) (ack_wire w n same))
-    (λ x apart. no_ack n x apart) refl within
-    (ap (λ (x : Wires). n == x.ack) (sym (at_place net.channels c w here)) ∙ eq-eqb n w.ack same)
-  where
-    within : c < length net.channels
-    within = slice_get_within net.channels c w here
-
 out_is_external : (kind : Kind) → is_external kind ≡ false → is_out kind ≡ false
 out_is_external In off = refl
 out_is_external Out off = absurd (cc off)
@@ -195,21 +183,12 @@ unasked : (s : StageValue) (n : ℕ) (notes : List Note) (p : PeerValue) → IsN
     NothingComes s.net notes (moved s.net (now_of s) n) p
 unasked s n notes p net off quiet = λ c w here idle. by_kind c w here idle w.channel.kind refl
   where
-    apart : (c : ℕ) (w : Wires) → slice_get s.net.channels c ≡ Some w → is_external w.channel.kind ≡ true → n ≡ w.ack → ⊥
-    apart c w here external same =
-        both_ways (chan_is is_external s.net (channel_acknowledged s.net.channels n)) off
-        (ap (chan_is is_external s.net) (ack_found s.net n c w net here same) ∙ ap (kind_passes is_external) here ∙ external)
-
     was_idle : (c : ℕ) (w : Wires) → slice_get s.net.channels c ≡ Some w → is_external w.channel.kind ≡ true →
         is_idle s.net (script_by s.net notes) (moved s.net (now_of s) n) c ≡ true → is_idle s.net (script_by s.net notes) (now_of s) c ≡ true
     was_idle c w here external idle =
-        let other = apart c w here external in
-        let low : is_low_ack (high s.values) (slice_get s.net.channels c) ≡ is_low_ack (high (fired s.values n)) (slice_get s.net.channels c) =
-        ap (is_low_ack (high s.values)) here ∙ ap not (sym (fired_agree s.values n w.ack (λ e. other (sym e))))
-        ∙ sym (ap (is_low_ack (high (fired s.values n))) here) in
-        ap (λ (b : Bool). b && is_done (offered_count (offer_at (script_by s.net notes) c)) (completed (now_of s).histories c)) low
-        ∙ ap (λ (k : ℕ). is_low_ack (high (fired s.values n)) (slice_get s.net.channels c) && is_done (offered_count (offer_at (script_by s.net notes) c)) k)
-        (sym (count_stays s n c w net here other)) ∙ idle
+        idle_moved s n c (script_by s.net notes) net
+        (λ found. both_ways (chan_is is_external s.net (channel_acknowledged s.net.channels n)) off
+        (ap (chan_is is_external s.net) found ∙ ap (kind_passes is_external) here ∙ external)) idle
 
     by_kind : (c : ℕ) (w : Wires) → slice_get s.net.channels c ≡ Some w →
         is_idle s.net (script_by s.net notes) (moved s.net (now_of s) n) c ≡ true → (kind : Kind) → w.channel.kind ≡ kind →

@@ -1,5 +1,6 @@
 pub mod Notes
 pub mod Devices
+pub mod Sets
 pub mod Growing
 pub mod Running
 pub mod Asking

@@ -1,6 +1,6 @@
 //! A run on a bench, as far as it has come.
 
-ghost use Rattle.std.specs.Prelude.{◌≡◌, ◌≤◌, ◌<◌, ◌+◌, ◌*◌, true, false, not, ◌&&◌, ◌||◌, List, [], ◌∷◌, ◌++◌, length, Some, IfSome, option_to_list};
+ghost use Rattle.std.specs.Prelude.{◌≡◌, ◌≢◌, ℕ, nat_lt, ◌≤◌, ◌<◌, ◌+◌, ◌*◌, true, false, not, ◌&&◌, ◌||◌, List, [], ◌∷◌, ◌++◌, length, Some, IfSome, option_to_list};
 ghost use Rattle.prs_core.specs.Nets.{IsNet};
 ghost use Rattle.prs_core.specs.Moves.{high};
 ghost use Rattle.env_script.specs.Scripts.{IsScript};
@@ -8,17 +8,21 @@ ghost use Rattle.env_script.specs.Environment.{net_channels, in_reset};
 ghost use Rattle.env_script.specs.Runs.{move_enabled, moved};
 ghost use Rattle.env_script.specs.Hazards.{hazard_of};
 ghost use Rattle.event_sim.specs.Asking.{IsAskedAlong, picker_value};
-ghost use Rattle.event_sim.specs.Passing.{channel_acknowledged, completion};
+ghost use Rattle.event_sim.specs.Locality.{is_member};
+ghost use Rattle.event_sim.specs.Passing.{completion};
 ghost use Rattle.event_sim.specs.Simulating.{growth};
 ghost use Rattle.event_sim.specs.Stages.{now_of};
+ghost use Rattle.event_sim.specs.Standings.{is_idle};
 ghost use Rattle.peer_bench.specs.declared.note.Note.{Note};
 ghost use Rattle.peer_bench.specs.declared.note.Note.TheVariants.{Took};
 ghost use Rattle.peer_bench.specs.Asking.{peer_value, HasNoted};
 ghost use Rattle.peer_bench.specs.Along.{is_external, is_out, chan_is, told_passed};
 ghost use Rattle.peer_bench.specs.Benches.{bench_enabled, external_channels, noted_since, IsBenchRun};
 ghost use Rattle.peer_bench.specs.Steps.{IsAskedByIf, IsMoveNoted, AreOffered, AreRailsHeld, free_on};
+ghost use Rattle.peer_bench.specs.Sets.{HasIdle, IsQuiet, IsQuietBut};
 
-use crate::ask::ask_all;
+use crate::ask::ask_on;
+use crate::channel_set::ChannelSet;
 use crate::peer::Peer;
 use crate::setup::Setup;
 use chp_base::Kind;
@@ -45,15 +49,15 @@ fn is_out(kind: Kind) -> bool
     }
 }
 
-/// Whether a change of the node changes the acknowledge of an external channel.
-fn is_external_ack(stage: &Stage, node: u32) -> bool
-    requires { node < length stage.now.net.first }
-    ensures ack { result ≡ chan_is is_external stage.now.net (channel_acknowledged stage.now.net.channels node) }
+/// Whether this is an external channel of the stage.
+fn is_external_ack(stage: &Stage, acked: Option<u32>) -> bool
+    requires { IfSome acked (λ chan. chan < length stage.now.net.channels) }
+    ensures ack { result ≡ chan_is is_external stage.now.net acked }
     ensures net { IsNet stage.now.net }
     ensures script { IsScript (net_channels stage.now.net) stage.now.script }
 {
     let channels = stage.net().channels();
-    match stage.acknowledged(node) {
+    match acked {
         None => false,
         Some(chan) => is_external(channels[chan as usize].channel.kind),
     }
@@ -70,31 +74,35 @@ fn tell_taken(peer: &mut Box<dyn Peer>, chan: u32, value: u64, at: u32)
     peer.took(chan, value, at);
 }
 
-/// Notifies the device of the value that passed on the channel, where that is an `out` channel.
-fn tell_value(stage: &Stage, peer: &mut Box<dyn Peer>, chan: u32, value: u64, at: u32)
+/// Notifies the device of the value that passed on the channel, where that is an `out` channel. Returns whether it is.
+fn tell_value(stage: &Stage, peer: &mut Box<dyn Peer>, chan: u32, value: u64, at: u32) -> bool
     requires chan { chan < length stage.now.net.channels }
     requires room { 1 ≤ spare peer.old }
     ensures noted { HasNoted (told_passed stage.now.net at (Some (chan, value)))
         (peer_value (name peer.old) (log peer.old) (spare peer.old) (due peer.old) (willing peer.old))
         (peer_value (name peer.new) (log peer.new) (spare peer.new) (due peer.new) (willing peer.new)) }
+    ensures told { result ≡ nat_lt 0 (length (told_passed stage.now.net at (Some (chan, value)))) }
     ensures kind { peer.new.vtable ≡ peer.old.vtable }
 {
-    if is_out(stage.net().channels()[chan as usize].channel.kind) {
+    let is_taken = is_out(stage.net().channels()[chan as usize].channel.kind);
+    if is_taken {
         tell_taken(peer, chan, value, at);
     }
+    is_taken
 }
 
-/// Notifies the device of the value that passed, where one did, and on an `out` channel.
-fn tell(stage: &Stage, peer: &mut Box<dyn Peer>, passed: Option<(u32, u64)>, at: u32)
+/// Notifies the device of the value that passed, where one did, and on an `out` channel. Returns whether it did so.
+fn tell(stage: &Stage, peer: &mut Box<dyn Peer>, passed: Option<(u32, u64)>, at: u32) -> bool
     requires chan { IfSome passed (λ p. p.0 < length stage.now.net.channels) }
     requires room { 1 ≤ spare peer.old }
     ensures noted { HasNoted (told_passed stage.now.net at passed)
         (peer_value (name peer.old) (log peer.old) (spare peer.old) (due peer.old) (willing peer.old))
         (peer_value (name peer.new) (log peer.new) (spare peer.new) (due peer.new) (willing peer.new)) }
+    ensures told { result ≡ nat_lt 0 (length (told_passed stage.now.net at passed)) }
     ensures kind { peer.new.vtable ≡ peer.old.vtable }
 {
     match passed {
-        None => {}
+        None => false,
         Some(pair) => tell_value(stage, peer, pair.0, pair.1, at),
     }
 }
@@ -107,34 +115,77 @@ fn may_ask(is_in_reset: bool, was_in_reset: bool, is_ack: bool) -> bool
     !is_in_reset && (was_in_reset || is_ack)
 }
 
-/// Asks the device on all channels, where it may be asked.
-fn ask_if(stage: &mut Stage, peer: &mut Box<dyn Peer>, asks: bool, at: u32)
+/// Inserts the channel whose acknowledge was moved into the set of idle channels, where it is idle now.
+fn list_idle(stage: &Stage, idle: &mut ChannelSet, acked: Option<u32>)
+    requires chan { IfSome acked (λ chan. chan < length stage.now.net.channels) }
+    requires count { length idle.old ≡ length stage.now.net.channels }
+    requires others { (chan : ℕ) → acked ≢ Some chan →
+        is_idle stage.now.net stage.now.script (now_of stage.now) chan ≡ true → is_member idle.old chan ≡ true }
+    ensures { HasIdle stage.now.net stage.now.script (now_of stage.now) idle.new }
+{
+    if let Some(chan) = acked {
+        idle.set(chan, stage.is_idle(chan));
+    }
+}
+
+/// The channel on which alone an answer may come: the one whose acknowledge was moved, unless the device was notified or
+/// wasn't asked before.
+fn only_one(acked: Option<u32>, told: bool, was_in_reset: bool) -> Option<u32>
+    ensures { IfSome result (λ chan. (acked ≡ Some chan) × (told ≡ false) × (was_in_reset ≡ false)) }
+{
+    if told || was_in_reset { None } else { acked }
+}
+
+/// Asks the device on all channels, where it may be asked. An answer may come on any of them, or on this one alone.
+fn ask_if(
+    stage: &mut Stage,
+    peer: &mut Box<dyn Peer>,
+    idle: &mut ChannelSet,
+    asks: bool,
+    only: Option<u32>,
+    at: u32,
+)
     requires low { asks ≡ true → in_reset stage.old.net.reset (high stage.old.values) ≡ false }
+    requires chan { IfSome only (λ chan. chan < length stage.old.net.channels) }
+    requires quiet { IfSome only (λ chan. IsQuietBut stage.old.net stage.old.script (now_of stage.old)
+        (peer_value (name peer.old) (log peer.old) (spare peer.old) (due peer.old) (willing peer.old)) chan) }
+    requires idle { HasIdle stage.old.net stage.old.script (now_of stage.old) idle.old }
     requires offered { AreOffered stage.old.script (now_of stage.old) }
     requires room { free_on stage.old.net stage.old.script (now_of stage.old) + 1 ≤ spare peer.old }
     ensures stage { stage.new ≡ record stage.old { script = stage.new.script } }
     ensures asked { (more : List Note) × IsAskedByIf asks
         (λ p. peer_value (name p) (log p) (spare p) (due p) (willing p))
         stage.old.net (now_of stage.old) at stage.old.script stage.new.script more peer.old peer.new }
+    ensures idle { HasIdle stage.new.net stage.new.script (now_of stage.new) idle.new }
     ensures offered { AreOffered stage.new.script (now_of stage.new) }
     ensures room { spare peer.new + free_on stage.old.net stage.old.script (now_of stage.old) ≡
         spare peer.old + free_on stage.new.net stage.new.script (now_of stage.new) }
     ensures kind { peer.new.vtable ≡ peer.old.vtable }
 {
     if asks {
-        ask_all(stage, peer, at);
+        ask_on(stage, peer, idle, only, at);
     }
 }
 
 /// Makes the enabled move of the node, notifies the device of what it took by that, and asks it where the move allows
 /// it. Returns the hazard that the move brings.
-fn make(stage: &mut Stage, peer: &mut Box<dyn Peer>, node: u32, at: u32) -> Option<Hazard>
+fn make(
+    stage: &mut Stage,
+    peer: &mut Box<dyn Peer>,
+    idle: &mut ChannelSet,
+    node: u32,
+    at: u32,
+) -> Option<Hazard>
     requires node { node < length stage.old.net.first }
     requires enabled { move_enabled stage.old.net stage.old.script (now_of stage.old) node ≡ true }
     requires room { 1 ≤ stage.old.room }
     requires rails { AreRailsHeld stage.old.net stage.old.script (now_of stage.old) }
     requires offered { AreOffered stage.old.script (now_of stage.old) }
     requires spare { free_on stage.old.net stage.old.script (now_of stage.old) + 3 ≤ spare peer.old }
+    requires idle { HasIdle stage.old.net stage.old.script (now_of stage.old) idle.old }
+    requires quiet { in_reset stage.old.net.reset (high stage.old.values) ≡ false →
+        IsQuiet stage.old.net stage.old.script (now_of stage.old)
+        (peer_value (name peer.old) (log peer.old) (spare peer.old) (due peer.old) (willing peer.old)) }
     ensures net { stage.new.net ≡ stage.old.net }
     ensures moved { now_of stage.new ≡ moved stage.old.net (now_of stage.old) node }
     ensures fits { IsScript (net_channels stage.new.net) stage.new.script }
@@ -148,15 +199,19 @@ fn make(stage: &mut Stage, peer: &mut Box<dyn Peer>, node: u32, at: u32) -> Opti
     ensures offered { AreOffered stage.new.script (now_of stage.new) }
     ensures spare { spare peer.old + free_on stage.old.net stage.new.script (now_of stage.new) ≤
         spare peer.new + free_on stage.old.net stage.old.script (now_of stage.old) + 2 }
+    ensures idle { HasIdle stage.new.net stage.new.script (now_of stage.new) idle.new }
     ensures kind { peer.new.vtable ≡ peer.old.vtable }
 {
     let was_in_reset = stage.in_reset();
-    let is_ack = is_external_ack(stage, node);
+    let acked = stage.acknowledged(node);
+    let is_ack = is_external_ack(stage, acked);
     let passed = stage.completion(node);
     let hazard = stage.make(node);
-    tell(stage, peer, passed, at);
+    list_idle(stage, idle, acked);
+    let told = tell(stage, peer, passed, at);
     let asks = may_ask(stage.in_reset(), was_in_reset, is_ack);
-    ask_if(stage, peer, asks, at);
+    let only = only_one(acked, told, was_in_reset);
+    ask_if(stage, peer, idle, asks, only, at);
     // the invariant of the stage's type, about its script
     let _kept = stage.net();
     hazard
@@ -202,9 +257,13 @@ pub(crate) fn drive(setup: Setup, picker: &mut Box<dyn Picker>, peer: &mut Box<d
     ensures seeded { seeded picker.new ≡ seeded picker.old }
     ensures kind { picker.new.vtable ≡ picker.old.vtable }
 {
-    let Setup { mut stage, steps } = setup;
+    let Setup {
+        mut stage,
+        steps,
+        mut idle,
+    } = setup;
     let is_in_reset = stage.in_reset();
-    ask_if(&mut stage, peer, !is_in_reset, 0);
+    ask_if(&mut stage, peer, &mut idle, !is_in_reset, None, 0);
     let _kept = stage.net();
     let mut hazard = stage.first_hazard();
     for made in 0..steps {
@@ -213,7 +272,7 @@ pub(crate) fn drive(setup: Setup, picker: &mut Box<dyn Picker>, peer: &mut Box<d
             None => {
                 let place = choose(picker, stage.moves());
                 let node = stage.moves()[place];
-                hazard = make(&mut stage, peer, node, made + 1);
+                hazard = make(&mut stage, peer, &mut idle, node, made + 1);
             }
         }
     }

@@ -3,6 +3,7 @@
 
 mod ask;
 mod bench;
+mod channel_set;
 mod course;
 mod echo;
 pub mod laws;

@@ -5,6 +5,7 @@ ghost use Rattle.prs_core.specs.declared.wires.Wires.{Wires};
 ghost use Rattle.env_script.specs.Offers.{offered};
 ghost use Rattle.peer_bench.specs.Growing.{offer_by};
 
+use crate::channel_set::ChannelSet;
 use chp_base::Kind;
 use env_script::{Count, Offer, Script};
 use event_sim::{Stage, power_state};
@@ -12,22 +13,25 @@ use prs_core::{Net, Wires};
 use std::alloc::{AllocError, Global};
 use std::marker::Model;
 
-/// A net on a stage on which nothing has been offered yet, and how many moves may be made. All memory of the run is
-/// allocated.
+/// A net on a stage on which nothing has been offered yet, how many moves may be made, and a set of channels that has
+/// all idle ones. All memory of the run is allocated.
 #[derive(Drop)]
 pub(crate) struct Setup {
     pub(crate) stage: Stage,
     pub(crate) steps: u32,
+    pub(crate) idle: ChannelSet,
 }
 
 impl Model for Setup {
+    ghost use Rattle.event_sim.specs.Stages.{now_of};
     ghost use Rattle.peer_bench.specs.Benches.{SetupValue, IsUnasked};
+    ghost use Rattle.peer_bench.specs.Sets.{HasIdle};
 
     ghost Value = { SetupValue };
 
     ghost view = { λ s. record { net = s.stage.net; steps = s.steps } };
 
-    ghost invariant = { λ s. IsUnasked s.stage s.steps };
+    ghost invariant = { λ s. IsUnasked s.stage s.steps × HasIdle s.stage.net s.stage.script (now_of s.stage) s.idle };
 }
 
 /// Nothing is offered yet on a channel of this kind.
@@ -63,6 +67,7 @@ impl Setup {
         let script = no_script(alloc, net.channels())?;
         let state = power_state(alloc, &net, false)?;
         let stage = Stage::new(alloc, net, script, state, steps)?;
-        Ok(Setup { stage, steps })
+        let idle = ChannelSet::all(alloc, stage.net().channels().len())?;
+        Ok(Setup { stage, steps, idle })
     }
 }

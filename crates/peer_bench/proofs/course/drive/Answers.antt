@@ -12,11 +12,11 @@ use Rattle.peer_bench.proofs.Ending.{goes_on, choice_list, any_default, picked_w
 use Rattle.peer_bench.proofs.course.drive.Goals as goal
 
 pub ask_if-requires-clause-offered : goal.ask_if-requires-clause-offered
-ask_if-requires-clause-offered g c = offered_first c.setup.inside.stage c.setup.inside.steps c.setup.invariant
+ask_if-requires-clause-offered g c = offered_first c.setup.inside.stage c.setup.inside.steps c.setup.invariant.0
 
 pub ask_if-requires-clause-room : goal.ask_if-requires-clause-room
 ask_if-requires-clause-room g c =
-    let free = free_begun c.setup.inside.stage c.setup.inside.steps c.setup.invariant in
+    let free = free_begun c.setup.inside.stage c.setup.inside.steps c.setup.invariant.0 in
     let all : external_channels c.setup.inside.stage.net ≡ external_channels c.args.setup.net =
     ap (λ (v : SetupValue). external_channels v.net) c.setup.view_is in
     omega (arith, c.requires.room)
@@ -29,7 +29,7 @@ loop-made-init g c =
       steps = ap (λ (v : SetupValue). v.steps) c.setup.view_is;
       net = subst (λ (v : SetupValue). IsNet v.net) c.setup.view_is here;
       driven = begins _ _ c.args.setup stage c.ask_if.new.stage c.setup.inside.steps c.in_reset-is_in_reset.result c.ask_if.ensures.asked.0 c.args.peer.now
-          c.ask_if.new.peer c.args.picker.now c.first_hazard-hazard.result _ here c.setup.view_is c.setup.invariant c.in_reset-is_in_reset.ensures
+          c.ask_if.new.peer c.args.picker.now c.first_hazard-hazard.result _ here c.setup.view_is c.setup.invariant.0 c.in_reset-is_in_reset.ensures
           c.ask_if.ensures.stage c.ask_if.ensures.asked.1 c.ask_if.ensures.offered c.ask_if.ensures.room c.requires.room c.first_hazard-hazard.ensures.hazard
           c.net-kept.ensures.script;
       spare = omega arith;
@@ -38,6 +38,7 @@ loop-made-init g c =
       seeded = refl;
       kind = refl;
       device_kind = c.ask_if.ensures.kind;
+      idle = c.ask_if.ensures.idle;
     }
 
 pub ran-requires : goal.ran-requires
@@ -102,6 +103,17 @@ make-hazard-requires-clause-spare g c =
     (is_ready _ _ c.args.setup.net c.args.setup.steps _ _ c.loop-made.made _ _ _ _ c.loop-made.stage c.loop-made.hazard i.driven
     (omega (arith, i.steps, c.loop-made-test.true)) none).spare
 
+pub make-hazard-requires-clause-idle : goal.make-hazard-requires-clause-idle
+make-hazard-requires-clause-idle g c = c.loop-made.invariant.idle
+
+pub make-hazard-requires-clause-quiet : goal.make-hazard-requires-clause-quiet
+make-hazard-requires-clause-quiet g c =
+    let i = c.loop-made.invariant in
+    let none : end_with c.loop-made.hazard (moves_now c.loop-made.stage) false ≡ None =
+    ap (λ (xs : List ℕ). end_with c.loop-made.hazard xs false) (sym c.moves.ensures) ∙ sym c.early_end.ensures ∙ c.in-None.is in
+    (is_ready _ _ c.args.setup.net c.args.setup.steps _ _ c.loop-made.made _ _ _ _ c.loop-made.stage c.loop-made.hazard i.driven
+    (omega (arith, i.steps, c.loop-made-test.true)) none).quiet
+
 pub loop-made-preserved : goal.loop-made-preserved
 loop-made-preserved g c =
     let i = c.loop-made.invariant in
@@ -136,6 +148,7 @@ loop-made-preserved g c =
       seeded = c.choose-place.ensures.seeded ∙ i.seeded;
       kind = c.choose-place.ensures.kind ∙ i.kind;
       device_kind = e.kind ∙ i.device_kind;
+      idle = e.idle;
     }
 
 pub returns-in-Some : goal.returns-in-Some

@@ -2,6 +2,8 @@ use Rattle.std.proofs.Common.{◌≡◌, ◌+◌}
 use Rattle.prs_core.specs.Nets.{IsNet}
 use Rattle.event_sim.specs.Asking.{picker_value}
 use Rattle.peer_bench.specs.Asking.{peer_value}
+use Rattle.event_sim.specs.Stages.{now_of}
+use Rattle.peer_bench.specs.Sets.{HasIdle}
 use Rattle.peer_bench.proofs.Ending.{HasDriven}
 use Rattle.peer_bench.proofs.course.drive.Given as goal
 
@@ -23,4 +25,5 @@ invariant-loop-made g l =
       seeded : now.seeded l.picker.value ≡ first.seeded l.fn.picker.value;
       kind : l.picker.vtable ≡ l.fn.picker.vtable;
       device_kind : l.peer.vtable ≡ l.fn.peer.vtable;
+      idle : HasIdle l.stage.net l.stage.script (now_of l.stage) l.idle;
     }
