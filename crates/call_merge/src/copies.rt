@@ -79,7 +79,7 @@ pub(crate) fn copied_expression(alloc: Global, e: &Expr) -> Result<Expr, AllocEr
             at: *at,
         }),
         Expr::Join { parts, at } => {
-            let mut made = Vec::new(alloc);
+            let mut made = Vec::with_capacity(alloc, parts.len())?;
             for part in parts {
                 made.push(copied_expression(alloc, part)?)?;
             }
@@ -97,7 +97,7 @@ pub(crate) fn copied_expression(alloc: Global, e: &Expr) -> Result<Expr, AllocEr
         }
         Expr::Chain { first, rest, at } => {
             let front = boxed(alloc, copied_expression(alloc, first))?;
-            let mut made = Vec::new(alloc);
+            let mut made = Vec::with_capacity(alloc, rest.len())?;
             for link in rest {
                 let right = copied_expression(alloc, &link.right)?;
                 made.push(Link { op: link.op, right })?;
@@ -228,14 +228,14 @@ pub(crate) fn copied(alloc: Global, s: &Stmt) -> Made
         Stmt::Send { chan, value } => sent(alloc, chan, value),
         Stmt::Receive { chan, target } => received(alloc, chan, target),
         Stmt::Then { parts } | Stmt::Beside { parts } => {
-            let mut made = Vec::new(alloc);
+            let mut made = Vec::with_capacity(alloc, parts.len())?;
             for part in parts {
                 add(&mut made, copied(alloc, part))?;
             }
             grouped(alloc, s, made)
         }
         Stmt::Select { again, arms } => {
-            let mut made = Vec::new(alloc);
+            let mut made = Vec::with_capacity(alloc, arms.len())?;
             for arm in arms {
                 add_arm(alloc, &mut made, &arm.guard, copied(alloc, &arm.body))?;
             }

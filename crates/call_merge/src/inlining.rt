@@ -55,14 +55,14 @@ fn inlined(alloc: Global, procs: &Procedures, s: &Stmt) -> Made
             copied(alloc, s)
         }
         Stmt::Then { parts } | Stmt::Beside { parts } => {
-            let mut made = Vec::new(alloc);
+            let mut made = Vec::with_capacity(alloc, parts.len())?;
             for part in parts {
                 add(&mut made, inlined(alloc, procs, part))?;
             }
             grouped(alloc, s, made)
         }
         Stmt::Select { again, arms } => {
-            let mut made = Vec::new(alloc);
+            let mut made = Vec::with_capacity(alloc, arms.len())?;
             for arm in arms {
                 let body = inlined(alloc, procs, &arm.body);
                 add_arm(alloc, &mut made, &arm.guard, body)?;

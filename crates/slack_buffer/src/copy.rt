@@ -79,7 +79,7 @@ fn copied_expression(alloc: Global, e: &Expr) -> Result<Expr, AllocError>
             at: *at,
         }),
         Expr::Join { parts, at } => {
-            let mut made = Vec::new(alloc);
+            let mut made = Vec::with_capacity(alloc, parts.len())?;
             for part in parts {
                 made.push(copied_expression(alloc, part)?)?;
             }
@@ -97,7 +97,7 @@ fn copied_expression(alloc: Global, e: &Expr) -> Result<Expr, AllocError>
         }
         Expr::Chain { first, rest, at } => {
             let front = boxed(alloc, copied_expression(alloc, first))?;
-            let mut made = Vec::new(alloc);
+            let mut made = Vec::with_capacity(alloc, rest.len())?;
             for link in rest {
                 let right = copied_expression(alloc, &link.right)?;
                 made.push(Link { op: link.op, right })?;
@@ -149,14 +149,14 @@ pub(crate) fn rerouted(
             target: copied_name(target)?,
         }),
         Stmt::Then { parts } | Stmt::Beside { parts } => {
-            let mut made = Vec::new(alloc);
+            let mut made = Vec::with_capacity(alloc, parts.len())?;
             for part in parts {
                 made.push(rerouted(alloc, part, chan, copy)?)?;
             }
             Ok(group_like(s, made))
         }
         Stmt::Select { again, arms } => {
-            let mut made = Vec::new(alloc);
+            let mut made = Vec::with_capacity(alloc, arms.len())?;
             for arm in arms {
                 let guard = copied_expression(alloc, &arm.guard)?;
                 let body = rerouted(alloc, &arm.body, chan, copy)?;

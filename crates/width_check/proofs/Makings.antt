@@ -1,5 +1,7 @@
 -- What is made of members, and what is left of them.
-use Rattle.std.proofs.Common.{◌≡◌, List, [], ◌∷◌, ◌++◌, refl, ap}
+use Rattle.std.proofs.Common.{◌≡◌, List, [], ◌∷◌, ◌++◌, Result, Ok, Err, Vec, refl, ap}
+use Rattle.std.specs.Prelude.{IfOk}
+use Rattle.std.specs.declared.alloc.Global.{Global}
 use Rattle.width_check.specs.declared.typed.TArm.{TArm}
 use Rattle.width_check.specs.declared.typed.TExpr.{TExpr}
 use Rattle.width_check.specs.declared.typed.TLink.{TLink}
@@ -8,6 +10,11 @@ use Rattle.width_check.specs.Processes.{Formulas, no_parts, and_part, Operations
 use Rattle.width_check.specs.View.{formula_of, process_of}
 use Rattle.width_check.proofs.Rows.{parts_of, links_of}
 use Rattle.width_check.proofs.Statements.{members_of, arms_of}
+
+-- a list with room for members, of which none is made yet
+pub nothing_made : {T X E : Type 0} (list : Result (Vec T Global) E) (f : List T → X) → IfOk list (λ v. v.items ≡ []) → IfOk list (λ v. f v.items ≡ f [])
+nothing_made (Ok v) f empty = ap f empty
+nothing_made (Err e) f empty = tt
 
 -- members that were made, before others
 

@@ -165,7 +165,7 @@ fn make_expression(alloc: Global, scope: &Scope, e: &Expr, width: u8) -> Result<
             Ok(read(scope, of, place, place))
         }
         Expr::Join { parts, .. } => {
-            let mut made = Ok(Vec::new(alloc));
+            let mut made = Vec::with_capacity(alloc, parts.len());
             for part in parts {
                 let own = scope.own_width(part).unwrap_or(0);
                 made = extended(made, make_expression(alloc, scope, part, own));
@@ -181,7 +181,7 @@ fn make_expression(alloc: Global, scope: &Scope, e: &Expr, width: u8) -> Result<
                 let right = make_expression(alloc, scope, &link.right, side);
                 return comparison(alloc, link.op, left, right);
             }
-            let mut made = Ok(Vec::new(alloc));
+            let mut made = Vec::with_capacity(alloc, rest.len());
             for link in rest {
                 let right = make_expression(alloc, scope, &link.right, width);
                 made = extended(made, linked(link.op, right));
@@ -305,14 +305,14 @@ pub fn make_statement(alloc: Global, scope: &Scope, s: &Stmt) -> Result<TStmt, A
         Stmt::Send { chan, value } => make_send(alloc, scope, chan, value),
         Stmt::Receive { chan, target } => Ok(make_receive(scope, chan, target)),
         Stmt::Then { parts } | Stmt::Beside { parts } => {
-            let mut made = Ok(Vec::new(alloc));
+            let mut made = Vec::with_capacity(alloc, parts.len());
             for part in parts {
                 made = extended(made, make_statement(alloc, scope, part));
             }
             grouped(s, made)
         }
         Stmt::Select { again, arms } => {
-            let mut made = Ok(Vec::new(alloc));
+            let mut made = Vec::with_capacity(alloc, arms.len());
             for arm in arms {
                 let guard = make_expression(alloc, scope, &arm.guard, 1);
                 let body = make_statement(alloc, scope, &arm.body);

@@ -4,7 +4,9 @@ use Rattle.std.proofs.Common.{rules, refl, sym, drop, arith}
 use Rattle.chp_syntax.specs.Trees.{slice, bit}
 use Rattle.chp_syntax.specs.View.{expression_of}
 use Rattle.width_check.specs.Places.{declared_width, use_of, read}
-use Rattle.width_check.specs.Walk.{join_parts}
+use Rattle.width_check.specs.Form.{parts_form, operations_form}
+use Rattle.width_check.specs.Walk.{join_parts, links_in}
+use Rattle.width_check.proofs.Makings.{nothing_made, before_parts, before_links}
 use Rattle.width_check.proofs.Leaves.{good_slice, declared_most}
 use Rattle.width_check.proofs.Soundness.{number_fits, bit_within, sound_inner}
 use Rattle.width_check.proofs.Ready.{ArePartsLeft, part_ready, part_added, parts_next, join_left, parts_joined, first_ready, links_left, links_next, link_ready, link_added, links_chained, not_made, comparison_ready, sides_made}
@@ -61,7 +63,7 @@ pub loop-part-init : goal.loop-part-init
 loop-part-init t c =
     let left = join_left c.args.scope.now.decls.now c.args.width c.args.e.now c.in-Join.parts c.in-Join.at c.deref-part-items.result.now c.in-Join.is
     c.deref-part-items.ensures.value c.requires.shaped c.requires.sound in
-    record { made = rw c.new.ensures.items refl; shaped = left.shaped; full = left.full; sound = left.sound }
+    record { made = nothing_made c.with_capacity-made.result (λ made. before_parts made (parts_form c.args.scope.now.decls.now (join_parts c.deref-part-items.result.now))) c.with_capacity-made.ensures.items; shaped = left.shaped; full = left.full; sound = left.sound }
 
 pub make_expression-requires : goal.make_expression-requires
 make_expression-requires t c =
@@ -168,7 +170,7 @@ loop-link-init t c =
     let left = links_left c.args.scope.now.decls.now c.args.width c.args.e.now c.in-Chain.first c.in-Chain.rest c.in-Chain.at c.deref-in-Chain.result.now
     c.deref-link-items.result.now c.in-Chain.is c.deref-in-Chain.ensures.value c.deref-link-items.ensures.value (sym c.if-compares.ensures)
     c.requires.shaped c.requires.sound in
-    record { made = rw c.new-in-Chain.ensures.items refl; shaped = left.shaped; sound = left.sound }
+    record { made = nothing_made c.with_capacity-made-in-Chain.result (λ made. before_links made (operations_form c.args.scope.now.decls.now c.args.width (links_in c.deref-link-items.result.now))) c.with_capacity-made-in-Chain.ensures.items; shaped = left.shaped; sound = left.sound }
 
 pub loop-link-preserved : goal.loop-link-preserved
 loop-link-preserved t c =

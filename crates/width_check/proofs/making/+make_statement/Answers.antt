@@ -2,13 +2,16 @@ use Rattle.std.proofs.Common.{rules, refl}
 use Rattle.std.proofs.lemmas.List.{get_or_read}
 use Rattle.chp_syntax.specs.declared.tree.Stmt.{the_lemmas}
 use Rattle.width_check.proofs.Doing.{group_left, member_ready, members_next, member_added, group_made, select_left, arm_ready, arms_next, arm_added, arms_selected, repeat_ready, repeat_made}
+use Rattle.width_check.specs.Form.{processes_form, choices_form}
+use Rattle.width_check.specs.Walk.{statements_in, arms_in}
+use Rattle.width_check.proofs.Makings.{nothing_made, before_members, before_arms}
 use Rattle.width_check.proofs.making.+make_statement.Goals as goal
 
 pub loop-part-init : goal.loop-part-init
 loop-part-init t c =
     let left = group_left c.args.scope.now.decls.now c.args.s.now c.in-Then.parts c.deref-part-items.result.now c.in-Then.is c.deref-part-items.ensures.value
     c.requires.shaped c.requires.call_free c.requires.sound in
-    record { made = rw c.new-in-Then.ensures.items refl; shaped = left.shaped; free = left.free; sound = left.sound }
+    record { made = nothing_made c.with_capacity-made-in-Then.result (λ made. before_members made (processes_form c.args.scope.now.decls.now (statements_in c.deref-part-items.result.now))) c.with_capacity-made-in-Then.ensures.items; shaped = left.shaped; free = left.free; sound = left.sound }
 
 pub make_statement-requires-in-loop-part : goal.make_statement-requires-in-loop-part
 make_statement-requires-in-loop-part t c =
@@ -33,7 +36,7 @@ pub loop-arm-init : goal.loop-arm-init
 loop-arm-init t c =
     let left = select_left c.args.scope.now.decls.now c.args.s.now c.in-Select.again c.in-Select.arms c.deref-arm-items.result.now c.in-Select.is
     c.deref-arm-items.ensures.value c.requires.shaped c.requires.call_free c.requires.sound in
-    record { made = rw c.new.ensures.items refl; shaped = left.shaped; free = left.free; sound = left.sound }
+    record { made = nothing_made c.with_capacity-made.result (λ made. before_arms made (choices_form c.args.scope.now.decls.now (arms_in c.deref-arm-items.result.now))) c.with_capacity-made.ensures.items; shaped = left.shaped; free = left.free; sound = left.sound }
 
 pub make_expression-guard-requires-clause-sound : goal.make_expression-guard-requires-clause-sound
 make_expression-guard-requires-clause-sound t c =
