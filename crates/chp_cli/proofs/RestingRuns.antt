@@ -43,7 +43,7 @@ use Rattle.call_map.specs.CallPace.{IsMost, always}
 use Rattle.program_commands.specs.Bodies.{Bodies, copied, shared, IsFaithful, NetCarries, NetProgresses, net_for, net_with, sweeps_with}
 use Rattle.command_steps.specs.Orders.{Played}
 use Rattle.chp_cli.specs.BenchedFiles.{IsFileBenched, benched_run}
-use Rattle.chp_cli.specs.MadeRuns.{MadeRun, Timing, made_run}
+use Rattle.chp_cli.specs.MadeRuns.{MadeRun, RunTiming, made_run}
 use Rattle.chp_cli.specs.Resting.{KeepsPaceWith, KeepsUp, LastsAtMost, RestsInTime, delays_for, most_in_run}
 use Rattle.chp_cli.specs.Simulated.{IsFileSimulated, HoldsCarrying, HoldsCompiled, simulated_run}
 use Rattle.command_words.specs.SimulateWords.{AskedRun, AskedTiming}
@@ -157,7 +157,7 @@ module _ (powered : Powered) (law : (net : NetValue) (script : List OfferValue) 
         → IsLevel (after net (begin_at net (power_of net high)) ns) c
     file_level = subst (RestsLevel p) same (rests_level powered holds.reset holds.bodies it.progresses) script high ns is.kept fits run
 
-    file_rests : (steps : ℕ) (end : End) (timing : Option Timing) → EndsSo net script steps (begin_at net (power_of net high)) ns end
+    file_rests : (steps : ℕ) (end : End) (timing : Option RunTiming) → EndsSo net script steps (begin_at net (power_of net high)) ns end
         → RestsInTime holds.reset holds.bodies (made_run net script (begin_at net (power_of net high)) ns steps end timing)
     file_rests steps end timing ended most m c bound over few =
         let st = begin_at net (power_of net high) in

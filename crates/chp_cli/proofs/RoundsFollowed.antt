@@ -21,7 +21,7 @@ use Rattle.command_steps.specs.Orders.{Played}
 use Rattle.command_words.specs.SimulateWords.{AskedRun, AskedTiming}
 use Rattle.command_words.specs.WavesWords.{AskedWaves}
 use Rattle.simulation_commands.specs.Simulating.{power_or_low, simulation_for}
-use Rattle.chp_cli.specs.MadeRuns.{FollowsRounds, Timing, made_run}
+use Rattle.chp_cli.specs.MadeRuns.{FollowsRounds, RunTiming, made_run}
 use Rattle.chp_cli.specs.Simulated.{HoldsCarrying, HoldsCompiled, IsFileSimulated, simulated_run}
 use Rattle.chp_cli.specs.TimedFiles.{IsFileTimed, timed_run}
 use Rattle.chp_cli.specs.TracedFiles.{IsFileTraced, traced_run}
@@ -59,7 +59,7 @@ module _ (powered : (net : NetValue) (high : Bool) → IsNet net → IsSome net.
 
   pub followed : (n : NetValue) (p : TypedProgram) (script : List OfferValue) (high : Bool) → IsNet n → MeetsSharing p.body
       → IsScript (net_channels n) script → ((n.reset ≡ None) × Carries n p) ⊎ CarriesReset n p → (ns : List ℕ)
-      → IsRun n script (begin_at n (power_of n high)) ns → (steps : ℕ) (end : End) (timing : Option Timing)
+      → IsRun n script (begin_at n (power_of n high)) ns → (steps : ℕ) (end : End) (timing : Option RunTiming)
       → (end ≡ AtRest → IsAtRest n script (after n (begin_at n (power_of n high)) ns))
       → FollowsRounds p (made_run n script (begin_at n (power_of n high)) ns steps end timing)
   followed n p script high net sharing suits carries ns run steps end timing resting = record {

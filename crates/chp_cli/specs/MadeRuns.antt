@@ -12,7 +12,7 @@ use Rattle.prs_core.specs.Nets.{NetValue}
 use Rattle.width_check.specs.Processes.{TypedProgram}
 
 -- the delays by which a run was made, and when its last move came
-pub record Timing : Type 0 where
+pub record RunTiming : Type 0 where
   pub delays : DelayTable
   pub time : ℕ
 
@@ -25,10 +25,10 @@ pub record MadeRun : Type 0 where
   pub moves : List ℕ
   pub steps : ℕ
   pub end : End
-  pub timing : Option Timing
+  pub timing : Option RunTiming
 
 abbrev pub made_run : NetValue → List OfferValue → (start : RunState) → (moves : List ℕ) → (steps : ℕ) → End →
-    Option Timing → MadeRun
+    Option RunTiming → MadeRun
 made_run net script start moves steps end timing = record {
   net = net;
   script = script;

@@ -95,8 +95,8 @@ pub record Promises {S K W B D : Type 0} {Order : B → Type 0} {Device : D → 
   -- asked for, and keeps pace with it (the file's where the shelf is observable, else that of some text)
   pub carried : (c : AskedCompilation) → call.asked ≡ Some (compiles c) → call.status ≡ status.Done →
       (file : List ℕ) × IsAppended call.out file × IsFaithfulFile c (given call) file
-  -- of a run of a file that holds the net of a program, as each does that `compile` wrote: it finds no hazard; it
-  -- agrees with that program; and what is written whole is the report of a run
+  -- of a run of a file that holds the net of a program, as each does that `compile` wrote: it finds no hazard;
+  -- compared with that program or with none it doesn't differ; and what is written whole is the report of a run
   pub calm : (p : TypedProgram) → RunsCompiled (setting call) p → call.status ≢ status.Hazard
   pub agreed : (p : TypedProgram) → RunsCompiled (setting call) p → IsComparedWith call.asked (given call) p →
       call.status ≢ status.Differs

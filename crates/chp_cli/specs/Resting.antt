@@ -9,7 +9,7 @@ use Rattle.net_compose.specs.Time.{HasPassed}
 use Rattle.width_check.specs.Processes.{TypedProgram}
 use Rattle.call_map.specs.CallPace.{IsMost}
 use Rattle.program_commands.specs.Bodies.{Bodies, most_with, nodes_with, sweeps_with}
-use Rattle.chp_cli.specs.MadeRuns.{MadeRun, Timing, last_state}
+use Rattle.chp_cli.specs.MadeRuns.{MadeRun, RunTiming, last_state}
 
 -- the most moves of a run of the net that is written for a program, where that makes m steps and those of the net with
 -- copies are given: with a reset node each node moves once at most before reset has fallen
@@ -34,21 +34,21 @@ delays_for true bodies n = suc (suc (n * sweeps_with bodies))
 
 -- where the program comes to rest and no move takes longer than some time, the last one comes by that time multiplied
 -- by the most moves
-abbrev pub LastsAtMost : (reset : Bool) → {p : TypedProgram} → Bodies p → MadeRun → Timing → Type 0
+abbrev pub LastsAtMost : (reset : Bool) → {p : TypedProgram} → Bodies p → MadeRun → RunTiming → Type 0
 LastsAtMost reset {p} bodies run timing =
-    (longest : ℕ) (most : ℕ → ℕ) (m : ℕ) (c : Configuration) → TakesAtMost longest timing.delays →
-    IsMost p most → RestsAfter p run.script m c → timing.time ≤ longest * most_in_run reset bodies most m
+    (slowest : ℕ) (most : ℕ → ℕ) (m : ℕ) (c : Configuration) → TakesAtMost slowest timing.delays →
+    IsMost p most → RestsAfter p run.script m c → timing.time ≤ slowest * most_in_run reset bodies most m
 
 -- Where no move takes longer than some time, a timed run whose last move comes later than so many of these times, or
 -- that comes to rest, has passed all that n rounds of the program pass.
-abbrev pub KeepsUp : (reset : Bool) → {p : TypedProgram} → Bodies p → MadeRun → Timing → Type 0
+abbrev pub KeepsUp : (reset : Bool) → {p : TypedProgram} → Bodies p → MadeRun → RunTiming → Type 0
 KeepsUp reset {p} bodies run timing =
-    (longest n : ℕ) → TakesAtMost longest timing.delays →
-    (delays_for reset bodies n * longest < timing.time) ⊎ (run.end ≡ AtRest)
+    (slowest n : ℕ) → TakesAtMost slowest timing.delays →
+    (delays_for reset bodies n * slowest < timing.time) ⊎ (run.end ≡ AtRest)
     → HasPassed (last_state run) (rounds p run.script n)
 
 -- how soon the moves of a timed run come
-pub record IsInTime (reset : Bool) {p : TypedProgram} (bodies : Bodies p) (run : MadeRun) (timing : Timing) : Type 0
+pub record IsInTime (reset : Bool) {p : TypedProgram} (bodies : Bodies p) (run : MadeRun) (timing : RunTiming) : Type 0
   where
     pub lasts : LastsAtMost reset bodies run timing
     pub keeps_up : KeepsUp reset bodies run timing

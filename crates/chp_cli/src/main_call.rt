@@ -144,15 +144,15 @@ fn run<'a, S: Shelf, K: Sink>(
 
 /// Runs the command that the words ask for: reads its files from the shelf, writes its output, and says one line where
 /// it doesn't end well, with names as the words have them. The output is written whole, or where it fails less than the
-/// whole, a prefix of it; and so is the line. What a sink took is said where its bytes are observable. (Each field of
-/// `Promises` is one of these promises.)
+/// whole, a prefix of it; and of the line a prefix is said, all of it where no fault comes. What a sink took is said
+/// where its bytes are observable. (Each field of `Promises` is one of these promises.)
 ///
 /// What is answered, written and said is the command's answer to its files, of which there is at most one where the
 /// shelf is observable, for the same orders and devices before and after. Three things may come between: the shelf
 /// fails, which is told of a file of the command (`Read`), the output fails before its end (`Write`), or it is out of
-/// memory (`NoMemory`), which may come at any point and has a status of its own, for which no cause is asked. Where the files hold what the command is
-/// served with, and the order and the device that it asks for are there, the answer is to write. All that is said of
-/// files here and below is so where the shelf is observable, but for what comes next.
+/// memory (`NoMemory`), which may come at any point and has a status of its own, for which no cause is asked. Where the
+/// files hold what the command is served with, and the order and the device that it asks for are there, the answer is
+/// to write. All that is said of files here and below is so where the shelf is observable, but for what comes next.
 ///
 /// The rule file that `compile` writes, with status 0, is the one text of a net that carries the program of a text
 /// within the limit, with `--buffer` the program with the buffer, and keeps pace with it; the program with the buffer
@@ -167,10 +167,10 @@ fn run<'a, S: Shelf, K: Sink>(
 /// device are there. What follows is so where the report was written whole. On each channel the run passes a prefix of
 /// what as many rounds of the program as it has moves pass under the script, and where it reports rest all that the
 /// program passes. Where it reports rest, no order makes more moves. Where its program comes to rest under the script,
-/// so does the run, if the limit is high enough. With delays of at most some time it does so no later than
-/// the most moves at that time each; and where its last move comes later than 2 · (2 nodes + 1) of these times for each
-/// of n rounds of the program, with a reset node two more, or it rests, it has passed what these rounds pass. (Where
-/// calls share bodies, twice as many for each round, by the nodes of the net in which each call has a copy.)
+/// so does the run, if the limit is high enough. With delays of at most some time it does so no later than the most
+/// moves at that time each; and where its last move comes later than 2 · (2 nodes + 1) of these times for each of n
+/// rounds of the program, with a reset node two more, or it rests, it has passed what these rounds pass. (Where calls
+/// share bodies, twice as many for each round, by the nodes of the net in which each call has a copy.)
 ///
 /// A run of a rule file that `compile` wrote on a bench finds no hazard against whatever device. Where its report was
 /// written whole, what has passed is a prefix of what its program passes under the script of the device's notes, of all
@@ -179,8 +179,8 @@ fn run<'a, S: Shelf, K: Sink>(
 /// is high enough.
 ///
 /// Where `simulate`, `bench` or `grow --sum` writes its report, all of it or a part, the order that it asks for got its
-/// seed, and was then asked before each move of the run with the list of all moves that are enabled; its picks are the new entries of
-/// its log.
+/// seed, and was then asked before each move of the run with the list of all moves that are enabled; its picks are the
+/// new entries of its log.
 ///
 /// All handed-in orders and devices are still there, each in its place: each is of the kind that it was, with its name,
 /// and its log has at most grown. Only the one order and the one device that the command asks for are used, if it asks

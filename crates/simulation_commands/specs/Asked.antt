@@ -9,8 +9,9 @@ use Rattle.command_steps.specs.Orders.{OrderState, order_state, place_named}
 use Rattle.command_words.specs.SimulateWords.{AskedRun}
 use Rattle.simulation_commands.specs.Simulating.{power_or_low}
 
--- An order got this seed. Then the same object was asked before each move of a run with the list of the moves that were
--- enabled, which `enabled` says after some picks; and its picks are the new entries of its log.
+-- An order got this seed. Then an object of its kind, with its log and this seed, was asked before each move of a run
+-- with the list of the moves that were enabled, which `enabled` says after some picks; and its picks are the new entries
+-- of its log.
 pub record IsAskedThrough {P K : Type 0} (known : P → PickerValue K) (enabled : List ℕ → List ℕ) (seed : ℕ)
     (was is : P) : Type 0 where
   pub ready : P

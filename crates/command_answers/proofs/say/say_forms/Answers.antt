@@ -4,5 +4,5 @@ use Rattle.command_answers.proofs.say.say_forms.Goals as goal
 
 pub returns-clause-said : goal.returns-clause-said
 returns-clause-said g c =
-    subst (λ (digits : List ℕ). IsSaid g.W.Sink c.args.say.now c.say_pieces.new.say (codes "chp: 7 forms " ++ (digits ++ codes "\n"))) c.format-number.ensures.text
-    c.say_pieces.ensures.said
+    let line : List ℕ → List ℕ = λ digits. codes "chp: 7 forms " ++ (digits ++ codes "\n") in
+    subst (λ (digits : List ℕ). IsSaid g.W.Sink c.args.say.now c.say_pieces.new.say (line digits)) c.format-number.ensures.text c.say_pieces.ensures.said
