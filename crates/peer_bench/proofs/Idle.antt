@@ -78,7 +78,8 @@ silent_answer p Chan width at c silent = refl
 
 pub quiet_under : (net : NetValue) (st : RunState) (notes : List Note) (script : List OfferValue) (p : PeerValue) → StandsFor net st notes script →
     NothingComes net notes st p → IsQuiet net script st p
-quiet_under net st notes script p stands silent = λ c at. asked_same net st notes script p at c stands ∙ by_idle c at (is_idle net (script_by net notes) st c) refl
+quiet_under net st notes script p stands silent = λ c at.
+    asked_same net st notes script p at c stands ∙ by_idle c at (is_idle net (script_by net notes) st c) refl
   where
     by_channel : (c at : ℕ) → is_idle net (script_by net notes) st c ≡ true → (o : Option Wires) → slice_get net.channels c ≡ o → answer_on p o at c ≡ []
     by_channel c at idle None here = refl

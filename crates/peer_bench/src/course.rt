@@ -128,8 +128,8 @@ fn list_idle(stage: &Stage, idle: &mut ChannelSet, acked: Option<u32>)
     }
 }
 
-/// The channel on which alone an answer may come: the one whose acknowledge was moved, unless the device was notified or
-/// wasn't asked before.
+/// The channel on which alone an answer may come: the one whose acknowledge was moved, unless the device was notified
+/// or wasn't asked before.
 fn only_one(acked: Option<u32>, told: bool, was_in_reset: bool) -> Option<u32>
     ensures { IfSome result (λ chan. (acked ≡ Some chan) × (told ≡ false) × (was_in_reset ≡ false)) }
 {

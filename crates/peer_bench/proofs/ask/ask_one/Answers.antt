@@ -36,8 +36,9 @@ returns-else-ask_in-clause-asked g c =
     let q = goal.Peer-dyn g (was.vtable, was.value) in
     let v = was.value in
     let p : PeerValue = peer_value (q.name v) (q.log v) (q.spare v) (q.due v) (q.willing v) in
-    let given : List Note = asked_under s.net s.script (now_of s) p c.args.at c.args.chan in (
+    let given : List Note = asked_under s.net s.script (now_of s) p c.args.at c.args.chan in
+    let none : given ≡ [] = nothing_came given (sym c.if-ask_in.false ∙ c.ask_in.ensures.came) in (
       [],
       asked_silent _ s.net (now_of s) c.args.at c.args.chan s.script c.ask_in.new.stage.script was c.ask_in.new.peer c.requires.chan c.requires.quiet
-          (nothing_came given (sym c.if-ask_in.false ∙ c.ask_in.ensures.came)) (ap (λ (t : StageValue). t.script) c.ask_in.ensures.stage) c.ask_in.ensures.noted,
+          none (ap (λ (t : StageValue). t.script) c.ask_in.ensures.stage) c.ask_in.ensures.noted,
     )

@@ -38,4 +38,6 @@ invariant_of-result c =
     )
 
 pub all-requires : goal.all-requires
-all-requires c = omega (arith, channels_fit _ c.net-2.ensures.is_net, ap length c.channels-2.ensures.channels, ap (λ (w : NetValue). length w.channels) c.net-2.ensures.net)
+all-requires c =
+    let all = ap (λ (w : NetValue). length w.channels) c.net-2.ensures.net in
+    omega (arith, channels_fit _ c.net-2.ensures.is_net, ap length c.channels-2.ensures.channels, all)
