@@ -70,9 +70,10 @@ fn ask_ready(stage: &mut Stage, peer: &mut Box<dyn Peer>, chan: u32, at: u32) ->
     is_ready
 }
 
-/// Asks on the channel, where it is idle. Returns whether an answer came.
+/// Asks on the idle channel. Returns whether an answer came.
 fn ask(stage: &mut Stage, peer: &mut Box<dyn Peer>, chan: u32, at: u32) -> bool
     requires chan { chan < length stage.old.net.channels }
+    requires idle { is_idle stage.old.net stage.old.script (now_of stage.old) chan ≡ true }
     requires low { in_reset stage.old.net.reset (high stage.old.values) ≡ false }
     requires room { 1 ≤ spare peer.old }
     ensures stage { stage.new ≡ record stage.old {
@@ -88,9 +89,6 @@ fn ask(stage: &mut Stage, peer: &mut Box<dyn Peer>, chan: u32, at: u32) -> bool
         (peer_value (name peer.old) (log peer.old) (spare peer.old) (due peer.old) (willing peer.old)) at chan)) }
     ensures kind { peer.new.vtable ≡ peer.old.vtable }
 {
-    if !stage.is_idle(chan) {
-        return false;
-    }
     let channel = &stage.net().channels()[chan as usize].channel;
     let kind = channel.kind;
     let width = channel.width;
@@ -101,7 +99,8 @@ fn ask(stage: &mut Stage, peer: &mut Box<dyn Peer>, chan: u32, at: u32) -> bool
     }
 }
 
-/// Asks on the channel, where it is idle, and keeps it in the set while it is idle. Returns whether an answer came.
+/// Asks on the channel, where it is idle, and takes it out of the set where it isn't or an answer came. Returns whether
+/// one did.
 fn ask_in(
     stage: &mut Stage,
     peer: &mut Box<dyn Peer>,
@@ -126,14 +125,20 @@ fn ask_in(
     ensures came { result ≡ nat_lt 0 (length (asked_under stage.old.net stage.old.script (now_of stage.old)
         (peer_value (name peer.old) (log peer.old) (spare peer.old) (due peer.old) (willing peer.old)) at chan)) }
     ensures idle { HasIdle stage.new.net stage.new.script (now_of stage.new) idle.new }
-    ensures few { length stage.old.net.channels < 2 ^ 32 }
+    ensures few { result ≡ true → length stage.old.net.channels < 2 ^ 32 }
     ensures offered { AreOffered stage.new.script (now_of stage.new) }
     ensures room { spare peer.new + free_on stage.old.net stage.old.script (now_of stage.old) ≡
         spare peer.old + free_on stage.new.net stage.new.script (now_of stage.new) }
     ensures kind { peer.new.vtable ≡ peer.old.vtable }
 {
+    if !stage.is_idle(chan) {
+        idle.set(chan, false);
+        return false;
+    }
     let came = ask(stage, peer, chan, at);
-    idle.set(chan, stage.is_idle(chan));
+    if came {
+        idle.set(chan, stage.is_idle(chan));
+    }
     came
 }
 

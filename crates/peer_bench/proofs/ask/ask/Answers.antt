@@ -41,7 +41,7 @@ returns-in-In g c =
     let w = get_or c.channels.result.now k c.index-channels-chan.result in
     let all : c.channels.result.now ≡ net.channels = c.channels.ensures.channels ∙ ap (λ (x : NetValue). x.channels) c.net.ensures.net in
     let same : asked_under net stage.script st p at k ≡ answer p In w.channel.width at k =
-    asked_is net stage.script st p at k w In (sym c.if-not-is_idle.ensures) c.requires.chan
+    asked_is net stage.script st p at k w In c.requires.idle c.requires.chan
     (read_at net.channels c.channels.result.now k c.index-channels-chan.result all c.requires.chan) c.in-In.is in
     let r = goal.Peer-dyn g (c.ask_value.new.peer.vtable, c.ask_value.new.peer.value) in
     let u = c.ask_value.new.peer.value in
@@ -66,7 +66,7 @@ returns-in-Out g c =
     let w = get_or c.channels.result.now k c.index-channels-chan.result in
     let all : c.channels.result.now ≡ net.channels = c.channels.ensures.channels ∙ ap (λ (x : NetValue). x.channels) c.net.ensures.net in
     let same : asked_under net stage.script st p at k ≡ answer p Out w.channel.width at k =
-    asked_is net stage.script st p at k w Out (sym c.if-not-is_idle.ensures) c.requires.chan
+    asked_is net stage.script st p at k w Out c.requires.idle c.requires.chan
     (read_at net.channels c.channels.result.now k c.index-channels-chan.result all c.requires.chan) c.in-Out.is in
     let r = goal.Peer-dyn g (c.ask_ready.new.peer.vtable, c.ask_ready.new.peer.value) in
     let u = c.ask_ready.new.peer.value in
@@ -91,7 +91,7 @@ returns-in-Chan g c =
     let w = get_or c.channels.result.now k c.index-channels-chan.result in
     let all : c.channels.result.now ≡ net.channels = c.channels.ensures.channels ∙ ap (λ (x : NetValue). x.channels) c.net.ensures.net in
     let same : asked_under net stage.script st p at k ≡ answer p Chan w.channel.width at k =
-    asked_is net stage.script st p at k w Chan (sym c.if-not-is_idle.ensures) c.requires.chan
+    asked_is net stage.script st p at k w Chan c.requires.idle c.requires.chan
     (read_at net.channels c.channels.result.now k c.index-channels-chan.result all c.requires.chan) c.in-Chan.is in
     record {
       stage = ap (λ (xs : List Note). record stage { script = script_noting xs stage.script }) (sym same);

@@ -5,8 +5,8 @@ use Rattle.peer_bench.specs.Steps.{AreOffered, free_on}
 use Rattle.peer_bench.proofs.Room.{asked_room}
 use Rattle.peer_bench.proofs.ask.ask_in.Goals as goal
 
-pub returns-clause-offered : goal.returns-clause-offered
-returns-clause-offered g c =
+pub returns-then-came-clause-offered : goal.returns-then-came-clause-offered
+returns-then-came-clause-offered g c =
     let s = c.args.stage.now in
     let q = goal.Peer-dyn g (c.args.peer.now.vtable, c.args.peer.now.value) in
     let v = c.args.peer.now.value in
@@ -14,8 +14,8 @@ returns-clause-offered g c =
     subst (λ (t : StageValue). AreOffered t.script (now_of t)) (sym c.ask-came.ensures.stage)
     (asked_room s.net (now_of s) s.script p c.args.at c.args.chan c.requires.chan c.requires.offered).offered
 
-pub returns-clause-room : goal.returns-clause-room
-returns-clause-room g c =
+pub returns-then-came-clause-room : goal.returns-then-came-clause-room
+returns-then-came-clause-room g c =
     let s = c.args.stage.now in
     let q = goal.Peer-dyn g (c.args.peer.now.vtable, c.args.peer.now.value) in
     let v = c.args.peer.now.value in

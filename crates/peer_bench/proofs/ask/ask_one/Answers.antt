@@ -1,4 +1,4 @@
-use Rattle.std.proofs.Common.{[], ◌∙◌, sym, ap, length, List, arith}
+use Rattle.std.proofs.Common.{◌≡◌, [], ◌∙◌, sym, ap, length, List, arith}
 use Rattle.event_sim.specs.Stages.{StageValue, now_of}
 use Rattle.peer_bench.specs.declared.note.Note.{Note}
 use Rattle.peer_bench.specs.Asking.{PeerValue, peer_value}
@@ -7,7 +7,7 @@ use Rattle.peer_bench.proofs.Turns.{asked_first, asked_silent, nothing_came}
 use Rattle.peer_bench.proofs.ask.ask_one.Goals as goal
 
 pub overflow_add-chan : goal.overflow_add-chan
-overflow_add-chan g c = omega (arith, c.requires.chan, c.ask_in.ensures.few)
+overflow_add-chan g c = omega (arith, c.requires.chan, c.ask_in.ensures.few c.if-ask_in.true)
 
 pub ask_from-requires-clause-from : goal.ask_from-requires-clause-from
 ask_from-requires-clause-from g c = omega (arith, c.requires.chan, ap (λ (s : StageValue). length s.net.channels) c.ask_in.ensures.stage)
