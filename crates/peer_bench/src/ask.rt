@@ -217,7 +217,7 @@ fn ask_one(stage: &mut Stage, peer: &mut Box<dyn Peer>, idle: &mut ChannelSet, c
     }
 }
 
-/// Asks on all channels or, where no answer would come on any other one, on this one first.
+/// Asks on all idle channels or, where no answer would come on any other one, on this one first.
 pub(crate) fn ask_on(
     stage: &mut Stage,
     peer: &mut Box<dyn Peer>,

@@ -136,7 +136,7 @@ fn only_one(acked: Option<u32>, told: bool, was_in_reset: bool) -> Option<u32>
     if told || was_in_reset { None } else { acked }
 }
 
-/// Asks the device on all channels, where it may be asked. An answer may come on any of them, or on this one alone.
+/// Asks the device, where it may be asked: on all idle channels, or first on the one on which alone an answer may come.
 fn ask_if(
     stage: &mut Stage,
     peer: &mut Box<dyn Peer>,
