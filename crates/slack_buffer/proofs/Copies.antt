@@ -1,5 +1,6 @@
 -- Members that are copied one after the other.
 use Rattle.std.proofs.Common.{◌≡◌, ℕ, ◌≤◌, Bool, List, [], ◌∷◌, map, length, take, refl, sym, ap, ◌∙◌, ◌⊎◌, inl, inr}
+use Rattle.std.specs.Prelude.{Result, Ok, Err, IfOk}
 use Rattle.std.specs.declared.alloc.Global.{Global}
 use Rattle.std.specs.declared.boxed.Box.{Box}
 use Rattle.std.specs.declared.vec.Vec.{Vec}
@@ -66,7 +67,7 @@ beside_rerouted chan copy s v w ss i is items all so_far =
     ∙ (ap besides (sym (rerouted_list chan copy v.items)) ∙ sym (ap (rerouted_statement chan copy) (ap statement_of is ∙ beside_tree v))))
 
 -- a group of one kind or the other, made like it
-pub group_rerouted : (chan copy : List ℕ) (s made : Stmt) (v w : Vec Stmt Global) (ss : List Stmt) (i : ℕ) → (s ≡ Then v) ⊎ (s ≡ Beside v) → ss ≡ v.items →
+group_rerouted : (chan copy : List ℕ) (s made : Stmt) (v w : Vec Stmt Global) (ss : List Stmt) (i : ℕ) → (s ≡ Then v) ⊎ (s ≡ Beside v) → ss ≡ v.items →
     length ss ≤ i → map statement_of w.items ≡ map (λ t. rerouted_statement chan copy (statement_of t)) (take i ss) →
     ((u : Vec Stmt Global) → s ≡ Then u → made ≡ Then w) → ((u : Vec Stmt Global) → s ≡ Beside u → made ≡ Beside w) →
     statement_of made ≡ rerouted_statement chan copy (statement_of s)
@@ -75,7 +76,7 @@ group_rerouted chan copy s made v w ss i (inl is) items all so_far turns sides =
 group_rerouted chan copy s made v w ss i (inr is) items all so_far turns sides =
     ap statement_of (sides v is) ∙ beside_rerouted chan copy s v w ss i is items all so_far
 
-pub select_rerouted : (chan copy : List ℕ) (s : Stmt) (again : Bool) (v w : Vec Arm Global) (xs : List Arm) (i : ℕ) → s ≡ Select again v → xs ≡ v.items →
+select_rerouted : (chan copy : List ℕ) (s : Stmt) (again : Bool) (v w : Vec Arm Global) (xs : List Arm) (i : ℕ) → s ≡ Select again v → xs ≡ v.items →
     length xs ≤ i → map guarded_of w.items ≡ map (rerouted_guarded chan copy) (take i xs) →
     statement_of (Select again w) ≡ rerouted_statement chan copy (statement_of s)
 select_rerouted chan copy s again v w xs i is items all so_far =
@@ -83,3 +84,22 @@ select_rerouted chan copy s again v w xs i is items all so_far =
     (all_copied guarded_of (rerouted_guarded chan copy) w.items xs v.items i all items so_far)
     ∙ (ap (λ us. selects again us) (sym (rerouted_arm_list chan copy v.items))
     ∙ sym (ap (rerouted_statement chan copy) (ap statement_of is ∙ select_tree again v))))
+
+-- the same of what a box has, if it was made
+pub grouped_rerouted : {E : Type 0} (chan copy : List ℕ) (s : Stmt) (made : Result (Box Stmt Global) E) (v w : Vec Stmt Global) (ss : List Stmt) (i : ℕ) →
+    (s ≡ Then v) ⊎ (s ≡ Beside v) → ss ≡ v.items → length ss ≤ i →
+    map statement_of w.items ≡ map (λ t. rerouted_statement chan copy (statement_of t)) (take i ss) →
+    ((u : Vec Stmt Global) → s ≡ Then u → IfOk made (λ (b : Box Stmt Global). b.value ≡ Then w)) →
+    ((u : Vec Stmt Global) → s ≡ Beside u → IfOk made (λ (b : Box Stmt Global). b.value ≡ Beside w)) →
+    IfOk made (λ (b : Box Stmt Global). statement_of b.value ≡ rerouted_statement chan copy (statement_of s))
+grouped_rerouted chan copy s (Ok b) v w ss i is items all so_far turns sides =
+    group_rerouted chan copy s b.value v w ss i is items all so_far turns sides
+grouped_rerouted chan copy s (Err e) v w ss i is items all so_far turns sides = tt
+
+pub selected_rerouted : {E : Type 0} (chan copy : List ℕ) (s : Stmt) (made : Result (Box Stmt Global) E) (again : Bool) (v w : Vec Arm Global)
+    (xs : List Arm) (i : ℕ) → s ≡ Select again v → xs ≡ v.items → length xs ≤ i →
+    map guarded_of w.items ≡ map (rerouted_guarded chan copy) (take i xs) → IfOk made (λ (b : Box Stmt Global). b.value ≡ Select again w) →
+    IfOk made (λ (b : Box Stmt Global). statement_of b.value ≡ rerouted_statement chan copy (statement_of s))
+selected_rerouted chan copy s (Ok b) again v w xs i is items all so_far same =
+    ap statement_of same ∙ select_rerouted chan copy s again v w xs i is items all so_far
+selected_rerouted chan copy s (Err e) again v w xs i is items all so_far same = tt
