@@ -1,0 +1,8 @@
+mod Declared
+mod Through
+mod Arrivals
+mod BitsTold
+mod Reaching
+mod Lengths
+mod Heights
+mod Chains
