@@ -6,3 +6,6 @@ mod Reaching
 mod Lengths
 mod Heights
 mod Chains
+mod Members
+mod Holding
+mod Ending

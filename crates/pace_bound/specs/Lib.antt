@@ -1,2 +1,4 @@
 pub mod Bits
 pub mod Behind
+pub mod Clearing
+pub mod Noting

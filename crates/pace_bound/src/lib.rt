@@ -3,5 +3,13 @@
 
 mod behind;
 mod depth;
+mod first;
 mod height;
+mod longest;
+mod low;
+mod site;
+mod table;
 mod width;
+mod within;
+
+pub use longest::longest_of;

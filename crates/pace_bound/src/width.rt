@@ -11,10 +11,10 @@ use width_check::Typed;
 
 /// Who is at the ends of a channel; of one that the program doesn't have, the program.
 #[tactic(auto, using(crate::proofs::Declared::kind_found, crate::proofs::Declared::no_kind))]
-pub(crate) fn kind_of(program: &Typed, chan: u32) -> Kind
+pub(crate) fn kind_of(program: &Typed, chan: usize) -> Kind
     ensures { result ≡ kind_at program.now.channels chan }
 {
-    match program.channels().get(chan as usize) {
+    match program.channels().get(chan) {
         Some(channel) => channel.kind,
         None => Kind::Chan,
     }

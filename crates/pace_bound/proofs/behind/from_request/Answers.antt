@@ -10,7 +10,7 @@ pub returns : goal.returns
 returns c =
     let flat : through c.args.behind.order c.args.behind.gates (ones c.args.width) ≡ c.args.behind.gates + c.match-behind.lowest =
     elim c.match-behind.branch [
-      in-Alike w ↦ flat_alike c.args.behind c.args.width c.match-behind.lowest c.requires w.in-Alike.is w.lowest-is
+      | in-Alike w ↦ flat_alike c.args.behind c.args.width c.match-behind.lowest c.requires w.in-Alike.is w.lowest-is
       | in-Carried w ↦ flat_other c.args.behind c.args.width c.match-behind.lowest c.requires w.in-Carried.is (w.lowest-is ∙ w.from-lowest.ensures)
     ] in
     c.saturating_add.ensures ∙ ap capped (sym flat)

@@ -1,0 +1,77 @@
+-- The steps and the ends of loops that go on raising numbers, and sums that saturate.
+use Rattle.std.proofs.Common.{◌≡◌, ◌≢◌, ℕ, suc, ◌+◌, ◌*◌, ◌-◌, ◌^◌, ◌<◌, ◌≤◌, true, false, List, length, get_or, set, sym, ap, ◌∙◌, ◌⊎◌, inl, inr, arith}
+use Rattle.std.specs.Prelude.{min, max, ◌==◌, slice_index}
+use Rattle.std.proofs.lemmas.List.{length-set, get_or-set_same, get_or-set_other}
+use Rattle.std.proofs.lemmas.Bool.Decides.{eqb_tells, nat_tests}
+use Rattle.handshake_expand.specs.Layout.{capped}
+use Rattle.pace_bound.specs.Noting.{IsRaised}
+
+pub stepped : (old here rest own next total : ℕ) → max old rest ≡ total → next ≡ max old own → rest ≡ max own here → max next here ≡ total
+stepped old here rest own next total p q r = omega arith
+
+pub ended : (now old rest whole w : ℕ) → max now (capped rest) ≡ max old whole → rest ≡ 0 → w ≡ whole → now ≡ max old w
+ended now old rest whole w p q r = omega arith
+
+pub left_none : (now rest whole : ℕ) → max now (capped rest) ≡ capped whole → rest ≡ 0 → now ≡ capped whole
+left_none now rest whole p q = omega arith
+
+pub left_least : (now rest whole : ℕ) → max now (capped rest) ≡ capped whole → rest ≤ now → now ≡ capped whole
+left_least now rest whole p q = omega arith
+
+pub branches_sum : (now whole held tree doubled one two three : ℕ) → now ≡ capped whole → doubled ≡ min (tree * 2) (2 ^ 64 - 1) → one ≡ capped (now + held)
+    → two ≡ capped (one + doubled) → three ≡ capped (two + 3) → three ≡ capped (whole + 3 + held + 2 * tree)
+branches_sum now whole held tree doubled one two three p q r s t =
+    let a : one ≡ capped (whole + held) = first now whole one p r in
+    let b : two ≡ capped (whole + held + 2 * tree) = second one (whole + held) doubled two a q s in
+    third two (whole + held + 2 * tree) three (whole + 3 + held + 2 * tree) b t (omega arith)
+  where
+    first : (now whole one : ℕ) → now ≡ capped whole → one ≡ capped (now + held) → one ≡ capped (whole + held)
+    first now whole one p r = omega arith
+
+    second : (one sum doubled two : ℕ) → one ≡ capped sum → doubled ≡ min (tree * 2) (2 ^ 64 - 1) → two ≡ capped (one + doubled) → two ≡ capped (sum + 2 * tree)
+    second one sum doubled two p q r = omega arith
+
+    third : (two sum three all : ℕ) → two ≡ capped sum → three ≡ capped (two + 3) → all ≡ sum + 3 → three ≡ capped all
+    third two sum three all p q r = omega arith
+
+pub again_sum : (guards whole held one two : ℕ) → guards ≡ capped whole → one ≡ capped (held + guards) → two ≡ capped (one + 7) → two ≡ capped (held + 7 + whole)
+again_sum guards whole held one two p q r = omega arith
+
+pub one_after : (now whole other next : ℕ) → now ≡ capped whole → capped whole ≡ capped other → next ≡ capped (now + 1) → next ≡ capped (suc other)
+one_after now whole other next p q r = omega arith
+
+pub three_capped : (a b c : ℕ) → capped (max a (max b c)) ≡ max (max (capped a) (capped b)) (capped c)
+three_capped a b c = two a (max b c) ∙ (ap (max (capped a)) (two b c) ∙ regroup (capped a) (capped b) (capped c))
+  where
+    two : (a b : ℕ) → capped (max a b) ≡ max (capped a) (capped b)
+    two a b = omega arith
+
+    regroup : (a b c : ℕ) → max a (max b c) ≡ max (max a b) c
+    regroup a b c = omega arith
+
+pub max_capped : (now turned whole other : ℕ) → now ≡ max (capped turned) (capped whole) → capped whole ≡ capped other → now ≡ capped (max turned other)
+max_capped now turned whole other p q = omega arith
+
+pub eq_other : (a b : ℕ) → a ≢ b → (a == b) ≡ false
+eq_other a b h = grind (arith, nat_tests)
+
+-- one number of a list is raised
+pub raised_by : (old new : List ℕ) (place v : ℕ) (f : ℕ → ℕ) → place < length old → new ≡ set old place (max (slice_index old place) v) → v ≡ capped (f place)
+    → ((k : ℕ) → place ≢ k → f k ≡ 0) → IsRaised f old new
+raised_by old new place v f inside is here other = record {
+  sized = ap length is ∙ length-set old place (max (slice_index old place) v);
+  each = λ k h. ap (λ l. slice_index l k) is ∙ by k (eqb_tells k place);
+}
+  where
+    none : (a b : ℕ) → b ≡ 0 → a ≡ max a (capped b)
+    none a b h = omega arith
+
+    by : (k : ℕ) → (((k == place) ≡ true) × (k ≡ place)) ⊎ (((k == place) ≡ false) × (k ≢ place))
+        → slice_index (set old place (max (slice_index old place) v)) k ≡ max (slice_index old k) (capped (f k))
+    by k (inl t) =
+        ap (slice_index (set old place (max (slice_index old place) v))) t.1
+        ∙ (get_or-set_same old place (max (slice_index old place) v) 0 inside
+        ∙ (ap (max (slice_index old place)) here ∙ ap (λ n. max (slice_index old n) (capped (f n))) (sym t.1)))
+    by k (inr t) =
+        get_or-set_other old place k (max (slice_index old place) v) 0 t.1
+        ∙ none (slice_index old k) (f k) (other k (λ e. t.1 (sym e)))

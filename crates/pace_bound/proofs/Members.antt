@@ -1,0 +1,78 @@
+-- The statements of groups, one by one.
+use Rattle.std.proofs.Common.{◌≡◌, ℕ, zero, suc, ◌+◌, ◌*◌, ◌-◌, ◌<◌, ◌≤◌, Bool, true, false, List, [], ◌∷◌, length, drop, get_or, refl, sym, ap, subst, ◌∙◌, arith}
+use Rattle.std.specs.Prelude.{max}
+use Rattle.chp_base.specs.declared.channel.Channel.{Channel}
+use Rattle.width_check.specs.declared.typed.Var.{Var}
+use Rattle.width_check.specs.declared.typed.TStmt.{TStmt}
+use Rattle.width_check.specs.declared.typed.TArm.{TArm}
+use Rattle.width_check.specs.Processes.{Process, choosing, Processes, no_members, and_member, Choices, no_choices, and_choice, TypedProgram}
+use Rattle.width_check.specs.Typing.{IsProcess, AreProcesses, AreChoices}
+use Rattle.width_check.specs.View.{process_of, members_in, choices_in}
+use Rattle.handshake_expand.specs.Layout.{capped}
+use Rattle.handshake_expand.specs.PartTree.{HasFormedGuards}
+use Rattle.handshake_expand.proofs.Rows.{member_at}
+use Rattle.round_time.specs.Longest.{first, turn_first, guards_depth, low, turn_low, choice_low, within, turn_within, choice_within}
+use Rattle.pace_bound.specs.Clearing.{between, turned_again}
+
+pub formed_guards : (channels : List Channel) (vars : List Var) (cs : Choices) → AreChoices channels vars cs → HasFormedGuards cs
+formed_guards channels vars no_choices h = tt
+formed_guards channels vars (and_choice g p more) h = (h.0.formed, formed_guards channels vars more h.2)
+
+pub turn_first_is : (P : TypedProgram) (ss : List TStmt) (s : TStmt) → 2 ≤ length ss → s ≡ get_or ss 0 s → turn_first P (members_in ss) ≡ suc (first P (process_of s))
+turn_first_is P [] s some is = absurd (omega arith)
+turn_first_is P (a ∷ []) s some is = absurd (omega arith)
+turn_first_is P (a ∷ b ∷ ss) s some is = ap (λ x. suc (first P (process_of x))) (sym is)
+
+-- the last member of a sequence
+pub turn_low_is : (P : TypedProgram) (held i : ℕ) (ss : List TStmt) (s : TStmt) → i + 1 ≡ length ss → s ≡ get_or ss i s
+    → turn_low P held (members_in ss) ≡ low P (held + 2 * i) (process_of s)
+turn_low_is P held i [] s all is = absurd (omega arith)
+turn_low_is P held zero (a ∷ []) s all is = ap (λ x. low P held (process_of x)) (sym is) ∙ ap (λ h. low P h (process_of s)) (omega arith)
+turn_low_is P held zero (a ∷ b ∷ ss) s all is = absurd (omega arith)
+turn_low_is P held (suc i) (a ∷ []) s all is = absurd (omega arith)
+turn_low_is P held (suc i) (a ∷ b ∷ ss) s all is =
+    turn_low_is P (held + 2) i (b ∷ ss) s (omega arith) is ∙ ap (λ h. low P h (process_of s)) (omega arith)
+
+pub held_least : (P : TypedProgram) (held : ℕ) (cs : Choices) → held ≤ choice_low P held cs
+held_least P held no_choices = omega arith
+held_least P held (and_choice g p more) = let h = held_least P held more in omega arith
+
+-- from a member of a sequence on: inside of it, on to the next one, and what is behind
+pub turn_within_at : (P : TypedProgram) (ss : List TStmt) (i : ℕ) (s : TStmt) → i < length ss → s ≡ get_or ss i s
+    → turn_within P (members_in (drop i ss)) ≡ max (within P (process_of s)) (max (between P (members_in (drop i ss))) (turn_within P (members_in (drop (i + 1) ss))))
+turn_within_at P ss i s inside is =
+    ap (turn_within P) (member_at ss i s inside is) ∙ (by (members_in (drop (i + 1) ss))
+    ∙ ap (λ m. max (within P (process_of s)) (max (between P m) (turn_within P (members_in (drop (i + 1) ss))))) (sym (member_at ss i s inside is)))
+  where
+    by : (more : Processes) → turn_within P (and_member (process_of s) more) ≡ max (within P (process_of s)) (max (between P (and_member (process_of s) more)) (turn_within P more))
+    by no_members = omega arith
+    by (and_member q more) = refl
+
+pub member_typed : (channels : List Channel) (vars : List Var) (ss : List TStmt) (i : ℕ) (s : TStmt) → AreProcesses channels vars (members_in ss) → i < length ss
+    → s ≡ get_or ss i s → IsProcess channels vars (process_of s)
+member_typed channels vars [] i s h inside is = absurd (omega arith)
+member_typed channels vars (x ∷ ss) zero s h inside is = subst (λ y. IsProcess channels vars (process_of y)) (sym is) h.0
+member_typed channels vars (x ∷ ss) (suc i) s h inside is = member_typed channels vars ss i s h.1 (omega arith) is
+
+pub single_left : (P : TypedProgram) (ss : List TStmt) → length ss ≤ 1 → between P (members_in ss) ≡ 0
+single_left P [] few = refl
+single_left P (a ∷ []) few = refl
+single_left P (a ∷ b ∷ ss) few = absurd (omega arith)
+
+pub choosing_within : (P : TypedProgram) (again : Bool) (cs : Choices) → within P (choosing again cs) ≡
+    max (turned_again P again cs) (choice_within P (3 + guards_depth cs) cs)
+choosing_within P true cs = omega arith
+choosing_within P false cs = omega arith
+
+pub started_capped : (P : TypedProgram) (cs : Choices) (n : ℕ) → capped (choice_within P (capped n) cs) ≡ capped (choice_within P n cs)
+started_capped P no_choices n = refl
+started_capped P (and_choice g p more) n = by (within P p) (first P p) _ _ (started_capped P more n)
+  where
+    inner : (f x y : ℕ) → capped x ≡ capped y → capped (max (capped n + f) x) ≡ capped (max (n + f) y)
+    inner f x y h = omega arith
+
+    outer : (w a b : ℕ) → capped a ≡ capped b → capped (max w a) ≡ capped (max w b)
+    outer w a b h = omega arith
+
+    by : (w f x y : ℕ) → capped x ≡ capped y → capped (max w (max (capped n + f) x)) ≡ capped (max w (max (n + f) y))
+    by w f x y h = outer w (max (capped n + f) x) (max (n + f) y) (inner f x y h)

@@ -1,0 +1,15 @@
+use Rattle.std.proofs.Common.{◌≡◌, ℕ, ◌+◌, ◌*◌, ◌-◌, ◌<◌, ◌≤◌, length, drop}
+use Rattle.std.specs.Prelude.{max, slice_index}
+use Rattle.width_check.specs.Typed.{program_of}
+use Rattle.width_check.specs.Typing.{AreProcesses, AreChoices, kind_at}
+use Rattle.width_check.specs.View.{process_of, members_in, choices_in}
+use Rattle.handshake_expand.specs.Layout.{capped}
+use Rattle.round_time.specs.Longest.{each_first}
+use Rattle.pace_bound.proofs.first.+first.Given as goal
+
+abbrev pub invariant-loop-part : goal.invariant-loop-part
+invariant-loop-part l = record {
+  latest : max l.most (capped (each_first (program_of l.program) (members_in (drop l.part-index l.part-items)))) ≡
+      capped (each_first (program_of l.program) (members_in l.part-items));
+  formed : AreProcesses l.program.channels l.program.vars (members_in (drop l.part-index l.part-items));
+}

@@ -1,0 +1,99 @@
+//! From the request of a statement to its first step.
+
+ghost use Rattle.std.specs.Prelude.{◌≡◌, ◌≤◌, length};
+ghost use Rattle.width_check.specs.Typed.{program_of};
+ghost use Rattle.width_check.specs.Typing.{IsProcess, AreProcesses, channel_width, kind_at};
+ghost use Rattle.width_check.specs.View.{formula_of, process_of, members_in};
+ghost use Rattle.width_check.specs.Values.{IsWellFormed};
+ghost use Rattle.width_check.specs.Reads.{reads};
+ghost use Rattle.handshake_expand.specs.Layout.{capped};
+ghost use Rattle.round_time.specs.Longest.{depth, tree_height, var_height, assign_first, send_first, receive_first, first, turn_first};
+
+use crate::depth::{expr_depth, guards_depth};
+use crate::width::{channel_height, kind_of, var_height};
+use chp_base::Kind;
+use handshake_expand::reads;
+use width_check::{TExpr, TStmt, Typed};
+
+/// Of an assignment.
+fn assign_first(program: &Typed, var: u32, value: &TExpr) -> u64
+    requires { IsWellFormed (formula_of value.now) }
+    ensures { result ≡ capped (assign_first (reads var (formula_of value.now)) (depth (formula_of value.now))
+        (var_height (program_of program.now) var)) }
+{
+    let gates = expr_depth(value);
+    let tree = var_height(program, var);
+    if reads(value, var) {
+        gates
+            .saturating_mul(2)
+            .saturating_add(tree.saturating_mul(3))
+            .saturating_add(17)
+    } else {
+        gates.saturating_add(tree).saturating_add(4)
+    }
+}
+
+/// Of a send.
+fn send_first(program: &Typed, chan: u32, value: &TExpr) -> u64
+    requires { IsWellFormed (formula_of value.now) }
+    ensures { result ≡ capped (send_first (kind_at program.now.channels chan) (depth (formula_of value.now))
+        (tree_height (channel_width program.now.channels chan))) }
+{
+    let gates = expr_depth(value);
+    match kind_of(program, chan as usize) {
+        Kind::Out => gates.saturating_add(2),
+        Kind::In | Kind::Chan => gates
+            .saturating_add(channel_height(program, chan))
+            .saturating_add(8),
+    }
+}
+
+/// Of a receive.
+fn receive_first(program: &Typed, chan: u32, var: u32) -> u64
+    ensures { result ≡ capped (receive_first (kind_at program.now.channels chan) (var_height (program_of program.now) var)) }
+{
+    let tree = var_height(program, var);
+    match kind_of(program, chan as usize) {
+        Kind::In => tree.saturating_add(8),
+        Kind::Out | Kind::Chan => tree.saturating_add(7),
+    }
+}
+
+/// From the request of a statement to its first step; saturates at 2^64 - 1.
+pub(crate) fn first(program: &Typed, s: &TStmt) -> u64
+    requires { IsProcess program.now.channels program.now.vars (process_of s.now) }
+    ensures { result ≡ capped (first (program_of program.now) (process_of s.now)) }
+{
+    match s {
+        TStmt::Skip | TStmt::Repeat { .. } => 1,
+        TStmt::Assign { var, value, .. } => assign_first(program, *var, value),
+        TStmt::Send { chan, value, .. } => send_first(program, *chan, value),
+        TStmt::Receive { chan, var, .. } => receive_first(program, *chan, *var),
+        TStmt::Then { parts } => first(program, &parts[0]).saturating_add(1),
+        TStmt::Beside { parts } => {
+            let mut most: u64 = 0;
+            for part in parts {
+                most = most.max(first(program, part));
+            }
+            most.saturating_add(1)
+        }
+        TStmt::Select { again, arms } => {
+            let before = if *again { 3 } else { 2 };
+            guards_depth(arms).saturating_add(before)
+        }
+    }
+}
+
+/// The same of statements that follow one the other.
+pub(crate) fn turn_first(program: &Typed, members: &[TStmt]) -> u64
+    requires some { 1 ≤ length members.now }
+    requires members { AreProcesses program.now.channels program.now.vars (members_in members.now) }
+    ensures { result ≡ capped (turn_first (program_of program.now) (members_in members.now)) }
+{
+    let own = first(program, &members[0]);
+    if members.len() > 1 {
+        own.saturating_add(1)
+    } else {
+        own
+    }
+}

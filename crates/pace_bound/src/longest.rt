@@ -1,0 +1,37 @@
+//! How long a round takes at most.
+
+ghost use Rattle.std.specs.Prelude.{◌≡◌, IfOk};
+ghost use Rattle.width_check.specs.Typed.{program_of};
+ghost use Rattle.width_check.specs.View.{process_of};
+ghost use Rattle.handshake_expand.specs.Layout.{capped};
+ghost use Rattle.round_time.specs.Longest.{longest};
+ghost use Rattle.pace_bound.specs.Clearing.{AreFalls};
+
+use crate::first::first;
+use crate::low::{Falls, low};
+use crate::table::falls;
+use crate::within::within;
+use std::alloc::{AllocError, Global};
+use width_check::Typed;
+
+/// The same, where the falls of lines are known.
+fn longest_by(program: &Typed, falls: &Falls) -> u64
+    requires { AreFalls (program_of program.now) falls.now.channels.items falls.now.writes.items }
+    ensures { result ≡ capped (longest (program_of program.now)) }
+{
+    let body = program.body();
+    let begins = first(program, body).saturating_add(2);
+    let ends = low(program, falls, body, 2).saturating_add(2);
+    within(program, falls, body).max(begins.max(ends))
+}
+
+/// How many moves, one behind the other, the circuit of the program makes at most from the steps of one round to those
+/// of the next; saturates at 2^64 - 1. So with delays of at most d a round takes at most that many times d. It fails if
+/// memory runs out: it takes a number for each channel and each variable, with which its time grows with the program
+/// alone, and not with how many sites a channel has.
+pub fn longest_of(alloc: Global, program: &Typed) -> Result<u64, AllocError>
+    ensures { IfOk result (λ n. n ≡ capped (longest (program_of program.now))) }
+{
+    let falls = falls(alloc, program)?;
+    Ok(longest_by(program, &falls))
+}
