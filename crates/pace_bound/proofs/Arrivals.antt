@@ -1,12 +1,12 @@
 -- The depths of an operator's gates, and of the bits of its result.
-use Rattle.std.proofs.Common.{◌≡◌, ℕ, zero, suc, ◌+◌, ◌*◌, ◌-◌, ◌^◌, ◌<◌, ◌≤◌, Bool, List, [], ◌∷◌, ◌++◌, length, refl, sym, ap, subst, ◌∙◌, append_assoc, append-nil, arith, get_or}
+use Rattle.std.proofs.Common.{◌≡◌, ℕ, suc, ◌+◌, ◌*◌, ◌<◌, ◌≤◌, Bool, List, [], ◌∷◌, ◌++◌, length, refl, sym, ap, subst, ◌∙◌, append_assoc, append-nil, arith}
 use Rattle.std.specs.Prelude.{max, slice_index}
 use Rattle.std.proofs.lemmas.List.{length-append, get_or_append_left, get_or-append-add}
 use Rattle.std.proofs.Math.Seq.{get_or-append_seam}
 use Rattle.chp_syntax.specs.declared.tree.Op.{Op}
 use Rattle.chp_syntax.specs.declared.tree.Op.TheVariants.{And, Or, Xor, Add, Sub, Eq, Ne, Lt, Le, Gt, Ge}
 use Rattle.function_blocks.specs.Gates.{all_one, some_one, odd_ones, carries, alike, borrows}
-use Rattle.function_blocks.specs.Parts.{Input, input, turned_over, BlockPart, made, bitwise_parts, result_inputs, ripple_parts, ripple_inputs, borrow_parts, conjunction_parts, all_parts, equality_parts, last_from, rest_of, equal_input, less_input, operator_parts, operator_inputs, operator_gates}
+use Rattle.function_blocks.specs.Parts.{Input, input, BlockPart, made, bitwise_parts, result_inputs, ripple_parts, ripple_inputs, borrow_parts, conjunction_parts, equality_parts, last_from, equal_input, less_input, operator_parts, operator_inputs}
 use Rattle.round_time.specs.Longest.{greatest, inputs_depth, part_depth, depths}
 use Rattle.pace_bound.specs.Bits.{paired, rippled, conjoined, all_of, op_bits}
 use Rattle.pace_bound.proofs.Through.{paired_length, rippled_length}

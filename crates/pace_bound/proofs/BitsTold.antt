@@ -1,16 +1,15 @@
 -- The depths of the gates of an expression, and of the bits of its value: no gate is later than all of these.
-use Rattle.std.proofs.Common.{◌≡◌, ℕ, zero, suc, ◌+◌, ◌*◌, ◌-◌, ◌/◌, ◌<◌, ◌≤◌, List, [], ◌∷◌, ◌++◌, length, map, refl, sym, ap, subst, ◌∙◌, append_assoc, append-nil, arith}
+use Rattle.std.proofs.Common.{◌≡◌, ℕ, zero, suc, ◌+◌, ◌-◌, ◌/◌, ◌≤◌, List, [], ◌∷◌, ◌++◌, length, map, refl, sym, ap, ◌∙◌, append_assoc, append-nil, arith}
 use Rattle.std.specs.Prelude.{max, slice_index}
-use Rattle.std.proofs.lemmas.List.{length-append, length-map}
-use Rattle.chp_syntax.specs.declared.tree.Op.{Op}
+use Rattle.std.proofs.lemmas.List.{length-append}
 use Rattle.width_check.specs.Processes.{Formula, constant, reading, joined, inverted, chained, compared, Formulas, no_parts, and_part, Operations, no_operations, and_operation}
 use Rattle.width_check.specs.Values.{width_of, IsWellFormed, AreWellFormed, AreOperations}
-use Rattle.function_blocks.specs.Parts.{Input, input, turned_over, BlockPart, fixed_parts, read_parts, inputs_from, operator_parts, operator_inputs, operator_gates, gate_count, joined_gates, chained_gates, outs_of, joined_outs, chained_outs, block_parts, joined_parts, chained_parts}
-use Rattle.function_blocks.proofs.PartSizes.{outs_length, each_output, some_width, parts_length, operator_length}
+use Rattle.function_blocks.specs.Parts.{Input, turned_over, BlockPart, fixed_parts, read_parts, inputs_from, operator_parts, operator_inputs, operator_gates, gate_count, joined_gates, chained_gates, outs_of, joined_outs, chained_outs, block_parts, joined_parts, chained_parts}
+use Rattle.function_blocks.proofs.PartSizes.{outs_length, each_output, some_width, operator_length}
 use Rattle.round_time.specs.Longest.{greatest, part_depth, depths, depth}
 use Rattle.pace_bound.specs.Bits.{ones, op_bits, bits, joined_bits, chained_bits}
 use Rattle.pace_bound.proofs.Through.{flat_length}
-use Rattle.pace_bound.proofs.Arrivals.{ats, ats_more, ats_length, Below, below_up, depths_append, Applied, operator_applied, seam, longer}
+use Rattle.pace_bound.proofs.Arrivals.{ats, ats_more, Below, below_up, depths_append, operator_applied, seam, longer}
 
 -- What gates do behind earlier ones: their depths, where a value comes from and how late its bits are, and that nothing is later, of what was there
 -- before (`base`) neither.

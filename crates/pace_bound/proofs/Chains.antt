@@ -1,5 +1,5 @@
 -- The parts of a join and the members of a chain, one after the other.
-use Rattle.std.proofs.Common.{◌≡◌, ℕ, zero, suc, ◌+◌, ◌-◌, ◌<◌, ◌≤◌, List, [], ◌∷◌, ◌++◌, length, take, drop, get_or, refl, sym, ap, ◌∙◌, arith}
+use Rattle.std.proofs.Common.{◌≡◌, ℕ, zero, suc, ◌+◌, ◌<◌, ◌≤◌, List, [], ◌∷◌, ◌++◌, length, take, drop, get_or, refl, ap, ◌∙◌, arith}
 use Rattle.std.specs.Prelude.{max}
 use Rattle.std.proofs.lemmas.List.{length-drop}
 use Rattle.width_check.specs.declared.typed.TExpr.{TExpr}
@@ -8,7 +8,7 @@ use Rattle.width_check.specs.Values.{AreWellFormed}
 use Rattle.width_check.specs.View.{formula_of}
 use Rattle.handshake_expand.proofs.Rows.{parts_of, no_more_parts}
 use Rattle.pace_bound.specs.Bits.{bits, joined_bits}
-use Rattle.pace_bound.proofs.Lengths.{bits_here, formed_here, some_bits, parts_counted}
+use Rattle.pace_bound.proofs.Lengths.{bits_here, some_bits, parts_counted}
 
 pub regrouped : (most r l u g m total : ℕ) → max most r ≡ total → r ≡ max l u → g ≡ u → m ≡ max most g → max m l ≡ total
 regrouped most r l u g m total p q h k = omega arith

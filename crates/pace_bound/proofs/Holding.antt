@@ -1,5 +1,5 @@
 -- How long requests are high, where that is saturated; and what members of a sequence hold.
-use Rattle.std.proofs.Common.{◌≡◌, ℕ, zero, suc, ◌+◌, ◌*◌, ◌-◌, ◌<◌, ◌≤◌, Bool, true, false, List, length, drop, get_or, refl, sym, ap, ◌∙◌, ◌⊎◌, inl, inr, arith}
+use Rattle.std.proofs.Common.{◌≡◌, ℕ, zero, suc, ◌+◌, ◌*◌, ◌<◌, ◌≤◌, Bool, true, false, List, length, drop, get_or, refl, sym, ap, ◌∙◌, ◌⊎◌, inl, inr, arith}
 use Rattle.std.specs.Prelude.{max, ◌==◌, if◌then◌else◌}
 use Rattle.width_check.specs.declared.typed.TStmt.{TStmt}
 use Rattle.width_check.specs.Processes.{Process, skipping, assigning, sending, receiving, in_turn, side_by_side, choosing, repeating, Processes, no_members, and_member, member_count, Choices, no_choices, and_choice, TypedProgram}
@@ -9,7 +9,7 @@ use Rattle.width_check.specs.View.{process_of, members_in}
 use Rattle.handshake_expand.specs.Layout.{capped}
 use Rattle.handshake_expand.proofs.Rows.{member_at, no_more_members}
 use Rattle.handshake_expand.proofs.Turns.{some_behind, last_alone}
-use Rattle.round_time.specs.Longest.{depth, over_sites, over_turn, over_each, over_choices, rails_fall, assign_holds, low, turn_low, choice_low}
+use Rattle.round_time.specs.Longest.{depth, over_sites, over_turn, over_choices, rails_fall, assign_holds, low, turn_low, choice_low}
 use Rattle.pace_bound.specs.declared.site.Noted.{Noted}
 use Rattle.pace_bound.specs.declared.site.Noted.TheVariants.{Sends, Writes, Receives}
 use Rattle.pace_bound.specs.Noting.{of_site}

@@ -1,20 +1,17 @@
 -- So many bits as the width, and the members of joins and chains one by one.
-use Rattle.std.proofs.Common.{◌≡◌, ℕ, zero, suc, ◌+◌, ◌-◌, ◌<◌, ◌≤◌, false, List, [], ◌∷◌, ◌++◌, length, take, drop, get_or, refl, sym, ap, subst, ◌∙◌, arith}
-use Rattle.std.specs.Prelude.{max}
+use Rattle.std.proofs.Common.{◌≡◌, ℕ, zero, suc, ◌+◌, ◌<◌, ◌≤◌, false, List, [], ◌∷◌, ◌++◌, length, take, drop, get_or, refl, sym, ap, subst, ◌∙◌, arith}
 use Rattle.std.proofs.lemmas.List.{length-append}
 use Rattle.chp_syntax.specs.declared.tree.Op.{Op}
 use Rattle.chp_syntax.specs.declared.tree.Op.TheVariants.{And, Or, Xor, Add, Sub, Eq, Ne, Lt, Le, Gt, Ge}
 use Rattle.width_check.specs.declared.typed.TExpr.{TExpr}
 use Rattle.width_check.specs.declared.typed.TLink.{TLink}
-use Rattle.width_check.specs.Processes.{Formula, joined, Formulas, no_parts, and_part, formula_count, Operations, no_operations, and_operation}
+use Rattle.width_check.specs.Processes.{Formula, Formulas, no_parts, and_part, formula_count}
 use Rattle.width_check.specs.Values.{width_of, widths_of, is_comparison, IsWellFormed, AreWellFormed, AreOperations}
 use Rattle.width_check.specs.View.{formula_of}
 use Rattle.handshake_expand.proofs.Rows.{parts_of, links_of, part_at}
 use Rattle.function_blocks.specs.Parts.{outs_of}
 use Rattle.function_blocks.proofs.PartSizes.{outs_length, some_width}
-use Rattle.pace_bound.specs.Bits.{paired, rippled, op_bits, bits, joined_bits, chained_bits}
-use Rattle.pace_bound.specs.declared.behind.Behind.{Behind}
-use Rattle.pace_bound.specs.Behind.{reached_over}
+use Rattle.pace_bound.specs.Bits.{op_bits, bits, joined_bits, chained_bits}
 use Rattle.pace_bound.proofs.Through.{paired_length, rippled_length}
 use Rattle.pace_bound.proofs.Arrivals.{ats_length}
 use Rattle.pace_bound.proofs.BitsTold.{told}

@@ -1,13 +1,12 @@
 -- The statements of groups, one by one.
-use Rattle.std.proofs.Common.{◌≡◌, ℕ, zero, suc, ◌+◌, ◌*◌, ◌-◌, ◌<◌, ◌≤◌, Bool, true, false, List, [], ◌∷◌, length, drop, get_or, refl, sym, ap, subst, ◌∙◌, arith}
+use Rattle.std.proofs.Common.{◌≡◌, ℕ, zero, suc, ◌+◌, ◌*◌, ◌<◌, ◌≤◌, Bool, true, false, List, [], ◌∷◌, length, drop, get_or, refl, sym, ap, subst, ◌∙◌, arith}
 use Rattle.std.specs.Prelude.{max}
 use Rattle.chp_base.specs.declared.channel.Channel.{Channel}
 use Rattle.width_check.specs.declared.typed.Var.{Var}
 use Rattle.width_check.specs.declared.typed.TStmt.{TStmt}
-use Rattle.width_check.specs.declared.typed.TArm.{TArm}
-use Rattle.width_check.specs.Processes.{Process, choosing, Processes, no_members, and_member, Choices, no_choices, and_choice, TypedProgram}
+use Rattle.width_check.specs.Processes.{choosing, Processes, no_members, and_member, Choices, no_choices, and_choice, TypedProgram}
 use Rattle.width_check.specs.Typing.{IsProcess, AreProcesses, AreChoices}
-use Rattle.width_check.specs.View.{process_of, members_in, choices_in}
+use Rattle.width_check.specs.View.{process_of, members_in}
 use Rattle.handshake_expand.specs.Layout.{capped}
 use Rattle.handshake_expand.specs.PartTree.{HasFormedGuards}
 use Rattle.handshake_expand.proofs.Rows.{member_at}

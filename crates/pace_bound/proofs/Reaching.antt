@@ -1,5 +1,5 @@
 -- What comes behind the bits of operands, where so much comes behind those of the result.
-use Rattle.std.proofs.Common.{◌≡◌, ℕ, zero, suc, ◌+◌, ◌*◌, ◌-◌, ◌^◌, ◌<◌, ◌≤◌, List, [], ◌∷◌, ◌++◌, length, refl, sym, ap, ◌∙◌, ◌⊎◌, inl, inr, arith}
+use Rattle.std.proofs.Common.{◌≡◌, ℕ, zero, suc, ◌+◌, ◌≤◌, List, [], ◌∷◌, ◌++◌, length, refl, sym, ap, ◌∙◌, ◌⊎◌, inl, inr, arith}
 use Rattle.std.specs.Prelude.{max}
 use Rattle.handshake_expand.specs.Layout.{capped}
 use Rattle.round_time.specs.Longest.{greatest}
@@ -7,8 +7,8 @@ use Rattle.pace_bound.specs.declared.behind.Order.{Order}
 use Rattle.pace_bound.specs.declared.behind.Order.TheVariants.{Alike, Carried, Joined}
 use Rattle.pace_bound.specs.declared.behind.Behind.{Behind}
 use Rattle.chp_syntax.specs.declared.tree.Op.{Op}
-use Rattle.chp_syntax.specs.declared.tree.Op.TheVariants.{And, Or, Xor, Add, Sub, Eq, Ne, Lt, Le, Gt, Ge}
-use Rattle.pace_bound.specs.Bits.{paired, rippled, conjoined, all_of, ones, op_bits}
+use Rattle.chp_syntax.specs.declared.tree.Op.TheVariants.{And, Or, Xor, Eq, Ne, Lt, Le, Gt, Ge}
+use Rattle.pace_bound.specs.Bits.{paired, rippled, all_of, ones, op_bits}
 use Rattle.pace_bound.specs.Behind.{alike, carried, joint, through, reached_over}
 use Rattle.pace_bound.proofs.Through.{alike_is, alike_flat, carried_flat, joint_flat, alike_append, carried_append, joint_append, capped_alike, capped_carried, alike_paired, carried_paired, joint_paired, paired_length, rippled_length, alike_start, carried_start, joint_start, conjoined_is}
 

@@ -1,6 +1,6 @@
 -- The falls of lines as they are worked out for all channels and variables before, and ways in sequences and repetitions.
 use Rattle.std.specs.Prelude.{◌≡◌, ℕ, ◌+◌, ◌<◌, Bool, true, false, List, length, slice_index}
-use Rattle.width_check.specs.Processes.{Processes, no_members, and_member, Choices, TypedProgram}
+use Rattle.width_check.specs.Processes.{Processes, and_member, Choices, TypedProgram}
 use Rattle.width_check.specs.Typing.{kind_at}
 use Rattle.handshake_expand.specs.Layout.{capped}
 use Rattle.round_time.specs.Longest.{writes_fall, channel_low, low, turn_first, choice_low, guards_depth}

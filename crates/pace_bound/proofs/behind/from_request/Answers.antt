@@ -1,4 +1,4 @@
-use Rattle.std.proofs.Common.{◌≡◌, ◌+◌, sym, ap, ◌∙◌, arith}
+use Rattle.std.proofs.Common.{◌≡◌, ◌+◌, sym, ap, ◌∙◌}
 use Rattle.handshake_expand.specs.Layout.{capped}
 use Rattle.pace_bound.specs.Bits.{ones}
 use Rattle.pace_bound.specs.Behind.{through}

@@ -1,13 +1,12 @@
-use Rattle.std.proofs.Common.{◌≡◌, suc, ◌+◌, ◌-◌, ◌<◌, ◌≤◌, length, take, drop, get_or, sym, ap, subst, ◌∙◌, rules, arith}
+use Rattle.std.proofs.Common.{◌≡◌, suc, ◌+◌, ◌-◌, ◌<◌, length, take, drop, get_or, sym, ap, subst, ◌∙◌, rules, arith}
 use Rattle.std.specs.Prelude.{max}
 use Rattle.std.proofs.lemmas.List.{get_or_read}
 use Rattle.width_check.specs.declared.typed.TExpr.{the_lemmas}
-use Rattle.width_check.specs.Processes.{Formula}
 use Rattle.width_check.specs.Values.{width_of, IsWellFormed}
 use Rattle.width_check.specs.View.{formula_of}
 use Rattle.handshake_expand.proofs.Rows.{join_is, chain_is, parts_of, links_of}
 use Rattle.function_blocks.proofs.PartSizes.{some_width}
-use Rattle.pace_bound.specs.Bits.{op_bits, bits, joined_bits, chained_bits}
+use Rattle.pace_bound.specs.Bits.{bits, joined_bits, chained_bits}
 use Rattle.pace_bound.specs.Behind.{reached_over}
 use Rattle.pace_bound.proofs.Lengths.{bits_length, parts_counted, formed_here, bits_here, link_formed, links_until, until_length}
 use Rattle.pace_bound.proofs.Chains.{regrouped, some_after, last_bits, take_whole, zero_max}

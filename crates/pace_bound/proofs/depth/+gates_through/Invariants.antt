@@ -1,4 +1,4 @@
-use Rattle.std.proofs.Common.{◌≡◌, ◌-◌, ◌≤◌, ◌+◌, drop, take, length}
+use Rattle.std.proofs.Common.{◌≡◌, ◌-◌, drop, take}
 use Rattle.std.specs.Prelude.{max}
 use Rattle.width_check.specs.View.{formula_of}
 use Rattle.width_check.specs.Values.{AreWellFormed}

@@ -1,4 +1,4 @@
-use Rattle.std.proofs.Common.{◌≡◌, suc, ◌+◌, ◌<◌, sym, ap, subst, ◌∙◌, rules, arith}
+use Rattle.std.proofs.Common.{◌≡◌, suc, ◌+◌, sym, ap, subst, ◌∙◌, rules, arith}
 use Rattle.std.proofs.lemmas.List.{get_or_read}
 use Rattle.width_check.specs.declared.typed.TStmt.{the_lemmas}
 use Rattle.width_check.specs.Processes.{Process, choosing}
@@ -59,7 +59,7 @@ returns-after-again t c =
     let guards : guards_depth (choices_in c.deref.result.now) ≡ guards_depth cs = ap (λ l. guards_depth (choices_in l)) c.deref.ensures.value in
     let whole : first P (process_of c.args.s.now) ≡ c.if-again.before + guards_depth cs =
     elim c.if-again.branch [
-      then-again w ↦ is ∙ (ap (λ b. first P (choosing b cs)) w.if-again.true ∙ ap (λ n. n + guards_depth cs) (sym w.before-is))
+      | then-again w ↦ is ∙ (ap (λ b. first P (choosing b cs)) w.if-again.true ∙ ap (λ n. n + guards_depth cs) (sym w.before-is))
       | else-again w ↦ is ∙ (ap (λ b. first P (choosing b cs)) w.if-again.false ∙ ap (λ n. n + guards_depth cs) (sym w.before-is))
     ] in
     omega (arith, whole, guards, c.guards_depth.ensures, c.saturating_add-in-Select.ensures)

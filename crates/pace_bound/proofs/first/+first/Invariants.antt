@@ -1,8 +1,8 @@
-use Rattle.std.proofs.Common.{◌≡◌, ℕ, ◌+◌, ◌*◌, ◌-◌, ◌<◌, ◌≤◌, length, drop}
-use Rattle.std.specs.Prelude.{max, slice_index}
+use Rattle.std.proofs.Common.{◌≡◌, drop}
+use Rattle.std.specs.Prelude.{max}
 use Rattle.width_check.specs.Typed.{program_of}
-use Rattle.width_check.specs.Typing.{AreProcesses, AreChoices, kind_at}
-use Rattle.width_check.specs.View.{process_of, members_in, choices_in}
+use Rattle.width_check.specs.Typing.{AreProcesses}
+use Rattle.width_check.specs.View.{members_in}
 use Rattle.handshake_expand.specs.Layout.{capped}
 use Rattle.round_time.specs.Longest.{each_first}
 use Rattle.pace_bound.proofs.first.+first.Given as goal

@@ -1,4 +1,4 @@
-use Rattle.std.proofs.Common.{◌≡◌, suc, ◌+◌, ◌*◌, ◌-◌, ◌≤◌, length, drop, get_or, sym, ap, subst, ◌∙◌, rules, arith}
+use Rattle.std.proofs.Common.{◌≡◌, ◌+◌, ◌*◌, ◌-◌, length, drop, sym, ap, subst, ◌∙◌, rules, arith}
 use Rattle.std.proofs.lemmas.List.{get_or_read}
 use Rattle.width_check.specs.declared.typed.TStmt.{the_lemmas}
 use Rattle.width_check.specs.Processes.{Process, choosing, member_count}
@@ -30,7 +30,7 @@ low-requires t c =
       (
         c.requires.falls,
         member_typed _ _ c.in-Then.parts.items (c.len-last.result - 1) c.index.result.now typed.1
-        (omega (arith, typed.0, c.len-last.ensures, c.in-Then.parts.ok.0)) c.index.ensures,
+            (omega (arith, typed.0, c.len-last.ensures, c.in-Then.parts.ok.0)) c.index.ensures,
       ),
     )
 

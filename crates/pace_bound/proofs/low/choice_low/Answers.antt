@@ -1,4 +1,4 @@
-use Rattle.std.proofs.Common.{◌≤◌, arith}
+use Rattle.std.proofs.Common.{arith}
 use Rattle.width_check.specs.Typed.{program_of}
 use Rattle.width_check.specs.View.{choices_in}
 use Rattle.pace_bound.proofs.Members.{held_least}

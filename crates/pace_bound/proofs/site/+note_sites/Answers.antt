@@ -1,9 +1,9 @@
-use Rattle.std.proofs.Common.{◌≡◌, ℕ, ◌+◌, ◌*◌, ◌<◌, length, drop, sym, ap, subst, ◌∙◌, arith}
+use Rattle.std.proofs.Common.{◌≡◌, ℕ, ◌+◌, ◌*◌, ◌<◌, length, sym, ap, subst, ◌∙◌, arith}
 use Rattle.std.specs.Prelude.{max, slice_index}
-use Rattle.width_check.specs.Processes.{Process, no_members, choosing}
+use Rattle.width_check.specs.Processes.{Process, choosing}
 use Rattle.width_check.specs.Typed.{program_of}
 use Rattle.width_check.specs.Typing.{IsProcess, AreProcesses, AreChoices}
-use Rattle.width_check.specs.View.{process_of, members_in, choices_in}
+use Rattle.width_check.specs.View.{members_in, choices_in}
 use Rattle.handshake_expand.specs.Layout.{capped}
 use Rattle.handshake_expand.proofs.Rows.{then_is, beside_is, select_is, no_more_members, no_more_arms}
 use Rattle.handshake_expand.proofs.Turns.{turn_typed, this_typed}
@@ -95,7 +95,7 @@ returns-after-loop-arm t c =
     let whole : (k : ℕ) → capped (over_sites (of_site P c.args.noted k) c.args.held (choosing c.in-Select.again cs)) ≡
     capped (over_choices (of_site P c.args.noted k) c.if-again.its cs) =
     λ k. elim c.if-again.branch [
-      then-again w ↦ ap (λ b. capped (over_sites (of_site P c.args.noted k) c.args.held (choosing b cs))) w.if-again.true
+      | then-again w ↦ ap (λ b. capped (over_sites (of_site P c.args.noted k) c.args.held (choosing b cs))) w.if-again.true
           ∙ ap (λ n. capped (over_choices (of_site P c.args.noted k) n cs)) (sym w.its-is)
       | else-again w ↦ ap (λ b. capped (over_sites (of_site P c.args.noted k) c.args.held (choosing b cs))) w.if-again.false
           ∙ (sym (choices_capped P c.args.noted k cs (c.args.held + 3))

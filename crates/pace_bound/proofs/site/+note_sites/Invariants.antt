@@ -1,11 +1,11 @@
-use Rattle.std.proofs.Common.{◌≡◌, ℕ, ◌+◌, ◌*◌, ◌-◌, ◌<◌, ◌≤◌, length, drop}
+use Rattle.std.proofs.Common.{◌≡◌, ℕ, ◌+◌, ◌*◌, ◌<◌, length, drop}
 use Rattle.std.specs.Prelude.{max, slice_index}
 use Rattle.width_check.specs.Typed.{program_of}
-use Rattle.width_check.specs.Typing.{AreProcesses, AreChoices, kind_at}
-use Rattle.width_check.specs.View.{process_of, members_in, choices_in}
+use Rattle.width_check.specs.Typing.{AreProcesses, AreChoices}
+use Rattle.width_check.specs.View.{members_in, choices_in}
 use Rattle.handshake_expand.specs.Layout.{capped}
 use Rattle.round_time.specs.Longest.{over_turn, over_each, over_choices}
-use Rattle.pace_bound.specs.Noting.{of_site, noted_count}
+use Rattle.pace_bound.specs.Noting.{of_site}
 use Rattle.pace_bound.proofs.site.+note_sites.Given as goal
 
 abbrev pub invariant-loop-place : goal.invariant-loop-place

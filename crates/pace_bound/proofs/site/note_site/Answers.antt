@@ -1,4 +1,4 @@
-use Rattle.std.proofs.Common.{◌≡◌, ◌≢◌, ℕ, ◌+◌, ◌<◌, length, sym, ap, subst, ◌∙◌, arith}
+use Rattle.std.proofs.Common.{◌≡◌, ℕ, ◌+◌, length, sym, ap, subst, ◌∙◌, arith}
 use Rattle.std.specs.Prelude.{if◌then◌else◌}
 use Rattle.width_check.specs.Processes.{Process, receiving}
 use Rattle.width_check.specs.Typed.{program_of}
@@ -7,7 +7,6 @@ use Rattle.width_check.specs.View.{process_of}
 use Rattle.handshake_expand.specs.Layout.{capped}
 use Rattle.function_blocks.proofs.Ordered.{eq_self}
 use Rattle.round_time.specs.Longest.{writes_fall, var_height, receive_clears}
-use Rattle.pace_bound.specs.declared.site.Noted.TheVariants.{Receives}
 use Rattle.pace_bound.specs.Noting.{of_site, noted_count}
 use Rattle.pace_bound.proofs.Ending.{eq_other, raised_by}
 use Rattle.pace_bound.proofs.site.note_site.Goals as goal

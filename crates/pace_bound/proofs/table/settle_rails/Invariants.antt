@@ -3,7 +3,7 @@ use Rattle.std.specs.Prelude.{slice_index}
 use Rattle.width_check.specs.Typed.{program_of}
 use Rattle.width_check.specs.Typing.{kind_at}
 use Rattle.handshake_expand.specs.Layout.{capped}
-use Rattle.round_time.specs.Longest.{over_sites, send_holds, rails_fall, receive_clears, channel_low}
+use Rattle.round_time.specs.Longest.{over_sites, send_holds, rails_fall}
 use Rattle.pace_bound.proofs.table.settle_rails.Given as goal
 
 abbrev pub invariant-loop-place : goal.invariant-loop-place

@@ -1,6 +1,6 @@
 use Rattle.std.proofs.Common.{◌≡◌, ◌+◌, ◌<◌, length, drop, sym, ap, subst, ◌∙◌, arith}
 use Rattle.std.specs.Prelude.{max}
-use Rattle.width_check.specs.Processes.{Process, choosing}
+use Rattle.width_check.specs.Processes.{Process}
 use Rattle.width_check.specs.Typed.{program_of}
 use Rattle.width_check.specs.Typing.{IsProcess, AreProcesses, AreChoices}
 use Rattle.width_check.specs.View.{process_of, members_in, choices_in}

@@ -1,8 +1,8 @@
-use Rattle.std.proofs.Common.{◌≡◌, ℕ, ◌+◌, ◌*◌, ◌-◌, ◌<◌, ◌≤◌, length, drop}
-use Rattle.std.specs.Prelude.{max, slice_index}
+use Rattle.std.proofs.Common.{◌≡◌, drop}
+use Rattle.std.specs.Prelude.{max}
 use Rattle.width_check.specs.Typed.{program_of}
-use Rattle.width_check.specs.Typing.{AreProcesses, AreChoices, kind_at}
-use Rattle.width_check.specs.View.{process_of, members_in, choices_in}
+use Rattle.width_check.specs.Typing.{AreProcesses, AreChoices}
+use Rattle.width_check.specs.View.{members_in, choices_in}
 use Rattle.handshake_expand.specs.Layout.{capped}
 use Rattle.round_time.specs.Longest.{turn_within, each_within, choice_within}
 use Rattle.pace_bound.proofs.within.+within.Given as goal
