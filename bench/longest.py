@@ -1,0 +1,210 @@
+"""A model of the longest phase of a program's circuit, beside the proved call: how many moves, one behind the other, its nodes
+make at most between the steps of one round and those of the next.
+
+It goes by the tree of a program, in which each call is a copy of its procedure's body.
+"""
+import os
+import sys
+from dataclasses import replace
+
+sys.path.insert(0, os.path.dirname(os.path.dirname(os.path.abspath(__file__))))
+
+from companion.chp_reader import read_program  # noqa: E402
+from companion.widths import own  # noqa: E402
+
+BITWISE, RIPPLING, LESS, EQUAL = ("&", "|", "^"), ("+", "-"), ("<", "<=", ">", ">="), ("=", "!=")
+
+
+def height(leaves):
+    """That of a completion tree."""
+    return (leaves - 1).bit_length()
+
+
+def rippled(left, right):
+    """The depths of bits of which each waits for the carry of the one below."""
+    made, carried = [], 0
+    for a, b in zip(left, right, strict=True):
+        carried = 1 + max(a, b, carried)
+        made.append(carried)
+    return made
+
+
+def conjoined(bits):
+    """The depth of the conjunction of bits, from the lowest on."""
+    depth = bits[0]
+    for bit in bits[1:]:
+        depth = 1 + max(depth, bit)
+    return depth
+
+
+def operated(op, left, right):
+    """The depths of the bits of an operator's result."""
+    pairs = [1 + max(a, b) for a, b in zip(left, right, strict=True)]
+    if op in BITWISE:
+        return pairs
+    if op in EQUAL:
+        return [conjoined(pairs)]
+    return rippled(left, right) if op in RIPPLING else rippled(left, right)[-1:]
+
+
+def bits_of(node, width, widths):
+    """The depths of an expression's bits, the lowest first: how many gates, one behind the other, from the request on."""
+    if node.kind in ("number", "name", "bits"):
+        count = width if node.kind == "number" else own(node, widths)
+        return [1] * count
+    if node.kind == "not":
+        return bits_of(node.parts[0], width, widths)
+    if node.kind == "join":
+        return [bit for part in reversed(node.parts) for bit in bits_of(part, own(part, widths), widths)]
+    inner = width
+    if node.kind == "compare":
+        inner = own(node.parts[0], widths) or own(node.parts[1], widths)
+    made = bits_of(node.parts[0], inner, widths)
+    for op, part in zip(node.ops, node.parts[1:], strict=True):
+        made = operated(op, made, bits_of(part, inner, widths))
+    return made
+
+
+class Model:
+    """The bound of a program, and of each statement the parts of it. `let_go` is for how long the request of a statement is high
+    once it has answered."""
+
+    def __init__(self, text):
+        program = read_program(text)
+        self.widths = {decl.name: decl.width for decl in program.decls}
+        self.kinds = {decl.name: decl.kind for decl in program.decls if decl.kind != "var"}
+        self.body = self.inlined(program.body, program.procs)
+        self.fall()
+
+    def inlined(self, stmt, procs):
+        """The statement with a copy of its body for each call. A body of a group is the group that its call stands in, where
+        they are of one kind."""
+        if stmt.kind == "call":
+            return self.inlined(procs[stmt.name], procs)
+        return replace(stmt, children=[self.inlined(child, procs) for child in stmt.children])
+
+    def depth(self, value, width):
+        """That of an expression."""
+        return max(bits_of(value.tree, width, self.widths))
+
+    def own_depth(self, stmt):
+        """That of what a statement sends or assigns."""
+        return self.depth(stmt.value, self.widths[stmt.name])
+
+    def guards(self, stmt):
+        """The depth of the guards."""
+        return max(self.depth(guard, 1) for guard in stmt.guards)
+
+    def inner(self, stmt, let_go):
+        """The statements within one, each with how long its answer is up until its request is down."""
+        last = len(stmt.children) - 1
+        of_kind = {"select": let_go + 3, "again": 4, "loop": 1}
+        for place, child in enumerate(stmt.children):
+            is_last = stmt.kind == "sequence" and place == last
+            yield child, let_go + 2 * last if is_last else of_kind.get(stmt.kind, 2)
+
+    def sites(self, stmt, let_go=2):
+        """The statements without another one in them, each with how long its request is high once it has answered."""
+        if not stmt.children:
+            yield stmt, let_go
+        for inner, its in self.inner(stmt, let_go):
+            yield from self.sites(inner, its)
+
+    def rails_fall(self, channel):
+        """From a step on a channel to the fall of its rails."""
+        if self.kinds[channel] == "in":
+            return 1
+        sends = (its + self.own_depth(stmt) + 2 for stmt, its in self.sites(self.body) if (stmt.kind, stmt.name) == ("send", channel))
+        return max(sends, default=0)
+
+    def written(self, stmt):
+        """The variable that a statement writes, if it does."""
+        return {"assign": stmt.name, "through": stmt.name, "receive": stmt.target}.get(stmt.kind)
+
+    def write_holds(self, stmt, its):
+        """How long the rails are high by which a statement writes."""
+        if stmt.kind == "assign":
+            return its + self.own_depth(stmt) + 2
+        return its + 5 if stmt.kind == "through" else max(self.rails[stmt.name], its + 1) + 2
+
+    def fall(self):
+        """Works out when lines fall: rails of channels, rails by which variables are written, and the answers of both ends of
+        channels."""
+        self.rails = {channel: self.rails_fall(channel) for channel in self.kinds}
+        self.writes = {name: 0 for name in self.widths}
+        for stmt, its in self.sites(self.body):
+            if (name := self.written(stmt)) is not None:
+                self.writes[name] = max(self.writes[name], self.write_holds(stmt, its))
+        self.ends = {channel: self.rails[channel] + 2 if kind == "out" else 0 for channel, kind in self.kinds.items()}
+        for stmt, _ in self.sites(self.body):
+            if stmt.kind == "receive":
+                clears = self.writes[stmt.target] + 4 + self.height_of(stmt.target)
+                self.ends[stmt.name] = max(self.ends[stmt.name], clears)
+
+    def height_of(self, name):
+        """Of the completion tree over so many bits."""
+        return height(self.widths[name])
+
+    def first(self, stmt):
+        """From the request of a statement to its first step."""
+        if stmt.kind in ("skip", "loop"):
+            return 1
+        if stmt.kind == "assign":
+            return self.own_depth(stmt) + 4 + self.height_of(stmt.name)
+        if stmt.kind == "through":
+            return 2 * self.own_depth(stmt) + 17 + 3 * self.height_of(stmt.name)
+        if stmt.kind == "send":
+            return self.own_depth(stmt) + (2 if self.kinds[stmt.name] == "out" else 8 + self.height_of(stmt.name))
+        if stmt.kind == "receive":
+            return (8 if self.kinds[stmt.name] == "in" else 7) + self.height_of(stmt.target)
+        if stmt.kind == "sequence":
+            return 1 + self.first(stmt.children[0])
+        if stmt.kind == "parallel":
+            return 1 + max(map(self.first, stmt.children))
+        return (2 if stmt.kind == "select" else 3) + self.guards(stmt)
+
+    def low(self, stmt, let_go):
+        """From the last step of a statement to the fall of its answer."""
+        if stmt.kind in ("skip", "loop"):
+            return let_go + 1
+        if stmt.kind in ("assign", "through"):
+            return self.writes[stmt.name] + 2 + self.height_of(stmt.name)
+        if stmt.kind in ("send", "receive"):
+            return self.ends[stmt.name]
+        if stmt.kind == "again":
+            return let_go + 7 + self.guards(stmt)
+        inner = list(self.inner(stmt, let_go))
+        if stmt.kind == "sequence":
+            return self.low(*inner[-1])
+        if stmt.kind == "parallel":
+            return max(self.low(*it) for it in inner) + 3 + let_go + 2 * height(len(inner))
+        return 1 + max(let_go + 3, *(self.low(*it) for it in inner))
+
+    def ways(self, stmt, let_go):
+        """The lengths of the ways within a statement from the steps of one round to those of the next, beside those within
+        the statements in it."""
+        inner = list(self.inner(stmt, let_go))
+        if stmt.kind == "sequence":
+            for place in range(1, len(inner)):
+                yield self.low(*inner[place - 1]) + 1 + self.first(inner[place][0]) + (place + 1 < len(inner))
+        if stmt.kind == "loop":
+            yield self.first(stmt.children[0])
+            yield self.low(*inner[0]) + 1
+        if stmt.kind in ("select", "again"):
+            for it in inner:
+                yield 3 + self.guards(stmt) + self.first(it[0])
+        if stmt.kind == "again":
+            yield max(4, *(self.low(*it) for it in inner)) + 4 + self.guards(stmt)
+
+    def within(self, stmt, let_go):
+        """The longest way within a statement."""
+        return max([0, *self.ways(stmt, let_go), *(self.within(*it) for it in self.inner(stmt, let_go))])
+
+    def longest(self):
+        """The longest way."""
+        return max(2 + self.first(self.body), self.low(self.body, 2) + 2, self.within(self.body, 2))
+
+
+def longest(text):
+    """The longest phase of the program with this text."""
+    return Model(text).longest()
