@@ -197,7 +197,8 @@ last_at : (n : ℕ) (us : List Input) → (last_from (input n) (suc n) us).at �
 last_at n [] = omega arith
 last_at n (u ∷ us) = let h : (last_from (input (suc n)) (suc (suc n)) us).at ≡ suc n + length us = last_at (suc n) us in omega arith
 
-ripple_last : (a b : ℕ) (c us vs : List ℕ) → length vs ≡ length us → slice_index (rippled c (a ∷ us) (b ∷ vs)) (length us) ≡ greatest (rippled c (a ∷ us) (b ∷ vs))
+ripple_last : (a b : ℕ) (c us vs : List ℕ) → length vs ≡ length us
+    → slice_index (rippled c (a ∷ us) (b ∷ vs)) (length us) ≡ greatest (rippled c (a ∷ us) (b ∷ vs))
 ripple_last a b c [] [] e = omega arith
 ripple_last a b c [] (y ∷ vs) e = absurd (omega arith)
 ripple_last a b c (x ∷ us) [] e = absurd (omega arith)
@@ -221,7 +222,8 @@ ripple_top : (c us vs : List ℕ) → greatest (ripple_own c us vs) ≡ greatest
 ripple_top c [] vs = refl
 ripple_top c (a ∷ us) [] = refl
 ripple_top c (a ∷ []) (b ∷ vs) = refl
-ripple_top c (a ∷ d ∷ us) (b ∷ vs) = let h = ripple_top (suc (max a (max b (greatest c))) ∷ []) (d ∷ us) vs in twice _ _ ∙ ap (max (suc (max a (max b (greatest c))))) h
+ripple_top c (a ∷ d ∷ us) (b ∷ vs) =
+    let h = ripple_top (suc (max a (max b (greatest c))) ∷ []) (d ∷ us) vs in twice _ _ ∙ ap (max (suc (max a (max b (greatest c))))) h
   where
     twice : (g t : ℕ) → max g (max g t) ≡ max g t
     twice g t = omega arith
@@ -289,13 +291,16 @@ module _ (ds : List ℕ) (us vs : List Input) (from : ℕ) (at : from ≡ length
   pairs_are = results_are ds (paired left right) us from at (wide ∙ sym (paired_length left right same))
 
   and_applied : Applied And ds us vs from
-  and_applied = record { own = paired left right; all = bitwise_gates all_one ds us vs h k; below = pairs_below; bits = pairs_are; top = paired_over left right same }
+  and_applied =
+      record { own = paired left right; all = bitwise_gates all_one ds us vs h k; below = pairs_below; bits = pairs_are; top = paired_over left right same }
 
   or_applied : Applied Or ds us vs from
-  or_applied = record { own = paired left right; all = bitwise_gates some_one ds us vs h k; below = pairs_below; bits = pairs_are; top = paired_over left right same }
+  or_applied =
+      record { own = paired left right; all = bitwise_gates some_one ds us vs h k; below = pairs_below; bits = pairs_are; top = paired_over left right same }
 
   xor_applied : Applied Xor ds us vs from
-  xor_applied = record { own = paired left right; all = bitwise_gates odd_ones ds us vs h k; below = pairs_below; bits = pairs_are; top = paired_over left right same }
+  xor_applied =
+      record { own = paired left right; all = bitwise_gates odd_ones ds us vs h k; below = pairs_below; bits = pairs_are; top = paired_over left right same }
 
   ripple_gates : (c : List Bool → Bool) → depths ds (ripple_parts c us vs [] from) ≡ ds ++ ripple_own [] left right
   ripple_gates c = started ds (ripple_parts c us vs [] from) (ripple_own [] left right) (ripple_all c ds [] from us vs [] [] begins h k tt refl)

@@ -13,7 +13,8 @@ use Rattle.pace_bound.proofs.Lengths.{bits_here, some_bits, parts_counted}
 pub regrouped : (most r l u g m total : ℕ) → max most r ≡ total → r ≡ max l u → g ≡ u → m ≡ max most g → max m l ≡ total
 regrouped most r l u g m total p q h k = omega arith
 
-pub some_after : (es : List TExpr) (i : ℕ) → i + 1 < length es → AreWellFormed (parts_of (drop (i + 1) es)) → 1 ≤ length (joined_bits (parts_of (drop (i + 1) es)))
+pub some_after : (es : List TExpr) (i : ℕ) → i + 1 < length es → AreWellFormed (parts_of (drop (i + 1) es))
+    → 1 ≤ length (joined_bits (parts_of (drop (i + 1) es)))
 some_after es i within h =
     let n = parts_counted (drop (i + 1) es) in let l = length-drop (i + 1) es in some_bits (parts_of (drop (i + 1) es)) (omega (arith, n, l)) h
 

@@ -34,7 +34,8 @@ branches_sum now whole held tree doubled one two three p q r s t =
     third : (two sum three all : ℕ) → two ≡ capped sum → three ≡ capped (two + 3) → all ≡ sum + 3 → three ≡ capped all
     third two sum three all p q r = omega arith
 
-pub again_sum : (guards whole held one two : ℕ) → guards ≡ capped whole → one ≡ capped (held + guards) → two ≡ capped (one + 7) → two ≡ capped (held + 7 + whole)
+pub again_sum : (guards whole held one two : ℕ) → guards ≡ capped whole → one ≡ capped (held + guards) → two ≡ capped (one + 7)
+    → two ≡ capped (held + 7 + whole)
 again_sum guards whole held one two p q r = omega arith
 
 pub one_after : (now whole other next : ℕ) → now ≡ capped whole → capped whole ≡ capped other → next ≡ capped (now + 1) → next ≡ capped (suc other)

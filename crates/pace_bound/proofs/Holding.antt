@@ -32,9 +32,11 @@ site_capped P Sends k (side_by_side ms) h = refl
 site_capped P Sends k (choosing again cs) h = refl
 site_capped P Sends k (repeating q) h = refl
 site_capped P Writes k skipping h = refl
-site_capped P Writes k (assigning x at e) h = if_capped (x == k) (assign_holds (reads x e) (capped h) (depth e)) (assign_holds (reads x e) h (depth e)) (assign_capped (reads x e) h (depth e))
+site_capped P Writes k (assigning x at e) h =
+    if_capped (x == k) (assign_holds (reads x e) (capped h) (depth e)) (assign_holds (reads x e) h (depth e)) (assign_capped (reads x e) h (depth e))
 site_capped P Writes k (sending c at e) h = refl
-site_capped P Writes k (receiving c at x to) h = if_capped (x == k) (max (rails_fall P (kind_at P.channels c) c) (capped h + 1) + 2) (max (rails_fall P (kind_at P.channels c) c) (h + 1) + 2) (omega arith)
+site_capped P Writes k (receiving c at x to) h =
+    if_capped (x == k) (max (rails_fall P (kind_at P.channels c) c) (capped h + 1) + 2) (max (rails_fall P (kind_at P.channels c) c) (h + 1) + 2) (omega arith)
 site_capped P Writes k (in_turn ms) h = refl
 site_capped P Writes k (side_by_side ms) h = refl
 site_capped P Writes k (choosing again cs) h = refl
@@ -145,7 +147,8 @@ module _ (P : TypedProgram) where
     low_capped (receiving c at x to) h = refl
     low_capped (in_turn ms) h = turn_low_capped ms h
     low_capped (side_by_side ms) h = omega arith
-    low_capped (choosing false cs) h = one_more (choice_low P (capped h + 3) cs) (choice_low P (h + 3) cs) (later (λ m. choice_low P m cs) h 3 (λ m. choice_low_capped cs m))
+    low_capped (choosing false cs) h =
+        one_more (choice_low P (capped h + 3) cs) (choice_low P (h + 3) cs) (later (λ m. choice_low P m cs) h 3 (λ m. choice_low_capped cs m))
     low_capped (choosing true cs) h = omega arith
     low_capped (repeating q) h = omega arith
 

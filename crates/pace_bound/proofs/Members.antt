@@ -11,13 +11,14 @@ use Rattle.handshake_expand.specs.Layout.{capped}
 use Rattle.handshake_expand.specs.PartTree.{HasFormedGuards}
 use Rattle.handshake_expand.proofs.Rows.{member_at}
 use Rattle.round_time.specs.Longest.{first, turn_first, guards_depth, low, turn_low, choice_low, within, turn_within, choice_within}
-use Rattle.pace_bound.specs.Clearing.{between, turned_again}
+use Rattle.pace_bound.specs.Clearing.{onward, turned_again}
 
 pub formed_guards : (channels : List Channel) (vars : List Var) (cs : Choices) → AreChoices channels vars cs → HasFormedGuards cs
 formed_guards channels vars no_choices h = tt
 formed_guards channels vars (and_choice g p more) h = (h.0.formed, formed_guards channels vars more h.2)
 
-pub turn_first_is : (P : TypedProgram) (ss : List TStmt) (s : TStmt) → 2 ≤ length ss → s ≡ get_or ss 0 s → turn_first P (members_in ss) ≡ suc (first P (process_of s))
+pub turn_first_is : (P : TypedProgram) (ss : List TStmt) (s : TStmt) → 2 ≤ length ss → s ≡ get_or ss 0 s
+    → turn_first P (members_in ss) ≡ suc (first P (process_of s))
 turn_first_is P [] s some is = absurd (omega arith)
 turn_first_is P (a ∷ []) s some is = absurd (omega arith)
 turn_first_is P (a ∷ b ∷ ss) s some is = ap (λ x. suc (first P (process_of x))) (sym is)
@@ -38,22 +39,24 @@ held_least P held (and_choice g p more) = let h = held_least P held more in omeg
 
 -- from a member of a sequence on: inside of it, on to the next one, and what is behind
 pub turn_within_at : (P : TypedProgram) (ss : List TStmt) (i : ℕ) (s : TStmt) → i < length ss → s ≡ get_or ss i s
-    → turn_within P (members_in (drop i ss)) ≡ max (within P (process_of s)) (max (between P (members_in (drop i ss))) (turn_within P (members_in (drop (i + 1) ss))))
+    → turn_within P (members_in (drop i ss)) ≡ max (within P (process_of s)) (max (onward P (members_in (drop i ss))) (turn_within P (members_in (drop (i + 1) ss))))
 turn_within_at P ss i s inside is =
     ap (turn_within P) (member_at ss i s inside is) ∙ (by (members_in (drop (i + 1) ss))
-    ∙ ap (λ m. max (within P (process_of s)) (max (between P m) (turn_within P (members_in (drop (i + 1) ss))))) (sym (member_at ss i s inside is)))
+    ∙ ap (λ m. max (within P (process_of s)) (max (onward P m) (turn_within P (members_in (drop (i + 1) ss))))) (sym (member_at ss i s inside is)))
   where
-    by : (more : Processes) → turn_within P (and_member (process_of s) more) ≡ max (within P (process_of s)) (max (between P (and_member (process_of s) more)) (turn_within P more))
+    by : (more : Processes)
+        → turn_within P (and_member (process_of s) more) ≡ max (within P (process_of s)) (max (onward P (and_member (process_of s) more)) (turn_within P more))
     by no_members = omega arith
     by (and_member q more) = refl
 
-pub member_typed : (channels : List Channel) (vars : List Var) (ss : List TStmt) (i : ℕ) (s : TStmt) → AreProcesses channels vars (members_in ss) → i < length ss
+pub member_typed : (channels : List Channel) (vars : List Var) (ss : List TStmt) (i : ℕ) (s : TStmt) → AreProcesses channels vars (members_in ss)
+    → i < length ss
     → s ≡ get_or ss i s → IsProcess channels vars (process_of s)
 member_typed channels vars [] i s h inside is = absurd (omega arith)
 member_typed channels vars (x ∷ ss) zero s h inside is = subst (λ y. IsProcess channels vars (process_of y)) (sym is) h.0
 member_typed channels vars (x ∷ ss) (suc i) s h inside is = member_typed channels vars ss i s h.1 (omega arith) is
 
-pub single_left : (P : TypedProgram) (ss : List TStmt) → length ss ≤ 1 → between P (members_in ss) ≡ 0
+pub single_left : (P : TypedProgram) (ss : List TStmt) → length ss ≤ 1 → onward P (members_in ss) ≡ 0
 single_left P [] few = refl
 single_left P (a ∷ []) few = refl
 single_left P (a ∷ b ∷ ss) few = absurd (omega arith)

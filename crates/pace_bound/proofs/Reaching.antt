@@ -9,7 +9,7 @@ use Rattle.pace_bound.specs.declared.behind.Behind.{Behind}
 use Rattle.chp_syntax.specs.declared.tree.Op.{Op}
 use Rattle.chp_syntax.specs.declared.tree.Op.TheVariants.{And, Or, Xor, Eq, Ne, Lt, Le, Gt, Ge}
 use Rattle.pace_bound.specs.Bits.{paired, rippled, all_of, ones, op_bits}
-use Rattle.pace_bound.specs.Behind.{alike, carried, joint, through, reached_over}
+use Rattle.pace_bound.specs.Behind.{evenly, carried, joint, through, reached_over}
 use Rattle.pace_bound.proofs.Through.{alike_is, alike_flat, carried_flat, joint_flat, alike_append, carried_append, joint_append, capped_alike, capped_carried, alike_paired, carried_paired, joint_paired, paired_length, rippled_length, alike_start, carried_start, joint_start, conjoined_is}
 
 pub capped_max : (a b : ℕ) → capped (max a b) ≡ max (capped a) (capped b)
@@ -37,7 +37,8 @@ both r o n t us vs p q is =
     ap capped is ∙ (capped_max (through o n us) (through o n vs)
     ∙ (ap (λ k. max k (capped (through o n vs))) (sym (more_is r o n us p q)) ∙ ap (max (reached_over r us)) (sym (more_is r o n vs p q))))
 
-pub paired_through : (o : Order) (n : ℕ) (us vs : List ℕ) → length vs ≡ length us → through o n (paired us vs) ≡ max (through o (n + 1) us) (through o (n + 1) vs)
+pub paired_through : (o : Order) (n : ℕ) (us vs : List ℕ) → length vs ≡ length us
+    → through o n (paired us vs) ≡ max (through o (n + 1) us) (through o (n + 1) vs)
 paired_through Alike n us vs e = alike_paired n us vs e
 paired_through Carried n us vs e = carried_paired n us vs e
 paired_through Joined n us vs e = joint_paired n us vs e
@@ -48,24 +49,28 @@ single_through Carried n d = omega arith
 single_through Joined n d = omega arith
 
 -- a sum: in all orders but one, or of one bit
-pub rippled_alike : (n : ℕ) (us vs : List ℕ) → 1 ≤ length us → length vs ≡ length us → alike n (rippled [] us vs) ≡ max (carried (n + 1) us) (carried (n + 1) vs)
+pub rippled_alike : (n : ℕ) (us vs : List ℕ) → 1 ≤ length us → length vs ≡ length us
+    → evenly n (rippled [] us vs) ≡ max (carried (n + 1) us) (carried (n + 1) vs)
 rippled_alike n [] vs some e = absurd (omega arith)
 rippled_alike n (a ∷ us) [] some e = absurd (omega arith)
 rippled_alike n (a ∷ us) (b ∷ vs) some e = alike_start n a b us vs (omega arith)
 
-pub rippled_carried : (n : ℕ) (us vs : List ℕ) → 1 ≤ length us → length vs ≡ length us → carried n (rippled [] us vs) ≡ max (carried (n + 1) us) (carried (n + 1) vs)
+pub rippled_carried : (n : ℕ) (us vs : List ℕ) → 1 ≤ length us → length vs ≡ length us
+    → carried n (rippled [] us vs) ≡ max (carried (n + 1) us) (carried (n + 1) vs)
 rippled_carried n [] vs some e = absurd (omega arith)
 rippled_carried n (a ∷ us) [] some e = absurd (omega arith)
 rippled_carried n (a ∷ us) (b ∷ vs) some e = carried_start n a b us vs (omega arith)
 
-pub rippled_joint : (n : ℕ) (us vs : List ℕ) → 2 ≤ length us → length vs ≡ length us → joint n (rippled [] us vs) ≡ max (carried (n + 2) us) (carried (n + 2) vs)
+pub rippled_joint : (n : ℕ) (us vs : List ℕ) → 2 ≤ length us → length vs ≡ length us
+    → joint n (rippled [] us vs) ≡ max (carried (n + 2) us) (carried (n + 2) vs)
 rippled_joint n [] vs some e = absurd (omega arith)
 rippled_joint n (a ∷ []) vs some e = absurd (omega arith)
 rippled_joint n (a ∷ x ∷ us) [] some e = absurd (omega arith)
 rippled_joint n (a ∷ x ∷ us) (b ∷ []) some e = absurd (omega arith)
 rippled_joint n (a ∷ x ∷ us) (b ∷ y ∷ vs) some e = joint_start n a b x y us vs (omega arith)
 
-pub rippled_single : (n : ℕ) (us vs : List ℕ) → length us ≡ 1 → length vs ≡ length us → joint n (rippled [] us vs) ≡ max (carried (n + 1) us) (carried (n + 1) vs)
+pub rippled_single : (n : ℕ) (us vs : List ℕ) → length us ≡ 1 → length vs ≡ length us
+    → joint n (rippled [] us vs) ≡ max (carried (n + 1) us) (carried (n + 1) vs)
 rippled_single n [] vs one e = absurd (omega arith)
 rippled_single n (a ∷ x ∷ us) vs one e = absurd (omega arith)
 rippled_single n (a ∷ []) [] one e = absurd (omega arith)
@@ -79,7 +84,7 @@ rippled_through Carried n us vs one some e = rippled_carried n us vs some e
 rippled_through Joined n us vs one some e = rippled_single n us vs (one refl) e
 
 -- comparisons: their one bit is the deepest of all, or that of a conjunction
-alike_greatest : (n : ℕ) (ds : List ℕ) → 1 ≤ length ds → alike n ds ≡ n + greatest ds
+alike_greatest : (n : ℕ) (ds : List ℕ) → 1 ≤ length ds → evenly n ds ≡ n + greatest ds
 alike_greatest n [] some = absurd (omega arith)
 alike_greatest n (d ∷ ds) some = alike_is n d ds
 
@@ -109,8 +114,8 @@ equal_through o n us vs some e =
 -- the lower bits and the upper ones
 pub split_alike : (b r s : Behind) (us vs : List ℕ) → b.order ≡ Alike → reached_over b (us ++ vs) ≡ max (reached_over b us) (reached_over b vs)
 split_alike b r s us vs is =
-    ap (λ o. capped (through o b.gates (us ++ vs))) is ∙ (ap capped (alike_append b.gates us vs) ∙ (capped_max (alike b.gates us) (alike b.gates vs)
-    ∙ (ap (λ o. max (capped (through o b.gates us)) (capped (alike b.gates vs))) (sym is)
+    ap (λ o. capped (through o b.gates (us ++ vs))) is ∙ (ap capped (alike_append b.gates us vs) ∙ (capped_max (evenly b.gates us) (evenly b.gates vs)
+    ∙ (ap (λ o. max (capped (through o b.gates us)) (capped (evenly b.gates vs))) (sym is)
     ∙ ap (λ o. max (reached_over b us) (capped (through o b.gates vs))) (sym is))))
 
 pub split_carried : (b r : Behind) (n : ℕ) (us vs : List ℕ) → b.order ≡ Carried → length vs ≡ n → r.order ≡ Carried → r.gates ≡ capped (b.gates + n)

@@ -5,13 +5,13 @@ use Rattle.std.proofs.lemmas.List.{length-append}
 use Rattle.handshake_expand.specs.Layout.{capped}
 use Rattle.round_time.specs.Longest.{greatest}
 use Rattle.pace_bound.specs.Bits.{paired, rippled, conjoined, ones}
-use Rattle.pace_bound.specs.Behind.{alike, carried, joint}
+use Rattle.pace_bound.specs.Behind.{evenly, carried, joint}
 
-pub alike_is : (n : ℕ) (d : ℕ) (ds : List ℕ) → alike n (d ∷ ds) ≡ n + greatest (d ∷ ds)
+pub alike_is : (n : ℕ) (d : ℕ) (ds : List ℕ) → evenly n (d ∷ ds) ≡ n + greatest (d ∷ ds)
 alike_is n d [] = omega arith
 alike_is n d (e ∷ ds) = let h = alike_is n e ds in omega arith
 
-pub alike_flat : (n k : ℕ) → alike n (ones (suc k)) ≡ n + 1
+pub alike_flat : (n k : ℕ) → evenly n (ones (suc k)) ≡ n + 1
 alike_flat n zero = omega arith
 alike_flat n (suc k) = let h = alike_flat n k in omega arith
 
@@ -27,7 +27,7 @@ pub joint_flat : (n k : ℕ) → joint n (ones (suc k)) ≡ n + suc k
 joint_flat n zero = omega arith
 joint_flat n (suc k) = let h = carried_flat (n + 1) k in let l = flat_length (suc k) in omega arith
 
-pub alike_append : (n : ℕ) (xs ys : List ℕ) → alike n (xs ++ ys) ≡ max (alike n xs) (alike n ys)
+pub alike_append : (n : ℕ) (xs ys : List ℕ) → evenly n (xs ++ ys) ≡ max (evenly n xs) (evenly n ys)
 alike_append n [] ys = omega arith
 alike_append n (x ∷ xs) ys = let h = alike_append n xs ys in omega arith
 
@@ -39,7 +39,7 @@ pub joint_append : (n x : ℕ) (xs ys : List ℕ) → joint n (x ∷ xs ++ ys) �
 joint_append n x xs ys = let h = carried_append (n + 1) xs ys in let l = length-append xs ys in
     let e : carried (n + 1 + length ys) xs ≡ carried (n + length ys + 1) xs = ap (λ k. carried k xs) (omega arith) in omega arith
 
-pub capped_alike : (n : ℕ) (ds : List ℕ) → capped (alike (capped n) ds) ≡ capped (alike n ds)
+pub capped_alike : (n : ℕ) (ds : List ℕ) → capped (evenly (capped n) ds) ≡ capped (evenly n ds)
 capped_alike n [] = refl
 capped_alike n (d ∷ ds) = let h = capped_alike n ds in omega arith
 
@@ -47,7 +47,7 @@ pub capped_carried : (n : ℕ) (ds : List ℕ) → capped (carried (capped n) ds
 capped_carried n [] = refl
 capped_carried n (d ∷ ds) = let h = capped_carried n ds in omega arith
 
-pub alike_paired : (n : ℕ) (us vs : List ℕ) → length vs ≡ length us → alike n (paired us vs) ≡ max (alike (n + 1) us) (alike (n + 1) vs)
+pub alike_paired : (n : ℕ) (us vs : List ℕ) → length vs ≡ length us → evenly n (paired us vs) ≡ max (evenly (n + 1) us) (evenly (n + 1) vs)
 alike_paired n [] [] e = refl
 alike_paired n [] (b ∷ vs) e = absurd (omega arith)
 alike_paired n (a ∷ us) [] e = absurd (omega arith)
@@ -99,7 +99,8 @@ above l a b g u v = ap (max (max u v)) (raised l a b g) ∙ sorted (l + 1 + a) (
 abbrev rest_of : (n a b : ℕ) (c us vs : List ℕ) → ℕ
 rest_of n a b c us vs = max (max (carried (n + 1) (a ∷ us)) (carried (n + 1) (b ∷ vs))) (n + suc (length us) + greatest c)
 
-rest_more : (n a b x y : ℕ) (c us vs : List ℕ) → length vs ≡ length us → rest_of n x y (suc (max a (max b (greatest c))) ∷ []) us vs ≡ rest_of n a b c (x ∷ us) (y ∷ vs)
+rest_more : (n a b x y : ℕ) (c us vs : List ℕ) → length vs ≡ length us
+    → rest_of n x y (suc (max a (max b (greatest c))) ∷ []) us vs ≡ rest_of n a b c (x ∷ us) (y ∷ vs)
 rest_more n a b x y c us vs e =
     let l = n + suc (length us) in
     let first : l + max (suc (max a (max b (greatest c)))) 0 ≡ l + suc (max a (max b (greatest c))) = omega arith in
@@ -112,7 +113,7 @@ rest_more n a b x y c us vs e =
     ∙ (ap (λ k. max (max (max (n + 1 + suc (length us) + a) (carried (n + 1) (x ∷ us))) (max k (carried (n + 1) (y ∷ vs)))) (l + 1 + greatest c)) q
     ∙ ap (max (max (max (n + 1 + suc (length us) + a) (carried (n + 1) (x ∷ us))) (max (n + 1 + suc (length vs) + b) (carried (n + 1) (y ∷ vs))))) r)))
 
-alike_rippled : (n a b : ℕ) (c us vs : List ℕ) → length vs ≡ length us → alike n (rippled c (a ∷ us) (b ∷ vs)) ≡ rest_of n a b c us vs
+alike_rippled : (n a b : ℕ) (c us vs : List ℕ) → length vs ≡ length us → evenly n (rippled c (a ∷ us) (b ∷ vs)) ≡ rest_of n a b c us vs
 alike_rippled n a b c [] [] e = omega arith
 alike_rippled n a b c [] (d ∷ vs) e = absurd (omega arith)
 alike_rippled n a b c (d ∷ us) [] e = absurd (omega arith)
@@ -145,7 +146,7 @@ start_is : (n a b : ℕ) (us vs : List ℕ) → rest_of n a b [] us vs ≡ max (
 start_is n a b us vs = omega arith
 
 pub alike_start : (n a b : ℕ) (us vs : List ℕ) → length vs ≡ length us →
-    alike n (rippled [] (a ∷ us) (b ∷ vs)) ≡ max (carried (n + 1) (a ∷ us)) (carried (n + 1) (b ∷ vs))
+    evenly n (rippled [] (a ∷ us) (b ∷ vs)) ≡ max (carried (n + 1) (a ∷ us)) (carried (n + 1) (b ∷ vs))
 alike_start n a b us vs e = alike_rippled n a b [] us vs e ∙ start_is n a b us vs
 
 pub carried_start : (n a b : ℕ) (us vs : List ℕ) → length vs ≡ length us →
@@ -175,6 +176,6 @@ pub conjoined_is : (n p : ℕ) (qs : List ℕ) → n + conjoined p qs ≡ joint 
 conjoined_is n p [] = omega arith
 conjoined_is n p (q ∷ qs) = let h = conjoined_is n (suc (max p (max q 0))) qs in omega arith
 
-pub alike_zero : (ds : List ℕ) → alike 0 ds ≡ greatest ds
+pub alike_zero : (ds : List ℕ) → evenly 0 ds ≡ greatest ds
 alike_zero [] = refl
 alike_zero (d ∷ ds) = let h = alike_zero ds in omega arith

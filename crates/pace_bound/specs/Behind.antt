@@ -6,9 +6,9 @@ use Rattle.pace_bound.specs.declared.behind.Order.TheVariants.{Alike, Carried, J
 use Rattle.pace_bound.specs.declared.behind.Behind.{Behind}
 
 -- so many behind each
-abbrev pub alike : ℕ → List ℕ → ℕ
-alike n [] = 0
-alike n (d ∷ ds) = max (n + d) (alike n ds)
+abbrev pub evenly : ℕ → List ℕ → ℕ
+evenly n [] = 0
+evenly n (d ∷ ds) = max (n + d) (evenly n ds)
 
 -- behind each one more for each bit above it
 abbrev pub carried : ℕ → List ℕ → ℕ
@@ -21,7 +21,7 @@ joint n [] = 0
 joint n (d ∷ ds) = max (n + length ds + d) (carried (n + 1) ds)
 
 abbrev pub through : Order → ℕ → List ℕ → ℕ
-through Alike n ds = alike n ds
+through Alike n ds = evenly n ds
 through Carried n ds = carried n ds
 through Joined n ds = joint n ds
 

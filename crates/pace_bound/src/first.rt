@@ -50,7 +50,8 @@ fn send_first(program: &Typed, chan: u32, value: &TExpr) -> u64
 
 /// Of a receive.
 fn receive_first(program: &Typed, chan: u32, var: u32) -> u64
-    ensures { result ≡ capped (receive_first (kind_at program.now.channels chan) (var_height (program_of program.now) var)) }
+    ensures { result ≡ capped (receive_first (kind_at program.now.channels chan)
+        (var_height (program_of program.now) var)) }
 {
     let tree = var_height(program, var);
     match kind_of(program, chan as usize) {

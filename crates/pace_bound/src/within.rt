@@ -6,7 +6,7 @@ ghost use Rattle.width_check.specs.Typing.{IsProcess, AreProcesses, AreChoices};
 ghost use Rattle.width_check.specs.View.{process_of, members_in, choices_in};
 ghost use Rattle.handshake_expand.specs.Layout.{capped};
 ghost use Rattle.round_time.specs.Longest.{guards_depth, within};
-ghost use Rattle.pace_bound.specs.Clearing.{AreFalls, between, turned_again};
+ghost use Rattle.pace_bound.specs.Clearing.{AreFalls, onward, turned_again};
 
 use crate::depth::guards_depth;
 use crate::first::{first, turn_first};
@@ -18,7 +18,7 @@ fn between(program: &Typed, falls: &Falls, parts: &[TStmt], place: usize) -> u64
     requires falls { AreFalls (program_of program.now) falls.now.channels.items falls.now.writes.items }
     requires there { place < length parts.now }
     requires members { AreProcesses program.now.channels program.now.vars (members_in (drop place parts.now)) }
-    ensures { result ≡ capped (between (program_of program.now) (members_in (drop place parts.now))) }
+    ensures { result ≡ capped (onward (program_of program.now) (members_in (drop place parts.now))) }
 {
     if place + 1 < parts.len() {
         low(program, falls, &parts[place], 2)

@@ -9,7 +9,7 @@ use Rattle.handshake_expand.specs.PartTree.{HasFormedGuards}
 use Rattle.handshake_expand.proofs.Rows.{then_is, beside_is, select_is, no_more_members, no_more_arms}
 use Rattle.handshake_expand.proofs.Turns.{turn_typed, this_typed}
 use Rattle.round_time.specs.Longest.{guards_depth, within, turn_within, each_within, choice_within}
-use Rattle.pace_bound.specs.Clearing.{between, turned_again}
+use Rattle.pace_bound.specs.Clearing.{onward, turned_again}
 use Rattle.pace_bound.proofs.Members.{formed_guards, turn_within_at, choosing_within, started_capped}
 use Rattle.pace_bound.proofs.Ending.{stepped, left_none, three_capped, max_capped, ended}
 use Rattle.pace_bound.proofs.within.+within.Goals as goal
@@ -26,11 +26,11 @@ loop-place-preserved t c =
     let s = c.index.result.now in
     let inside : i < length items = omega (arith, c.len-place-end.ensures, c.in-Then.parts.ok.0) in
     let here = within P (process_of s) in
-    let next = between P (members_in (drop i items)) in
+    let next = onward P (members_in (drop i items)) in
     let rest = turn_within P (members_in (drop (i + 1) items)) in
     let parts : capped (turn_within P (members_in (drop i items))) ≡ max (max (capped here) (capped next)) (capped rest) =
     ap capped (turn_within_at P items i s inside c.index.ensures) ∙ three_capped here next rest in
-    let gap : c.between.result ≡ capped next = c.between.ensures ∙ ap (λ l. capped (between P (members_in (drop i l)))) c.deref.ensures.value in
+    let gap : c.between.result ≡ capped next = c.between.ensures ∙ ap (λ l. capped (onward P (members_in (drop i l)))) c.deref.ensures.value in
     let own : c.max.result ≡ max (capped here) (capped next) =
     c.max.ensures ∙ (ap (λ k. max k c.between.result) c.within-inner.ensures ∙ ap (max (capped here)) gap) in record {
       longest = stepped _ _ _ (max (capped here) (capped next)) _ _ c.loop-place.invariant.longest (c.max-most.ensures ∙ ap (max c.loop-place.most) own) parts;
