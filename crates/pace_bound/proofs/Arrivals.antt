@@ -265,7 +265,8 @@ bitwise_gates : (f : List Bool → Bool) (ds : List ℕ) (us vs : List Input) �
     → depths ds (bitwise_parts f us vs) ≡ ds ++ paired (ats ds us) (ats ds vs)
 bitwise_gates f ds us vs h k = started ds (bitwise_parts f us vs) (paired (ats ds us) (ats ds vs)) (bitwise_all f ds [] us vs h k)
 
-module _ (ds : List ℕ) (us vs : List Input) (from : ℕ) (at : from ≡ length ds) (h : Below (length ds) us) (k : Below (length ds) vs) (e : length vs ≡ length us) where
+module _ (ds : List ℕ) (us vs : List Input) (from : ℕ) (at : from ≡ length ds) (h : Below (length ds) us) (k : Below (length ds) vs)
+    (e : length vs ≡ length us) where
   abbrev left : List ℕ
   left = ats ds us
 

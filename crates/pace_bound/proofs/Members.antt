@@ -39,7 +39,8 @@ held_least P held (and_choice g p more) = let h = held_least P held more in omeg
 
 -- from a member of a sequence on: inside of it, on to the next one, and what is behind
 pub turn_within_at : (P : TypedProgram) (ss : List TStmt) (i : ℕ) (s : TStmt) → i < length ss → s ≡ get_or ss i s
-    → turn_within P (members_in (drop i ss)) ≡ max (within P (process_of s)) (max (onward P (members_in (drop i ss))) (turn_within P (members_in (drop (i + 1) ss))))
+    → turn_within P (members_in (drop i ss)) ≡
+    max (within P (process_of s)) (max (onward P (members_in (drop i ss))) (turn_within P (members_in (drop (i + 1) ss))))
 turn_within_at P ss i s inside is =
     ap (turn_within P) (member_at ss i s inside is) ∙ (by (members_in (drop (i + 1) ss))
     ∙ ap (λ m. max (within P (process_of s)) (max (onward P m) (turn_within P (members_in (drop (i + 1) ss))))) (sym (member_at ss i s inside is)))

@@ -132,7 +132,8 @@ joint_some n [] vs some = absurd (omega arith)
 joint_some n (u ∷ us) vs some = joint_append n u us vs
 
 pub split_joined : (b r s : Behind) (n : ℕ) (us vs : List ℕ) → b.order ≡ Joined → 1 ≤ length us → length vs ≡ n → r.order ≡ Joined
-    → r.gates ≡ capped (b.gates + n) → s.order ≡ Carried → s.gates ≡ capped (b.gates + 1) → reached_over b (us ++ vs) ≡ max (reached_over r us) (reached_over s vs)
+    → r.gates ≡ capped (b.gates + n) → s.order ≡ Carried → s.gates ≡ capped (b.gates + 1)
+    → reached_over b (us ++ vs) ≡ max (reached_over r us) (reached_over s vs)
 split_joined b r s n us vs is some long p q x y =
     ap (λ o. capped (through o b.gates (us ++ vs))) is ∙ (ap capped (joint_some b.gates us vs some)
     ∙ (capped_max (joint (b.gates + length vs) us) (carried (b.gates + 1) vs)
@@ -151,7 +152,8 @@ flat_through Joined n (suc k) some least p q = let l = q (λ e. absurd (cc e)) i
 pub bitwise_sides : (b r : Behind) (op : Op) (us vs : List ℕ) → (op ≡ And) ⊎ ((op ≡ Or) ⊎ (op ≡ Xor)) → length vs ≡ length us → r.order ≡ b.order
     → r.gates ≡ capped (b.gates + 1) → reached_over b (op_bits op us vs) ≡ max (reached_over r us) (reached_over r vs)
 bitwise_sides b r op us vs is e p q =
-    ap (λ l. reached_over b l) (which is) ∙ both r b.order (b.gates + 1) (through b.order b.gates (paired us vs)) us vs p q (paired_through b.order b.gates us vs e)
+    ap (λ l. reached_over b l) (which is)
+    ∙ both r b.order (b.gates + 1) (through b.order b.gates (paired us vs)) us vs p q (paired_through b.order b.gates us vs e)
   where
     which : (op ≡ And) ⊎ ((op ≡ Or) ⊎ (op ≡ Xor)) → op_bits op us vs ≡ paired us vs
     which (inl i) = ap (λ o. op_bits o us vs) i

@@ -99,7 +99,8 @@ loop-done-preserved t c =
     let formed = link_formed w j items link within c.index-link.ensures facts.2 in
     let before = chained_bits left (links_of (take j items)) in
     let late = bits (formula_of link.right) in
-    let long : length before ≡ c.width_of-width.result = until_length w left j items (bits_length (formula_of c.in-Chain.first.value) facts.0) facts.2 ∙ sym width in
+    let long : length before ≡ c.width_of-width.result =
+    until_length w left j items (bits_length (formula_of c.in-Chain.first.value) facts.0) facts.2 ∙ sym width in
     let wide : length late ≡ c.width_of-width.result = bits_length (formula_of link.right) formed.2 ∙ (formed.1 ∙ sym width) in
     let result : reached_over c.loop-done.result (chained_bits left (links_of (take (c.len-count.result - c.loop-done.done) items))) ≡
     max (reached_over c.operands-result.result (chained_bits left (links_of (take (c.len-count.result - (c.loop-done.done + 1)) items))))
@@ -145,7 +146,8 @@ returns-in-Compare t c =
     c.max-in-Compare.ensures
     ∙ (ap (λ k. max k c.gates_through-in-Compare-2.result)
     (c.gates_through-in-Compare.ensures ∙ ap (λ x. reached_over sides (bits (formula_of x))) c.deref-in-Compare-2.ensures)
-    ∙ (ap (max (reached_over sides (bits e))) (c.gates_through-in-Compare-2.ensures ∙ ap (λ x. reached_over sides (bits (formula_of x))) c.deref-in-Compare-3.ensures)
+    ∙ (ap (max (reached_over sides (bits e))) (c.gates_through-in-Compare-2.ensures
+    ∙ ap (λ x. reached_over sides (bits (formula_of x))) c.deref-in-Compare-3.ensures)
     ∙ (sym (c.operands-sides.ensures (bits e) (bits f) left right) ∙ ap (λ g. reached_over c.args.behind (bits g)) (sym is))))
 
 pub returns-after-loop-done : goal.returns-after-loop-done

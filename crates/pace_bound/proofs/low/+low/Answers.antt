@@ -96,7 +96,8 @@ returns-then-again t c =
     let cs = choices_in c.in-Select.arms.items in
     let guards = c.guards_depth.ensures ∙ ap (λ l. capped (guards_depth (choices_in l))) c.deref-then-again.ensures.value in
     again_sum _ (guards_depth cs) c.args.held _ _ guards c.saturating_add-then-again.ensures c.saturating_add-then-again-2.ensures
-    ∙ (ap (λ b. capped (low P c.args.held (choosing b cs))) (sym c.if-again.true) ∙ ap (λ p. capped (low P c.args.held p)) (sym (select_is _ _ _ c.in-Select.is)))
+    ∙ (ap (λ b. capped (low P c.args.held (choosing b cs))) (sym c.if-again.true)
+    ∙ ap (λ p. capped (low P c.args.held p)) (sym (select_is _ _ _ c.in-Select.is)))
 
 pub returns-after-loop-arm : goal.returns-after-loop-arm
 returns-after-loop-arm t c =
@@ -111,4 +112,5 @@ returns-after-loop-arm t c =
     ap (λ l. capped (choice_low P its (choices_in l))) c.deref-arm-items.ensures.value
     ∙ (ap (λ h. capped (choice_low P h cs)) c.saturating_add-its-else-again.ensures ∙ choice_low_capped P cs (c.args.held + 3)) in
     one_after _ (choice_low P its (choices_in items)) (choice_low P (c.args.held + 3) cs) _ latest same c.saturating_add-else-again.ensures
-    ∙ (ap (λ b. capped (low P c.args.held (choosing b cs))) (sym c.if-again.false) ∙ ap (λ p. capped (low P c.args.held p)) (sym (select_is _ _ _ c.in-Select.is)))
+    ∙ (ap (λ b. capped (low P c.args.held (choosing b cs))) (sym c.if-again.false)
+    ∙ ap (λ p. capped (low P c.args.held p)) (sym (select_is _ _ _ c.in-Select.is)))
