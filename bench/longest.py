@@ -135,7 +135,7 @@ class Model:
         for stmt, its in self.sites(self.body):
             if (name := self.written(stmt)) is not None:
                 self.writes[name] = max(self.writes[name], self.write_holds(stmt, its))
-        self.ends = {channel: self.rails[channel] + 2 if kind == "out" else 0 for channel, kind in self.kinds.items()}
+        self.ends = {channel: self.rails[channel] + 2 for channel in self.kinds}
         for stmt, _ in self.sites(self.body):
             if stmt.kind == "receive":
                 clears = self.writes[stmt.target] + 4 + self.height_of(stmt.target)

@@ -72,16 +72,13 @@ fn writes_fall(alloc: Global, program: &Typed, rails: &[u64]) -> Result<Vec<u64>
     Ok(table)
 }
 
-/// From a step on a channel of this kind to the fall of the answers of both ends, by when its rails fall, and when
-/// receives on it have taken back their acknowledge.
-fn ends_of(kind: Kind, rails: u64, received: u64) -> u64
-    ensures { (P : TypedProgram) (c : ℕ) → rails ≡ capped (rails_fall P kind c)
+/// From a step on a channel to the fall of the answers of both ends, by when its rails fall, and when receives on it
+/// have taken back their acknowledge.
+fn ends_of(rails: u64, received: u64) -> u64
+    ensures { (P : TypedProgram) (kind : Kind) (c : ℕ) → rails ≡ capped (rails_fall P kind c)
         → received ≡ capped (over_sites (receive_clears P c) 2 P.body) → result ≡ capped (channel_low P kind c) }
 {
-    match kind {
-        Kind::Out => rails.saturating_add(2),
-        Kind::In | Kind::Chan => received,
-    }
+    rails.saturating_add(2).max(received)
 }
 
 /// The falls of the answers of all channels, where those of receives are noted.
@@ -94,7 +91,7 @@ fn settle_ends(program: &Typed, rails: &[u64], table: &mut [u64])
         (λ c. channel_low (program_of program.now) (kind_at program.now.channels c) c) table.new }
 {
     for place in 0..table.len() {
-        table[place] = ends_of(kind_of(program, place), rails[place], table[place]);
+        table[place] = ends_of(rails[place], table[place]);
     }
 }
 

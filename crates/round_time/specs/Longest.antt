@@ -118,8 +118,7 @@ receive_clears P c (receiving k at x to) held = if k == c then writes_fall P x +
 receive_clears P c p held = 0
 
 abbrev pub channel_low : TypedProgram → Kind → (chan : ℕ) → ℕ
-channel_low P Out c = rails_fall P Out c + 2
-channel_low P _ c = over_sites (receive_clears P c) 2 P.body
+channel_low P k c = max (rails_fall P k c + 2) (over_sites (receive_clears P c) 2 P.body)
 
 -- ---- from the request of a statement to its first step
 
@@ -157,7 +156,7 @@ abbrev mutual
   first P (repeating p) = 1
 
   pub turn_first : TypedProgram → Processes → ℕ
-  turn_first P no_members = 0
+  turn_first P no_members = 1
   turn_first P (and_member p no_members) = first P p
   turn_first P (and_member p (and_member q more)) = suc (first P p)
 
