@@ -1,0 +1,12 @@
+pub mod Levels
+pub mod Paced
+pub mod Trails
+pub mod Depths
+pub mod Joints
+pub mod Requests
+pub mod Releases
+pub mod LeafTrails
+pub mod Spots
+pub mod OwnTrails
+pub mod GuardedTrails
+pub mod TurnTrails
