@@ -7,14 +7,14 @@ use Rattle.handshake_expand.specs.Layout.{capped}
 use Rattle.round_time.specs.Longest.{writes_fall, channel_low, low, turn_first, choice_low, guards_depth}
 
 -- what a function says of each number up to a count, saturated
-pub record Tells (count : ℕ) (f : ℕ → ℕ) (table : List ℕ) : Type 0 where
+pub record IsTableOf (count : ℕ) (f : ℕ → ℕ) (table : List ℕ) : Type 0 where
   pub sized : length table ≡ count
   pub each : (k : ℕ) → k < count → slice_index table k ≡ capped (f k)
 
 -- of channels the fall of the answers of both ends, of variables that of the rails by which they are written
 pub record AreFalls (P : TypedProgram) (ends writes : List ℕ) : Type 0 where
-  pub of_channels : Tells (length P.channels) (λ c. channel_low P (kind_at P.channels c) c) ends
-  pub of_writes : Tells (length P.vars) (writes_fall P) writes
+  pub of_channels : IsTableOf (length P.channels) (λ c. channel_low P (kind_at P.channels c) c) ends
+  pub of_writes : IsTableOf (length P.vars) (writes_fall P) writes
 
 -- from the last step of the first of some members to the first step of the second
 abbrev pub onward : TypedProgram → Processes → ℕ

@@ -6,7 +6,7 @@ use Rattle.handshake_expand.specs.Layout.{capped}
 use Rattle.round_time.specs.Longest.{send_holds, rails_fall, write_holds, writes_fall, receive_clears}
 use Rattle.pace_bound.specs.declared.site.Noted.{Noted}
 use Rattle.pace_bound.specs.declared.site.Noted.TheVariants.{Sends, Writes, Receives}
-use Rattle.pace_bound.specs.Clearing.{Tells}
+use Rattle.pace_bound.specs.Clearing.{IsTableOf}
 
 -- what a statement holds of the channel or the variable of a number
 abbrev pub of_site : TypedProgram → Noted → (number : ℕ) → Process → (held : ℕ) → ℕ
@@ -23,8 +23,8 @@ noted_count P Receives = length P.channels
 -- what has to be known before
 abbrev pub IsGiven : TypedProgram → Noted → List ℕ → Type 0
 IsGiven P Sends table = Unit {0}
-IsGiven P Writes table = Tells (length P.channels) (λ c. rails_fall P (kind_at P.channels c) c) table
-IsGiven P Receives table = Tells (length P.vars) (writes_fall P) table
+IsGiven P Writes table = IsTableOf (length P.channels) (λ c. rails_fall P (kind_at P.channels c) c) table
+IsGiven P Receives table = IsTableOf (length P.vars) (writes_fall P) table
 
 -- each number is raised to what a function says of its place, saturated
 pub record IsRaised (f : ℕ → ℕ) (old new : List ℕ) : Type 0 where

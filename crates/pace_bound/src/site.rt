@@ -8,7 +8,7 @@ ghost use Rattle.width_check.specs.Values.{IsWellFormed};
 ghost use Rattle.width_check.specs.Reads.{reads};
 ghost use Rattle.handshake_expand.specs.Layout.{capped};
 ghost use Rattle.round_time.specs.Longest.{depth, var_height, assign_holds, writes_fall, over_sites};
-ghost use Rattle.pace_bound.specs.Clearing.{Tells};
+ghost use Rattle.pace_bound.specs.Clearing.{IsTableOf};
 ghost use Rattle.pace_bound.specs.Noting.{of_site, noted_count, IsGiven, IsRaised};
 
 use crate::depth::expr_depth;
@@ -53,7 +53,7 @@ fn assign_holds(var: u32, value: &TExpr, held: u64) -> u64
 /// written, and so many moves more.
 pub(crate) fn var_clears(program: &Typed, writes: &[u64], var: u32, more: u64) -> u64
     requires there { var < length program.now.vars }
-    requires writes { Tells (length program.now.vars) (writes_fall (program_of program.now)) writes.now }
+    requires writes { IsTableOf (length program.now.vars) (writes_fall (program_of program.now)) writes.now }
     ensures { result ≡ capped (writes_fall (program_of program.now) var + more
         + var_height (program_of program.now) var) }
 {

@@ -7,7 +7,7 @@ ghost use Rattle.width_check.specs.View.{process_of};
 ghost use Rattle.width_check.specs.Processes.{TypedProgram};
 ghost use Rattle.handshake_expand.specs.Layout.{capped};
 ghost use Rattle.round_time.specs.Longest.{over_sites, send_holds, rails_fall, writes_fall, receive_clears, channel_low};
-ghost use Rattle.pace_bound.specs.Clearing.{Tells, AreFalls};
+ghost use Rattle.pace_bound.specs.Clearing.{IsTableOf, AreFalls};
 
 use crate::low::Falls;
 use crate::site::{Noted, note_sites};
@@ -40,9 +40,9 @@ fn rails_of(kind: Kind, sent: u64) -> u64
 
 /// The falls of the rails of all channels, where what sends hold is noted.
 fn settle_rails(program: &Typed, table: &mut [u64])
-    requires { Tells (length program.now.channels)
+    requires { IsTableOf (length program.now.channels)
         (λ c. over_sites (send_holds c) 2 (process_of program.now.body)) table.old }
-    ensures { Tells (length program.now.channels)
+    ensures { IsTableOf (length program.now.channels)
         (λ c. rails_fall (program_of program.now) (kind_at program.now.channels c) c) table.new }
 {
     for place in 0..table.len() {
@@ -52,7 +52,7 @@ fn settle_rails(program: &Typed, table: &mut [u64])
 
 /// From a step on each channel to the fall of its rails.
 fn rails_fall(alloc: Global, program: &Typed) -> Result<Vec<u64>, AllocError>
-    ensures { IfOk result (λ v. Tells (length program.now.channels)
+    ensures { IfOk result (λ v. IsTableOf (length program.now.channels)
         (λ c. rails_fall (program_of program.now) (kind_at program.now.channels c) c) v.items) }
 {
     let mut table = zeros(alloc, program.channels().len())?;
@@ -63,9 +63,9 @@ fn rails_fall(alloc: Global, program: &Typed) -> Result<Vec<u64>, AllocError>
 
 /// From a write to each variable to the fall of the rails by which it is written.
 fn writes_fall(alloc: Global, program: &Typed, rails: &[u64]) -> Result<Vec<u64>, AllocError>
-    requires { Tells (length program.now.channels)
+    requires { IsTableOf (length program.now.channels)
         (λ c. rails_fall (program_of program.now) (kind_at program.now.channels c) c) rails.now }
-    ensures { IfOk result (λ v. Tells (length program.now.vars) (writes_fall (program_of program.now)) v.items) }
+    ensures { IfOk result (λ v. IsTableOf (length program.now.vars) (writes_fall (program_of program.now)) v.items) }
 {
     let mut table = zeros(alloc, program.vars().len())?;
     note_sites(program, program.body(), 2, Noted::Writes, rails, &mut table);
@@ -83,11 +83,11 @@ fn ends_of(rails: u64, received: u64) -> u64
 
 /// The falls of the answers of all channels, where those of receives are noted.
 fn settle_ends(program: &Typed, rails: &[u64], table: &mut [u64])
-    requires rails { Tells (length program.now.channels)
+    requires rails { IsTableOf (length program.now.channels)
         (λ c. rails_fall (program_of program.now) (kind_at program.now.channels c) c) rails.now }
-    requires noted { Tells (length program.now.channels)
+    requires noted { IsTableOf (length program.now.channels)
         (λ c. over_sites (receive_clears (program_of program.now) c) 2 (process_of program.now.body)) table.old }
-    ensures { Tells (length program.now.channels)
+    ensures { IsTableOf (length program.now.channels)
         (λ c. channel_low (program_of program.now) (kind_at program.now.channels c) c) table.new }
 {
     for place in 0..table.len() {
@@ -102,10 +102,10 @@ fn channels_fall(
     rails: &[u64],
     writes: &[u64],
 ) -> Result<Vec<u64>, AllocError>
-    requires rails { Tells (length program.now.channels)
+    requires rails { IsTableOf (length program.now.channels)
         (λ c. rails_fall (program_of program.now) (kind_at program.now.channels c) c) rails.now }
-    requires writes { Tells (length program.now.vars) (writes_fall (program_of program.now)) writes.now }
-    ensures { IfOk result (λ v. Tells (length program.now.channels)
+    requires writes { IsTableOf (length program.now.vars) (writes_fall (program_of program.now)) writes.now }
+    ensures { IfOk result (λ v. IsTableOf (length program.now.channels)
         (λ c. channel_low (program_of program.now) (kind_at program.now.channels c) c) v.items) }
 {
     let body = program.body();

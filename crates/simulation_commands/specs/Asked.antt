@@ -10,8 +10,8 @@ use Rattle.command_words.specs.SimulateWords.{AskedRun}
 use Rattle.simulation_commands.specs.Simulating.{power_or_low}
 
 -- An order got this seed. Then an object of its kind, with its log and this seed, was asked before each move of a run
--- with the list of the moves that were enabled, which `enabled` says after some picks; and its picks are the new entries
--- of its log.
+-- with the list of the moves that were enabled, which `enabled` says after some picks; and its picks are the new
+-- entries of its log.
 pub record IsAskedThrough {P K : Type 0} (known : P → PickerValue K) (enabled : List ℕ → List ℕ) (seed : ℕ)
     (was is : P) : Type 0 where
   pub ready : P
