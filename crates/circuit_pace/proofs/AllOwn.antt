@@ -2,27 +2,27 @@
 --
 -- P: the program; K: how many moves follow the falls of lines; env: what the statement sees; a, g, b, t: where it is; s: a spot; f: that the
 -- cells fit; behind: that a high acknowledge has its site under way; e: that the spot's rule fires; plain: that its move is no step.
-use Rattle.std.proofs.Common.{◌≡◌, ◌≢◌, ℕ, zero, suc, ◌+◌, ◌-◌, ◌<◌, ◌≤◌, Bool, true, false, List, ◌∷◌, refl, sym, ap, ◌∙◌, subst, inl, inr, arith}
-use Rattle.std.specs.Prelude.{◌⊎◌, not, ◌&&◌, if◌then◌else◌}
+use Rattle.std.proofs.Common.{◌≡◌, ℕ, suc, ◌+◌, ◌-◌, ◌≤◌, Bool, true, false, List, refl, sym, ap, ◌∙◌, subst, inl, inr, arith}
+use Rattle.std.specs.Prelude.{not, ◌&&◌, if◌then◌else◌}
 use Rattle.chp_base.specs.declared.span.Span.{Span}
-use Rattle.width_check.specs.Processes.{Formula, Process, skipping, assigning, sending, receiving, in_turn, side_by_side, choosing, repeating, Processes, no_members, and_member, member_count, Choices, no_choices, and_choice, TypedProgram}
+use Rattle.width_check.specs.Processes.{Formula, Process, assigning, sending, receiving, in_turn, side_by_side, choosing, repeating, Processes, no_members, and_member, member_count, Choices, no_choices, and_choice, TypedProgram}
 use Rattle.width_check.specs.Typing.{kind_at, channel_width}
 use Rattle.function_blocks.specs.Rails.{Pairs, one_rule_fires}
 use Rattle.function_blocks.specs.Parts.{gate_count}
-use Rattle.circuit_places.specs.Cores.{of_joined, of_ask, of_any, of_latch, of_start}
+use Rattle.circuit_places.specs.Cores.{of_ask, of_any, of_latch, of_start}
 use Rattle.circuit_places.specs.Lines.{Line, of_channel, of_var, Rails, Seen}
 use Rattle.circuit_places.specs.Circuit.{SiteSpot, done, gate, PortSpot, heard, stored, taking, GuardedSpot, child, latch, next, inner, Spot, of_assign, of_send, of_receive, in_members, of_branch, joint, of_loop, ask, in_body, low_turn, of_core, of_guard, of_choice, ChoiceSpot, this_choice, other_choice, BranchSpot, in_this, in_others, TurnSpot, in_last, in_member, in_later, answer, rule, flipped}
 use Rattle.circuit_places.proofs.RailLemmas.{fst_true, snd_true, same_value}
 use Rattle.circuit_places.proofs.HeadFacts.{bit_none}
 use Rattle.circuit_places.proofs.CoreControl.{uncalled, called, evaluating, latched, leaving, noted, spread}
 use Rattle.circuit_places.proofs.Flow.{Clean, Backed, low_of, or_left, or_right, not_both}
-use Rattle.circuit_places.proofs.Meets.{SiteMeets, PortMeets, Meets, TurnMeets, EachMeets, ChoiceMeets, choice_sends, choice_receives, sends, turn_sends, receives, each_receives}
+use Rattle.circuit_places.proofs.Meets.{SiteMeets, Meets, TurnMeets, EachMeets, ChoiceMeets, choice_sends, choice_receives, sends, turn_sends, receives, each_receives}
 use Rattle.circuit_places.proofs.Talks.{beside, or_false_left, or_false_right}
 use Rattle.circuit_places.proofs.Places.{Mode, asks, acks, all_ask, SiteMay, port_may, GuardedAt, g_in, At, rests, at_skip, at_assign, at_send, at_receive, at_turn, at_side, at_body, at_choice, at_turning, at_closing, control_at, inside_at, ChosenAt, this_one, another, chosen_cells, chosen_shown, ChosenFits, chosen_moves, low_guards_quiet, BranchesAt, no_more, and_at, TurnAt, turn_rests, at_last, at_member, at_later, guarded_cells, cells, branch_cells, turn_cells, guarded_shown, shown, branches_shown, turn_shown, site_of, port_of, SiteFits, GuardedFits, Fits, BranchesFit, TurnFits, guarded_moves, moves, branch_moves, turn_moves, can_is}
 use Rattle.circuit_places.proofs.Control.{guarded_advance}
 use Rattle.circuit_places.proofs.StillSteps.{choice_rises, choice_value, guarded_rises, guarded_value, branch_rises, branch_value, turn_rises, turn_value}
 use Rattle.round_time.specs.Longest.{depth, tree_height, var_height, turn_first}
-use Rattle.circuit_time.proofs.Trails.{Clearing, rail_left, rail_ahead, back, turn_back, trail, branch_trail}
+use Rattle.circuit_time.proofs.Trails.{Clearing, rail_left, rail_ahead, back, turn_back, trail}
 use Rattle.circuit_time.proofs.Requests.{Plain}
 use Rattle.circuit_time.proofs.LeafTrails.{site_site, port_port}
 use Rattle.circuit_time.proofs.Spots.{assign_apart, send_apart, receive_apart}

@@ -3,7 +3,7 @@
 -- n: the variable's width; h: the height of its tree; after: how many moves follow the fall of its acknowledge; late: how many, beside the
 -- tree's, follow the rise of a bit's node that says it is written (none under an assignment, whose step is the rise of the top; two under a
 -- receive); w, x: the rails by which it is written, and its own; i, j: bits; k: a node of the tree; z: that a rule fires.
-use Rattle.std.proofs.Common.{◌≡◌, ◌≢◌, ℕ, zero, suc, ◌+◌, ◌-◌, ◌<◌, ◌≤◌, ◌==◌, Bool, true, false, refl, sym, ap, ◌∙◌, subst, inl, inr, arith}
+use Rattle.std.proofs.Common.{◌≡◌, ◌≢◌, ℕ, ◌+◌, ◌-◌, ◌<◌, ◌≤◌, ◌==◌, Bool, true, false, refl, sym, ap, ◌∙◌, subst, inl, inr, arith}
 use Rattle.std.specs.Prelude.{◌⊎◌, not, ◌&&◌, ◌||◌, if◌then◌else◌}
 use Rattle.std.proofs.lemmas.Bool.{cases_lt, cases_eq}
 use Rattle.prs_core.specs.Moves.{guard_holds}

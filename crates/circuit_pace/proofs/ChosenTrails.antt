@@ -2,20 +2,19 @@
 --
 -- P: the program; K: how many moves follow the falls of lines; a: where the branch is; x: values of all branches; s, q: spots; z: that a rule
 -- fires; l: what is said of a move of the branch.
-use Rattle.std.proofs.Common.{◌≡◌, ◌≢◌, ℕ, zero, suc, ◌+◌, ◌-◌, ◌<◌, ◌≤◌, Bool, true, false, List, refl, sym, ap, ◌∙◌, subst, inl, inr, arith}
-use Rattle.std.specs.Prelude.{◌⊎◌, if◌then◌else◌, max}
+use Rattle.std.proofs.Common.{◌≡◌, ◌≢◌, ℕ, suc, ◌+◌, ◌-◌, ◌<◌, ◌≤◌, Bool, true, false, ap, ◌∙◌, arith}
+use Rattle.std.specs.Prelude.{if◌then◌else◌, max}
 use Rattle.std.proofs.Math.Nat.{le-max_left, le-max_right, max-le}
 use Rattle.width_check.specs.Processes.{Formula, Process, Choices, no_choices, and_choice, choice_count, TypedProgram}
 use Rattle.function_blocks.specs.Rails.{one_rule_fires}
 use Rattle.circuit_places.specs.Lines.{Seen}
-use Rattle.circuit_places.specs.Heads.{Index, top, under, Bits, low_bits, bit_of, hot}
-use Rattle.circuit_places.specs.Circuit.{Cells, ChoiceCells, Spot, ChoiceSpot, this_choice, other_choice, answer, choice_answers, rule, choice_rule, flipped, turned_choice, low, low_choices}
-use Rattle.circuit_places.proofs.HeadFacts.{bit_hot}
+use Rattle.circuit_places.specs.Heads.{Index, top, under, Bits, low_bits, hot}
+use Rattle.circuit_places.specs.Circuit.{ChoiceCells, Spot, ChoiceSpot, this_choice, other_choice, answer, choice_answers, choice_rule, flipped, turned_choice, low, low_choices}
 use Rattle.circuit_places.proofs.Flow.{not_both}
 use Rattle.circuit_places.proofs.Places.{Mode, asks, acks, At, ChosenAt, this_one, another, chosen_index, chosen_cells, cells, chosen_moves, moves, low_choice_answers, low_answer, low_quiet, low_choice_quiet}
 use Rattle.circuit_places.proofs.StillSteps.{choice_rises, choice_value}
 use Rattle.round_time.specs.Longest.{first}
-use Rattle.circuit_time.proofs.Trails.{Clearing, back, choice_back, latch_trail, start_trail, trail, choice_trail}
+use Rattle.circuit_time.proofs.Trails.{Clearing, back, choice_back, latch_trail, start_trail, choice_trail}
 use Rattle.circuit_time.proofs.OwnTrails.{Shorter, Led}
 use Rattle.circuit_time.proofs.TurnTrails.{wrapped}
 

@@ -3,19 +3,19 @@
 --
 -- P: the program; K: how many moves follow the falls of lines; g: the guards' gates; i: the branch whose latch is up; s, q: spots; z: that a
 -- rule fires.
-use Rattle.std.proofs.Common.{◌≡◌, ◌≢◌, ℕ, zero, suc, ◌+◌, ◌-◌, ◌<◌, ◌≤◌, Bool, true, false, List, refl, sym, ap, ◌∙◌, inl, inr, arith}
-use Rattle.std.specs.Prelude.{◌⊎◌, not, ◌&&◌, if◌then◌else◌}
-use Rattle.width_check.specs.Processes.{Process, choosing, Choices, choice_count, TypedProgram}
+use Rattle.std.proofs.Common.{◌≡◌, ◌≢◌, ℕ, Bool, true, false, refl, sym, ap, ◌∙◌, inl, inr, arith}
+use Rattle.std.specs.Prelude.{not, ◌&&◌, if◌then◌else◌}
+use Rattle.width_check.specs.Processes.{choosing, Choices, choice_count, TypedProgram}
 use Rattle.function_blocks.specs.Rails.{one_rule_fires}
 use Rattle.circuit_places.specs.Lines.{Seen}
-use Rattle.circuit_places.specs.Heads.{Index, low_bits, bit_of, hot, all_neutral, alone, told}
+use Rattle.circuit_places.specs.Heads.{Index, low_bits, bit_of, alone, told}
 use Rattle.circuit_places.specs.Cores.{of_joined, of_ask, of_any, of_latch, of_start}
 use Rattle.circuit_places.specs.Circuit.{GuardCells, Spot, of_core, of_guard, of_choice, GuardSpot, heads, guards_rule, guards_good, rule, flipped}
 use Rattle.circuit_places.proofs.HeadFacts.{bit_none, some_hot}
 use Rattle.circuit_places.proofs.Flow.{Clean, not_both}
 use Rattle.circuit_places.proofs.Meets.{GuardsMeet}
-use Rattle.circuit_places.proofs.CoreControl.{Control, called, evaluating, latched, Lock, noted, spread, lock_may}
-use Rattle.circuit_places.proofs.Places.{Mode, running, asks, acks, At, at_choice, control_at, cells, moves, can_is}
+use Rattle.circuit_places.proofs.CoreControl.{called, evaluating, latched, noted, spread, lock_may}
+use Rattle.circuit_places.proofs.Places.{Mode, running, asks, At, at_choice, control_at, cells, moves, can_is}
 use Rattle.round_time.specs.Longest.{guards_depth}
 use Rattle.circuit_time.proofs.Trails.{Clearing, choices_first, trail}
 use Rattle.circuit_time.proofs.Requests.{Plain}

@@ -2,20 +2,19 @@
 -- `longest`.
 --
 -- P: the program; c: a channel; x: a variable; held, down: as in trails; q: a site.
-use Rattle.std.proofs.Common.{◌≡◌, ℕ, zero, suc, ◌+◌, ◌-◌, ◌<◌, ◌≤◌, ◌==◌, Bool, true, false, List, refl, sym, ap, ◌∙◌, subst, arith}
+use Rattle.std.proofs.Common.{◌≡◌, ℕ, suc, ◌+◌, ◌-◌, ◌≤◌, ◌==◌, Bool, true, false, ap, arith}
 use Rattle.std.specs.Prelude.{if◌then◌else◌, max}
 use Rattle.std.proofs.Math.Nat.{le-max_left, le-max_right, max-le}
-use Rattle.chp_base.specs.declared.span.Span.{Span}
-use Rattle.width_check.specs.Processes.{Formula, Process, skipping, assigning, sending, receiving, in_turn, side_by_side, choosing, repeating, Processes, no_members, and_member, member_count, Choices, no_choices, and_choice, TypedProgram}
+use Rattle.width_check.specs.Processes.{Process, skipping, assigning, sending, receiving, in_turn, side_by_side, choosing, repeating, Processes, no_members, and_member, member_count, Choices, no_choices, and_choice, TypedProgram}
 use Rattle.width_check.specs.Typing.{kind_at}
 use Rattle.circuit_places.proofs.Flow.{cases}
 use Rattle.circuit_places.proofs.LineNames.{self_number, same_number}
 use Rattle.circuit_places.proofs.Meets.{Meets}
-use Rattle.round_time.specs.Longest.{guards_depth, tree_height, var_height, over_sites, rails_fall, write_holds, writes_fall, receive_clears, channel_low, first, turn_first, low, within, longest}
+use Rattle.round_time.specs.Longest.{guards_depth, tree_height, var_height, over_sites, rails_fall, writes_fall, receive_clears, channel_low, first, turn_first, low, within, longest}
 use Rattle.circuit_time.proofs.Trails.{Clearing}
 use Rattle.circuit_time.proofs.Depths.{Ordered}
 use Rattle.circuit_time.proofs.OwnTrails.{GuardsOrdered, Covers, TurnCovers, EachCovers, ChoiceCovers}
-use Rattle.circuit_pace.proofs.TrailsWithin.{sends_hold, Leaves, Within, left_of_max, right_of_max}
+use Rattle.circuit_pace.proofs.TrailsWithin.{Leaves, Within}
 use Rattle.circuit_pace.proofs.EverySite.{OfSite, EverySite, EveryTurn, EveryBranch, EveryChoice, downs, downs_each, downs_most, holds_each, within_each, site_map, site_both, site_all}
 
 -- what is counted at a site

@@ -1,13 +1,12 @@
 -- What holds of every site of a statement, each in its context; and the numbers of what follows the falls of lines, as maxima over all sites.
 --
 -- P: the program; held, down: as in trails; p, q, more: statements; f: what is said of a site; M: a bound.
-use Rattle.std.proofs.Common.{◌≡◌, ℕ, zero, suc, ◌+◌, ◌-◌, ◌<◌, ◌≤◌, ◌==◌, Bool, true, false, List, refl, sym, ap, ◌∙◌, arith}
-use Rattle.std.specs.Prelude.{if◌then◌else◌, max}
-use Rattle.std.proofs.Math.Nat.{le-max_left, le-max_right, max-le}
-use Rattle.width_check.specs.Processes.{Formula, Process, skipping, assigning, sending, receiving, in_turn, side_by_side, choosing, repeating, Processes, no_members, and_member, member_count, Choices, no_choices, and_choice, TypedProgram}
+use Rattle.std.proofs.Common.{ℕ, suc, ◌+◌, ◌-◌, ◌≤◌, true, false, arith}
+use Rattle.std.specs.Prelude.{max}
+use Rattle.std.proofs.Math.Nat.{max-le}
+use Rattle.width_check.specs.Processes.{Process, skipping, assigning, sending, receiving, in_turn, side_by_side, choosing, repeating, Processes, no_members, and_member, member_count, Choices, no_choices, and_choice, TypedProgram}
 use Rattle.circuit_places.proofs.Meets.{Meets, TurnMeets, EachMeets, ChoiceMeets}
-use Rattle.round_time.specs.Longest.{guards_depth, tree_height, var_height, over_sites, over_turn, over_each, over_choices, turn_first}
-use Rattle.circuit_time.proofs.Trails.{Clearing}
+use Rattle.round_time.specs.Longest.{guards_depth, tree_height, over_sites, over_turn, over_each, over_choices, turn_first}
 use Rattle.circuit_pace.proofs.TrailsWithin.{Within, TurnWithin, EachWithin, ChoiceWithin, left_of_max, right_of_max, turn_of, last_of, member_of, later_of, each_of, branch_of, branches_of, body_of, select_of, repeat_of, arm_of, arms_of}
 
 -- what is said of a site where its request is held so long, and so many moves follow the fall of its answer

@@ -2,25 +2,23 @@
 --
 -- P: the program; K: how many moves follow the falls of lines; l: how far the latch is known; i: its branch; g: the guards' gates; s, q: spots;
 -- e: that a rule fires; z: that another does behind it.
-use Rattle.std.proofs.Common.{◌≡◌, ◌≢◌, ℕ, zero, suc, ◌+◌, ◌-◌, ◌<◌, ◌≤◌, Bool, true, false, List, refl, sym, ap, ◌∙◌, subst, inl, inr, arith}
-use Rattle.std.specs.Prelude.{◌⊎◌, not, ◌&&◌, if◌then◌else◌, max}
+use Rattle.std.proofs.Common.{◌≡◌, ℕ, ◌-◌, ◌<◌, ◌≤◌, Bool, true, false, refl, ap, ◌∙◌, arith}
+use Rattle.std.specs.Prelude.{not, ◌&&◌, if◌then◌else◌}
 use Rattle.std.proofs.Math.Nat.{le-max_left, le-max_right}
-use Rattle.width_check.specs.Processes.{Formula, Process, choosing, Choices, no_choices, and_choice, choice_count, TypedProgram}
+use Rattle.width_check.specs.Processes.{Choices, no_choices, and_choice, choice_count, TypedProgram}
 use Rattle.function_blocks.specs.Rails.{side_of, pair_in, one_rule_fires, Rails, Single}
 use Rattle.function_blocks.specs.Parts.{gate_count}
-use Rattle.function_blocks.specs.Waves.{good, out_rail}
-use Rattle.circuit_places.specs.Lines.{of_channel, Seen}
-use Rattle.circuit_places.specs.Heads.{Index, top, under, Bits, low_bits, bit_of, turned_bit, hot, all_neutral, alone, told}
-use Rattle.circuit_places.specs.Cores.{of_joined, of_ask, of_any, of_latch, of_start}
-use Rattle.circuit_places.specs.Circuit.{GuardCells, ChoiceCells, low_choices, Spot, of_core, of_guard, of_choice, GuardSpot, this_gate, other_gate, ChoiceSpot, this_choice, other_choice, heads, guards_rule, guards_good, turned_guards, rule, choice_rule, flipped, low}
+use Rattle.function_blocks.specs.Waves.{out_rail}
+use Rattle.circuit_places.specs.Lines.{Seen}
+use Rattle.circuit_places.specs.Heads.{Index, top, under, Bits, low_bits, bit_of, turned_bit, all_neutral}
+use Rattle.circuit_places.specs.Circuit.{GuardCells, ChoiceCells, low_choices, GuardSpot, this_gate, other_gate, ChoiceSpot, this_choice, other_choice, heads, guards_rule, guards_good, turned_guards, choice_rule}
 use Rattle.circuit_places.proofs.RailLemmas.{fst_true, snd_true}
-use Rattle.circuit_places.proofs.HeadFacts.{bit_none, bit_hot, hot_is, hot_up}
-use Rattle.circuit_places.proofs.Flow.{Clean, Quiet, cases, not_both, or_left, or_right}
-use Rattle.circuit_places.proofs.Meets.{Meets, ChoiceMeets, GuardsMeet, sends, choice_sends, receives, choice_receives}
+use Rattle.circuit_places.proofs.Flow.{not_both, or_left, or_right}
+use Rattle.circuit_places.proofs.Meets.{ChoiceMeets, GuardsMeet, sends, choice_sends, receives, choice_receives}
 use Rattle.circuit_places.proofs.Begin.{ChoiceQuiet}
 use Rattle.circuit_places.proofs.Places.{low_choice_quiet, low_quiet}
 use Rattle.circuit_places.proofs.StillSteps.{choice_rises, choice_value}
-use Rattle.round_time.specs.Longest.{first, guards_depth}
+use Rattle.round_time.specs.Longest.{first}
 use Rattle.circuit_time.proofs.Trails.{Clearing, choices_first, guards_trail, start_trail, choice_trail}
 use Rattle.circuit_time.proofs.Requests.{first_some, asked}
 use Rattle.circuit_time.proofs.LeafTrails.{goes_with}

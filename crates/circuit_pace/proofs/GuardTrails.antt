@@ -2,22 +2,21 @@
 --
 -- P: the program; deep: a depth that no gate of the guards exceeds; left: how many moves follow the fall of the deepest; cs: guards with their
 -- branches; x: their gates' rails; r: their request; s, q: gates; f, z: that the rule of one fires, and then of the other.
-use Rattle.std.proofs.Common.{◌≡◌, ◌≢◌, ℕ, zero, suc, ◌+◌, ◌-◌, ◌<◌, ◌≤◌, Bool, true, false, List, refl, sym, ap, ◌∙◌, subst, inl, inr, arith}
-use Rattle.std.specs.Prelude.{◌⊎◌, not, ◌&&◌, if◌then◌else◌, max}
+use Rattle.std.proofs.Common.{◌≡◌, ℕ, suc, ◌+◌, ◌-◌, ◌<◌, ◌≤◌, Bool, true, false, ap, inl, inr, arith}
+use Rattle.std.specs.Prelude.{◌⊎◌, if◌then◌else◌}
 use Rattle.std.proofs.Math.Nat.{le-max_left, le-max_right}
-use Rattle.std.proofs.lemmas.Bool.{cases_eq}
 use Rattle.width_check.specs.Processes.{Formula, Process, Choices, no_choices, and_choice, TypedProgram}
-use Rattle.function_blocks.specs.Rails.{RailLevels, side_of, Pairs, pair_in, low_pairs, turned_pairs, one_rule_fires, Rails, Single}
+use Rattle.function_blocks.specs.Rails.{RailLevels, side_of, pair_in, low_pairs, turned_pairs, one_rule_fires, Rails, Single}
 use Rattle.function_blocks.specs.Parts.{gate_count}
-use Rattle.function_blocks.specs.Waves.{gate_rule, good, Waves}
+use Rattle.function_blocks.specs.Waves.{gate_rule}
 use Rattle.function_blocks.proofs.GateLists.{low_in}
 use Rattle.circuit_places.specs.Circuit.{GuardCells, low_guards, GuardSpot, this_gate, other_gate, guards_rule, guards_good, turned_guards}
 use Rattle.circuit_places.proofs.RailLemmas.{fst_true, snd_true}
-use Rattle.circuit_places.proofs.Meets.{GuardMeets, GuardsMeet}
+use Rattle.circuit_places.proofs.Meets.{GuardsMeet}
 use Rattle.round_time.specs.Longest.{depth, guards_depth}
 use Rattle.circuit_time.proofs.Trails.{gate_depth, guards_trail}
-use Rattle.circuit_time.proofs.Depths.{Ordered, depth_most, depth_some, gate_sees}
-use Rattle.circuit_time.proofs.LeafTrails.{goes_with, same_bools, never_same, pair_turned, pair_other, same_end}
+use Rattle.circuit_time.proofs.Depths.{depth_most, depth_some}
+use Rattle.circuit_time.proofs.LeafTrails.{gate_pair}
 use Rattle.circuit_time.proofs.OwnTrails.{GuardsOrdered, Shorter}
 
 low_side : (e : Formula) (k : ℕ) (one : Bool) → side_of (pair_in (gate_count e) (low_pairs (gate_count e)) k) one ≡ false
@@ -56,60 +55,6 @@ guards_released deep left (and_choice g p more) room bits x (this_gate k one) z 
 guards_released deep left (and_choice g p more) room bits x (other_gate q) z =
     let m = le-max_right (depth g) (guards_depth more) in guards_released deep left more (omega (arith, m, room)) bits x.1 q z
 
--- two gates of one guard
-pub gate_pair : (e : Formula) → Ordered e → Waves e → (deep left : ℕ) → depth e ≤ deep → (r : Bool) (bits : ℕ → Rails) (u : Pairs (gate_count e)) → Single bits
-    → good r bits e u ≡ true → (j : ℕ) (side : Bool) → one_rule_fires (gate_rule e bits r u j side) ≡ true → (i : ℕ) (one : Bool)
-    → one_rule_fires (gate_rule e bits r (turned_pairs (gate_count e) u j side) i one) ≡ true
-    → ((deep - gate_depth e i) + (if side_of (pair_in (gate_count e) (turned_pairs (gate_count e) u j side) i) one then left else 0)
-    < (deep - gate_depth e j) + (if side_of (pair_in (gate_count e) u j) side then left else 0))
-    ⊎ ((j ≡ i → side ≡ one → ⊥) × (one_rule_fires (gate_rule e bits r u i one) ≡ true)
-    × (side_of (pair_in (gate_count e) (turned_pairs (gate_count e) u j side) i) one ≡ side_of (pair_in (gate_count e) u i) one))
-gate_pair e ordered known deep left room r bits u single fit j side f i one z = by (cases_eq j i) (same_bools side one)
-  where
-    fit_on : good r bits e (turned_pairs (gate_count e) u j side) ≡ true
-    fit_on = known.own r bits u j side single fit f
-
-    goes : side_of (pair_in (gate_count e) u j) side ≡ not r
-    goes = goes_with r (side_of (pair_in (gate_count e) u j) side) (side_of (pair_in (gate_count e) u j) (not side)) (known.law r bits u j side single fit f)
-
-    goes_on : side_of (pair_in (gate_count e) (turned_pairs (gate_count e) u j side) i) one ≡ not r
-    goes_on = goes_with r (side_of (pair_in (gate_count e) (turned_pairs (gate_count e) u j side) i) one)
-        (side_of (pair_in (gate_count e) (turned_pairs (gate_count e) u j side) i) (not one))
-        (known.law r bits (turned_pairs (gate_count e) u j side) i one single fit_on z)
-
-    apart : (j ≡ i → side ≡ one → ⊥)
-        → ((deep - gate_depth e i) + (if side_of (pair_in (gate_count e) (turned_pairs (gate_count e) u j side) i) one then left else 0)
-        < (deep - gate_depth e j) + (if side_of (pair_in (gate_count e) u j) side then left else 0))
-        ⊎ ((j ≡ i → side ≡ one → ⊥) × (one_rule_fires (gate_rule e bits r u i one) ≡ true)
-        × (side_of (pair_in (gate_count e) (turned_pairs (gate_count e) u j side) i) one ≡ side_of (pair_in (gate_count e) u i) one))
-    apart ne = here (gate_sees e ordered bits r u j side i one ne)
-      where
-        here : (gate_rule e bits r (turned_pairs (gate_count e) u j side) i one ≡ gate_rule e bits r u i one) ⊎ (gate_depth e j < gate_depth e i)
-            → ((deep - gate_depth e i) + (if side_of (pair_in (gate_count e) (turned_pairs (gate_count e) u j side) i) one then left else 0)
-            < (deep - gate_depth e j) + (if side_of (pair_in (gate_count e) u j) side then left else 0))
-            ⊎ ((j ≡ i → side ≡ one → ⊥) × (one_rule_fires (gate_rule e bits r u i one) ≡ true)
-            × (side_of (pair_in (gate_count e) (turned_pairs (gate_count e) u j side) i) one ≡ side_of (pair_in (gate_count e) u i) one))
-        here (inl same) = inr (ne, sym (ap one_rule_fires same) ∙ z, pair_other (gate_count e) u j side i one ne)
-        here (inr deeper) =
-            let most = depth_most e i in
-            inl (same_end (deep - gate_depth e i) (deep - gate_depth e j) left 0 r
-            (side_of (pair_in (gate_count e) (turned_pairs (gate_count e) u j side) i) one) (side_of (pair_in (gate_count e) u j) side) goes_on goes
-            (omega (arith, deeper, most, room)))
-
-    by : (j ≡ i) ⊎ (j ≡ i → ⊥) → (side ≡ one) ⊎ (side ≡ one → ⊥)
-        → ((deep - gate_depth e i) + (if side_of (pair_in (gate_count e) (turned_pairs (gate_count e) u j side) i) one then left else 0)
-        < (deep - gate_depth e j) + (if side_of (pair_in (gate_count e) u j) side then left else 0))
-        ⊎ ((j ≡ i → side ≡ one → ⊥) × (one_rule_fires (gate_rule e bits r u i one) ≡ true)
-        × (side_of (pair_in (gate_count e) (turned_pairs (gate_count e) u j side) i) one ≡ side_of (pair_in (gate_count e) u i) one))
-    by (inr ne) h = apart (λ e w. ne e)
-    by (inl e) (inr ne) = apart (λ h w. ne w)
-    by (inl same) (inl too) =
-        let less = known.there r bits u j side f in
-        let a : side_of (pair_in (gate_count e) (turned_pairs (gate_count e) u j side) j) side ≡ not r =
-        subst (λ (k : ℕ). side_of (pair_in (gate_count e) (turned_pairs (gate_count e) u j side) k) side ≡ not r) (sym same)
-        (subst (λ (b : Bool). side_of (pair_in (gate_count e) (turned_pairs (gate_count e) u j side) i) b ≡ not r) (sym too) goes_on) in
-        absurd (never_same (not r) (sym (ap not goes) ∙ (sym (pair_turned (gate_count e) u j side less) ∙ a)))
-
 abbrev gate_of : {g : Formula} {p : Process} {more : Choices} → GuardSpot more → GuardSpot (and_choice g p more) → GuardSpot more
 gate_of d (this_gate k one) = d
 gate_of d (other_gate s) = s
@@ -124,7 +69,7 @@ pub guards_pair : (P : TypedProgram) (deep left : ℕ) (cs : Choices) → guards
 guards_pair P deep left no_choices room meets ordered r bits single x fit s f q z = absurd (cc f)
 guards_pair P deep left (and_choice g p more) room meets ordered r bits single x fit (this_gate j side) f (this_gate i one) z =
     let m = le-max_left (depth g) (guards_depth more) in
-    by (gate_pair g ordered.0 meets.0.known deep left (omega (arith, m, room)) r bits x.0 single (fst_true _ _ fit) j side f i one z)
+    by (gate_pair g ordered.0 meets.0.known deep left 0 (omega (arith, m, room)) r bits x.0 single (fst_true _ _ fit) j side f i one z)
   where
     by : ((deep - gate_depth g i) + (if side_of (pair_in (gate_count g) (turned_pairs (gate_count g) x.0 j side) i) one then left else 0)
         < (deep - gate_depth g j) + (if side_of (pair_in (gate_count g) x.0 j) side then left else 0))

@@ -2,20 +2,20 @@
 --
 -- P: the program; K: how many moves follow the falls of lines; a: where the branch is; w: where the core is; s, q: spots; z: that a rule
 -- fires; l: what is said of the move of the branch.
-use Rattle.std.proofs.Common.{◌≡◌, ◌≢◌, ℕ, zero, suc, ◌+◌, ◌<◌, ◌≤◌, Bool, true, false, List, refl, sym, ap, ◌∙◌, subst, inl, inr, arith}
-use Rattle.std.specs.Prelude.{◌⊎◌, not, ◌&&◌, if◌then◌else◌}
-use Rattle.width_check.specs.Processes.{Process, choosing, Choices, choice_count, TypedProgram}
+use Rattle.std.proofs.Common.{◌≡◌, ℕ, ◌+◌, Bool, true, false, refl, sym, ap, ◌∙◌, inl, inr, arith}
+use Rattle.std.specs.Prelude.{not, ◌&&◌, if◌then◌else◌}
+use Rattle.width_check.specs.Processes.{choosing, Choices, choice_count, TypedProgram}
 use Rattle.function_blocks.specs.Rails.{one_rule_fires}
 use Rattle.circuit_places.specs.Lines.{Seen}
-use Rattle.circuit_places.specs.Heads.{Bits, some_bit, hot}
+use Rattle.circuit_places.specs.Heads.{some_bit, hot}
 use Rattle.circuit_places.specs.Cores.{of_joined, of_ask, of_any, of_latch, of_start}
-use Rattle.circuit_places.specs.Circuit.{Spot, of_core, of_guard, of_choice, ChoiceSpot, answer, choice_answers, rule, flipped, turned_choice}
+use Rattle.circuit_places.specs.Circuit.{Spot, of_core, of_guard, of_choice, ChoiceSpot, choice_answers, rule, flipped, turned_choice}
 use Rattle.circuit_places.proofs.HeadFacts.{some_hot}
 use Rattle.circuit_places.proofs.Flow.{Clean, not_both}
 use Rattle.circuit_places.proofs.Begin.{chosen_answered_moves, chosen_idle_moves}
 use Rattle.circuit_places.proofs.CoreControl.{Way, works, worked, reported, letting, backs, way_any, way_latch}
-use Rattle.circuit_places.proofs.Places.{Mode, idle, running, answered, returning, asks, acks, At, at_choice, inside_at, ChosenAt, chosen_index, chosen_cells, ChosenFits, chosen_moves, cells, moves, can_is}
-use Rattle.circuit_time.proofs.Trails.{Clearing, back, choice_back, trail, choice_trail}
+use Rattle.circuit_places.proofs.Places.{Mode, idle, running, answered, returning, asks, acks, at_choice, inside_at, ChosenAt, chosen_index, chosen_cells, ChosenFits, chosen_moves, cells, moves, can_is}
+use Rattle.circuit_time.proofs.Trails.{Clearing, choice_back, trail, choice_trail}
 use Rattle.circuit_time.proofs.Requests.{Plain}
 use Rattle.circuit_time.proofs.Spots.{choice_apart}
 use Rattle.circuit_time.proofs.OwnTrails.{Shorter, Led}

@@ -1,28 +1,26 @@
 -- Own moves of the completion tree of a parallel composition.
 --
 -- P: the program; K: how many moves follow the falls of lines; b: where the branches are; t: the tree's nodes; j, k: its nodes; z: that a rule fires.
-use Rattle.std.proofs.Common.{◌≡◌, ◌≢◌, ℕ, zero, suc, ◌+◌, ◌-◌, ◌<◌, ◌≤◌, ◌==◌, Bool, true, false, List, ◌∷◌, refl, sym, ap, ◌∙◌, subst, inl, inr, arith}
-use Rattle.std.specs.Prelude.{◌⊎◌, not, ◌&&◌, if◌then◌else◌}
+use Rattle.std.proofs.Common.{◌≡◌, ◌≢◌, ℕ, ◌+◌, ◌-◌, ◌<◌, Bool, true, false, List, refl, sym, ap, ◌∙◌, subst, inl, inr, arith}
+use Rattle.std.specs.Prelude.{◌⊎◌, not, if◌then◌else◌}
 use Rattle.std.specs.List.{range_with_len}
 use Rattle.std.proofs.lemmas.Bool.{cases_eq}
-use Rattle.std.proofs.Math.Path.{fun_ext}
 use Rattle.prs_core.specs.Moves.{guard_holds}
 use Rattle.prs_core.specs.Parts.{turned}
 use Rattle.prs_core.specs.Turning.{turned_here, turned_apart}
 use Rattle.cell_parallel.specs.Trees.{tree_top}
-use Rattle.width_check.specs.Processes.{Process, side_by_side, Processes, member_count, TypedProgram}
-use Rattle.function_blocks.specs.Rails.{one_rule_fires, is_apart}
+use Rattle.width_check.specs.Processes.{side_by_side, Processes, member_count, TypedProgram}
+use Rattle.function_blocks.specs.Rails.{one_rule_fires}
 use Rattle.circuit_places.specs.Lines.{Seen}
-use Rattle.circuit_places.specs.Circuit.{Bits, joint_count, cell_bit, turned_bits, tree_value, tree_node, tree_rule, branches_answered, Spot, of_branch, joint, BranchSpot, answer, rule, flipped}
+use Rattle.circuit_places.specs.Circuit.{Bits, joint_count, cell_bit, turned_bits, tree_value, tree_node, tree_rule, branches_answered, Spot, of_branch, joint, answer, rule, flipped}
 use Rattle.circuit_places.proofs.Trees.{joint_stands, joint_apart, turned_at, value_node}
-use Rattle.circuit_places.proofs.Flow.{not_both}
-use Rattle.circuit_places.proofs.Places.{Mode, asks, acks, At, at_side, BranchesAt, SideMay, cells, branch_cells, moves, answer_is, can_is}
+use Rattle.circuit_places.proofs.Places.{Mode, asks, acks, at_side, BranchesAt, SideMay, cells, branch_cells, moves, answer_is, can_is}
 use Rattle.round_time.specs.Longest.{tree_height}
-use Rattle.circuit_time.proofs.Trails.{Clearing, joint_level, trail, back}
+use Rattle.circuit_time.proofs.Trails.{Clearing, joint_level, trail}
 use Rattle.circuit_time.proofs.Joints.{own_level, Above, joint_sees}
 use Rattle.circuit_time.proofs.Requests.{Plain}
 use Rattle.circuit_time.proofs.OwnTrails.{Shorter, Led}
-use Rattle.circuit_pace.proofs.SideTrails.{node_other, top_above, fires_low, fires_high, same_fires, both_ways}
+use Rattle.circuit_pace.proofs.SideTrails.{node_other, fires_low, fires_high, same_fires, both_ways}
 
 module _ (P : TypedProgram) (K : Clearing) (held down : ℕ) (env : Seen) {ms : Processes} {ks : List Mode} (m : Mode)
     (t : Bits (joint_count (member_count ms))) (b : BranchesAt ms ks) (h : SideMay (member_count ms) m ks t) (j : ℕ)

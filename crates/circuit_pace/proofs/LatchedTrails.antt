@@ -2,20 +2,20 @@
 --
 -- P: the program; K: how many moves follow the falls of lines; l: how far the latch is known; i: its branch; g: the guards' gates; s, q: spots;
 -- z: that a rule fires.
-use Rattle.std.proofs.Common.{◌≡◌, ◌≢◌, ℕ, zero, suc, ◌+◌, ◌-◌, ◌<◌, ◌≤◌, Bool, true, false, List, refl, sym, ap, ◌∙◌, subst, inl, inr, arith}
-use Rattle.std.specs.Prelude.{◌⊎◌, not, ◌&&◌, if◌then◌else◌}
-use Rattle.width_check.specs.Processes.{Process, choosing, Choices, choice_count, TypedProgram}
+use Rattle.std.proofs.Common.{◌≡◌, ℕ, ◌+◌, Bool, true, false, refl, sym, ap, ◌∙◌, subst, inl, inr, arith}
+use Rattle.std.specs.Prelude.{not, ◌&&◌, if◌then◌else◌}
+use Rattle.width_check.specs.Processes.{choosing, Choices, choice_count, TypedProgram}
 use Rattle.function_blocks.specs.Rails.{one_rule_fires}
 use Rattle.circuit_places.specs.Lines.{Seen}
 use Rattle.circuit_places.specs.Heads.{Index, Bits, low_bits, bit_of, turned_bit, hot, all_neutral, alone, told}
 use Rattle.circuit_places.specs.Cores.{of_joined, of_ask, of_any, of_latch, of_start}
-use Rattle.circuit_places.specs.Circuit.{GuardCells, low_choices, Spot, of_core, of_guard, of_choice, GuardSpot, ChoiceSpot, heads, guards_rule, guards_good, turned_guards, rule, flipped}
+use Rattle.circuit_places.specs.Circuit.{GuardCells, low_choices, Spot, of_core, of_guard, of_choice, GuardSpot, heads, guards_rule, guards_good, turned_guards, rule, flipped}
 use Rattle.circuit_places.proofs.HeadFacts.{fst_true, snd_true, both_true, bit_none, bit_hot, hot_is, hot_up}
-use Rattle.circuit_places.proofs.Flow.{Clean, cases, not_both}
+use Rattle.circuit_places.proofs.Flow.{Clean, not_both}
 use Rattle.circuit_places.proofs.Meets.{ChoiceMeets, GuardsMeet}
 use Rattle.circuit_places.proofs.Begin.{ChoiceQuiet}
-use Rattle.circuit_places.proofs.CoreControl.{Control, latched, Lock, lock_ask, lock_may}
-use Rattle.circuit_places.proofs.Places.{Mode, running, asks, acks, At, at_choice, control_at, cells, moves, can_is}
+use Rattle.circuit_places.proofs.CoreControl.{latched, Lock, lock_ask, lock_may}
+use Rattle.circuit_places.proofs.Places.{running, At, at_choice, control_at, cells, moves, can_is}
 use Rattle.round_time.specs.Longest.{guards_depth}
 use Rattle.circuit_time.proofs.Trails.{Clearing, choices_first, guards_trail, start_trail, trail}
 use Rattle.circuit_time.proofs.Requests.{Plain}

@@ -2,15 +2,14 @@
 --
 -- P: the program; K: how many moves follow the falls of lines; a: where the body is; s, q: spots; z: that a rule fires; l: what is said of a
 -- move of the body.
-use Rattle.std.proofs.Common.{◌≡◌, ◌≢◌, ℕ, zero, suc, ◌+◌, ◌<◌, ◌≤◌, Bool, true, false, List, refl, sym, ap, ◌∙◌, inl, inr, arith}
-use Rattle.std.specs.Prelude.{◌⊎◌, not, ◌&&◌, if◌then◌else◌}
+use Rattle.std.proofs.Common.{◌≡◌, ℕ, Bool, true, false, refl, ap, inl, inr, arith}
+use Rattle.std.specs.Prelude.{not, ◌&&◌, if◌then◌else◌}
 use Rattle.width_check.specs.Processes.{Process, skipping, repeating, TypedProgram}
 use Rattle.function_blocks.specs.Rails.{one_rule_fires}
 use Rattle.circuit_places.specs.Lines.{Seen}
-use Rattle.circuit_places.specs.Circuit.{Cells, Spot, of_skip, of_loop, ask, in_body, answer, rule, flipped}
+use Rattle.circuit_places.specs.Circuit.{Spot, of_skip, of_loop, ask, in_body, answer, rule, flipped}
 use Rattle.circuit_places.proofs.Flow.{Clean, not_both}
-use Rattle.circuit_places.proofs.Begin.{answered_moves}
-use Rattle.circuit_places.proofs.Places.{Mode, idle, running, answered, returning, is_idle, asks, acks, At, at_skip, at_body, cells, Fits, moves, answer_is, can_is}
+use Rattle.circuit_places.proofs.Places.{Mode, idle, running, answered, returning, is_idle, asks, acks, At, at_skip, at_body, cells, Fits, moves, answer_is}
 use Rattle.circuit_time.proofs.Trails.{Clearing, back, trail}
 use Rattle.circuit_time.proofs.Requests.{Plain}
 use Rattle.circuit_time.proofs.Releases.{released}

@@ -2,12 +2,12 @@
 -- shorter trail, and gives no other a longer one.
 --
 -- P: the program; r: how the state x is reached; s, q: spots; on: that a move is enabled; still: that it is no step.
-use Rattle.std.proofs.Common.{◌≡◌, ◌≢◌, ℕ, zero, suc, ◌+◌, ◌<◌, ◌≤◌, Bool, true, false, List, refl, sym, ap, ◌∙◌, subst, inl, inr, arith}
+use Rattle.std.proofs.Common.{◌≡◌, ◌≢◌, ℕ, suc, ◌<◌, ◌≤◌, Bool, true, false, List, refl, sym, ap, ◌∙◌, subst, inl, inr, arith}
 use Rattle.std.specs.Prelude.{◌⊎◌, ◌||◌}
 use Rattle.chp_base.specs.declared.channel.Kind.{Kind}
 use Rattle.chp_base.specs.declared.channel.Kind.TheVariants.{In, Out, Chan}
 use Rattle.env_script.specs.Scripts.{OfferValue}
-use Rattle.width_check.specs.Processes.{Process, TypedProgram}
+use Rattle.width_check.specs.Processes.{TypedProgram}
 use Rattle.width_check.specs.Typing.{kind_at, IsProcess}
 use Rattle.chp_meaning.specs.Steps.{Configuration}
 use Rattle.function_blocks.specs.Rails.{one_rule_fires}
@@ -16,12 +16,12 @@ use Rattle.circuit_places.specs.Circuit.{QElementCells, Cells, GuardedSpot, guar
 use Rattle.circuit_places.specs.Whole.{Whole, wires_seen, own_node, enabled, cells_moved}
 use Rattle.circuit_places.proofs.Flow.{Backed, cases, not_both}
 use Rattle.circuit_places.proofs.Meets.{sends_merged, receives_heard}
-use Rattle.circuit_places.proofs.Places.{asks, GuardedAt, guarded_cells, guarded_shown, guarded_moves}
+use Rattle.circuit_places.proofs.Places.{asks, guarded_cells, guarded_shown, guarded_moves}
 use Rattle.circuit_places.proofs.Stepping.{guarded_steps}
 use Rattle.circuit_places.proofs.StillSteps.{guarded_rises, guarded_value, guarded_is_step, guarded_was_low, guarded_keeps_value}
 use Rattle.circuit_places.proofs.System.{Fitted, clean_of}
 use Rattle.circuit_places.proofs.Carry.{Reached, may, next_reached, enabled_is}
-use Rattle.circuit_time.proofs.Trails.{Clearing, rail_left, guarded_trail}
+use Rattle.circuit_time.proofs.Trails.{rail_left, guarded_trail}
 use Rattle.circuit_time.proofs.OwnTrails.{Shorter, GuardedLed}
 use Rattle.circuit_pace.proofs.AllOwn.{Straight, Listened, guarded_led}
 use Rattle.circuit_pace.proofs.Counts.{counts, covered, counts_leave}

@@ -2,28 +2,24 @@
 --
 -- P: the program; K: how many moves follow the falls of lines; plus, minus: how many follow the rise and the fall of a branch's end; b: where
 -- branches are; r: their request; s, q: spots; z: that a rule fires; l: what is said of the move of a branch; n: how many branches there are.
-use Rattle.std.proofs.Common.{◌≡◌, ◌≢◌, ℕ, zero, suc, ◌+◌, ◌-◌, ◌<◌, ◌≤◌, ◌==◌, Bool, true, false, List, ◌∷◌, refl, sym, ap, ◌∙◌, subst, inl, inr, arith}
+use Rattle.std.proofs.Common.{◌≡◌, ◌≢◌, ℕ, zero, suc, ◌+◌, ◌-◌, ◌<◌, ◌≤◌, Bool, true, false, List, ◌∷◌, refl, sym, ap, ◌∙◌, subst, inl, inr, arith}
 use Rattle.std.specs.Prelude.{◌⊎◌, not, ◌&&◌, nat_lt, if◌then◌else◌}
 use Rattle.std.specs.List.{range_with_len}
 use Rattle.std.proofs.lemmas.Bool.{cases_lt, cases_eq}
 use Rattle.std.proofs.lemmas.Bool.Decides.{nat_tests}
 use Rattle.std.proofs.Math.Path.{fun_ext}
 use Rattle.prs_core.specs.Moves.{guard_holds}
-use Rattle.prs_core.specs.Parts.{turned}
-use Rattle.prs_core.specs.Turning.{turned_here, turned_apart}
 use Rattle.cell_parallel.specs.Trees.{tree_top}
-use Rattle.width_check.specs.Processes.{Process, side_by_side, Processes, no_members, and_member, member_count, TypedProgram}
+use Rattle.width_check.specs.Processes.{Process, side_by_side, Processes, and_member, member_count, TypedProgram}
 use Rattle.function_blocks.specs.Rails.{one_rule_fires}
 use Rattle.circuit_places.specs.Lines.{Seen}
-use Rattle.circuit_places.specs.Circuit.{Cells, BranchCells, Bits, joint_count, cell_bit, turned_bits, tree_value, tree_answer, tree_node, tree_rule, branches_answered, GuardedSpot, Spot, of_branch, joint, BranchSpot, in_this, in_others, answer, guarded_rule, rule, branch_rule, turned_guarded, flipped, turned_branches}
-use Rattle.circuit_places.proofs.RailLemmas.{fst_true, snd_true, same_value}
-use Rattle.circuit_places.proofs.Trees.{joint_stands, joint_apart, turned_at, value_node}
+use Rattle.circuit_places.specs.Circuit.{Bits, joint_count, cell_bit, tree_value, tree_node, tree_rule, branches_answered, GuardedSpot, Spot, of_branch, joint, BranchSpot, in_this, in_others, answer, guarded_rule, rule, branch_rule, turned_guarded, flipped, turned_branches}
 use Rattle.circuit_places.proofs.Flow.{not_both}
-use Rattle.circuit_places.proofs.Places.{Mode, asks, acks, all_ask, GuardedAt, At, at_side, BranchesAt, no_more, and_at, SideMay, ends, guarded_cells, cells, branch_cells, guarded_moves, moves, branch_moves, next_is, answer_is, guarded_can_is, can_is, branch_can_is}
+use Rattle.circuit_places.proofs.Places.{Mode, asks, acks, all_ask, GuardedAt, at_side, BranchesAt, and_at, SideMay, guarded_cells, cells, branch_cells, guarded_moves, moves, branch_moves, next_is, answer_is, guarded_can_is, can_is, branch_can_is}
 use Rattle.circuit_places.proofs.StillSteps.{branch_rises, branch_value}
 use Rattle.round_time.specs.Longest.{tree_height}
-use Rattle.circuit_time.proofs.Trails.{Clearing, joint_level, guarded_trail, trail, branch_trail, back}
-use Rattle.circuit_time.proofs.Joints.{number_level, own_level, leaf_level, Above, joint_sees}
+use Rattle.circuit_time.proofs.Trails.{Clearing, joint_level, trail, branch_trail}
+use Rattle.circuit_time.proofs.Joints.{Above, joint_sees}
 use Rattle.circuit_time.proofs.Requests.{Plain}
 use Rattle.circuit_time.proofs.Spots.{branch_apart, this_apart, others_apart}
 use Rattle.circuit_time.proofs.OwnTrails.{Shorter, Led, GuardedLed}

@@ -2,31 +2,25 @@
 --
 -- P: the program; L: the bound; K: how many moves follow the falls of lines; p, q, more: statements; held, down: as in trails; w: the
 -- context; x: values of nodes; s: a spot; z: that its rule fires.
-use Rattle.std.proofs.Common.{◌≡◌, ◌≢◌, ℕ, zero, suc, ◌+◌, ◌-◌, ◌*◌, ◌<◌, ◌≤◌, ◌==◌, Bool, true, false, List, refl, sym, ap, ◌∙◌, subst, arith}
-use Rattle.std.specs.Prelude.{not, ◌&&◌, if◌then◌else◌, max}
+use Rattle.std.proofs.Common.{◌≡◌, ℕ, suc, ◌+◌, ◌-◌, ◌≤◌, ◌==◌, Bool, true, false, ap, ◌∙◌, arith}
+use Rattle.std.specs.Prelude.{if◌then◌else◌, max}
 use Rattle.std.proofs.Math.Nat.{le-max_left, le-max_right, max-le}
 use Rattle.chp_base.specs.declared.span.Span.{Span}
 use Rattle.chp_base.specs.declared.channel.Kind.{Kind}
 use Rattle.chp_base.specs.declared.channel.Kind.TheVariants.{In, Out, Chan}
-use Rattle.width_check.specs.Processes.{Formula, Process, skipping, assigning, sending, receiving, in_turn, side_by_side, choosing, repeating, Processes, no_members, and_member, member_count, Choices, no_choices, and_choice, choice_count, TypedProgram}
-use Rattle.width_check.specs.Typing.{kind_at, channel_width}
+use Rattle.width_check.specs.Processes.{Formula, Process, skipping, assigning, sending, receiving, in_turn, side_by_side, choosing, repeating, Processes, no_members, and_member, Choices, no_choices, and_choice, choice_count, TypedProgram}
+use Rattle.width_check.specs.Typing.{kind_at}
 use Rattle.width_check.specs.Reads.{reads}
-use Rattle.function_blocks.specs.Rails.{side_of, pair_in, one_rule_fires}
-use Rattle.function_blocks.specs.Parts.{gate_count}
-use Rattle.function_blocks.specs.Waves.{gate_rule}
-use Rattle.circuit_places.specs.Lines.{of_channel, of_var, Rails, Seen}
-use Rattle.circuit_places.specs.Heads.{Index, top, under, Bits, bit_of}
-use Rattle.circuit_places.specs.Cores.{of_joined, of_ask, of_any, of_latch, of_start, of_answer, of_turn, of_leave}
-use Rattle.circuit_places.specs.Whole.{is_sent, is_heard}
-use Rattle.circuit_places.specs.Circuit.{Site, Port, Cells, TurnCells, BranchCells, ChoiceCells, GuardCells, QElementCells, joint_count, cell_bit, SiteSpot, done, gate, PortSpot, heard, stored, taking, GuardedSpot, child, latch, next, inner, Spot, of_skip, of_assign, of_send, of_receive, in_members, of_branch, joint, of_loop, ask, in_body, of_core, of_guard, of_choice, of_round, GuardSpot, this_gate, other_gate, ChoiceSpot, this_choice, other_choice, BranchSpot, in_this, in_others, TurnSpot, in_last, in_member, in_later, site_rule, guarded_rule, rule, turn_rule, branch_rule, choice_rule}
+use Rattle.circuit_places.specs.Lines.{of_channel, of_var}
+use Rattle.circuit_places.specs.Heads.{Bits}
+use Rattle.circuit_places.specs.Whole.{is_sent}
+use Rattle.circuit_places.specs.Circuit.{Cells, TurnCells, ChoiceCells}
 use Rattle.circuit_places.proofs.LineNames.{self_number}
-use Rattle.circuit_places.proofs.Meets.{SiteMeets, PortMeets, Meets, TurnMeets, EachMeets, ChoiceMeets}
-use Rattle.round_time.specs.Longest.{depth, guards_depth, tree_height, var_height, over_sites, send_holds, rails_fall, assign_holds, write_holds, writes_fall, receive_clears, channel_low, send_first, receive_first, assign_first, first, turn_first, each_first, low, turn_low, each_low, choice_low, within, turn_within, each_within, choice_within}
-use Rattle.circuit_time.proofs.Trails.{Clearing, rail_left, rail_ahead, gate_depth, joint_level, choices_first, back, turn_back, choice_back, site_trail, port_trail, guards_trail, latch_trail, start_trail, turn_fall, guarded_trail, trail, choice_trail, branch_trail, turn_trail}
-use Rattle.circuit_time.proofs.Depths.{depth_most, depth_some}
-use Rattle.circuit_time.proofs.Requests.{first_some, turn_some}
-use Rattle.circuit_time.proofs.OwnTrails.{Covers, TurnCovers, EachCovers, ChoiceCovers}
-use Rattle.circuit_pace.proofs.TrailsWithin.{sends_hold, Leaves, Within, TurnWithin, EachWithin, ChoiceWithin, left_of_max, right_of_max, turn_of, last_of, member_of, later_of, each_of, branch_of, branches_of, body_of, select_of, repeat_of, arm_of, arms_of, arms_first, arms_low}
+use Rattle.circuit_places.proofs.Meets.{SiteMeets, Meets, TurnMeets, ChoiceMeets}
+use Rattle.round_time.specs.Longest.{depth, guards_depth, var_height, over_sites, rails_fall, assign_holds, writes_fall, receive_clears, channel_low}
+use Rattle.circuit_time.proofs.Trails.{Clearing, rail_left, back, turn_back, choice_back}
+use Rattle.circuit_time.proofs.OwnTrails.{Covers, TurnCovers, ChoiceCovers}
+use Rattle.circuit_pace.proofs.TrailsWithin.{sends_hold, Leaves, Within, TurnWithin, ChoiceWithin, turn_of, last_of, later_of, select_of, arm_of, arms_of, arms_low}
 
 -- what a site is held for, among all sites
 module _ (P : TypedProgram) (L : ℕ) (K : Clearing) (leaves : Leaves P K L) where

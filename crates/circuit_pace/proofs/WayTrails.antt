@@ -2,18 +2,18 @@
 --
 -- P: the program; K: how many moves follow the falls of lines; a: where the branch is; w: where the core is; i, j: branches; s, q: spots; e: that
 -- a move may be made; z: that a rule fires once it was.
-use Rattle.std.proofs.Common.{◌≡◌, ◌≢◌, ℕ, zero, suc, ◌+◌, ◌-◌, ◌<◌, ◌≤◌, Bool, true, false, List, refl, sym, ap, ◌∙◌, subst, inl, inr, arith}
-use Rattle.std.specs.Prelude.{◌⊎◌, not, ◌&&◌, if◌then◌else◌, max}
+use Rattle.std.proofs.Common.{◌≡◌, ◌≢◌, ℕ, ◌+◌, ◌-◌, ◌<◌, ◌≤◌, Bool, true, false, refl, sym, ap, ◌∙◌, subst, inl, inr, arith}
+use Rattle.std.specs.Prelude.{not, ◌&&◌, if◌then◌else◌, max}
 use Rattle.std.proofs.Math.Nat.{le-max_left, le-max_right, zero-max}
-use Rattle.width_check.specs.Processes.{Process, choosing, Choices, no_choices, and_choice, choice_count, TypedProgram}
+use Rattle.width_check.specs.Processes.{choosing, Choices, no_choices, and_choice, choice_count, TypedProgram}
 use Rattle.function_blocks.specs.Rails.{one_rule_fires}
 use Rattle.circuit_places.specs.Lines.{Seen}
 use Rattle.circuit_places.specs.Heads.{Index, top, under, Bits, low_bits, bit_of, some_bit, turned_bit, hot, all_neutral, alone}
 use Rattle.circuit_places.specs.Cores.{OwnSpot, of_joined, of_ask, of_any, of_latch, of_start}
-use Rattle.circuit_places.specs.Circuit.{ChoiceCells, Spot, of_core, of_guard, of_choice, ChoiceSpot, this_choice, other_choice, low_guards, heads, choice_answers, rule, choice_rule, flipped}
-use Rattle.circuit_places.proofs.HeadFacts.{bit_none, hot_low, some_hot, bit_hot, hot_is, hot_turned, neutral_alone}
+use Rattle.circuit_places.specs.Circuit.{ChoiceCells, Spot, of_core, of_guard, of_choice, ChoiceSpot, this_choice, other_choice, low_guards, heads, rule, choice_rule, flipped}
+use Rattle.circuit_places.proofs.HeadFacts.{bit_none, hot_low, some_hot, hot_is, hot_turned, neutral_alone}
 use Rattle.circuit_places.proofs.Flow.{Clean, cases, not_both}
-use Rattle.circuit_places.proofs.CoreControl.{Way, works, worked, reported, letting, backs, isnt_running, way_any, way_latch, way_moves}
+use Rattle.circuit_places.proofs.CoreControl.{Way, worked, letting, backs, isnt_running, way_moves}
 use Rattle.circuit_places.proofs.Places.{Mode, idle, running, answered, returning, asks, acks, At, at_choice, inside_at, ChosenAt, this_one, another, chosen_index, chosen_cells, chosen_answers, ChosenFits, cells, moves, can_is, low_quiet, low_choice_quiet, low_neutral}
 use Rattle.round_time.specs.Longest.{first}
 use Rattle.circuit_time.proofs.Trails.{Clearing, back, choice_back, latch_trail, start_trail, trail, choice_trail}

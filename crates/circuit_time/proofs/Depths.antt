@@ -1,16 +1,15 @@
 -- Depths of gates: a gate moves only after gates of lower depth.
 --
 -- e: an expression; u: its gates' rails; k, j: gates; look, now: the rails that gates see; gs: gates behind those of these depths.
-use Rattle.std.proofs.Common.{◌≡◌, ◌≢◌, ℕ, zero, suc, ◌+◌, ◌<◌, ◌≤◌, ◌==◌, Bool, true, false, List, [], ◌∷◌, ◌++◌, length, refl, sym, ap, ◌∙◌, subst, inl, inr, arith, length-append}
-use Rattle.std.specs.Prelude.{◌⊎◌, ◌&&◌, nat_lt, max, slice_index, if◌then◌else◌}
+use Rattle.std.proofs.Common.{◌≡◌, ◌≢◌, ℕ, zero, suc, ◌+◌, ◌<◌, ◌≤◌, Bool, true, false, List, [], ◌∷◌, ◌++◌, length, refl, ap, ◌∙◌, subst, inl, inr, arith, length-append}
+use Rattle.std.specs.Prelude.{◌⊎◌, nat_lt, slice_index}
 use Rattle.std.specs.List.{list_all}
 use Rattle.std.proofs.Math.Nat.{le-max_left, le-max_right}
 use Rattle.std.proofs.lemmas.Bool.{cases_eq}
-use Rattle.std.proofs.lemmas.Bool.Decides.{nat_tests}
 use Rattle.width_check.specs.Processes.{Formula}
 use Rattle.function_blocks.specs.Rails.{RailLevels, side_of, cross, levels_neutral, Pairs, pair_in, turned_pairs, one_rule_fires, Rails}
 use Rattle.function_blocks.specs.Parts.{Input, BlockPart, fixed, read_bit, made, gate_count, block_parts}
-use Rattle.function_blocks.specs.Waves.{inputs_taken, holds, rows_of, up_holds, down_holds, part_rule, rule_among, gate_rule}
+use Rattle.function_blocks.specs.Waves.{inputs_taken, holds, rows_of, part_rule, rule_among, gate_rule}
 use Rattle.prs_core.specs.Deciding.{left_of, right_of}
 use Rattle.function_blocks.proofs.GateLists.{ordered_one, ordered, is_lt}
 use Rattle.round_time.specs.Longest.{inputs_depth, part_depth, depths, greatest, depth}

@@ -2,8 +2,8 @@
 --
 -- P: the program; K: how many moves follow the falls of lines; plus, minus: how many follow the rise and the fall of the Q-element's next
 -- request; a: where its statement is; u: its latch; h: that the statement may be so far under it; s, q: spots; z: that a rule fires.
-use Rattle.std.proofs.Common.{◌≡◌, ◌≢◌, ℕ, zero, suc, ◌+◌, ◌-◌, ◌<◌, ◌≤◌, Bool, true, false, List, refl, sym, ap, ◌∙◌, subst, inl, inr, arith}
-use Rattle.std.specs.Prelude.{◌⊎◌, not, ◌&&◌, if◌then◌else◌}
+use Rattle.std.proofs.Common.{◌≡◌, ◌≢◌, ℕ, ◌+◌, ◌-◌, ◌<◌, ◌≤◌, Bool, true, false, refl, sym, ap, ◌∙◌, subst, inl, inr, arith}
+use Rattle.std.specs.Prelude.{not, ◌&&◌, if◌then◌else◌}
 use Rattle.width_check.specs.Processes.{Process, TypedProgram}
 use Rattle.function_blocks.specs.Rails.{one_rule_fires}
 use Rattle.circuit_places.specs.Lines.{Seen}
@@ -11,11 +11,11 @@ use Rattle.circuit_places.specs.Circuit.{Cells, low, GuardedSpot, child, latch, 
 use Rattle.circuit_places.proofs.Flow.{Clean, Backed, Quiet, quiet_of, not_both}
 use Rattle.circuit_places.proofs.Meets.{Meets}
 use Rattle.circuit_places.proofs.Begin.{idle_is, answered_moves}
-use Rattle.circuit_places.proofs.Places.{Mode, idle, running, answered, returning, asks, acks, inner_may, GuardedAt, g_rests, g_in, g_past, g_back, At, guarded_of, guarded_cells, cells, shown, guarded_shown, Fits, GuardedFits, guarded_moves, moves, answer_is, low_answer, low_quiet, low_guarded_quiet, can_is}
+use Rattle.circuit_places.proofs.Places.{Mode, idle, running, answered, returning, asks, acks, inner_may, GuardedAt, g_in, g_back, At, guarded_cells, cells, shown, guarded_shown, Fits, GuardedFits, guarded_moves, moves, answer_is, low_answer, low_quiet, low_guarded_quiet, can_is}
 use Rattle.circuit_places.proofs.StillSteps.{guarded_rises, guarded_value}
 use Rattle.round_time.specs.Longest.{first}
 use Rattle.circuit_time.proofs.Trails.{Clearing, back, guarded_trail, trail}
-use Rattle.circuit_time.proofs.Requests.{Plain, first_some, asked}
+use Rattle.circuit_time.proofs.Requests.{Plain, asked}
 use Rattle.circuit_time.proofs.Releases.{released}
 use Rattle.circuit_time.proofs.Spots.{inner_apart}
 use Rattle.circuit_time.proofs.OwnTrails.{Shorter, Led, GuardedLed}

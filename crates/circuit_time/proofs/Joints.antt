@@ -1,16 +1,16 @@
 -- Levels of a completion tree: a node of it moves only after nodes of lower levels.
 --
 -- n: how many leaves; k: an own node of the tree; ls: the nodes of a level; from: the number of the next own node; h: the level of each node.
-use Rattle.std.proofs.Common.{◌≡◌, ◌≢◌, ℕ, zero, suc, ◌+◌, ◌-◌, ◌/◌, ◌<◌, ◌≤◌, Bool, true, false, List, [], ◌∷◌, ◌++◌, length, get_or, refl, sym, ap, ◌∙◌, subst, inl, inr, arith, length-append}
+use Rattle.std.proofs.Common.{◌≡◌, ◌≢◌, ℕ, zero, suc, ◌+◌, ◌-◌, ◌/◌, ◌<◌, ◌≤◌, Bool, true, false, List, [], ◌∷◌, ◌++◌, length, get_or, refl, sym, ap, ◌∙◌, subst, inl, inr, arith}
 use Rattle.std.specs.Prelude.{◌⊎◌, ◌&&◌, ◌||◌, not, nat_lt, if◌then◌else◌}
 use Rattle.std.specs.List.{range_with_len}
 use Rattle.std.proofs.lemmas.Bool.{cases_lt, cases_eq}
 use Rattle.std.proofs.lemmas.Bool.Decides.{nat_tests}
-use Rattle.std.proofs.lemmas.List.FromFn.{length-range_with_len, get_or-range_with_len}
+use Rattle.std.proofs.lemmas.List.FromFn.{length-range_with_len}
 use Rattle.prs_core.specs.Nets.{NodeRules}
 use Rattle.prs_core.specs.Moves.{guard_holds}
-use Rattle.cell_parallel.specs.Trees.{c_element, level_rules, next_level, levels_rules, tree_rules}
-use Rattle.circuit_places.specs.Circuit.{tree_value, tree_node, tree_rule}
+use Rattle.cell_parallel.specs.Trees.{c_element, level_rules, next_level, levels_rules}
+use Rattle.circuit_places.specs.Circuit.{tree_node}
 use Rattle.round_time.specs.Longest.{levels_in, tree_height}
 use Rattle.circuit_time.proofs.Trails.{level_from, joint_level}
 

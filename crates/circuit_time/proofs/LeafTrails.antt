@@ -2,7 +2,7 @@
 --
 -- e: an expression; u: its gates' rails; m: a mode of the handshake; s, q: spots; f: that the rule of one fires, z: that the other's does
 -- once that has moved.
-use Rattle.std.proofs.Common.{◌≡◌, ◌≢◌, ℕ, zero, suc, ◌+◌, ◌-◌, ◌<◌, ◌≤◌, ◌==◌, Bool, true, false, List, refl, sym, ap, ◌∙◌, subst, inl, inr, arith}
+use Rattle.std.proofs.Common.{◌≡◌, ◌≢◌, ℕ, zero, suc, ◌+◌, ◌-◌, ◌<◌, ◌≤◌, ◌==◌, Bool, true, false, refl, sym, ap, ◌∙◌, subst, inl, inr, arith}
 use Rattle.std.specs.Prelude.{◌⊎◌, not, ◌&&◌, if◌then◌else◌}
 use Rattle.std.proofs.lemmas.Bool.{cases_eq}
 use Rattle.width_check.specs.Processes.{Formula}
@@ -10,7 +10,7 @@ use Rattle.function_blocks.specs.Rails.{RailLevels, side_of, turned_side, Pairs,
 use Rattle.function_blocks.specs.Parts.{gate_count}
 use Rattle.function_blocks.specs.Waves.{gate_rule, good, Waves}
 use Rattle.circuit_places.specs.Lines.{Rails}
-use Rattle.circuit_places.specs.Circuit.{Site, Port, SiteSpot, done, gate, PortSpot, heard, stored, taking, site_rule, port_rule, turned_site, turned_port, rails_turned}
+use Rattle.circuit_places.specs.Circuit.{SiteSpot, done, gate, PortSpot, heard, stored, taking, site_rule, port_rule, turned_site, turned_port, rails_turned}
 use Rattle.circuit_places.proofs.LineNames.{self_number}
 use Rattle.circuit_places.proofs.Flow.{not_both}
 use Rattle.circuit_places.proofs.Places.{site_of, port_of}
@@ -24,7 +24,7 @@ side_turned : (x : RailLevels) (one : Bool) → side_of (turned_side x one) one 
 side_turned x true = refl
 side_turned x false = refl
 
-pub pair_turned : (n : ℕ) (u : Pairs n) (j : ℕ) (one : Bool) → j < n → side_of (pair_in n (turned_pairs n u j one) j) one ≡ not (side_of (pair_in n u j) one)
+pair_turned : (n : ℕ) (u : Pairs n) (j : ℕ) (one : Bool) → j < n → side_of (pair_in n (turned_pairs n u j one) j) one ≡ not (side_of (pair_in n u j) one)
 pair_turned zero u j one less = absurd (omega (arith, less))
 pair_turned (suc n) u zero one less = side_turned u.0 one
 pair_turned (suc n) u (suc j) one less = pair_turned n u.1 j one (omega (arith, less))
@@ -35,7 +35,7 @@ other_side x false false ne = absurd (ne refl)
 other_side x true false ne = refl
 other_side x false true ne = refl
 
-pub pair_other : (n : ℕ) (u : Pairs n) (j : ℕ) (side : Bool) (i : ℕ) (one : Bool) → (j ≡ i → side ≡ one → ⊥)
+pair_other : (n : ℕ) (u : Pairs n) (j : ℕ) (side : Bool) (i : ℕ) (one : Bool) → (j ≡ i → side ≡ one → ⊥)
     → side_of (pair_in n (turned_pairs n u j side) i) one ≡ side_of (pair_in n u i) one
 pair_other zero u j side i one ne = refl
 pair_other (suc n) u zero side zero one ne = other_side u.0 side one (ne refl)
@@ -50,29 +50,30 @@ goes_with true false other e = refl
 goes_with false true other e = refl
 goes_with false false other e = absurd (cc e)
 
-pub same_end : (b c left ahead : ℕ) (r x y : Bool) → x ≡ not r → y ≡ not r → b < c → b + (if x then left else ahead) < c + (if y then left else ahead)
+same_end : (b c left ahead : ℕ) (r x y : Bool) → x ≡ not r → y ≡ not r → b < c → b + (if x then left else ahead) < c + (if y then left else ahead)
 same_end b c left ahead r x y e h less =
     let z : (if x then left else ahead) ≡ (if y then left else ahead) = ap (λ (w : Bool). if w then left else ahead) (e ∙ sym h) in omega (arith, z, less)
 
-pub same_bools : (a b : Bool) → (a ≡ b) ⊎ (a ≡ b → ⊥)
+same_bools : (a b : Bool) → (a ≡ b) ⊎ (a ≡ b → ⊥)
 same_bools true true = inl refl
 same_bools false false = inl refl
 same_bools true false = inr (λ e. cc e)
 same_bools false true = inr (λ e. cc e)
 
-pub never_same : (b : Bool) → not b ≡ b → ⊥
+never_same : (b : Bool) → not b ≡ b → ⊥
 never_same true e = cc e
 never_same false e = cc e
 
--- two gates of an expression
-gate_gate : (e : Formula) → Ordered e → Waves e → (r : Bool) (bits : ℕ → Rails) (u : Pairs (gate_count e)) → Single bits → good r bits e u ≡ true
-    → (left ahead j : ℕ) (side : Bool) → one_rule_fires (gate_rule e bits r u j side) ≡ true → (i : ℕ) (one : Bool)
+-- two gates of an expression that is at most `deep`
+pub gate_pair : (e : Formula) → Ordered e → Waves e → (deep left ahead : ℕ) → depth e ≤ deep
+    → (r : Bool) (bits : ℕ → Rails) (u : Pairs (gate_count e)) → Single bits
+    → good r bits e u ≡ true → (j : ℕ) (side : Bool) → one_rule_fires (gate_rule e bits r u j side) ≡ true → (i : ℕ) (one : Bool)
     → one_rule_fires (gate_rule e bits r (turned_pairs (gate_count e) u j side) i one) ≡ true
-    → ((depth e - gate_depth e i) + (if side_of (pair_in (gate_count e) (turned_pairs (gate_count e) u j side) i) one then left else ahead)
-    < (depth e - gate_depth e j) + (if side_of (pair_in (gate_count e) u j) side then left else ahead))
+    → ((deep - gate_depth e i) + (if side_of (pair_in (gate_count e) (turned_pairs (gate_count e) u j side) i) one then left else ahead)
+    < (deep - gate_depth e j) + (if side_of (pair_in (gate_count e) u j) side then left else ahead))
     ⊎ ((j ≡ i → side ≡ one → ⊥) × (one_rule_fires (gate_rule e bits r u i one) ≡ true)
     × (side_of (pair_in (gate_count e) (turned_pairs (gate_count e) u j side) i) one ≡ side_of (pair_in (gate_count e) u i) one))
-gate_gate e ordered known r bits u single fit left ahead j side f i one z = by (cases_eq j i) (same_bools side one)
+gate_pair e ordered known deep left ahead room r bits u single fit j side f i one z = by (cases_eq j i) (same_bools side one)
   where
     fit_on : good r bits e (turned_pairs (gate_count e) u j side) ≡ true
     fit_on = known.own r bits u j side single fit f
@@ -86,27 +87,27 @@ gate_gate e ordered known r bits u single fit left ahead j side f i one z = by (
         (known.law r bits (turned_pairs (gate_count e) u j side) i one single fit_on z)
 
     apart : (j ≡ i → side ≡ one → ⊥)
-        → ((depth e - gate_depth e i) + (if side_of (pair_in (gate_count e) (turned_pairs (gate_count e) u j side) i) one then left else ahead)
-        < (depth e - gate_depth e j) + (if side_of (pair_in (gate_count e) u j) side then left else ahead))
+        → ((deep - gate_depth e i) + (if side_of (pair_in (gate_count e) (turned_pairs (gate_count e) u j side) i) one then left else ahead)
+        < (deep - gate_depth e j) + (if side_of (pair_in (gate_count e) u j) side then left else ahead))
         ⊎ ((j ≡ i → side ≡ one → ⊥) × (one_rule_fires (gate_rule e bits r u i one) ≡ true)
         × (side_of (pair_in (gate_count e) (turned_pairs (gate_count e) u j side) i) one ≡ side_of (pair_in (gate_count e) u i) one))
     apart ne = here (gate_sees e ordered bits r u j side i one ne)
       where
         here : (gate_rule e bits r (turned_pairs (gate_count e) u j side) i one ≡ gate_rule e bits r u i one) ⊎ (gate_depth e j < gate_depth e i)
-            → ((depth e - gate_depth e i) + (if side_of (pair_in (gate_count e) (turned_pairs (gate_count e) u j side) i) one then left else ahead)
-            < (depth e - gate_depth e j) + (if side_of (pair_in (gate_count e) u j) side then left else ahead))
+            → ((deep - gate_depth e i) + (if side_of (pair_in (gate_count e) (turned_pairs (gate_count e) u j side) i) one then left else ahead)
+            < (deep - gate_depth e j) + (if side_of (pair_in (gate_count e) u j) side then left else ahead))
             ⊎ ((j ≡ i → side ≡ one → ⊥) × (one_rule_fires (gate_rule e bits r u i one) ≡ true)
             × (side_of (pair_in (gate_count e) (turned_pairs (gate_count e) u j side) i) one ≡ side_of (pair_in (gate_count e) u i) one))
         here (inl same) = inr (ne, sym (ap one_rule_fires same) ∙ z, pair_other (gate_count e) u j side i one ne)
         here (inr deeper) =
             let most = depth_most e i in
-            inl (same_end (depth e - gate_depth e i) (depth e - gate_depth e j) left ahead r
+            inl (same_end (deep - gate_depth e i) (deep - gate_depth e j) left ahead r
             (side_of (pair_in (gate_count e) (turned_pairs (gate_count e) u j side) i) one) (side_of (pair_in (gate_count e) u j) side) goes_on goes
-            (omega (arith, deeper, most)))
+            (omega (arith, deeper, most, room)))
 
     by : (j ≡ i) ⊎ (j ≡ i → ⊥) → (side ≡ one) ⊎ (side ≡ one → ⊥)
-        → ((depth e - gate_depth e i) + (if side_of (pair_in (gate_count e) (turned_pairs (gate_count e) u j side) i) one then left else ahead)
-        < (depth e - gate_depth e j) + (if side_of (pair_in (gate_count e) u j) side then left else ahead))
+        → ((deep - gate_depth e i) + (if side_of (pair_in (gate_count e) (turned_pairs (gate_count e) u j side) i) one then left else ahead)
+        < (deep - gate_depth e j) + (if side_of (pair_in (gate_count e) u j) side then left else ahead))
         ⊎ ((j ≡ i → side ≡ one → ⊥) × (one_rule_fires (gate_rule e bits r u i one) ≡ true)
         × (side_of (pair_in (gate_count e) (turned_pairs (gate_count e) u j side) i) one ≡ side_of (pair_in (gate_count e) u i) one))
     by (inr ne) h = apart (λ e w. ne e)
@@ -141,7 +142,7 @@ site_site e ordered known r a ack bits u single fit up down left ahead done f do
 site_site e ordered known r a ack bits u single fit up down left ahead done f (gate i one) z = inr ((λ w. cc w), z, omega arith)
 site_site e ordered known r a ack bits u single fit up down left ahead (gate j side) f done z = inr ((λ w. cc w), z, omega arith)
 site_site e ordered known r a ack bits u single fit up down left ahead (gate j side) f (gate i one) z =
-    by (gate_gate e ordered known r bits u single fit left ahead j side f i one z)
+    by (gate_pair e ordered known (depth e) left ahead (omega arith) r bits u single fit j side f i one z)
   where
     by : ((depth e - gate_depth e i) + (if side_of (pair_in (gate_count e) (turned_pairs (gate_count e) u j side) i) one then left else ahead)
         < (depth e - gate_depth e j) + (if side_of (pair_in (gate_count e) u j) side then left else ahead))

@@ -2,7 +2,7 @@
 -- moves of one rank are made at once, the greatest first.
 --
 -- P: the program; x: a state; n, m: nodes; a rank is a number for each move that is enabled in a state.
-use Rattle.std.proofs.Common.{◌≡◌, ◌≢◌, ℕ, zero, suc, ◌<◌, ◌≤◌, Bool, true, false, List, [], ◌∷◌, length, refl, sym, ap, ◌∙◌, subst, inl, inr, arith}
+use Rattle.std.proofs.Common.{◌≡◌, ◌≢◌, ℕ, zero, suc, ◌<◌, ◌≤◌, Bool, true, false, List, [], ◌∷◌, length, refl, ap, subst, inl, inr, arith}
 use Rattle.std.specs.Prelude.{◌⊎◌, not, ◌&&◌, nat_lt}
 use Rattle.std.proofs.lemmas.Bool.Decides.{nat_tests}
 use Rattle.env_script.specs.Scripts.{OfferValue}
@@ -12,7 +12,7 @@ use Rattle.chp_meaning.specs.Steps.{Configuration}
 use Rattle.chp_meaning.proofs.Fitting.{Fits}
 use Rattle.chp_meaning.proofs.Meeting.{leads_fit}
 use Rattle.circuit_places.specs.Whole.{Whole, Node, is_node, enabled, cells_moved}
-use Rattle.circuit_places.proofs.RailLemmas.{fst_true, snd_true, both_true, not_true}
+use Rattle.circuit_places.proofs.RailLemmas.{fst_true, snd_true, not_true}
 use Rattle.circuit_places.proofs.System.{Fitted}
 use Rattle.circuit_places.proofs.Quiet.{is_step}
 use Rattle.circuit_places.proofs.CircuitDue.{circuit_due}

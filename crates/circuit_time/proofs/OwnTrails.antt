@@ -4,12 +4,12 @@
 --
 -- P: the program; K: how many moves follow the falls of lines; p, q, more: statements; env: what the statement sees; a, g, t: where a
 -- statement, a guarded member and a sequence are; s, q: spots.
-use Rattle.std.proofs.Common.{◌≡◌, ◌≢◌, ℕ, zero, suc, ◌+◌, ◌-◌, ◌<◌, ◌≤◌, Bool, true, false, List, refl, sym, ap, ◌∙◌, subst, inl, inr, arith}
-use Rattle.std.specs.Prelude.{◌⊎◌, not, ◌&&◌, if◌then◌else◌}
-use Rattle.width_check.specs.Processes.{Formula, Process, skipping, assigning, sending, receiving, in_turn, side_by_side, choosing, repeating, Processes, no_members, and_member, member_count, Choices, no_choices, and_choice, TypedProgram}
+use Rattle.std.proofs.Common.{◌≡◌, ◌≢◌, ℕ, suc, ◌+◌, ◌-◌, ◌<◌, ◌≤◌, Bool, true, false}
+use Rattle.std.specs.Prelude.{◌⊎◌}
+use Rattle.width_check.specs.Processes.{Process, skipping, assigning, sending, receiving, in_turn, side_by_side, choosing, repeating, Processes, no_members, and_member, member_count, Choices, no_choices, and_choice, TypedProgram}
 use Rattle.function_blocks.specs.Rails.{one_rule_fires}
 use Rattle.circuit_places.specs.Lines.{Seen}
-use Rattle.circuit_places.specs.Circuit.{Cells, TurnCells, QElementCells, GuardedSpot, child, latch, next, inner, Spot, TurnSpot, answer, last_answer, guarded_rule, rule, turn_rule, turned_guarded, flipped, turned_turn}
+use Rattle.circuit_places.specs.Circuit.{GuardedSpot, Spot, TurnSpot, answer, last_answer, guarded_rule, rule, turn_rule, turned_guarded, flipped, turned_turn}
 use Rattle.circuit_places.proofs.Places.{Mode, asks, acks, GuardedAt, At, TurnAt, guarded_cells, cells, turn_cells, guarded_moves, moves, turn_moves}
 use Rattle.circuit_places.proofs.StillSteps.{guarded_rises, guarded_value, turn_rises, turn_value}
 use Rattle.round_time.specs.Longest.{guards_depth, tree_height, var_height, turn_first}

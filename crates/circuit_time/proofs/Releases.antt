@@ -2,25 +2,25 @@
 --
 -- P: the program; K: how many moves follow the falls of lines; a, t, b: where a statement, a sequence and branches are; env: what they see;
 -- f: that the cells fit it; s: a spot; e: that its rule fires once the request is low.
-use Rattle.std.proofs.Common.{◌≡◌, ℕ, zero, suc, ◌+◌, ◌-◌, ◌<◌, ◌≤◌, Bool, true, false, List, refl, sym, ap, ◌∙◌, arith}
-use Rattle.std.specs.Prelude.{not, ◌&&◌, ◌||◌, if◌then◌else◌, max, is_some}
+use Rattle.std.proofs.Common.{◌≡◌, ℕ, suc, ◌+◌, ◌-◌, ◌≤◌, Bool, true, false, List, refl, ap, ◌∙◌, arith}
+use Rattle.std.specs.Prelude.{not, ◌&&◌, if◌then◌else◌, max, is_some}
 use Rattle.std.proofs.Math.Nat.{le-max_left, le-max_right, max-le}
-use Rattle.width_check.specs.Processes.{Formula, Process, choosing, Processes, and_member, member_count, Choices, no_choices, and_choice, choice_count, TypedProgram}
+use Rattle.width_check.specs.Processes.{Formula, Process, choosing, Processes, member_count, Choices, no_choices, and_choice, choice_count, TypedProgram}
 use Rattle.width_check.specs.Typing.{kind_at, channel_width}
 use Rattle.function_blocks.specs.Rails.{Pairs, side_of, pair_in, one_rule_fires}
 use Rattle.function_blocks.specs.Parts.{gate_count}
-use Rattle.function_blocks.specs.Waves.{full, gate_rule, good}
+use Rattle.function_blocks.specs.Waves.{full, gate_rule}
 use Rattle.circuit_places.specs.Lines.{Line, of_channel, of_var, Rails, Seen}
 use Rattle.circuit_places.specs.Whole.{value_on, neutral_on}
-use Rattle.circuit_places.specs.Heads.{Index, top, under, Bits, bit_of, low_bits, hot, all_neutral, alone}
-use Rattle.circuit_places.specs.Cores.{OwnSpot, of_joined, of_ask, of_any, of_latch, of_start, RoundSpot, of_answer, of_turn, of_leave}
-use Rattle.circuit_places.specs.Circuit.{Cells, ChoiceCells, low_guards, SiteSpot, done, gate, PortSpot, heard, stored, taking, GuardedSpot, child, latch, next, inner, Spot, of_skip, of_assign, of_send, of_receive, in_members, of_branch, joint, of_core, of_guard, of_choice, of_round, BranchSpot, in_this, in_others, TurnSpot, in_last, in_member, in_later, site_rule, port_rule, rule, turn_rule, branch_rule, heads}
-use Rattle.circuit_places.proofs.HeadFacts.{bit_none, some_hot, neutral_alone}
+use Rattle.circuit_places.specs.Heads.{Index, top, under, Bits, bit_of, hot, alone}
+use Rattle.circuit_places.specs.Cores.{of_joined, of_ask, of_any, of_latch, of_start, of_answer, of_turn, of_leave}
+use Rattle.circuit_places.specs.Circuit.{ChoiceCells, low_guards, SiteSpot, done, gate, PortSpot, heard, stored, taking, child, latch, next, inner, Spot, of_skip, of_assign, of_send, of_receive, in_members, of_branch, joint, of_core, of_guard, of_choice, of_round, BranchSpot, in_this, in_others, TurnSpot, in_last, in_member, in_later, site_rule, port_rule, rule, turn_rule, branch_rule, heads}
+use Rattle.circuit_places.proofs.HeadFacts.{some_hot, neutral_alone}
 use Rattle.circuit_places.proofs.Flow.{Clean, not_both}
 use Rattle.circuit_places.proofs.Begin.{answered_all, answered_kept, answered_ack, answered_va, answered_moves, turn_answered_moves, chosen_answered_moves}
-use Rattle.circuit_places.proofs.Places.{Mode, idle, running, answered, returning, all_ask, all_ack, SiteMay, GuardedAt, g_in, g_past, At, rests, at_skip, at_assign, at_send, at_receive, at_turn, at_side, at_choice, at_closing, control_at, inside_at, ChosenAt, BranchesAt, no_more, and_at, TurnAt, at_last, at_later, chosen_index, chosen_cells, cells, branch_cells, turn_cells, site_of, port_of, SiteFits, PortFits, Fits, TurnFits, low_quiet, low_answer, can_is, turn_can_is, chosen_can_is, low_guards_quiet, low_neutral}
-use Rattle.circuit_places.proofs.CoreControl.{Way, reported, Closing, told_all}
-use Rattle.round_time.specs.Longest.{depth, guards_depth, tree_height, var_height}
+use Rattle.circuit_places.proofs.Places.{Mode, idle, running, answered, returning, all_ask, all_ack, SiteMay, g_past, At, at_skip, at_assign, at_send, at_receive, at_turn, at_side, at_choice, at_closing, control_at, inside_at, BranchesAt, no_more, and_at, TurnAt, at_last, at_later, chosen_index, chosen_cells, cells, branch_cells, turn_cells, site_of, port_of, SiteFits, PortFits, Fits, TurnFits, low_quiet, can_is, turn_can_is, chosen_can_is, low_guards_quiet, low_neutral}
+use Rattle.circuit_places.proofs.CoreControl.{reported, told_all}
+use Rattle.round_time.specs.Longest.{depth, tree_height, var_height}
 use Rattle.circuit_time.proofs.Trails.{Clearing, rail_left, rail_ahead, gate_depth, back, turn_back, choice_back, site_trail, port_trail, latch_trail, trail, turn_trail, branch_trail}
 use Rattle.circuit_time.proofs.Depths.{depth_most, depth_some}
 

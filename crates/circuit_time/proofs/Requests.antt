@@ -3,32 +3,30 @@
 --
 -- P: the program; K: how many moves follow the falls of lines; p, q, more: statements; env: what the statement sees; s: a spot; f: that
 -- its rule fires; plain: that its move is no step.
-use Rattle.std.proofs.Common.{◌≡◌, ℕ, zero, suc, ◌+◌, ◌-◌, ◌<◌, ◌≤◌, Bool, true, false, List, refl, sym, ap, ◌∙◌, subst, arith}
-use Rattle.std.specs.Prelude.{not, ◌&&◌, if◌then◌else◌, max}
+use Rattle.std.proofs.Common.{◌≡◌, ℕ, suc, ◌+◌, ◌-◌, ◌≤◌, Bool, true, false, refl, ap, arith}
+use Rattle.std.specs.Prelude.{◌&&◌, if◌then◌else◌}
 use Rattle.std.proofs.Math.Nat.{le-max_left, le-max_right}
-use Rattle.chp_base.specs.declared.span.Span.{Span}
 use Rattle.chp_base.specs.declared.channel.Kind.{Kind}
 use Rattle.chp_base.specs.declared.channel.Kind.TheVariants.{In, Out, Chan}
-use Rattle.width_check.specs.Processes.{Formula, Process, skipping, assigning, sending, receiving, in_turn, side_by_side, choosing, repeating, Processes, no_members, and_member, member_count, Choices, no_choices, and_choice, choice_count, TypedProgram}
+use Rattle.width_check.specs.Processes.{Formula, Process, skipping, assigning, sending, receiving, in_turn, side_by_side, choosing, repeating, Processes, no_members, and_member, member_count, TypedProgram}
 use Rattle.width_check.specs.Typing.{kind_at, channel_width}
 use Rattle.width_check.specs.Reads.{reads}
-use Rattle.function_blocks.specs.Rails.{RailLevels, side_of, levels_of, pair_in, low_pairs, one_rule_fires}
+use Rattle.function_blocks.specs.Rails.{RailLevels, side_of, pair_in, low_pairs, one_rule_fires}
 use Rattle.function_blocks.specs.Parts.{gate_count}
 use Rattle.function_blocks.specs.Waves.{gate_rule}
 use Rattle.function_blocks.proofs.GateLists.{low_in}
 use Rattle.circuit_places.specs.Lines.{of_channel, of_var, Rails, Seen}
-use Rattle.circuit_places.specs.Heads.{Index, bit_of, low_bits}
 use Rattle.circuit_places.specs.Cores.{of_joined, of_ask, of_any, of_latch, of_start, of_answer, of_turn, of_leave}
-use Rattle.circuit_places.specs.Circuit.{Cells, low, low_turn, low_branches, low_guarded, SiteSpot, done, gate, PortSpot, heard, stored, taking, GuardedSpot, child, latch, next, inner, Spot, of_skip, of_assign, of_send, of_receive, in_members, of_branch, joint, of_loop, ask, in_body, of_core, of_guard, of_choice, of_round, BranchSpot, in_this, in_others, TurnSpot, in_last, in_member, in_later, site_rule, low_site, low_port, port_rule, rule, turn_rule, branch_rule}
+use Rattle.circuit_places.specs.Circuit.{Cells, low, low_turn, low_branches, SiteSpot, done, gate, PortSpot, heard, stored, taking, child, latch, next, inner, Spot, of_skip, of_assign, of_send, of_receive, in_members, of_branch, joint, of_loop, ask, in_body, of_core, of_guard, of_choice, of_round, BranchSpot, in_this, in_others, TurnSpot, in_last, in_member, in_later, site_rule, low_site, low_port, port_rule, rule, turn_rule, branch_rule}
 use Rattle.circuit_places.proofs.HeadFacts.{bit_none}
 use Rattle.circuit_places.proofs.LineNames.{self_number, self_line}
 use Rattle.circuit_places.proofs.Flow.{Quiet, or_left, not_both}
-use Rattle.circuit_places.proofs.Meets.{SiteMeets, PortMeets, Meets, TurnMeets, EachMeets, sends, receives}
+use Rattle.circuit_places.proofs.Meets.{Meets, TurnMeets, sends, receives}
 use Rattle.circuit_places.proofs.Places.{low_answer, low_quiet, low_turn_quiet}
-use Rattle.circuit_places.proofs.StillSteps.{rises, value_at, turn_rises, turn_value, branch_rises, branch_value}
-use Rattle.round_time.specs.Longest.{depth, guards_depth, tree_height, var_height, first, turn_first, each_first, assign_first, send_first, receive_first}
-use Rattle.circuit_time.proofs.Trails.{Clearing, rail_left, rail_ahead, gate_depth, site_trail, port_trail, trail, turn_trail, branch_trail}
-use Rattle.circuit_time.proofs.Depths.{Ordered, depth_most, depth_some}
+use Rattle.circuit_places.proofs.StillSteps.{rises, value_at, turn_rises, turn_value}
+use Rattle.round_time.specs.Longest.{depth, tree_height, var_height, first, turn_first, each_first, assign_first, send_first, receive_first}
+use Rattle.circuit_time.proofs.Trails.{Clearing, rail_ahead, gate_depth, site_trail, port_trail, trail, turn_trail, branch_trail}
+use Rattle.circuit_time.proofs.Depths.{depth_most, depth_some}
 
 -- ---- each statement has a way to its first step
 

@@ -1,8 +1,8 @@
 -- Two spots of a part are two of the whole.
-use Rattle.std.proofs.Common.{◌≡◌, ◌≢◌, ℕ, Bool, ap}
+use Rattle.std.proofs.Common.{◌≢◌, ℕ, Bool, ap}
 use Rattle.chp_base.specs.declared.span.Span.{Span}
-use Rattle.width_check.specs.Processes.{Formula, Process, assigning, sending, receiving, in_turn, side_by_side, choosing, repeating, Processes, no_members, and_member, Choices, and_choice}
-use Rattle.circuit_places.specs.Circuit.{SiteSpot, PortSpot, GuardedSpot, inner, Spot, of_assign, of_send, of_receive, in_members, of_branch, in_body, of_choice, ChoiceSpot, this_choice, other_choice, BranchSpot, in_this, in_others, TurnSpot, in_last, in_member, in_later}
+use Rattle.width_check.specs.Processes.{Formula, Process, assigning, sending, receiving, in_turn, side_by_side, choosing, repeating, Processes, no_members, and_member, Choices}
+use Rattle.circuit_places.specs.Circuit.{SiteSpot, PortSpot, GuardedSpot, inner, Spot, of_assign, of_send, of_receive, in_members, of_branch, in_body, of_choice, ChoiceSpot, BranchSpot, in_this, in_others, TurnSpot, in_last, in_member, in_later}
 
 -- the part of a spot, or this one where it has none
 abbrev inside : {p : Process} → Spot p → GuardedSpot p → Spot p

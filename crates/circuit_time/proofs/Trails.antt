@@ -3,7 +3,7 @@
 --
 -- P: the program; K: how many moves follow the falls of lines; p, q, more: statements; x: values of their nodes; s: a spot; held: how many
 -- moves there are from a statement's answer to the fall of its request; down: how many follow the fall of its answer.
-use Rattle.std.specs.Prelude.{ℕ, zero, suc, ◌+◌, ◌-◌, ◌/◌, Bool, true, false, nat_lt, if◌then◌else◌, max, List, [], slice_index}
+use Rattle.std.specs.Prelude.{ℕ, zero, suc, ◌+◌, ◌-◌, ◌/◌, Bool, true, false, nat_lt, if◌then◌else◌, max, [], slice_index}
 use Rattle.chp_base.specs.declared.channel.Kind.{Kind}
 use Rattle.chp_base.specs.declared.channel.Kind.TheVariants.{Out}
 use Rattle.width_check.specs.Processes.{Formula, Process, skipping, assigning, sending, receiving, in_turn, side_by_side, choosing, repeating, Processes, no_members, and_member, member_count, Choices, no_choices, and_choice, choice_count, TypedProgram}
@@ -11,7 +11,7 @@ use Rattle.width_check.specs.Typing.{kind_at, channel_width}
 use Rattle.function_blocks.specs.Rails.{side_of, pair_in}
 use Rattle.function_blocks.specs.Parts.{gate_count, block_parts}
 use Rattle.circuit_places.specs.Heads.{Index, top, under, Bits}
-use Rattle.circuit_places.specs.Cores.{OwnSpot, of_joined, of_ask, of_any, of_latch, of_start, RoundSpot, of_answer, of_turn, of_leave}
+use Rattle.circuit_places.specs.Cores.{of_joined, of_ask, of_any, of_latch, of_start, of_answer, of_turn, of_leave}
 use Rattle.circuit_places.specs.Circuit.{QElementCells, Site, Port, Cells, TurnCells, BranchCells, ChoiceCells, GuardCells, joint_count, cell_bit, SiteSpot, done, gate, PortSpot, heard, stored, taking, GuardedSpot, child, latch, next, inner, Spot, of_skip, of_assign, of_send, of_receive, in_members, of_branch, joint, of_loop, ask, in_body, of_core, of_guard, of_choice, of_round, GuardSpot, this_gate, other_gate, ChoiceSpot, this_choice, other_choice, BranchSpot, in_this, in_others, TurnSpot, in_last, in_member, in_later}
 use Rattle.round_time.specs.Longest.{depths, depth, guards_depth, tree_height, var_height, first, turn_first}
 

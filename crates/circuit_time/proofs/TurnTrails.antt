@@ -2,23 +2,23 @@
 --
 -- P: the program; K: how many moves follow the falls of lines; g: where a member is; t: where what stands behind it is; h: how both are
 -- linked; s, q: spots; z: that a rule fires; l: what is said of the move of a part.
-use Rattle.std.proofs.Common.{◌≡◌, ◌≢◌, ℕ, zero, suc, ◌+◌, ◌-◌, ◌<◌, ◌≤◌, Bool, true, false, List, refl, sym, ap, ◌∙◌, subst, inl, inr, arith}
-use Rattle.std.specs.Prelude.{◌⊎◌, not, ◌&&◌, if◌then◌else◌}
-use Rattle.width_check.specs.Processes.{Process, repeating, in_turn, Processes, no_members, and_member, TypedProgram}
+use Rattle.std.proofs.Common.{◌≡◌, ◌≢◌, ℕ, ◌+◌, ◌-◌, ◌<◌, ◌≤◌, Bool, true, false, refl, sym, ap, ◌∙◌, subst, inl, inr, arith}
+use Rattle.std.specs.Prelude.{if◌then◌else◌}
+use Rattle.width_check.specs.Processes.{Process, in_turn, Processes, no_members, and_member, TypedProgram}
 use Rattle.function_blocks.specs.Rails.{one_rule_fires}
 use Rattle.circuit_places.specs.Lines.{Line, of_channel, Seen}
-use Rattle.circuit_places.specs.Circuit.{Cells, TurnCells, QElementCells, low, low_turn, GuardedSpot, child, latch, next, inner, Spot, of_loop, ask, in_body, in_members, TurnSpot, in_last, in_member, in_later, answer, last_answer, guarded_rule, rule, turn_rule, turned_guarded, flipped, turned_turn}
+use Rattle.circuit_places.specs.Circuit.{Cells, QElementCells, low_turn, GuardedSpot, child, latch, next, inner, Spot, in_members, TurnSpot, in_last, in_member, in_later, guarded_rule, rule, turn_rule, turned_guarded, flipped, turned_turn}
 use Rattle.circuit_places.proofs.Modes.{goes}
 use Rattle.circuit_places.proofs.Flow.{Clean, Backed, Quiet, GuardedAfter, low_of, or_right, not_both}
-use Rattle.circuit_places.proofs.Meets.{Meets, TurnMeets, sends, turn_sends, receives, each_receives}
-use Rattle.circuit_places.proofs.Begin.{guarded_past_is, answered_moves, turn_answered_moves}
-use Rattle.circuit_places.proofs.Places.{Mode, idle, running, answered, returning, asks, acks, link, Shown, none_shown, GuardedAt, g_in, g_rests, g_past, g_back, At, at_body, at_turn, TurnAt, at_last, at_member, at_later, guarded_cells, cells, turn_cells, guarded_shown, shown, Fits, TurnFits, guarded_moves, moves, turn_moves, next_is, link_asks, link_next, link_acks, answer_is, turn_answer_is, low_turn_answer, low_turn_quiet, low_quiet, low_answer, can_is, turn_can_is, guarded_can_is}
-use Rattle.circuit_places.proofs.StillSteps.{rises, value_at, turn_rises, turn_value, guarded_rises, guarded_value}
-use Rattle.round_time.specs.Longest.{first, turn_first}
+use Rattle.circuit_places.proofs.Meets.{TurnMeets, sends, turn_sends, receives, each_receives}
+use Rattle.circuit_places.proofs.Begin.{guarded_past_is, turn_answered_moves}
+use Rattle.circuit_places.proofs.Places.{Mode, idle, running, answered, returning, asks, acks, link, Shown, GuardedAt, g_in, g_back, At, at_turn, TurnAt, at_last, at_member, at_later, guarded_cells, cells, turn_cells, guarded_shown, TurnFits, guarded_moves, moves, turn_moves, next_is, link_asks, link_next, link_acks, turn_answer_is, low_turn_answer, low_turn_quiet, low_quiet, low_answer, turn_can_is, guarded_can_is}
+use Rattle.circuit_places.proofs.StillSteps.{turn_rises, turn_value}
+use Rattle.round_time.specs.Longest.{turn_first}
 use Rattle.circuit_time.proofs.Trails.{Clearing, back, turn_back, guarded_trail, trail, turn_trail}
-use Rattle.circuit_time.proofs.Requests.{Plain, turn_some, turn_asked}
-use Rattle.circuit_time.proofs.Releases.{released, turn_released}
-use Rattle.circuit_time.proofs.Spots.{members_apart, body_apart, last_apart, member_apart, later_apart}
+use Rattle.circuit_time.proofs.Requests.{Plain, turn_asked}
+use Rattle.circuit_time.proofs.Releases.{turn_released}
+use Rattle.circuit_time.proofs.Spots.{members_apart, last_apart, member_apart, later_apart}
 use Rattle.circuit_time.proofs.OwnTrails.{Shorter, Led, TurnLed, GuardedLed}
 
 -- a spot of a part as one of the whole
