@@ -1,7 +1,8 @@
-"""A model of the longest phase of a program's circuit, beside the proved call: how many moves, one behind the other, its nodes
-make at most between the steps of one round and those of the next.
+"""A model of how long a round of a program takes its circuit at most, beside the proved call: how many moves, one behind the other, its
+nodes make at most between the steps of one round and those of the next.
 
-It goes by the tree of a program, in which each call is a copy of its procedure's body.
+It goes by the tree of a program, in which each call is a copy of its procedure's body. An assignment that reads its own target
+(`through`) is two in a body, by a hidden variable (`halves`).
 """
 import os
 import sys
@@ -67,21 +68,23 @@ def bits_of(node, width, widths):
 
 class Model:
     """The bound of a program, and of each statement the parts of it. `let_go` is for how long the request of a statement is high
-    once it has answered."""
+    once it has answered. Where `halved`, all assignments that read their own target are two, as those of bodies are: to a hidden
+    variable as wide, and from that."""
 
-    def __init__(self, text):
+    def __init__(self, text, halved=False):
         program = read_program(text)
         self.widths = {decl.name: decl.width for decl in program.decls}
         self.kinds = {decl.name: decl.kind for decl in program.decls if decl.kind != "var"}
-        self.body = self.inlined(program.body, program.procs)
+        self.body = self.inlined(program.body, program.procs, halved)
         self.fall()
 
-    def inlined(self, stmt, procs):
-        """The statement with a copy of its body for each call. A body of a group is the group that its call stands in, where
-        they are of one kind."""
+    def inlined(self, stmt, procs, is_split):
+        """The statement with a copy of its body for each call, and with assignments that read their own target as two, if they are
+        split. A body of a group is the group that its call stands in, where they are of one kind."""
         if stmt.kind == "call":
-            return self.inlined(procs[stmt.name], procs)
-        return replace(stmt, children=[self.inlined(child, procs) for child in stmt.children])
+            return self.inlined(procs[stmt.name], procs, True)
+        kind = "halves" if is_split and stmt.kind == "through" else stmt.kind
+        return replace(stmt, kind=kind, children=[self.inlined(child, procs, is_split) for child in stmt.children])
 
     def depth(self, value, width):
         """That of an expression."""
@@ -119,13 +122,13 @@ class Model:
 
     def written(self, stmt):
         """The variable that a statement writes, if it does."""
-        return {"assign": stmt.name, "through": stmt.name, "receive": stmt.target}.get(stmt.kind)
+        return {"assign": stmt.name, "through": stmt.name, "halves": stmt.name, "receive": stmt.target}.get(stmt.kind)
 
     def write_holds(self, stmt, its):
         """How long the rails are high by which a statement writes."""
         if stmt.kind == "assign":
             return its + self.own_depth(stmt) + 2
-        return its + 5 if stmt.kind == "through" else max(self.rails[stmt.name], its + 1) + 2
+        return its + 5 if stmt.kind in ("through", "halves") else max(self.rails[stmt.name], its + 1) + 2
 
     def fall(self):
         """Works out when lines fall: rails of channels, rails by which variables are written, and the answers of both ends of
@@ -151,6 +154,8 @@ class Model:
             return 1
         if stmt.kind == "assign":
             return self.own_depth(stmt) + 4 + self.height_of(stmt.name)
+        if stmt.kind == "halves":
+            return self.own_depth(stmt) + 5 + self.height_of(stmt.name)
         if stmt.kind == "through":
             return 2 * self.own_depth(stmt) + 17 + 3 * self.height_of(stmt.name)
         if stmt.kind == "send":
@@ -167,7 +172,7 @@ class Model:
         """From the last step of a statement to the fall of its answer."""
         if stmt.kind in ("skip", "loop"):
             return let_go + 1
-        if stmt.kind in ("assign", "through"):
+        if stmt.kind in ("assign", "through", "halves"):
             return self.writes[stmt.name] + 2 + self.height_of(stmt.name)
         if stmt.kind in ("send", "receive"):
             return self.ends[stmt.name]
@@ -184,6 +189,9 @@ class Model:
         """The lengths of the ways within a statement from the steps of one round to those of the next, beside those within
         the statements in it."""
         inner = list(self.inner(stmt, let_go))
+        if stmt.kind == "halves":
+            # from the first half's step until its rails have fallen, then the bits' nodes and its answer; to that of the second
+            yield self.own_depth(stmt) + 12 + 2 * self.height_of(stmt.name)
         if stmt.kind == "sequence":
             for place in range(1, len(inner)):
                 yield self.low(*inner[place - 1]) + 1 + self.first(inner[place][0]) + (place + 1 < len(inner))
@@ -206,5 +214,13 @@ class Model:
 
 
 def longest(text):
-    """The longest phase of the program with this text."""
+    """The longest way of the program with this text."""
     return Model(text).longest()
+
+
+def bound(text):
+    """How long each of n rounds takes at most, as proved of the circuit in which each call is a copy: twice as long as the longest way of
+    the program in halves where an assignment reads its own target."""
+    whole = Model(text)
+    reads = any(stmt.kind == "through" for stmt, _ in whole.sites(whole.body))
+    return 2 * Model(text, halved=True).longest() if reads else whole.longest()

@@ -1,4 +1,4 @@
-"""Proves the crates of the program and builds it, by `rt ci` over a copy of them.
+"""Proves the crates of the program and builds it, and `chp_pace` beside it, by `rt ci` over a copy of them.
 
 `rt ci` proves the crates side by side, those first on which the longest chain of others stands. It keeps on this
 machine what it has proved, so a build that was broken off goes on where it was; and since it is the gate's own command,
@@ -21,18 +21,19 @@ import time
 from collections.abc import Iterator
 from typing import TextIO
 
-from wrapper.crates import CRATES, HOME, READ, TOP, files_of, say
+from wrapper.crates import CRATES, HOME, PROGRAMS, READ, TOP, files_of, say
 from wrapper.watch import Watch, in_words
 
-PROGRAM = os.path.join(HOME, "out", "chpc")
+BUILT = {name: os.path.join(CRATES, name, "out", name) for name in PROGRAMS}
+PROGRAM = BUILT["chpc"]
 LOG = os.path.join(HOME, "out", "build.log")
 
 
 def is_current(below: dict[str, list[str]]) -> bool:
-    """Whether the program is there, and no file that it is made of is newer."""
-    if not os.access(PROGRAM, os.X_OK):
+    """Whether the programs are there, and no file that they are made of is newer."""
+    if not all(os.access(program, os.X_OK) for program in BUILT.values()):
         return False
-    built = os.stat(PROGRAM).st_mtime_ns
+    built = min(os.stat(program).st_mtime_ns for program in BUILT.values())
     return all(os.stat(file).st_mtime_ns <= built for crate in below for file in files_of(crate, *READ))
 
 
@@ -104,11 +105,13 @@ def prove_and_link(below: dict[str, list[str]], log: TextIO) -> int:
             if wrong or not re.match(r"\d+ passed, 0 failed$", end):
                 why = f"{wrong} wasn't proved" if wrong else "the program wasn't built"
                 return failed(why, parts.get(wrong or part, []))
-            made = os.path.join(room, "crates", "chpc", "out", "chpc")
-            put_in_place(made, PROGRAM)
+            for name, program in BUILT.items():
+                os.makedirs(os.path.dirname(program), exist_ok=True)
+                put_in_place(os.path.join(room, "crates", name, "out", name), program)
     finally:
         watch.ended.set()
-    os.utime(PROGRAM, (began, began))  # so that a file which changed meanwhile is newer
+    for program in BUILT.values():
+        os.utime(program, (began, began))  # so that a file which changed meanwhile is newer
     say(f"built, in {in_words((time.time() - began) / 60)}")
     return 0
 

@@ -11,6 +11,7 @@ from collections.abc import Iterator
 TOP = os.path.dirname(os.path.dirname(os.path.realpath(__file__)))
 CRATES = os.path.join(TOP, "crates")
 HOME = os.path.join(CRATES, "chpc")
+PROGRAMS = ("chpc", "chp_pace")  # what a build makes
 READ = ("src", "specs", "proofs")  # what a crate's proof is made of
 LINE = 0.002  # minutes for a line of code and definitions, for a crate that docs/GATE.md doesn't have
 
@@ -20,13 +21,13 @@ def say(text: str) -> None:
     print(f"chpc: {text}", file=sys.stderr, flush=True)
 
 
-def crates_below(name: str) -> dict[str, list[str]]:
-    """The crates that a crate stands on, and itself, each with those of the repository that it names."""
+def crates_below(*names: str) -> dict[str, list[str]]:
+    """The crates that some crates stand on, and themselves, each with those of the repository that it names."""
     with open(os.path.join(TOP, "crates.txt"), encoding="utf-8") as file:
         lines = [line.split(":") for line in file if ":" in line and not line.startswith("#")]
     named = {words.split()[0]: below.split() for words, below in lines}
     found: dict[str, list[str]] = {}
-    left = [name]
+    left = list(names)
     while left:
         crate = left.pop()
         found[crate] = [it for it in named[crate] if it in named]

@@ -72,9 +72,9 @@ class Builds(unittest.TestCase):
             self.assertEqual(watch.planned(below, costs, {"high"}), 2.0)
 
     def test_crates(self) -> None:
-        """Each crate of the program has its minutes."""
-        below = crates.crates_below("chpc")
-        self.assertIn("chp_base", below)
+        """Each crate of the programs has its minutes."""
+        below = crates.crates_below(*crates.PROGRAMS)
+        self.assertLessEqual({"chp_base", "chp_cli", "chpc", "pace_command", "chp_pace"}, set(below))
         self.assertTrue(all(cost > 0 for cost in crates.minutes(below).values()))
 
 

@@ -45,7 +45,7 @@ _chpx() {
   [ "${COMP_WORDS[1]}" = --unproved ] && at=2
   if [ "$COMP_CWORD" -le "$at" ]; then
     [ "$at" = 1 ] && options='--unproved --help --version'
-    mapfile -t COMPREPLY < <(compgen -W "check compile expand run simulate bench waves unwave migrate grow why hunt view events cover profile buffered stat tree lint sort test link $options" -- "$word")
+    mapfile -t COMPREPLY < <(compgen -W "check compile expand run simulate bench waves unwave migrate grow why hunt view events cover profile pace buffered stat tree lint sort test link $options" -- "$word")
     return
   fi
   command="${COMP_WORDS[at]}"
@@ -54,7 +54,7 @@ _chpx() {
   [ "$before" = '=' ] && before="${COMP_WORDS[COMP_CWORD-2]}"
   [ "$word" = '=' ] && word=''
   case "$command $before" in
-    'compile --buffer'|'run --rounds'|'run --buffer'|'simulate --seed'|'simulate --steps'|'bench --seed'|'bench --steps'|'waves --steps'|'why --steps'|'why --buffer'|'why --until'|'hunt --seeds'|'hunt --mixed'|'hunt --steps'|'view --steps'|'view --until'|'view --causes-of'|'view --latency'|'events --steps'|'events --buffer'|'events --until'|'events --seed'|'events --channel'|'cover --steps'|'cover --buffer'|'profile --steps'|'profile --buffer'|'profile --to'|'profile --from'|'profile --most'|'stat --buffer'|'tree --buffer') return ;;
+    'compile --buffer'|'run --rounds'|'run --buffer'|'simulate --seed'|'simulate --steps'|'bench --seed'|'bench --steps'|'waves --steps'|'why --steps'|'why --buffer'|'why --until'|'hunt --seeds'|'hunt --mixed'|'hunt --steps'|'view --steps'|'view --until'|'view --causes-of'|'view --latency'|'events --steps'|'events --buffer'|'events --until'|'events --seed'|'events --channel'|'cover --steps'|'cover --buffer'|'profile --steps'|'profile --buffer'|'profile --to'|'profile --from'|'profile --most'|'pace --rounds'|'stat --buffer'|'tree --buffer') return ;;
     'simulate --power') mapfile -t COMPREPLY < <(compgen -W 'low high' -- "$word"); return ;;
     'simulate --order'|'bench --order'|'events --order') mapfile -t COMPREPLY < <(compgen -W 'lowest oldest newest random' -- "$word"); return ;;
     'bench --peer') mapfile -t COMPREPLY < <(compgen -W 'ramp echo' -- "$word"); return ;;
@@ -77,6 +77,7 @@ _chpx() {
     events) options='--delays --steps --program --buffer --until --order --seed --channel --hex --json' ;;
     cover) options='--steps --buffer' ;;
     profile) options='--delays --steps --program --buffer --to --from --most --json' ;;
+    pace) options='--rounds' ;;
     buffered) options='' ;;
     stat) options='--buffer --json' ;;
     tree) options='--buffer' ;;

@@ -35,16 +35,16 @@ use Rattle.reset_net.specs.Resets.{reset_of}
 use Rattle.net_compose.specs.Progress.{RestsAfter, IsLevel, most_moves}
 use Rattle.net_compose.specs.Time.{HasPassed}
 use Rattle.net_pace.specs.Lasting.{HasLasted}
-use Rattle.net_pace.specs.Pace.{TimedPace, TimedPaceReset}
+use Rattle.net_pace.specs.Pace.{IsRoundTime, TimedPace, TimedPaceReset}
 use Rattle.net_compose.proofs.HalvedCarried.{scaled}
 use Rattle.net_compose.proofs.OnceEach.{run_length}
 use Rattle.command_answers.specs.Answers.{Given, Answer}
 use Rattle.call_map.specs.CallPace.{IsMost, always}
-use Rattle.program_commands.specs.Bodies.{Bodies, copied, shared, IsFaithful, NetCarries, NetProgresses, net_for, net_with, sweeps_with}
+use Rattle.program_commands.specs.Bodies.{Bodies, copied, shared, IsFaithful, NetCarries, NetProgresses, net_for, net_with}
 use Rattle.command_steps.specs.Orders.{Played}
 use Rattle.chp_cli.specs.BenchedFiles.{IsFileBenched, benched_run}
 use Rattle.chp_cli.specs.MadeRuns.{MadeRun, RunTiming, made_run}
-use Rattle.chp_cli.specs.Resting.{KeepsPaceWith, KeepsUp, LastsAtMost, RestsInTime, delays_for, most_in_run}
+use Rattle.chp_cli.specs.Resting.{KeepsPaceWith, KeepsUp, LastsAtMost, RestsInTime, delays_for, most_in_run, sweeps_with}
 use Rattle.chp_cli.specs.Simulated.{IsFileSimulated, HoldsCarrying, HoldsCompiled, simulated_run}
 use Rattle.command_words.specs.SimulateWords.{AskedRun, AskedTiming}
 use Rattle.simulation_commands.specs.Simulating.{power_or_low, simulation_for}
@@ -111,20 +111,22 @@ rests_level powered true {p} bodies progresses script high ns net fits run m c o
 
 abbrev PassesInTime : Bool → {p : TypedProgram} → Bodies p → NetValue → Type 0
 PassesInTime reset {p} bodies n =
-    (script : List OfferValue) (high : Bool) (longest : ℕ) (d : DelayTable) (ms : List NotedMove) → IsNet n → IsScript p.channels script
-    → TakesAtMost longest d → IsTimedRun d n script (begin_at n (power_of n high)) ms → (k : ℕ)
-    → HasLasted n script (begin_at n (power_of n high)) ms (delays_for reset bodies k * longest)
+    (script : List OfferValue) (high : Bool) (slowest : ℕ) (d : DelayTable) (ms : List NotedMove) → IsNet n → IsScript p.channels script
+    → TakesAtMost slowest d → IsTimedRun d n script (begin_at n (power_of n high)) ms → (sweeps k : ℕ) → IsRoundTime p sweeps
+    → HasLasted n script (begin_at n (power_of n high)) ms (delays_for reset bodies sweeps k * slowest)
     → HasPassed (after n (begin_at n (power_of n high)) (moved_nodes ms)) (rounds p script k)
 
-passes_in_time : Powered → (reset : Bool) {p : TypedProgram} (bodies : Bodies p) → TimedPace (net_with bodies) p (sweeps_with bodies)
-    → TimedPaceReset (reset_of (net_with bodies)) p (sweeps_with bodies) → PassesInTime reset bodies (net_for reset bodies)
-passes_in_time powered false copied paced reset_paced script high longest d ms net fits slow run k lasted =
-    paced script fits longest d slow ms run k lasted
-passes_in_time powered false (shared h) paced reset_paced script high longest d ms net fits slow run k lasted =
-    paced script fits longest d slow ms run k lasted
-passes_in_time powered true bodies paced reset_paced script high longest d ms net fits slow run k lasted =
+passes_in_time : Powered → (reset : Bool) {p : TypedProgram} (bodies : Bodies p)
+    → ((sweeps : ℕ) → IsRoundTime p sweeps → TimedPace (net_with bodies) p (sweeps_with bodies sweeps))
+    → ((sweeps : ℕ) → IsRoundTime p sweeps → TimedPaceReset (reset_of (net_with bodies)) p (sweeps_with bodies sweeps))
+    → PassesInTime reset bodies (net_for reset bodies)
+passes_in_time powered false copied paced reset_paced script high slowest d ms net fits slow run sweeps k bound lasted =
+    paced sweeps bound script fits slowest d slow ms run k lasted
+passes_in_time powered false (shared h) paced reset_paced script high slowest d ms net fits slow run sweeps k bound lasted =
+    paced sweeps bound script fits slowest d slow ms run k lasted
+passes_in_time powered true bodies paced reset_paced script high slowest d ms net fits slow run sweeps k bound lasted =
     let n = net_for true bodies in
-    reset_paced script fits (power_of n high) (powered n high net refl) longest d slow ms run k lasted
+    reset_paced sweeps bound script fits (power_of n high) (powered n high net refl) slowest d slow ms run k lasted
 
 -- ---- a run of the net of a file that `compile` wrote
 
@@ -226,8 +228,8 @@ module _ (powered : Powered) (law : (net : NetValue) (script : List OfferValue) 
 
   -- ---- timed
 
-  module _ (in_time : (longest : ℕ) (t : TimedValue) (ms : List NotedMove) (r : RanValue) (time : ℕ) → TakesAtMost longest t.delays → IsTimedRan t ms r time →
-      time ≤ longest * length ms)
+  module _ (in_time : (slowest : ℕ) (t : TimedValue) (ms : List NotedMove) (r : RanValue) (time : ℕ) → TakesAtMost slowest t.delays → IsTimedRan t ms r time →
+      time ≤ slowest * length ms)
       (paced : ArePaced) (reset_paced : ArePacedReset) where
     file_timed : (given : Given) (file : List ℕ) (p : TypedProgram) (holds : HoldsCompiled given file p) (rules : List ℕ) (net : NetValue)
         → given.files file ≡ Some rules → IsFileOf rules net → (script : List OfferValue) → IsScript (net_channels net) script
@@ -248,11 +250,11 @@ module _ (powered : Powered) (law : (net : NetValue) (script : List OfferValue) 
         the_run = made_run net script st (moved_nodes ms) steps r.end (Some (record { delays = delays; time = time }))
 
         lasts : LastsAtMost holds.reset holds.bodies the_run (record { delays = delays; time = time })
-        lasts = λ longest most m c few bound over.
+        lasts = λ slowest most m c few bound over.
             let within = file_within given file p holds rules net held is script suits high (moved_nodes ms) ran.run most m c bound over in
             let count = length-map ms (λ (x : NotedMove). x.node) in
-            let soon = in_time longest (timed_value net script steps delays high) ms r time few ran in
-            let all = scaled (length ms) (most_in_run holds.reset holds.bodies most m) longest (omega (arith, within, count)) in
+            let soon = in_time slowest (timed_value net script steps delays high) ms r time few ran in
+            let all = scaled (length ms) (most_in_run holds.reset holds.bodies most m) slowest (omega (arith, within, count)) in
             omega (arith, soon, all)
 
         has_lasted : (late : ℕ) → (late < time) ⊎ (r.end ≡ AtRest) → HasLasted net script st ms late
@@ -261,11 +263,11 @@ module _ (powered : Powered) (law : (net : NetValue) (script : List OfferValue) 
             inr (at_rest net script st (moved_nodes ms) steps r.end is.kept ran.ends rest)
 
         keeps_up : KeepsUp holds.reset holds.bodies the_run (record { delays = delays; time = time })
-        keeps_up = λ longest k slow lasted.
+        keeps_up = λ slowest sweeps k slow bound lasted.
             subst (PassesInTime holds.reset holds.bodies) (same given file p holds rules net held is script suits high (moved_nodes ms) ran.run)
-            (passes_in_time powered holds.reset holds.bodies (paced given file p holds) (reset_paced given file p holds)) script high longest delays ms is.kept
-            (fits given file p holds rules net held is script suits high (moved_nodes ms) ran.run) slow ran.timed k
-            (has_lasted (delays_for holds.reset holds.bodies k * longest) lasted)
+            (passes_in_time powered holds.reset holds.bodies (paced given file p holds) (reset_paced given file p holds)) script high slowest delays ms is.kept
+            (fits given file p holds rules net held is script suits high (moved_nodes ms) ran.run) slow ran.timed
+            sweeps k bound (has_lasted (delays_for holds.reset holds.bodies sweeps k * slowest) lasted)
 
     pub timed_rests : (t : AskedTiming) (given : Given) (p : TypedProgram) (holds : HoldsCompiled given t.net p) (answer : Answer)
         → (f : IsFileTimed t given answer) → KeepsPaceWith holds.reset holds.bodies (timed_run t f)

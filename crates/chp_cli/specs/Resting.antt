@@ -8,7 +8,8 @@ use Rattle.net_compose.specs.Progress.{RestsAfter, IsLevel}
 use Rattle.net_compose.specs.Time.{HasPassed}
 use Rattle.width_check.specs.Processes.{TypedProgram}
 use Rattle.call_map.specs.CallPace.{IsMost}
-use Rattle.program_commands.specs.Bodies.{Bodies, most_with, nodes_with, sweeps_with}
+use Rattle.net_pace.specs.Pace.{IsRoundTime}
+use Rattle.program_commands.specs.Bodies.{Bodies, copied, shared, most_with, nodes_with}
 use Rattle.chp_cli.specs.MadeRuns.{MadeRun, RunTiming, last_state}
 
 -- the most moves of a run of the net that is written for a program, where that makes m steps and those of the net with
@@ -25,12 +26,15 @@ RestsInTime reset {p} bodies run =
     (most : ℕ → ℕ) (m : ℕ) (c : Configuration) → IsMost p most → RestsAfter p run.script m c →
     most_in_run reset bodies most m < run.steps → (run.end ≡ AtRest) × IsLevel (last_state run) c
 
--- how many delays are enough for what n rounds of the program pass: for a round twice as many as two for each node and
--- one more, also where no assignment reads its own target, and twice that where bodies are shared, by the nodes of the
--- net with copies; with a reset node two at the beginning besides
-abbrev pub delays_for : (reset : Bool) → {p : TypedProgram} → Bodies p → (n : ℕ) → ℕ
-delays_for false bodies n = n * sweeps_with bodies
-delays_for true bodies n = suc (suc (n * sweeps_with bodies))
+-- of the net with these bodies, where so many sweeps of the net with copies are enough for a round
+abbrev pub sweeps_with : {p : TypedProgram} → Bodies p → (sweeps : ℕ) → ℕ
+sweeps_with copied sweeps = sweeps
+sweeps_with (shared h) sweeps = 2 * sweeps
+
+-- how many delays are then enough for what n rounds of the program pass: with a reset node two at the beginning besides
+abbrev pub delays_for : (reset : Bool) → {p : TypedProgram} → Bodies p → (sweeps n : ℕ) → ℕ
+delays_for false bodies sweeps n = n * sweeps_with bodies sweeps
+delays_for true bodies sweeps n = suc (suc (n * sweeps_with bodies sweeps))
 
 -- where the program comes to rest and no move takes longer than some time, the last one comes by that time multiplied
 -- by the most moves
@@ -39,12 +43,12 @@ LastsAtMost reset {p} bodies run timing =
     (slowest : ℕ) (most : ℕ → ℕ) (m : ℕ) (c : Configuration) → TakesAtMost slowest timing.delays →
     IsMost p most → RestsAfter p run.script m c → timing.time ≤ slowest * most_in_run reset bodies most m
 
--- Where no move takes longer than some time, a timed run whose last move comes later than so many of these times, or
--- that comes to rest, has passed all that n rounds of the program pass.
+-- Where no move takes longer than some time, a timed run whose last move comes later than so many of these times, by
+-- either bound for a round, or that comes to rest, has passed all that n rounds of the program pass.
 abbrev pub KeepsUp : (reset : Bool) → {p : TypedProgram} → Bodies p → MadeRun → RunTiming → Type 0
 KeepsUp reset {p} bodies run timing =
-    (slowest n : ℕ) → TakesAtMost slowest timing.delays →
-    (delays_for reset bodies n * slowest < timing.time) ⊎ (run.end ≡ AtRest)
+    (slowest sweeps n : ℕ) → TakesAtMost slowest timing.delays → IsRoundTime p sweeps →
+    (delays_for reset bodies sweeps n * slowest < timing.time) ⊎ (run.end ≡ AtRest)
     → HasPassed (last_state run) (rounds p run.script n)
 
 -- how soon the moves of a timed run come

@@ -310,10 +310,11 @@ pub fn compiled_runs_follow()
 /// it ends at rest, if its limit is above the most moves that its net makes till then: by whatever order it is made, or
 /// by whatever delays, and on a bench under the script of all that the device offered and took. It has passed what the
 /// program has, and `done` is high exactly where that has ended. Where no move takes longer than some time, the last
-/// one comes no later than the most moves at that time each; and a timed run whose last move comes later than
-/// 2 · (2 nodes + 1) of these times for each of n rounds of the program, with a reset node two more, or that rests, has
-/// passed all that these rounds pass. In a net with shared bodies it is twice as many for each round, and the nodes are
-/// those of the net with copies.
+/// one comes no later than the most moves at that time each. And a timed run that rests has passed all that n rounds of
+/// the program pass; so has one whose last move comes later than as many of these times as are enough for n rounds:
+/// for each `longest`, which no way of moves through the circuit from the steps of one round to those of the next
+/// exceeds, or where an assignment reads its own target twice `longest` of the program in halves; in a net with shared
+/// bodies twice as many, by the program with copies; and with a reset node two more in all.
 pub fn compiled_runs_rest()
     ensures simulated { (s : AskedRun) (given : Given) (played : Played) (p : TypedProgram)
         (holds : HoldsCompiled given s.net p) (answer : Answer) (f : IsFileSimulated s given played answer) →

@@ -168,9 +168,11 @@ fn run<'a, S: Shelf, K: Sink>(
 /// what as many rounds of the program as it has moves pass under the script, and where it reports rest all that the
 /// program passes. Where it reports rest, no order makes more moves. Where its program comes to rest under the script,
 /// so does the run, if the limit is high enough. With delays of at most some time it does so no later than the most
-/// moves at that time each; and where its last move comes later than 2 · (2 nodes + 1) of these times for each of n
-/// rounds of the program, with a reset node two more, or it rests, it has passed what these rounds pass. (Where calls
-/// share bodies, twice as many for each round, by the nodes of the net in which each call has a copy.)
+/// moves at that time each. And where it rests, or its last move comes later than as many of these times as are enough
+/// for n rounds of the program, it has passed what these rounds pass. Enough for a round are as many as `longest`,
+/// which no way of moves through the circuit from the steps of one round to those of the next exceeds, or, where an
+/// assignment reads its own target, twice as many as `longest` of the program in halves; where calls share bodies twice
+/// as many, by the program in which each call has a copy; and with a reset node two more in all.
 ///
 /// A run of a rule file that `compile` wrote on a bench finds no hazard against whatever device. Where its report was
 /// written whole, what has passed is a prefix of what its program passes under the script of the device's notes, of all

@@ -1,27 +1,25 @@
--- Each own silent move of a statement without guarded repetitions lets no own move begin but of a shorter trail.
+-- Each own silent move of a statement lets no own move begin but of a shorter trail.
 --
 -- P: the program; K: how many moves follow the falls of lines; env: what the statement sees; a, g, b, t: where it is; s: a spot; f: that the
 -- cells fit; behind: that a high acknowledge has its site under way; e: that the spot's rule fires; plain: that its move is no step.
 use Rattle.std.proofs.Common.{◌≡◌, ℕ, suc, ◌+◌, ◌-◌, ◌≤◌, Bool, true, false, List, refl, sym, ap, ◌∙◌, subst, inl, inr, arith}
 use Rattle.std.specs.Prelude.{not, ◌&&◌, if◌then◌else◌}
 use Rattle.chp_base.specs.declared.span.Span.{Span}
-use Rattle.width_check.specs.Processes.{Formula, Process, assigning, sending, receiving, in_turn, side_by_side, choosing, repeating, Processes, no_members, and_member, member_count, Choices, no_choices, and_choice, TypedProgram}
+use Rattle.width_check.specs.Processes.{Formula, Process, assigning, sending, receiving, in_turn, side_by_side, Processes, and_member, member_count, Choices, TypedProgram}
 use Rattle.width_check.specs.Typing.{kind_at, channel_width}
 use Rattle.function_blocks.specs.Rails.{Pairs, one_rule_fires}
 use Rattle.function_blocks.specs.Parts.{gate_count}
-use Rattle.circuit_places.specs.Cores.{of_ask, of_any, of_latch, of_start}
 use Rattle.circuit_places.specs.Lines.{Line, of_channel, of_var, Rails, Seen}
-use Rattle.circuit_places.specs.Circuit.{SiteSpot, done, gate, PortSpot, heard, stored, taking, GuardedSpot, child, latch, next, inner, Spot, of_assign, of_send, of_receive, in_members, of_branch, joint, of_loop, ask, in_body, low_turn, of_core, of_guard, of_choice, ChoiceSpot, this_choice, other_choice, BranchSpot, in_this, in_others, TurnSpot, in_last, in_member, in_later, answer, rule, flipped}
+use Rattle.circuit_places.specs.Circuit.{SiteSpot, done, gate, PortSpot, heard, stored, taking, GuardedSpot, child, latch, next, inner, Spot, of_assign, of_send, of_receive, in_members, of_branch, joint, of_loop, ask, in_body, low_turn, of_core, of_guard, of_choice, of_round, ChoiceSpot, this_choice, other_choice, BranchSpot, in_this, in_others, TurnSpot, in_last, in_member, in_later, answer, rule, flipped}
 use Rattle.circuit_places.proofs.RailLemmas.{fst_true, snd_true, same_value}
-use Rattle.circuit_places.proofs.HeadFacts.{bit_none}
-use Rattle.circuit_places.proofs.CoreControl.{uncalled, called, evaluating, latched, leaving, noted, spread}
-use Rattle.circuit_places.proofs.Flow.{Clean, Backed, low_of, or_left, or_right, not_both}
+use Rattle.circuit_places.proofs.CoreMoves.{own, guard, branch}
+use Rattle.circuit_places.proofs.Flow.{Clean, Backed, or_left, or_right, not_both}
 use Rattle.circuit_places.proofs.Meets.{SiteMeets, Meets, TurnMeets, EachMeets, ChoiceMeets, choice_sends, choice_receives, sends, turn_sends, receives, each_receives}
 use Rattle.circuit_places.proofs.Talks.{beside, or_false_left, or_false_right}
-use Rattle.circuit_places.proofs.Places.{Mode, asks, acks, all_ask, SiteMay, port_may, GuardedAt, g_in, At, rests, at_skip, at_assign, at_send, at_receive, at_turn, at_side, at_body, at_choice, at_turning, at_closing, control_at, inside_at, ChosenAt, this_one, another, chosen_cells, chosen_shown, ChosenFits, chosen_moves, low_guards_quiet, BranchesAt, no_more, and_at, TurnAt, turn_rests, at_last, at_member, at_later, guarded_cells, cells, branch_cells, turn_cells, guarded_shown, shown, branches_shown, turn_shown, site_of, port_of, SiteFits, GuardedFits, Fits, BranchesFit, TurnFits, guarded_moves, moves, branch_moves, turn_moves, can_is}
+use Rattle.circuit_places.proofs.Places.{Mode, asks, acks, all_ask, SiteMay, port_may, GuardedAt, g_in, At, rests, at_skip, at_assign, at_send, at_receive, at_turn, at_side, at_body, at_choice, at_turning, at_closing, control_at, inside_at, ChosenAt, this_one, another, chosen_cells, chosen_shown, ChosenFits, chosen_moves, BranchesAt, no_more, and_at, TurnAt, turn_rests, at_last, at_member, at_later, guarded_cells, cells, branch_cells, turn_cells, guarded_shown, shown, branches_shown, turn_shown, site_of, port_of, SiteFits, GuardedFits, Fits, BranchesFit, TurnFits, guarded_moves, moves, branch_moves, turn_moves, can_is}
 use Rattle.circuit_places.proofs.Control.{guarded_advance}
 use Rattle.circuit_places.proofs.StillSteps.{choice_rises, choice_value, guarded_rises, guarded_value, branch_rises, branch_value, turn_rises, turn_value}
-use Rattle.round_time.specs.Longest.{depth, tree_height, var_height, turn_first}
+use Rattle.round_time.specs.Longest.{depth, guards_depth, tree_height, var_height, turn_first}
 use Rattle.circuit_time.proofs.Trails.{Clearing, rail_left, rail_ahead, back, turn_back, trail}
 use Rattle.circuit_time.proofs.Requests.{Plain}
 use Rattle.circuit_time.proofs.LeafTrails.{site_site, port_port}
@@ -29,32 +27,18 @@ use Rattle.circuit_time.proofs.Spots.{assign_apart, send_apart, receive_apart}
 use Rattle.circuit_time.proofs.OwnTrails.{Covers, TurnCovers, EachCovers, ChoiceCovers, Shorter, Led, TurnLed, GuardedLed}
 use Rattle.circuit_time.proofs.GuardedTrails.{inner_moves, own_led}
 use Rattle.circuit_time.proofs.TurnTrails.{wrapped, member_led, later_led, behind_led, last_led, turn_led}
+use Rattle.circuit_pace.proofs.Never.{never}
 use Rattle.circuit_pace.proofs.LoopTrails.{skip_led, ask_led, body_led}
 use Rattle.circuit_pace.proofs.SideTrails.{BranchLed, this_led, others_led, branch_led}
 use Rattle.circuit_pace.proofs.JointTrails.{joint_led}
 use Rattle.circuit_pace.proofs.ChosenTrails.{ChosenLed, this_led as this_arm, other_led as other_arm}
-use Rattle.circuit_pace.proofs.InsideTrails.{select_branch}
+use Rattle.circuit_pace.proofs.CoreTrails.{selecting, turning, room_selecting, room_turning}
+use Rattle.circuit_pace.proofs.StatementTrails.{selection_led, turning_led}
+use Rattle.circuit_pace.proofs.InsideTrails.{chosen_branch}
 use Rattle.circuit_pace.proofs.WayTrails.{way_led}
-use Rattle.circuit_pace.proofs.ControlTrails.{ask_rises, guard_rises, any_rises, ask_falls}
-use Rattle.circuit_pace.proofs.LatchedTrails.{guard_moves, start_rises}
-
--- a statement without guarded repetitions
-abbrev mutual
-  pub Straight : Process → Type 0
-  Straight (choosing true choices) = ⊥
-  Straight (choosing false choices) = ChoicesStraight choices
-  Straight (in_turn members) = AllStraight members
-  Straight (side_by_side members) = AllStraight members
-  Straight (repeating p) = Straight p
-  Straight _ = Unit {0}
-
-  pub AllStraight : Processes → Type 0
-  AllStraight no_members = Unit {0}
-  AllStraight (and_member p more) = Straight p × AllStraight more
-
-  pub ChoicesStraight : Choices → Type 0
-  ChoicesStraight no_choices = Unit {0}
-  ChoicesStraight (and_choice g p more) = Straight p × ChoicesStraight more
+use Rattle.circuit_pace.proofs.PlaceTrails.{selected_led}
+use Rattle.circuit_pace.proofs.TurningTrails.{called_led, round_led}
+use Rattle.circuit_pace.proofs.ClosingTrails.{closing_led}
 
 -- that a move could be made is said by its rule, or by the place
 could_be : {S : Type 0} (s q : S) (c d : Bool) (now before of_s : ℕ) → c ≡ d → Shorter s q c now before of_s → Shorter s q d now before of_s
@@ -194,131 +178,124 @@ module _ (P : TypedProgram) (K : Clearing) (env : Seen) (clean : Clean P env) (l
       down_from (taking i one) e a z = absurd (not_both z a)
 
   mutual
-    pub guarded_led : (plus minus : ℕ) {p : Process} {m : Mode} → Meets P p → Straight p → Covers P K 2 (suc plus) p → (g : GuardedAt p m) (s : GuardedSpot p)
+    pub guarded_led : (plus minus : ℕ) {p : Process} {m : Mode} → Meets P p → Covers P K 2 (suc plus) p → (g : GuardedAt p m) (s : GuardedSpot p)
         → GuardedFits g env → Backed p (guarded_shown g) env → guarded_moves env g s ≡ true
         → (guarded_rises s ≡ true → guarded_value p (guarded_cells g) s ≡ true) → GuardedLed P K plus minus p m env g s
-    guarded_led plus minus {p = p} meets straight covers (g_in u a h) (inner s) f behind e plain = inner_moves P K plus minus env u a h s
-        (led 2 (1 + plus) meets straight (let z : suc plus
+    guarded_led plus minus {p = p} meets covers (g_in u a h) (inner s) f behind e plain = inner_moves P K plus minus env u a h s
+        (led 2 (1 + plus) meets (let z : suc plus
         ≡ 1 + plus = omega arith in subst (λ (d : ℕ). Covers P K 2 d p) z covers) a s f record { send = behind.send; receive = behind.receive } e plain)
-    guarded_led plus minus meets straight covers g child f behind e plain = own_led P K plus minus env g child clean meets (λ x z. cc z) f behind e
-    guarded_led plus minus meets straight covers g latch f behind e plain = own_led P K plus minus env g latch clean meets (λ x z. cc z) f behind e
-    guarded_led plus minus meets straight covers g next f behind e plain = own_led P K plus minus env g next clean meets (λ x z. cc z) f behind e
-    guarded_led plus minus meets straight covers _ (inner s) f behind e plain = absurd (cc e)
+    guarded_led plus minus meets covers g child f behind e plain = own_led P K plus minus env g child clean meets (λ x z. cc z) f behind e
+    guarded_led plus minus meets covers g latch f behind e plain = own_led P K plus minus env g latch clean meets (λ x z. cc z) f behind e
+    guarded_led plus minus meets covers g next f behind e plain = own_led P K plus minus env g next clean meets (λ x z. cc z) f behind e
+    guarded_led plus minus meets covers _ (inner s) f behind e plain = never e
 
-    pub led : (held down : ℕ) {p : Process} {m : Mode} → Meets P p → Straight p → Covers P K held down p → (a : At p m) (s : Spot p) → Fits a env
+    pub led : (held down : ℕ) {p : Process} {m : Mode} → Meets P p → Covers P K held down p → (a : At p m) (s : Spot p) → Fits a env
         → Backed p (shown a) env → moves env a s ≡ true → Plain p (cells a) s → Led P K held down p m env a s
-    led held down meets straight covers rests s f behind e plain = absurd (cc e)
-    led held down meets straight covers (at_skip m h) s f behind e plain = skip_led P K held down env m h s e plain
-    led held down meets straight covers (at_assign {x = x} {at = at} {e = d} m u h) (of_assign s) f behind e plain =
+    led held down meets covers rests s f behind e plain = never e
+    led held down meets covers (at_skip m h) s f behind e plain = skip_led P K held down env m h s e plain
+    led held down meets covers (at_assign {x = x} {at = at} {e = d} m u h) (of_assign s) f behind e plain =
         assign_led held down x at d meets covers m u h s f e
-    led held down meets straight covers (at_send {c = c} {at = at} {e = d} m u h) (of_send s) f behind e plain =
+    led held down meets covers (at_send {c = c} {at = at} {e = d} m u h) (of_send s) f behind e plain =
         send_led held down c at d meets covers m u h s f e
-    led held down meets straight covers (at_receive {c = c} {x = x} {at = at} {to = to} m k q h) (of_receive s) f behind e plain =
+    led held down meets covers (at_receive {c = c} {x = x} {at = at} {to = to} m k q h) (of_receive s) f behind e plain =
         receive_led held down c x at to covers m k q h s e
-    led held down meets straight covers (at_turn t) (in_members s) f behind e plain =
-        turn_led P K held down env t s (all_turn_led held down meets straight covers t s f record { send = behind.send; receive = behind.receive } e plain)
-    led held down meets straight covers (at_side {members = members} m t b h) (of_branch s) f behind e plain = branch_led P K held down env m t b h s
+    led held down meets covers (at_turn t) (in_members s) f behind e plain =
+        turn_led P K held down env t s (all_turn_led held down meets covers t s f record { send = behind.send; receive = behind.receive } e plain)
+    led held down meets covers (at_side {members = members} m t b h) (of_branch s) f behind e plain = branch_led P K held down env m t b h s
         (each_led (tree_height (member_count members) + (held + (2 + tree_height (member_count members) + down)))
         (tree_height (member_count members) + down)
-        (asks m) meets.2 straight covers b h.asked s f record { send = behind.send; receive = behind.receive } e plain)
-    led held down meets straight covers (at_side m t b h) (joint k) f behind e plain = joint_led P K held down env m t b h k e
-    led held down meets straight covers (at_body a) (in_body s) f behind e plain = body_led P K held down env a s
-        (led 1 0 meets straight covers a s f record { send = behind.send; receive = behind.receive } e plain)
-    led held down meets straight covers (at_body a) ask f behind e plain = ask_led P K held down env clean a f e plain
-    led held down meets straight covers (at_body a) of_loop f behind e plain = absurd (cc e)
-    led held down meets straight covers (at_choice {choices = choices} (control_at uncalled)) (of_core s) f behind e plain = absurd (cc e)
-    led held down meets straight covers (at_choice {choices = choices} (control_at uncalled)) (of_guard s) f behind e plain =
-        absurd (not_both (low_guards_quiet choices env.bit s) e)
-    led held down meets straight covers (at_choice (control_at uncalled)) (of_choice s) f behind e plain = absurd (cc e)
-    led held down meets straight covers (at_choice {choices = choices} (control_at called)) (of_core of_ask) f behind e plain =
-        ask_rises P K held down env clean
-    led held down meets straight covers (at_choice {choices = choices} (control_at called)) (of_guard s) f behind e plain =
-        absurd (not_both (low_guards_quiet choices env.bit s) e)
-    led held down meets straight covers (at_choice (control_at called)) s f behind e plain = absurd (cc e)
-    led held down meets straight covers (at_choice (control_at (evaluating g))) (of_core (of_latch k)) f behind e plain =
-        absurd (not_both (bit_none k) (plain refl))
-    led held down meets straight covers (at_choice (control_at (evaluating g))) (of_guard s) f behind e plain =
-        guard_rises P K held down env clean meets.1 covers.0 g f s e
-    led held down meets straight covers (at_choice (control_at (evaluating g))) s f behind e plain = absurd (cc e)
-    led held down meets straight covers (at_choice (control_at (latched noted i g h))) (of_core of_any) f behind e plain =
-        any_rises P K held down env clean i g h
-    led held down meets straight covers (at_choice (control_at (latched spread i g h))) (of_core of_ask) f behind e plain =
-        ask_falls P K held down env clean i g h
-    led held down meets straight covers (at_choice {choices = choices} (control_at (latched l i g h))) (of_core (of_start k)) f behind e plain =
-        start_rises P K held down env clean l i g h meets.2 record {
-          send = λ j b. low_of (env.ack j) (λ (c : env.ack j ≡ true). behind.send j b c) refl;
-          receive = λ c b. low_of (env.ack (of_channel c)) (λ (d : env.ack (of_channel c) ≡ true). behind.receive c b d) refl;
-        } k e
-    led held down meets straight covers (at_choice (control_at (latched l i g h))) (of_guard s) f behind e plain =
-        guard_moves P K held down env clean l i g h meets.1 covers.0 f s e
-    led held down meets straight covers (at_choice (control_at (latched l i g h))) s f behind e plain = absurd (cc e)
-    led held down meets straight covers (at_choice (control_at (leaving y l g h))) s f behind e plain = absurd (cc y)
-    led held down meets straight covers (at_choice (inside_at a w)) (of_core s) f behind e plain = way_led P K held down env clean a w f s e
-    led held down meets straight covers (at_choice (inside_at a w)) (of_guard s) f behind e plain = absurd (cc e)
-    led held down meets straight covers (at_choice {choices = choices} (inside_at a w)) (of_choice s) f behind e plain =
-        select_branch P K held down env clean a w s f e (chosen_led (held + 3) (1 + down) meets.2 straight covers.1 a s f behind.send behind.receive e plain)
-    led held down meets straight covers (at_turning x) s f behind e plain = absurd straight
-    led held down meets straight covers (at_closing c) s f behind e plain = absurd straight
+        (asks m) meets.2 covers b h.asked s f record { send = behind.send; receive = behind.receive } e plain)
+    led held down meets covers (at_side m t b h) (joint k) f behind e plain = joint_led P K held down env m t b h k e
+    led held down meets covers (at_body a) (in_body s) f behind e plain = body_led P K held down env a s
+        (led 1 0 meets covers a s f record { send = behind.send; receive = behind.receive } e plain)
+    led held down meets covers (at_body a) ask f behind e plain = ask_led P K held down env clean a f e plain
+    led held down meets covers (at_body a) of_loop f behind e plain = never e
+    led held down meets covers (at_choice (control_at c)) (of_core s) f behind e plain =
+        selected_led P K held down env clean meets.1 meets.2 covers.0 c (own s) f behind e plain
+    led held down meets covers (at_choice (control_at c)) (of_guard s) f behind e plain =
+        selected_led P K held down env clean meets.1 meets.2 covers.0 c (guard s) f behind e plain
+    led held down meets covers (at_choice (control_at c)) (of_choice s) f behind e plain = never e
+    led held down meets covers (at_choice {choices = choices} (inside_at a w)) (of_core s) f behind e plain =
+        selection_led P K held down env (inside_at a w) (own s)
+        (way_led P K (selecting P held down choices) env clean (room_selecting P held down choices) a w f s e)
+    led held down meets covers (at_choice (inside_at a w)) (of_guard s) f behind e plain = never e
+    led held down meets covers (at_choice {choices = choices} (inside_at a w)) (of_choice s) f behind e plain =
+        selection_led P K held down env (inside_at a w) (branch s) (chosen_branch P K (selecting P held down choices) env clean a w s
+        (room_selecting P held down choices) f e (chosen_led (held + 3) (1 + down) meets.2 covers.1 a s f behind.send behind.receive e plain))
+    led held down meets covers (at_turning (control_at c)) (of_core s) f behind e plain =
+        called_led P K held down env clean meets.1 meets.2 covers.0 c (own s) f behind e plain
+    led held down meets covers (at_turning (control_at c)) (of_guard s) f behind e plain =
+        called_led P K held down env clean meets.1 meets.2 covers.0 c (guard s) f behind e plain
+    led held down meets covers (at_turning (control_at c)) (of_choice s) f behind e plain = never e
+    led held down meets covers (at_turning {choices = choices} (inside_at a w)) (of_core s) f behind e plain =
+        turning_led P K held down env (inside_at a w) refl (own s)
+        (way_led P K (turning P held down choices) env clean (room_turning P held down choices) a w f s e)
+    led held down meets covers (at_turning (inside_at a w)) (of_guard s) f behind e plain = never e
+    led held down meets covers (at_turning {choices = choices} (inside_at a w)) (of_choice s) f behind e plain =
+        turning_led P K held down env (inside_at a w) refl (branch s) (chosen_branch P K (turning P held down choices) env clean a w s
+        (room_turning P held down choices) f e (chosen_led 4 (3 + guards_depth choices) meets.2 covers.1 a s f behind.send behind.receive e plain))
+    led held down meets covers (at_turning x) (of_round s) f behind e plain = round_led P K held down env clean meets.1 covers.0 x s f e plain
+    led held down meets covers (at_closing c) s f behind e plain = closing_led P K held down env c s e
 
-    pub chosen_led : (held down : ℕ) {choices : Choices} {k : Mode} → ChoiceMeets P choices → ChoicesStraight choices → ChoiceCovers P K held down choices
+    pub chosen_led : (held down : ℕ) {choices : Choices} {k : Mode} → ChoiceMeets P choices → ChoiceCovers P K held down choices
         → (a : ChosenAt choices k) (s : ChoiceSpot choices) → ChosenFits a env
         → ((j : Line) → choice_sends choices j ≡ true → env.ack j ≡ true → (chosen_shown a).talk j ≡ true)
         → ((c : ℕ) → choice_receives choices c ≡ true → env.ack (of_channel c) ≡ true → (chosen_shown a).listen c ≡ true) → chosen_moves env a s ≡ true
         → (choice_rises s ≡ true → choice_value choices (chosen_cells a) s ≡ true) → ChosenLed P K held down choices k env a s
-    chosen_led held down meets straight covers (this_one {p = p} {more = more} a) (this_choice s) f back hears e plain = this_arm P K held down env a s
-        (led held down meets.0 straight.0 covers.0 a s f record {
+    chosen_led held down meets covers (this_one {p = p} {more = more} a) (this_choice s) f back hears e plain = this_arm P K held down env a s
+        (led held down meets.0 covers.0 a s f record {
           send = λ j h. back j (or_left (sends p j) (choice_sends more j) h);
           receive = λ c h. hears c (or_left (receives p c) (choice_receives more c) h);
         } e plain)
-    chosen_led held down meets straight covers (another {p = p} {more = more} a) (other_choice s) f back hears e plain = other_arm P K held down env a s
-        (chosen_led held down meets.1 straight.1 covers.1 a s f (λ j h. back j (or_right (sends p j) (choice_sends more j) h))
+    chosen_led held down meets covers (another {p = p} {more = more} a) (other_choice s) f back hears e plain = other_arm P K held down env a s
+        (chosen_led held down meets.1 covers.1 a s f (λ j h. back j (or_right (sends p j) (choice_sends more j) h))
         (λ c h. hears c (or_right (receives p c) (choice_receives more c) h)) e plain)
-    chosen_led held down meets straight covers (this_one a) (other_choice s) f back hears e plain = absurd (cc e)
-    chosen_led held down meets straight covers (another a) (this_choice s) f back hears e plain = absurd (cc e)
+    chosen_led held down meets covers (this_one a) (other_choice s) f back hears e plain = never e
+    chosen_led held down meets covers (another a) (this_choice s) f back hears e plain = never e
 
-    pub each_led : (plus minus : ℕ) (r : Bool) {ms : Processes} {ks : List Mode} → EachMeets P ms → AllStraight ms → EachCovers P K (suc plus) ms
+    pub each_led : (plus minus : ℕ) (r : Bool) {ms : Processes} {ks : List Mode} → EachMeets P ms → EachCovers P K (suc plus) ms
         → (b : BranchesAt ms ks) → all_ask r ks ≡ true → (s : BranchSpot ms) → BranchesFit b env → Backed (side_by_side ms) (branches_shown b) env
         → branch_moves env b s ≡ true → (branch_rises s ≡ true → branch_value ms (branch_cells b) s ≡ true) → BranchLed P K plus minus ms ks r env b s
-    each_led plus minus r meets straight covers no_more asked s f behind e plain = absurd (cc e)
-    each_led plus minus r meets straight covers (and_at {p = p} {more = more} {k = k} g b) asked (in_this s) f behind e plain =
+    each_led plus minus r meets covers no_more asked s f behind e plain = never e
+    each_led plus minus r meets covers (and_at {p = p} {more = more} {k = k} g b) asked (in_this s) f behind e plain =
         this_led P K plus minus r env g b (snd_true _ _ asked) (same_value (asks k) r (fst_true _ _ asked)) s
-        (guarded_led plus minus meets.0 straight.0 covers.0 g s f.0 record {
+        (guarded_led plus minus meets.0 covers.0 g s f.0 record {
           send = λ k h z. sym (or_false_right ((guarded_shown g).talk k) ((branches_shown b).talk k) ((beside meets.1 g b).not_theirs k h))
               ∙ behind.send k (or_left (sends p k) (turn_sends more k) h) z;
           receive = λ c h z. sym (or_false_right ((guarded_shown g).listen c) ((branches_shown b).listen c) ((beside meets.1 g b).deaf_theirs c h))
               ∙ behind.receive c (or_left (receives p c) (each_receives more c) h) z;
         } e plain)
-    each_led plus minus r meets straight covers (and_at {p = p} {more = more} {k = k} g b) asked (in_others s) f behind e plain =
+    each_led plus minus r meets covers (and_at {p = p} {more = more} {k = k} g b) asked (in_others s) f behind e plain =
         others_led P K plus minus r env g b (same_value (asks k) r (fst_true _ _ asked)) s
-        (each_led plus minus r meets.2 straight.1 covers.1 b (snd_true _ _ asked) s f.1 record {
+        (each_led plus minus r meets.2 covers.1 b (snd_true _ _ asked) s f.1 record {
           send = λ k h z. sym (or_false_left ((guarded_shown g).talk k) ((branches_shown b).talk k) ((beside meets.1 g b).not_mine k h))
               ∙ behind.send k (or_right (sends p k) (turn_sends more k) h) z;
           receive = λ c h z. sym (or_false_left ((guarded_shown g).listen c) ((branches_shown b).listen c) ((beside meets.1 g b).deaf_mine c h))
               ∙ behind.receive c (or_right (receives p c) (each_receives more c) h) z;
         } e plain)
 
-    pub all_turn_led : (held down : ℕ) {ms : Processes} {m : Mode} → TurnMeets P ms → AllStraight ms → TurnCovers P K held down ms → (t : TurnAt ms m)
+    pub all_turn_led : (held down : ℕ) {ms : Processes} {m : Mode} → TurnMeets P ms → TurnCovers P K held down ms → (t : TurnAt ms m)
         (s : TurnSpot ms) → TurnFits t env → Backed (in_turn ms) (turn_shown t) env → turn_moves env t s ≡ true
         → (turn_rises s ≡ true → turn_value ms (turn_cells t) s ≡ true) → TurnLed P K held down ms m env t s
-    all_turn_led held down meets straight covers turn_rests s f behind e plain = absurd (cc e)
-    all_turn_led held down meets straight covers (at_last {p = p} a) (in_last s) f behind e plain = last_led P K held down env a s
-        (led held down meets straight.0 covers a s f record {
+    all_turn_led held down meets covers turn_rests s f behind e plain = never e
+    all_turn_led held down meets covers (at_last {p = p} a) (in_last s) f behind e plain = last_led P K held down env a s
+        (led held down meets covers a s f record {
           send = λ k h. behind.send k (or_left (sends p k) false h);
           receive = λ c h. behind.receive c (or_left (receives p c) false h);
         } e plain)
-    all_turn_led held down meets straight covers (at_member {p = p} {q = q} {more = more} g) (in_member s) f behind e plain =
+    all_turn_led held down meets covers (at_member {p = p} {q = q} {more = more} g) (in_member s) f behind e plain =
         let inside : Backed p (guarded_shown g) env = record {
           send = λ k h. behind.send k (or_left (sends p k) (turn_sends (and_member q more) k) h);
           receive = λ c h. behind.receive c (or_left (receives p c) (each_receives (and_member q more) c) h);
         } in
         member_led P K held down env meets.1 g s record { send = behind.send; receive = behind.receive } (guarded_advance P env clean meets.0 g s f inside e)
         (guarded_led (turn_first P (and_member q more) - 1) (turn_back P K down (and_member q more) (low_turn
-        (and_member q more))) meets.0 straight.0 covers.0 g s f
+        (and_member q more))) meets.0 covers.0 g s f
         inside e plain)
-    all_turn_led held down meets straight covers (at_member g) (in_later s) f behind e plain = absurd (cc e)
-    all_turn_led held down meets straight covers (at_later {p = p} {q = q} {more = more} g t h) (in_later s) f behind e plain =
-        later_led P K held down env g t h s (all_turn_led (held + 2) down meets.1 straight.1 covers.1 t s f record {
+    all_turn_led held down meets covers (at_member g) (in_later s) f behind e plain = never e
+    all_turn_led held down meets covers (at_later {p = p} {q = q} {more = more} g t h) (in_later s) f behind e plain =
+        later_led P K held down env g t h s (all_turn_led (held + 2) down meets.1 covers.1 t s f record {
           send = λ k h. behind.send k (or_right (sends p k) (turn_sends (and_member q more) k) h);
           receive = λ c h. behind.receive c (or_right (receives p c) (each_receives (and_member q more) c) h);
         } e plain)
-    all_turn_led held down meets straight covers (at_later g t h) (in_member s) f behind e plain = behind_led P K held down env clean g t h s f e
+    all_turn_led held down meets covers (at_later g t h) (in_member s) f behind e plain = behind_led P K held down env clean g t h s f e

@@ -1,4 +1,4 @@
--- Own moves of the branch of a selection that is under way.
+-- Own moves of the branch of a selection or of a repetition that is under way.
 --
 -- P: the program; K: how many moves follow the falls of lines; a: where the branch is; x: values of all branches; s, q: spots; z: that a rule
 -- fires; l: what is said of a move of the branch.
@@ -162,16 +162,15 @@ module _ (P : TypedProgram) (K : Clearing) (held down : ℕ) (env : Seen) where
       here (this_choice q) z plain = absurd (not_both (low_quiet p env q) z)
       here (other_choice q) z plain = wrapped s q (other_choice s) (other_choice q) other_apart (chosen_moves env a q) _ _ _ (l.each q z plain)
 
--- so, where its answer rises, what the selection's answer is followed by is less
-pub joined_less : (P : TypedProgram) (K : Clearing) (held any down : ℕ) {cs : Choices} {k : Mode} (env : Seen) (a : ChosenAt cs k) (s : ChoiceSpot cs)
-    (l : ChosenLed P K (held + 3) down cs k env a s) → any ≤ down → acks k ≡ false → l.says ≡ true
-    → held + choice_back P K any down cs (hot (chosen_index a) true) (turned_choice cs (chosen_cells a) s)
-    < choice_trail P K (held + 3) down cs (chosen_cells a) s
-joined_less P K held any down {cs = cs} env a s l room e z =
+-- so, where its answer rises, what the answer of its core is followed by is less
+pub joined_less : (P : TypedProgram) (K : Clearing) (joins holds any down : ℕ) {cs : Choices} {k : Mode} (env : Seen) (a : ChosenAt cs k) (s : ChoiceSpot cs)
+    (l : ChosenLed P K holds down cs k env a s) → joins + 3 ≤ holds → any ≤ down → acks k ≡ false → l.says ≡ true
+    → joins + choice_back P K any down cs (hot (chosen_index a) true) (turned_choice cs (chosen_cells a) s) < choice_trail P K holds down cs (chosen_cells a) s
+joined_less P K joins holds any down {cs = cs} env a s l more room e z =
     let u = l.up e z in
     let b = u.0 in
     let c = u.1 in
     let o = one_latch P K any down cs (chosen_index a) (turned_choice cs (chosen_cells a) s) in
     let m : max (2 + arm_back P K down cs (turned_choice cs (chosen_cells a) s) (chosen_index a)) (2 + any)
     ≤ 2 + arm_back P K down cs (turned_choice cs (chosen_cells a) s) (chosen_index a) = max-le (omega arith) (omega (arith, c, room)) in
-    omega (arith, b, o, m)
+    omega (arith, b, o, m, more)

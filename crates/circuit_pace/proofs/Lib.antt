@@ -1,3 +1,4 @@
+pub mod Never
 pub mod LoopTrails
 pub mod SideTrails
 pub mod JointTrails
@@ -17,3 +18,8 @@ pub mod GuardTrails
 pub mod ControlTrails
 pub mod FreedTrails
 pub mod LatchedTrails
+pub mod CoreTrails
+pub mod StatementTrails
+pub mod PlaceTrails
+pub mod TurningTrails
+pub mod ClosingTrails

@@ -1,5 +1,4 @@
--- In each state that is reached of a program without guarded repetitions, an own silent move of a statement lets no own silent move begin but of a
--- shorter trail, and gives no other a longer one.
+-- In each state that is reached an own silent move of a statement lets no own silent move begin but of a shorter trail, and gives no other a longer one.
 --
 -- P: the program; r: how the state x is reached; s, q: spots; on: that a move is enabled; still: that it is no step.
 use Rattle.std.proofs.Common.{◌≡◌, ◌≢◌, ℕ, suc, ◌<◌, ◌≤◌, Bool, true, false, List, refl, sym, ap, ◌∙◌, subst, inl, inr, arith}
@@ -23,7 +22,7 @@ use Rattle.circuit_places.proofs.System.{Fitted, clean_of}
 use Rattle.circuit_places.proofs.Carry.{Reached, may, next_reached, enabled_is}
 use Rattle.circuit_time.proofs.Trails.{rail_left, guarded_trail}
 use Rattle.circuit_time.proofs.OwnTrails.{Shorter, GuardedLed}
-use Rattle.circuit_pace.proofs.AllOwn.{Straight, Listened, guarded_led}
+use Rattle.circuit_pace.proofs.AllOwn.{Listened, guarded_led}
 use Rattle.circuit_pace.proofs.Counts.{counts, covered, counts_leave}
 use Rattle.circuit_pace.proofs.OwnBounded.{all_ordered}
 
@@ -43,7 +42,7 @@ heard_all P env both c h = by (kind_at P.channels c)
     by In = let b = both c in omega (arith, b)
     by Chan = let b = both c in omega (arith, b)
 
-module _ (P : TypedProgram) (script : List OfferValue) (fitted : Fitted P script) (typed : IsProcess P.channels P.vars P.body) (straight : Straight P.body)
+module _ (P : TypedProgram) (script : List OfferValue) (fitted : Fitted P script) (typed : IsProcess P.channels P.vars P.body)
     {from : Configuration} {moves : ℕ} {x : Whole P.body} (r : Reached P script from moves x) (s : GuardedSpot P.body)
     (on : enabled P script x (own_node s) ≡ true) (still : guarded_steps r.place s ≡ false) where
   env : Seen
@@ -63,7 +62,7 @@ module _ (P : TypedProgram) (script : List OfferValue) (fitted : Fitted P script
 
   said : GuardedLed P (counts P) 0 0 P.body r.mode (wires_seen P x.wires) r.place s
   said = guarded_led P (counts P) (wires_seen P x.wires) (clean_of r.good)
-      (heard_all P (wires_seen P x.wires) (counts_leave P r.good.meets).both) 0 0 r.good.meets straight
+      (heard_all P (wires_seen P x.wires) (counts_leave P r.good.meets).both) 0 0 r.good.meets
       (covered P (all_ordered P.channels P.vars P.body typed)) r.place s r.good.fits behind (may P script r (own_node s) on) plain
 
   pub own_lowers : (q : GuardedSpot P.body) (on_q : enabled P script (cells_moved P x (own_node s)) (own_node q) ≡ true)

@@ -1,3 +1,4 @@
+pub mod RoundKept
 pub mod SweepLemmas
 pub mod TimedKept
 pub mod EndlessSweeps

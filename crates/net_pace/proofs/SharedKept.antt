@@ -2,27 +2,29 @@
 -- with copies does.
 --
 -- C: the program with calls; P: that with copies.
-use Rattle.std.proofs.Common.{◌*◌, ◌≤◌}
+use Rattle.std.proofs.Common.{ℕ, ◌*◌, ◌≤◌}
 use Rattle.prs_core.specs.Nets.{IsNet}
 use Rattle.width_check.specs.Processes.{TypedProgram}
 use Rattle.width_check.specs.Typing.{IsTyped}
 use Rattle.handshake_expand.specs.Layout.{nodes_of}
 use Rattle.net_compose.specs.Translation.{translation}
 use Rattle.net_compose.specs.Points.{IsTranslated, TranslationCarries}
-use Rattle.net_compose.specs.Time.{KeepsTime, sweeps_for_round}
+use Rattle.net_compose.specs.Time.{KeepsTime}
 use Rattle.net_compose.proofs.TimeKept.{keeps_time_by_layers}
 use Rattle.call_map.specs.CallNet.{CallProgram, IsCallProgram, inlined_program, call_count, call_names, call_net, SharedBodiesCarry, SharedBodiesHold}
 use Rattle.call_map.specs.CallPace.{SharedBodiesLayers}
+use Rattle.net_pace.specs.Pace.{IsRoundTime}
 use Rattle.net_pace.proofs.SweepLayers.{layers_by_time}
 
 -- what is assumed here are laws
 module _ (carries : TranslationCarries) (whole : (p : TypedProgram) → IsTyped p.channels p.vars p.body → nodes_of p ≤ 65536 → IsNet (translation p))
-    (keeps : (p : TypedProgram) → IsTranslated p → nodes_of p ≤ 65536 → KeepsTime (translation p) p (2 * sweeps_for_round p))
+    (keeps : (p : TypedProgram) → IsTranslated p → nodes_of p ≤ 65536 → (sweeps : ℕ) → IsRoundTime p sweeps → KeepsTime (translation p) p sweeps)
     (shared_layers : SharedBodiesLayers) (shared_carry : SharedBodiesCarry) (shared_hold : SharedBodiesHold) where
   pub shared_keep_time : (C : CallProgram) → IsCallProgram C → IsTranslated (inlined_program C) → nodes_of (inlined_program C) ≤ 65536
-      → call_count C ≤ 65536 → KeepsTime (call_net C (call_names C)) (inlined_program C) (2 * (2 * sweeps_for_round (inlined_program C)))
-  shared_keep_time C is t small few =
+      → call_count C ≤ 65536 → (sweeps : ℕ) → IsRoundTime (inlined_program C) sweeps
+      → KeepsTime (call_net C (call_names C)) (inlined_program C) (2 * sweeps)
+  shared_keep_time C is t small few sweeps bound =
       let P = inlined_program C in
-      let sweeps = 2 * sweeps_for_round P in
       keeps_time_by_layers (call_net C (call_names C)) P (2 * sweeps) (shared_hold C is t few) (shared_carry C is t (call_names C))
-      (shared_layers C is t (call_names C) sweeps (layers_by_time (translation P) P sweeps (whole P t.typed small) (carries P t) (keeps P t small)))
+      (shared_layers C is t (call_names C) sweeps (layers_by_time (translation P) P sweeps (whole P t.typed small) (carries P t)
+      (keeps P t small sweeps bound)))

@@ -1,6 +1,6 @@
 -- How soon a net passes what its program passes: by time, where no delay is longer than a bound, and from power-up
 -- under reset.
-use Rattle.std.specs.Prelude.{◌*◌, ℕ, suc, Bool, List}
+use Rattle.std.specs.Prelude.{◌*◌, ℕ, suc, min, Bool, List}
 use Rattle.prs_core.specs.Nets.{NetValue}
 use Rattle.env_script.specs.Scripts.{OfferValue, IsScript}
 use Rattle.env_script.specs.Runs.{begin_at, after, IsRun, IsPowered}
@@ -9,9 +9,19 @@ use Rattle.delay_script.specs.declared.noted.NotedMove.{NotedMove}
 use Rattle.delay_script.specs.DelayTables.{DelayTable, TakesAtMost}
 use Rattle.delay_script.specs.TimedRuns.{moved_nodes, IsTimedRun}
 use Rattle.width_check.specs.Processes.{TypedProgram}
+use Rattle.chp_meaning.specs.Halves.{ReadsNoTarget, halved_program}
 use Rattle.chp_meaning.specs.Rounds.{rounds}
-use Rattle.net_compose.specs.Time.{HasPassed}
+use Rattle.round_time.specs.Longest.{longest}
+use Rattle.net_compose.specs.Time.{HasPassed, sweeps_for_round}
 use Rattle.net_pace.specs.Lasting.{HasLasted}
+
+-- Enough sweeps for what a round of the program passes: as many as `longest`, which no way of moves through the circuit
+-- from the steps of one round to those of the next exceeds. Where an assignment reads its own target the circuit is
+-- that of the program in halves, of which a round takes two. (In both 2 nodes + 1 takes the place of `longest` where it
+-- is less.)
+pub data IsRoundTime (p : TypedProgram) : (sweeps : ℕ) → Type 0 where
+  as_whole : ReadsNoTarget p.body → IsRoundTime p (min (longest p) (sweeps_for_round p))
+  as_halves : IsRoundTime p (2 * min (longest (halved_program p)) (sweeps_for_round p))
 
 -- Each timed run from the net's first values, under every script, with delays of at most `most`, the environment's too,
 -- has passed what n rounds of the program pass, if it has lasted so many times `most` for each of them.

@@ -1,11 +1,10 @@
 -- The nets that are written for a program: with the bodies of its procedures copied, or shared.
-use Rattle.std.specs.Prelude.{ℕ, ◌*◌, ◌≤◌, Bool, true, false, List, Option, Some, None, max}
+use Rattle.std.specs.Prelude.{ℕ, ◌≤◌, Bool, true, false, List, Option, Some, None, max}
 use Rattle.chp_syntax.specs.Trees.{ProgramTree}
 use Rattle.env_script.specs.Runs.{IsPowered}
 use Rattle.handshake_expand.specs.Layout.{capped, node_count, nodes_of}
 use Rattle.net_compose.specs.Carries.{Carries, CarriesReset}
 use Rattle.net_compose.specs.Progress.{ProgressesFrom}
-use Rattle.net_compose.specs.Time.{sweeps_for_round}
 use Rattle.net_compose.specs.Translation.{translation}
 use Rattle.call_map.specs.CallNet.{call_count, call_names, call_net}
 use Rattle.call_map.specs.CallPace.{IsMost, call_most_moves}
@@ -50,11 +49,6 @@ counted_with {p} (shared h) = max (capped (call_count (shared_of h))) (node_coun
 abbrev pub most_with : {p : TypedProgram} → Bodies p → (most : ℕ → ℕ) → ℕ → ℕ
 most_with copied most = most
 most_with (shared h) most = call_most_moves most
-
--- enough sweeps for what a round of the program passes
-abbrev pub sweeps_with : {p : TypedProgram} → Bodies p → ℕ
-sweeps_with {p} copied = 2 * sweeps_for_round p
-sweeps_with {p} (shared h) = 2 * (2 * sweeps_for_round p)
 
 -- ---- which of them is written
 

@@ -1,13 +1,13 @@
--- How long a round takes at most, computed for programs of examples/.
+-- How long a round takes at most, computed for programs of examples/ and for three small ones.
 use Rattle.std.proofs.Common.{◌≡◌, ℕ, [], ◌∷◌, refl}
-use Rattle.std.specs.Prelude.{zero, suc, false}
+use Rattle.std.specs.Prelude.{zero, suc, true, false}
 use Rattle.chp_base.specs.declared.span.Span.{Span}
 use Rattle.chp_base.specs.declared.channel.Channel.{Channel}
 use Rattle.chp_base.specs.declared.channel.Kind.{Kind}
 use Rattle.chp_base.specs.declared.channel.Kind.TheVariants.{In, Out, Chan}
 use Rattle.chp_syntax.specs.declared.tree.Op.TheVariants as op
 use Rattle.width_check.specs.declared.typed.Var.{Var}
-use Rattle.width_check.specs.Processes.{Formula, constant, reading, joined, chained, compared, no_parts, and_part, no_operations, and_operation, Process, assigning, sending, receiving, in_turn, side_by_side, choosing, repeating, Processes, no_members, and_member, no_choices, and_choice}
+use Rattle.width_check.specs.Processes.{Formula, constant, reading, joined, chained, compared, no_parts, and_part, no_operations, and_operation, Process, skipping, assigning, sending, receiving, in_turn, side_by_side, choosing, repeating, Processes, no_members, and_member, no_choices, and_choice}
 use Rattle.round_time.specs.Longest.{longest}
 
 abbrev here : Span
@@ -105,3 +105,32 @@ merge : longest (record {
       (give 3 (all_of 8 1));
 }) ≡ 20
 merge = refl
+
+-- *[L?x]: from the loop's step, behind which the receive lets go, to its next one
+taken : longest (record {
+  channels = channel In 1 ∷ [];
+  vars = var 1 ∷ [];
+  body = repeating (take 0 0);
+}) ≡ 9
+taken = refl
+
+-- *[C?c; [c = 0 -> skip [] c = 1 -> skip]]: to the latch of the selection, behind its guards
+chosen : longest (record {
+  channels = channel In 1 ∷ [];
+  vars = var 1 ∷ [];
+  body =
+      loop_of (take 0 0)
+      (choosing false (and_choice (compared op.Eq (all_of 1 0) (constant 1 0)) skipping
+      (and_choice (compared op.Eq (all_of 1 0) (constant 1 1)) skipping no_choices)));
+}) ≡ 14
+chosen = refl
+
+-- *[C?c; *[c = 1 -> c := 0]]: from a turn of the repetition to its end, or from that to the next value
+cleared : longest (record {
+  channels = channel In 1 ∷ [];
+  vars = var 1 ∷ [];
+  body =
+      loop_of (take 0 0)
+      (choosing true (and_choice (compared op.Eq (all_of 1 0) (constant 1 1)) (assigning 0 here (constant 1 0)) no_choices));
+}) ≡ 17
+cleared = refl

@@ -1,21 +1,19 @@
 use Rattle.std.proofs.Common.{◌*◌}
 use Rattle.net_compose.specs.Translation.{translation}
-use Rattle.net_compose.specs.Time.{sweeps_for_round}
 use Rattle.call_map.specs.CallNet.{inlined_program, call_names, call_net}
 use Rattle.net_pace.proofs.ValuesKept.{no_value_waits}
 use Rattle.net_pace.proofs.no_value_waits.Goals as goal
 
 pub returns-clause-copied : goal.returns-clause-copied
-returns-clause-copied c = λ p is small.
-    no_value_waits (translation p) p (2 * sweeps_for_round p) (c.keeps_time.ensures p is small) (c.keeps_timed_pace.ensures.every p is small)
+returns-clause-copied c = λ p is small sweeps bound.
+    no_value_waits (translation p) p sweeps (c.keeps_time.ensures p is small sweeps bound) (c.keeps_timed_pace.ensures.every p is small sweeps bound)
 
 pub returns-clause-shared : goal.returns-clause-shared
-returns-clause-shared c = λ C is t small few.
+returns-clause-shared c = λ C is t small few sweeps bound.
     let P = inlined_program C in
-    let sweeps = 2 * (2 * sweeps_for_round P) in
     let net = call_net C (call_names C) in
-    let keeps = c.shared_bodies_keep_time.ensures C is t small few in
-    no_value_waits net P sweeps keeps (c.keeps_timed_pace.ensures.net net P sweeps (c.shared_bodies_carry.ensures C is t (call_names C)) keeps)
+    let keeps = c.shared_bodies_keep_time.ensures C is t small few sweeps bound in
+    no_value_waits net P (2 * sweeps) keeps (c.keeps_timed_pace.ensures.net net P (2 * sweeps) (c.shared_bodies_carry.ensures C is t (call_names C)) keeps)
 
 pub returns-clause-net : goal.returns-clause-net
 returns-clause-net c = λ net p sweeps carries keeps. no_value_waits net p sweeps keeps (c.keeps_timed_pace.ensures.net net p sweeps carries keeps)

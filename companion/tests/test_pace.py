@@ -1,0 +1,60 @@
+"""`pace`: what chp_pace prints, beside the times of a run."""
+
+from __future__ import annotations
+
+import os
+from unittest import mock
+
+from companion import pace, program
+from companion.program import Answer
+from companion.tests.base import Case
+from companion.waves import Change, Wave
+
+PRINTED = '#!/bin/sh\nprintf "round 21\\nbound 42\\n"\n'
+REFUSES = '#!/bin/sh\necho "chp: 6 no memory" >&2\nexit 6\n'
+
+
+class Pace(Case):
+    """The words of `pace`, and what is made of a wave."""
+
+    def stand_in(self, text: str) -> None:
+        """A program in place of chp_pace."""
+        self.write("pace", text)
+        os.chmod("pace", 0o755)
+        given = mock.patch.dict(os.environ, {pace.VARIABLE: os.path.abspath("pace")})
+        given.start()
+        self.addCleanup(given.stop)
+
+    def test_printed(self) -> None:
+        """The lines of chp_pace come as they are."""
+        self.stand_in(PRINTED)
+        ran = self.chpx("pace", self.example("one.chp"))
+        self.assertEqual((ran.status, ran.out, ran.err), (0, "round 21\nbound 42\n", ""))
+
+    def test_refused(self) -> None:
+        """A program that chpc refuses is told as by `check`; where chp_pace ends otherwise, so does chpx."""
+        self.stand_in(REFUSES)
+        self.assertEqual(self.chpx("pace", self.write("wrong.chp", "begin y := 0 end")).status, 1)
+        ran = self.chpx("pace", self.example("one.chp"))
+        self.assertEqual(ran.status, 6)
+        self.has(ran.err, ["chp: 6 no memory"])
+
+    def test_none(self) -> None:
+        """Where there is no chp_pace, that is said."""
+        with mock.patch.dict(os.environ, {pace.VARIABLE: "/nowhere"}):
+            ran = self.chpx("pace", self.example("one.chp"))
+        self.assertEqual(ran.status, 127)
+        self.has(ran.err, ["/nowhere isn't there"])
+
+    def test_rounds(self) -> None:
+        """Rounds that pass nothing new aren't told; each has the time by which the last of its values has passed."""
+        reports = ["done 0\nX:\nY:", "X: 3\nY:", "X: 3\nY:", "X: 3 4\nY: 7", "X: 3 4 5\nY: 7"]
+
+        def wanted(words: list[str]) -> Answer:
+            return Answer(0, f"end spent\nrounds {words[4]}\n{reports[int(words[4]) - 1]}\n".encode(), b"")
+
+        changes = [(5, "X.a", "1"), (7, "X.a", "0"), (11, "X.a", "1"), (12, "n4", "1"), (30, "Y.a", "1")]
+        wave = Wave({}, [Change(*it) for it in changes])
+        with mock.patch.object(program, "wanted", wanted):
+            found = [(n, pace.time_of(wave, counts)) for n, counts in pace.new_rounds("f", "s", 5)]
+        self.assertEqual(found, [(2, 5), (4, 30), (5, None)])

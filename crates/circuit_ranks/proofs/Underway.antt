@@ -1,0 +1,360 @@
+-- What is asked of a program's sites, read off its nodes, is under way where it is; and so is what a place says of assignments.
+--
+-- f: what is asked of a site; p, q, more: statements; a, g, b, t: where a statement, a guarded one, branches and a sequence are; env: what they
+-- see; v: a variable; c: a channel.
+use Rattle.std.proofs.Common.{◌≡◌, ℕ, ◌==◌, Bool, true, false, List, refl, sym, ap, ◌∙◌, subst}
+use Rattle.std.specs.Prelude.{◌&&◌, ◌||◌, is_some}
+use Rattle.chp_base.specs.declared.span.Span.{Span}
+use Rattle.width_check.specs.Processes.{Formula, Process, skipping, assigning, sending, receiving, in_turn, side_by_side, choosing, repeating, Processes, no_members, and_member, Choices, no_choices, and_choice, choice_count}
+use Rattle.function_blocks.specs.Rails.{Pairs}
+use Rattle.function_blocks.specs.Parts.{gate_count}
+use Rattle.circuit_places.specs.Heads.{Bits, low_bits, hot}
+use Rattle.circuit_places.specs.Lines.{of_channel, of_var, Rails, Seen}
+use Rattle.circuit_places.specs.Whole.{value_on, neutral_on}
+use Rattle.circuit_places.specs.Circuit.{QElementCells, Cells, BranchCells, ChoiceCells, TurnCells, low, low_choices, low_branches, low_turn}
+use Rattle.circuit_places.proofs.RailLemmas.{fst_true, snd_true, both_true, never_and}
+use Rattle.circuit_places.proofs.LineNames.{same_number}
+use Rattle.circuit_places.proofs.Flow.{not_both, neither_left, neither_right, or_left, or_right}
+use Rattle.circuit_places.proofs.Talks.{either, or_false_right}
+use Rattle.circuit_places.proofs.Begin.{answered_kept}
+use Rattle.circuit_places.proofs.PortLeaf.{runs_kept}
+use Rattle.circuit_places.proofs.Places.{Mode, idle, running, answered, returning, asks, acks, wave_may, GuardedAt, g_rests, g_in, g_past, g_back, At, rests, at_skip, at_assign, at_send, at_receive, at_turn, at_side, at_body, at_choice, at_turning, at_closing, ChoiceAt, control_at, inside_at, ChosenAt, this_one, another, chosen_index, BranchesAt, no_more, and_at, TurnAt, turn_rests, at_last, at_member, at_later, guarded_cells, cells, choice_cells, chosen_cells, branch_cells, turn_cells, Shown, both_shown, site_shown, port_shown, guarded_shown, shown, choice_shown, chosen_shown, branches_shown, turn_shown, port_ends, PortFits, GuardedFits, Fits, ChoiceFits, ChosenFits, BranchesFit, TurnFits, next_is, link_next, not_running}
+use Rattle.circuit_ranks.proofs.Ranks.{Asked, assigns_to, listens_on, is_asked, turn_asked, branch_asked, choice_asked, is_received, some_received, choice_received}
+
+neither : (a b : Bool) → a ≡ false → b ≡ false → (a || b) ≡ false
+neither a b e f = ap (λ z. z || b) e ∙ f
+
+-- ---- what is asked is under way
+
+module _ (f : Asked) (still : (p : Process) → f p false ≡ false) where
+  -- nothing is at rest
+  mutual
+    pub low_asked : (p : Process) → is_asked f p false (low p) ≡ false
+    low_asked skipping = still skipping
+    low_asked (assigning y at e) = still (assigning y at e)
+    low_asked (sending c at e) = still (sending c at e)
+    low_asked (receiving c at y to) = still (receiving c at y to)
+    low_asked (in_turn members) = low_turn_asked members
+    low_asked (side_by_side members) = low_branch_asked members
+    low_asked (repeating p) = low_asked p
+    low_asked (choosing false choices) = low_choice_asked choices
+    low_asked (choosing true choices) = low_choice_asked choices
+
+    pub low_turn_asked : (members : Processes) → turn_asked f members false (low_turn members) ≡ false
+    low_turn_asked no_members = refl
+    low_turn_asked (and_member p no_members) = low_asked p
+    low_turn_asked (and_member p (and_member q more)) =
+        neither (is_asked f p false (low p)) (turn_asked f (and_member q more) false (low_turn (and_member q more))) (low_asked p)
+        (low_turn_asked (and_member q more))
+
+    pub low_branch_asked : (members : Processes) → branch_asked f members (low_branches members) ≡ false
+    low_branch_asked no_members = refl
+    low_branch_asked (and_member p more) =
+        neither (is_asked f p false (low p)) (branch_asked f more (low_branches more)) (low_asked p) (low_branch_asked more)
+
+    pub low_choice_asked : (choices : Choices) → choice_asked f choices (low_bits (choice_count choices)) (low_choices choices) ≡ false
+    low_choice_asked no_choices = refl
+    low_choice_asked (and_choice g p more) =
+        neither (is_asked f p false (low p)) (choice_asked f more (low_bits (choice_count more)) (low_choices more)) (low_asked p) (low_choice_asked more)
+
+  -- nor behind a member of a sequence that isn't under way
+  past_asked : {p : Process} {m : Mode} (g : GuardedAt p m) → (m ≡ running → ⊥) → is_asked f p (guarded_cells g).child (guarded_cells g).inner ≡ false
+  past_asked {p = p} g_rests ne = low_asked p
+  past_asked (g_in u a h) ne = absurd (ne refl)
+  past_asked {p = p} g_past ne = low_asked p
+  past_asked {p = p} (g_back u) ne = low_asked p
+
+  -- what each site shows of which that is asked, the place shows
+  module _ (env : Seen) (test : Shown → Bool) (two : (x y : Shown) → test (both_shown x y) ≡ (test x || test y)) (skip : (r : Bool) → f skipping r ≡ false)
+      (assigns : (x : ℕ) (at : Span) (e : Formula) (m : Mode) (u : Pairs (gate_count e)) → f (assigning x at e) (asks m) ≡ true
+      → test (site_shown (of_var x) e u) ≡ true)
+      (sends : (c : ℕ) (at : Span) (e : Formula) (m : Mode) (u : Pairs (gate_count e)) → f (sending c at e) (asks m) ≡ true
+      → test (site_shown (of_channel c) e u) ≡ true)
+      (receives : (c x : ℕ) (at to : Span) (m : Mode) (k : Bool) (q : Rails) → PortFits c x m k q env → f (receiving c at x to) (asks m) ≡ true
+      → test (port_shown c x k q) ≡ true) where
+    mutual
+      pub guarded_asked_shown : {p : Process} {m : Mode} (g : GuardedAt p m) → GuardedFits g env
+          → is_asked f p (guarded_cells g).child (guarded_cells g).inner ≡ true → test (guarded_shown g) ≡ true
+      guarded_asked_shown {p = p} g_rests fits z = absurd (not_both (low_asked p) z)
+      guarded_asked_shown (g_in u a h) fits z = asked_shown a fits z
+      guarded_asked_shown {p = p} g_past fits z = absurd (not_both (low_asked p) z)
+      guarded_asked_shown {p = p} (g_back u) fits z = absurd (not_both (low_asked p) z)
+
+      asked_shown : {p : Process} {m : Mode} (a : At p m) → Fits a env → is_asked f p (asks m) (cells a) ≡ true → test (shown a) ≡ true
+      asked_shown {p = p} rests fits z = absurd (not_both (low_asked p) z)
+      asked_shown (at_skip m h) fits z = absurd (not_both (skip (asks m)) z)
+      asked_shown (at_assign {x = x} {at = at} {e = e} m u h) fits z = assigns x at e m u z
+      asked_shown (at_send {c = c} {at = at} {e = e} m u h) fits z = sends c at e m u z
+      asked_shown (at_receive {c = c} {x = x} {at = at} {to = to} m k q h) fits z = receives c x at to m k q fits z
+      asked_shown (at_turn t) fits z = turn_asked_shown t fits z
+      asked_shown (at_side m t b h) fits z = branches_asked_shown b fits z
+      asked_shown (at_body a) fits z = asked_shown a fits z
+      asked_shown (at_choice x) fits z = choice_asked_shown x fits z
+      asked_shown (at_turning x) fits z = choice_asked_shown x fits z
+      asked_shown (at_closing {choices = choices} c) fits z = absurd (not_both (low_choice_asked choices) z)
+
+      choice_asked_shown : {again : Bool} {choices : Choices} {m : Mode} (x : ChoiceAt again choices m) → ChoiceFits x env
+          → choice_asked f choices (choice_cells x).started (choice_cells x).branches ≡ true → test (choice_shown x) ≡ true
+      choice_asked_shown (control_at {choices = choices} c) fits z = absurd (not_both (low_choice_asked choices) z)
+      choice_asked_shown (inside_at a w) fits z = chosen_asked_shown a fits z
+
+      chosen_asked_shown : {choices : Choices} {k : Mode} (a : ChosenAt choices k) → ChosenFits a env
+          → choice_asked f choices (hot (chosen_index a) (asks k)) (chosen_cells a) ≡ true → test (chosen_shown a) ≡ true
+      chosen_asked_shown (this_one {p = p} {more = more} {k = k} a) fits z =
+          either (is_asked f p (asks k) (cells a)) (choice_asked f more (low_bits (choice_count more)) (low_choices more)) z (λ y. asked_shown a fits y)
+          (λ y. absurd (not_both (low_choice_asked more) y))
+      chosen_asked_shown (another {p = p} {more = more} {k = k} a) fits z =
+          either (is_asked f p false (low p)) (choice_asked f more (hot (chosen_index a) (asks k)) (chosen_cells a)) z (λ y. absurd (not_both (low_asked p) y))
+          (λ y. chosen_asked_shown a fits y)
+
+      branches_asked_shown : {members : Processes} {ks : List Mode} (b : BranchesAt members ks) → BranchesFit b env
+          → branch_asked f members (branch_cells b) ≡ true → test (branches_shown b) ≡ true
+      branches_asked_shown no_more fits z = absurd (cc z)
+      branches_asked_shown (and_at {p = p} {more = more} g b) fits z = two (guarded_shown g) (branches_shown b)
+          ∙ either (is_asked f p (guarded_cells g).child (guarded_cells g).inner) (branch_asked f more (branch_cells b)) z
+          (λ y. or_left (test (guarded_shown g)) (test (branches_shown b)) (guarded_asked_shown g fits.0 y))
+          (λ y. or_right (test (guarded_shown g)) (test (branches_shown b)) (branches_asked_shown b fits.1 y))
+
+      turn_asked_shown : {members : Processes} {m : Mode} (t : TurnAt members m) → TurnFits t env
+          → turn_asked f members (asks m) (turn_cells t) ≡ true → test (turn_shown t) ≡ true
+      turn_asked_shown {members = members} turn_rests fits z = absurd (not_both (low_turn_asked members) z)
+      turn_asked_shown (at_last a) fits z = asked_shown a fits z
+      turn_asked_shown (at_member {p = p} {q = q} {more = more} g) fits z =
+          either (is_asked f p (guarded_cells g).child (guarded_cells g).inner)
+          (turn_asked f (and_member q more) (guarded_cells g).next (low_turn (and_member q more))) z (λ y. guarded_asked_shown g fits y)
+          (λ y. absurd (not_both (low_turn_asked (and_member q more))
+          (subst (λ (r : Bool). turn_asked f (and_member q more) r (low_turn (and_member q more)) ≡ true) (next_is g) y)))
+      turn_asked_shown (at_later {p = p} {q = q} {more = more} {k = k} {n = n} {m = m} g t h) fits z =
+          either (is_asked f p (guarded_cells g).child (guarded_cells g).inner) (turn_asked f (and_member q more) (guarded_cells g).next (turn_cells t)) z
+          (λ y. absurd (not_both (past_asked g (not_running m k n h)) y))
+          (λ y. turn_asked_shown t fits
+          (subst (λ (r : Bool). turn_asked f (and_member q more) r (turn_cells t) ≡ true) (next_is g ∙ link_next m k n h) y))
+
+pub assigns_still : (v : ℕ) (p : Process) → assigns_to v p false ≡ false
+assigns_still v (assigning y at e) = never_and (y == v)
+assigns_still v skipping = refl
+assigns_still v (sending c at e) = refl
+assigns_still v (receiving c at y to) = refl
+assigns_still v (in_turn _) = refl
+assigns_still v (side_by_side _) = refl
+assigns_still v (repeating p) = refl
+assigns_still v (choosing again _) = refl
+
+pub listens_still : (c : ℕ) (p : Process) → listens_on c p false ≡ false
+listens_still c (receiving k at y to) = never_and (k == c)
+listens_still c skipping = refl
+listens_still c (assigning y at e) = refl
+listens_still c (sending k at e) = refl
+listens_still c (in_turn _) = refl
+listens_still c (side_by_side _) = refl
+listens_still c (repeating p) = refl
+listens_still c (choosing again _) = refl
+
+-- an assignment that is asked has its step before it
+pub assigned_says : (v : ℕ) {p : Process} {m : Mode} (env : Seen) (g : GuardedAt p m) → GuardedFits g env
+    → is_asked (assigns_to v) p (guarded_cells g).child (guarded_cells g).inner ≡ true → (guarded_shown g).says (of_var v) ≡ true
+assigned_says v env g fits z = guarded_asked_shown (assigns_to v) (assigns_still v) env (λ s. s.says (of_var v)) (λ x y. refl) (λ r. refl)
+    (λ x at e m u y. fst_true (x == v) (asks m) y) (λ c at e m u y. absurd (cc y)) (λ c x at to m k q f y. absurd (cc y)) g fits z
+
+-- a receive that is asked under the channel's acknowledge has stored
+pub listened_takes : (c : ℕ) {p : Process} {m : Mode} (env : Seen) (g : GuardedAt p m) → GuardedFits g env → env.ack (of_channel c) ≡ true
+    → is_asked (listens_on c) p (guarded_cells g).child (guarded_cells g).inner ≡ true → (guarded_shown g).take c ≡ true
+listened_takes c env g fits high z = guarded_asked_shown (listens_on c) (listens_still c) env (λ s. s.take c) (λ x y. refl) (λ r. refl)
+    (λ x at e m u y. absurd (cc y)) (λ k at e m u y. absurd (cc y)) (λ d x at to m k q f y. at_port d x m k q f y) g fits z
+  where
+    kept : (m : Mode) (k a v f n : Bool) → port_ends m k a v f n ≡ true → asks m ≡ true → a ≡ true → k ≡ true
+    kept idle k a v f n e r h = absurd (cc r)
+    kept running k a v f n e r h = runs_kept k a v f n e h
+    kept answered k a v f n e r h = answered_kept k a v f n e
+    kept returning k a v f n e r h = absurd (cc r)
+
+    at_port : (d x : ℕ) (m : Mode) (k : Bool) (q : Rails) → PortFits d x m k q env → ((d == c) && asks m) ≡ true → ((d == c) && k) ≡ true
+    at_port d x m k q f y =
+        let same = fst_true (d == c) (asks m) y in
+        let there : env.ack (of_channel d) ≡ true = ap (λ (i : ℕ). env.ack (of_channel i)) (same_number d c same) ∙ high in
+        both_true (d == c) k same (kept m k (env.ack (of_channel d)) (env.ack (of_var x)) (is_some (value_on (env.width (of_var x)) q))
+        (neutral_on (env.width (of_var x)) q) f.ends (snd_true (d == c) (asks m) y) there)
+
+-- ---- of a variable that no receive writes an assignment is under way where something is
+
+module _ (v : ℕ) where
+  mutual
+    pub guarded_told : {p : Process} {m : Mode} (g : GuardedAt p m) → is_received v p ≡ false → (guarded_shown g).talk (of_var v) ≡ true
+        → (guarded_shown g).says (of_var v) ≡ true
+    guarded_told (g_in u a h) none e = told a none e
+    guarded_told g_rests none e = absurd (cc e)
+    guarded_told g_past none e = absurd (cc e)
+    guarded_told (g_back u) none e = absurd (cc e)
+
+    told : {p : Process} {m : Mode} (a : At p m) → is_received v p ≡ false → (shown a).talk (of_var v) ≡ true → (shown a).says (of_var v) ≡ true
+    told (at_assign m u h) none e = e
+    told (at_send m u h) none e = e
+    told (at_receive m k q h) none e = absurd (not_both none e)
+    told (at_turn t) none e = turn_told t none e
+    told (at_side m t b h) none e = branches_told b none e
+    told (at_body a) none e = told a none e
+    told (at_choice x) none e = choice_told x none e
+    told (at_turning x) none e = choice_told x none e
+    told (at_closing c) none e = absurd (cc e)
+    told rests none e = absurd (cc e)
+    told (at_skip m h) none e = absurd (cc e)
+
+    choice_told : {again : Bool} {choices : Choices} {m : Mode} (x : ChoiceAt again choices m) → choice_received v choices ≡ false
+        → (choice_shown x).talk (of_var v) ≡ true → (choice_shown x).says (of_var v) ≡ true
+    choice_told (control_at c) none e = absurd (cc e)
+    choice_told (inside_at a w) none e = chosen_told a none e
+
+    chosen_told : {choices : Choices} {m : Mode} (a : ChosenAt choices m) → choice_received v choices ≡ false → (chosen_shown a).talk (of_var v) ≡ true
+        → (chosen_shown a).says (of_var v) ≡ true
+    chosen_told (this_one {p = p} {more = more} a) none e = told a (neither_left (is_received v p) (choice_received v more) none) e
+    chosen_told (another {p = p} {more = more} a) none e = chosen_told a (neither_right (is_received v p) (choice_received v more) none) e
+
+    branches_told : {members : Processes} {ks : List Mode} (b : BranchesAt members ks) → some_received v members ≡ false
+        → (branches_shown b).talk (of_var v) ≡ true → (branches_shown b).says (of_var v) ≡ true
+    branches_told no_more none e = absurd (cc e)
+    branches_told (and_at {p = p} {more = more} g b) none e =
+        either ((guarded_shown g).talk (of_var v)) ((branches_shown b).talk (of_var v)) e
+        (λ z. or_left ((guarded_shown g).says (of_var v)) ((branches_shown b).says (of_var v))
+        (guarded_told g (neither_left (is_received v p) (some_received v more) none) z))
+        (λ z. or_right ((guarded_shown g).says (of_var v)) ((branches_shown b).says (of_var v))
+        (branches_told b (neither_right (is_received v p) (some_received v more) none) z))
+
+    turn_told : {members : Processes} {m : Mode} (t : TurnAt members m) → some_received v members ≡ false → (turn_shown t).talk (of_var v) ≡ true
+        → (turn_shown t).says (of_var v) ≡ true
+    turn_told (at_last {p = p} a) none e = told a (neither_left (is_received v p) false none) e
+    turn_told (at_member {p = p} {q = q} {more = more} g) none e =
+        guarded_told g (neither_left (is_received v p) (some_received v (and_member q more)) none) e
+    turn_told (at_later {p = p} {q = q} {more = more} g t h) none e =
+        turn_told t (neither_right (is_received v p) (some_received v (and_member q more)) none) e
+    turn_told turn_rests none e = absurd (cc e)
+
+-- ---- which assignments are under way is told by the values of nodes
+
+abbrev mutual
+  pub is_under : (var : ℕ) → (p : Process) → (r : Bool) → Cells p → Bool
+  is_under v (assigning y at e) r x = (y == v) && (r || x.answer)
+  is_under v (in_turn members) r x = turn_under v members r x
+  is_under v (side_by_side members) r x = branch_under v members x.branches
+  is_under v (repeating p) r x = is_under v p x.ask x.inner
+  is_under v (choosing false choices) r x = choice_under v choices x.started x.branches
+  is_under v (choosing true choices) r x = choice_under v choices x.core.started x.core.branches
+  is_under v skipping r x = false
+  is_under v (sending c at e) r x = false
+  is_under v (receiving c at y to) r x = false
+
+  pub turn_under : (var : ℕ) → (members : Processes) → (r : Bool) → TurnCells members → Bool
+  turn_under v no_members r x = false
+  turn_under v (and_member p no_members) r x = is_under v p r x
+  turn_under v (and_member p (and_member q more)) r x =
+      is_under v p x.member.child x.member.inner || turn_under v (and_member q more) x.member.next x.later
+
+  pub branch_under : (var : ℕ) → (members : Processes) → BranchCells members → Bool
+  branch_under v no_members x = false
+  branch_under v (and_member p more) x = is_under v p x.0.child x.0.inner || branch_under v more x.1
+
+  pub choice_under : (var : ℕ) → (choices : Choices) → Bits (choice_count choices) → ChoiceCells choices → Bool
+  choice_under v no_choices b x = false
+  choice_under v (and_choice g p more) b x = is_under v p b.0 x.0 || choice_under v more b.1 x.1
+
+module _ (v : ℕ) where
+  mutual
+    low_under : (p : Process) → is_under v p false (low p) ≡ false
+    low_under skipping = refl
+    low_under (assigning y at e) = never_and (y == v)
+    low_under (sending c at e) = refl
+    low_under (receiving c at y to) = refl
+    low_under (in_turn members) = low_turn_under members
+    low_under (side_by_side members) = low_branch_under members
+    low_under (repeating p) = low_under p
+    low_under (choosing false choices) = low_choice_under choices
+    low_under (choosing true choices) = low_choice_under choices
+
+    low_turn_under : (members : Processes) → turn_under v members false (low_turn members) ≡ false
+    low_turn_under no_members = refl
+    low_turn_under (and_member p no_members) = low_under p
+    low_turn_under (and_member p (and_member q more)) =
+        neither (is_under v p false (low p)) (turn_under v (and_member q more) false (low_turn (and_member q more))) (low_under p)
+        (low_turn_under (and_member q more))
+
+    low_branch_under : (members : Processes) → branch_under v members (low_branches members) ≡ false
+    low_branch_under no_members = refl
+    low_branch_under (and_member p more) =
+        neither (is_under v p false (low p)) (branch_under v more (low_branches more)) (low_under p) (low_branch_under more)
+
+    low_choice_under : (choices : Choices) → choice_under v choices (low_bits (choice_count choices)) (low_choices choices) ≡ false
+    low_choice_under no_choices = refl
+    low_choice_under (and_choice g p more) =
+        neither (is_under v p false (low p)) (choice_under v more (low_bits (choice_count more)) (low_choices more)) (low_under p) (low_choice_under more)
+
+  past_under : {p : Process} {m : Mode} (g : GuardedAt p m) → (m ≡ running → ⊥) → is_under v p (guarded_cells g).child (guarded_cells g).inner ≡ false
+  past_under {p = p} g_rests ne = low_under p
+  past_under (g_in u a h) ne = absurd (ne refl)
+  past_under {p = p} g_past ne = low_under p
+  past_under {p = p} (g_back u) ne = low_under p
+
+  and_true : (b : Bool) → b ≡ (b && true)
+  and_true true = refl
+  and_true false = refl
+
+  -- a site that is under way is asked, or it answers
+  awake : (y : ℕ) (m : Mode) (all : Bool) → wave_may m all ≡ true → (y == v) ≡ ((y == v) && (asks m || acks m))
+  awake y idle all h = absurd (cc h)
+  awake y running all h = and_true (y == v)
+  awake y answered all h = and_true (y == v)
+  awake y returning all h = and_true (y == v)
+
+  mutual
+    pub guarded_says_under : {p : Process} {m : Mode} (g : GuardedAt p m)
+        → (guarded_shown g).says (of_var v) ≡ is_under v p (guarded_cells g).child (guarded_cells g).inner
+    guarded_says_under {p = p} g_rests = sym (low_under p)
+    guarded_says_under (g_in u a h) = says_under a
+    guarded_says_under {p = p} g_past = sym (low_under p)
+    guarded_says_under {p = p} (g_back u) = sym (low_under p)
+
+    says_under : {p : Process} {m : Mode} (a : At p m) → (shown a).says (of_var v) ≡ is_under v p (asks m) (cells a)
+    says_under {p = p} rests = sym (low_under p)
+    says_under (at_skip m h) = refl
+    says_under (at_assign {x = x} m u h) = awake x m _ h.may
+    says_under (at_send m u h) = refl
+    says_under (at_receive m k q h) = refl
+    says_under (at_turn t) = turn_says_under t
+    says_under (at_side m t b h) = branches_say_under b
+    says_under (at_body a) = says_under a
+    says_under (at_choice x) = choice_says_under x
+    says_under (at_turning x) = choice_says_under x
+    says_under (at_closing {choices = choices} c) = sym (low_choice_under choices)
+
+    choice_says_under : {again : Bool} {choices : Choices} {m : Mode} (x : ChoiceAt again choices m)
+        → (choice_shown x).says (of_var v) ≡ choice_under v choices (choice_cells x).started (choice_cells x).branches
+    choice_says_under (control_at {choices = choices} c) = sym (low_choice_under choices)
+    choice_says_under (inside_at a w) = chosen_says_under a
+
+    chosen_says_under : {choices : Choices} {k : Mode} (a : ChosenAt choices k)
+        → (chosen_shown a).says (of_var v) ≡ choice_under v choices (hot (chosen_index a) (asks k)) (chosen_cells a)
+    chosen_says_under (this_one {p = p} {more = more} {k = k} a) = says_under a
+        ∙ sym (or_false_right (is_under v p (asks k) (cells a)) (choice_under v more (low_bits (choice_count more)) (low_choices more)) (low_choice_under more))
+    chosen_says_under (another {p = p} {more = more} {k = k} a) = chosen_says_under a
+        ∙ sym (ap (λ z. z || choice_under v more (hot (chosen_index a) (asks k)) (chosen_cells a)) (low_under p))
+
+    branches_say_under : {members : Processes} {ks : List Mode} (b : BranchesAt members ks)
+        → (branches_shown b).says (of_var v) ≡ branch_under v members (branch_cells b)
+    branches_say_under no_more = refl
+    branches_say_under (and_at {p = p} {more = more} g b) = ap (λ z. z || (branches_shown b).says (of_var v)) (guarded_says_under g)
+        ∙ ap (λ z. is_under v p (guarded_cells g).child (guarded_cells g).inner || z) (branches_say_under b)
+
+    turn_says_under : {members : Processes} {m : Mode} (t : TurnAt members m) → (turn_shown t).says (of_var v) ≡ turn_under v members (asks m) (turn_cells t)
+    turn_says_under {members = members} turn_rests = sym (low_turn_under members)
+    turn_says_under (at_last a) = says_under a
+    turn_says_under (at_member {p = p} {q = q} {more = more} g) = guarded_says_under g
+        ∙ sym (or_false_right (is_under v p (guarded_cells g).child (guarded_cells g).inner)
+        (turn_under v (and_member q more) (guarded_cells g).next (low_turn (and_member q more)))
+        (ap (λ r. turn_under v (and_member q more) r (low_turn (and_member q more))) (next_is g) ∙ low_turn_under (and_member q more)))
+    turn_says_under (at_later {p = p} {q = q} {more = more} {k = k} {n = n} {m = m} g t h) = turn_says_under t
+        ∙ sym (ap (λ z. z || turn_under v (and_member q more) (guarded_cells g).next (turn_cells t)) (past_under g (not_running m k n h))
+        ∙ ap (λ r. turn_under v (and_member q more) r (turn_cells t)) (next_is g ∙ link_next m k n h))
+
+  -- so places where all nodes have the same values say the same
+  pub same_says : {p : Process} {m n : Mode} (g : GuardedAt p m) (h : GuardedAt p n) → guarded_cells g ≡ guarded_cells h
+      → (guarded_shown g).says (of_var v) ≡ (guarded_shown h).says (of_var v)
+  same_says {p = p} g h same =
+      guarded_says_under g ∙ (ap (λ (x : QElementCells (Cells p)). is_under v p x.child x.inner) same ∙ sym (guarded_says_under h))

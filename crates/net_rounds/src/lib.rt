@@ -1,0 +1,2 @@
+//! How soon the net of a program passes what the program passes: in `longest` sweeps for each round.
+#![tactic(auto)]

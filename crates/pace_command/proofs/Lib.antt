@@ -1,0 +1,5 @@
+mod Members
+mod Bounds
+mod Ending
+mod Untargeted
+mod Keeping

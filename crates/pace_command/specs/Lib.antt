@@ -1,0 +1,4 @@
+pub mod Targets
+pub mod Pacing
+pub mod Kept
+pub mod Ends

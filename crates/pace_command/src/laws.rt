@@ -1,0 +1,39 @@
+//! What the printed bound means.
+
+ghost use Rattle.std.specs.Prelude.{ℕ, List};
+ghost use Rattle.command_answers.specs.Answers.{Given};
+ghost use Rattle.pace_command.specs.Kept.{IsKept};
+ghost use Rattle.pace_command.specs.Pacing.{IsPaceOf};
+
+use call_compose::{calls_asked, calls_typed};
+use command_steps::laws::meant_programs_are_shaped;
+use net_compose::laws::{carries, whole_nets};
+use net_pace::{
+    halves_take_no_longer, keeps_time, keeps_time_reset, keeps_timed_pace, keeps_timed_pace_reset,
+    shared_bodies_keep_time,
+};
+use program_commands::laws::shared_nets_are_faithful;
+use width_check::laws::form_is_typed;
+
+/// Law: the net that `compile` writes for a program without `--buffer` keeps to the bound that is printed for it. Each
+/// run whose moves begin with as many sweeps for each of n rounds of the program has passed what these pass, under
+/// every script and in whatever order the nodes switch; and so has each timed run with delays of at most D, the
+/// environment's too, whose last move comes later than as many times D for each of them, or which rests. With a reset
+/// node it is so from every power-up state, with two sweeps more.
+pub fn bounds_are_kept()
+    ensures { (given : Given) (file text : List ℕ) (is : IsPaceOf given file text) → IsKept is }
+{
+    meant_programs_are_shaped();
+    form_is_typed();
+    carries();
+    whole_nets();
+    halves_take_no_longer();
+    keeps_time();
+    shared_bodies_keep_time();
+    keeps_timed_pace();
+    keeps_time_reset();
+    keeps_timed_pace_reset();
+    shared_nets_are_faithful();
+    calls_asked();
+    calls_typed();
+}

@@ -1,0 +1,11 @@
+//! The command of the program `chp_pace`: how long a round of a program takes its circuit at most.
+#![tactic(auto)]
+
+pub mod laws;
+mod main_call;
+mod pace;
+mod report;
+mod targets;
+
+pub use command_answers::Status;
+pub use main_call::pace_main;

@@ -1,0 +1,75 @@
+//! What is printed of an accepted program.
+
+ghost use Rattle.std.specs.Prelude.{◌≡◌, ◌*◌, if◌then◌else◌, IfOk};
+ghost use Rattle.chp_syntax.specs.View.{program_tree};
+ghost use Rattle.width_check.specs.Typed.{program_of as typed_of};
+ghost use Rattle.handshake_expand.specs.Layout.{capped};
+ghost use Rattle.round_time.specs.Longest.{longest};
+ghost use Rattle.command_answers.specs.Replies.{told_answer};
+ghost use Rattle.command_steps.specs.Inlined.{IsFormOf};
+ghost use Rattle.pace_command.specs.Pacing.{IsBound, PacesProgram, pace_text, whole_bound};
+
+use crate::targets::reads_target;
+use chp_syntax::Program;
+use command_answers::{Ending, Output};
+use itoa::Buffer;
+use pace_bound::longest_of;
+use sharing_check::Disjoint;
+use std::alloc::{AllocError, Global};
+use width_check::{Typed, is_call_free};
+
+/// The two lines.
+fn pace_text(alloc: Global, round: u64, bound: u64) -> Result<Vec<u8>, AllocError>
+    ensures { IfOk result (λ text. text.items ≡ pace_text round bound) }
+{
+    let mut number = Buffer::new();
+    let mut text = Vec::from_slice(alloc, b"round ")?;
+    text.extend_from_slice(number.format(round).as_bytes())?;
+    text.extend_from_slice(b"\nbound ")?;
+    text.extend_from_slice(number.format(bound).as_bytes())?;
+    text.extend_from_slice(b"\n")?;
+    Ok(text)
+}
+
+/// The bound where each call has a copy.
+fn whole_bound(program: &Typed, round: u64) -> u64
+    requires { round ≡ capped (longest (typed_of program.now)) }
+    ensures { result ≡ capped (whole_bound (typed_of program.now)) }
+{
+    if reads_target(program.body()) {
+        round.saturating_mul(2)
+    } else {
+        round
+    }
+}
+
+/// The bound of the circuit that `compile` writes for the program, of which this is the checked form.
+fn bound(program: &Program, checked: &Disjoint, round: u64) -> u64
+    requires round { round ≡ capped (longest (typed_of checked.now)) }
+    ensures { IsBound (program_tree program.now) (typed_of checked.now) result }
+{
+    let whole = whole_bound(checked.typed(), round);
+    if is_call_free(program) {
+        whole
+    } else {
+        whole.saturating_mul(2)
+    }
+}
+
+/// What is printed of an accepted program, of which this is the checked form.
+pub(crate) fn pace_report(
+    alloc: Global,
+    program: &Program,
+    checked: &Disjoint,
+) -> Result<Output, AllocError>
+    requires { IsFormOf (program_tree program.now) (typed_of checked.now) }
+    ensures { IfOk result (λ output. PacesProgram (program_tree program.now) (told_answer output)) }
+{
+    let round = longest_of(alloc, checked.typed())?;
+    let bound = bound(program, checked, round);
+    let text = pace_text(alloc, round, bound)?;
+    Ok(Output {
+        text,
+        end: Ending::Done,
+    })
+}
