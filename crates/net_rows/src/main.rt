@@ -9,7 +9,6 @@ mod cells;
 mod names;
 mod nets;
 mod orders;
-mod page;
 mod printer;
 mod reading;
 mod rounds;
@@ -20,7 +19,6 @@ mod waves;
 
 use bench::NetBench;
 use cases::obey;
-use page::Page;
 use std::{fs, io};
 
 const TOPICS: [&str; 9] = [
@@ -28,14 +26,13 @@ const TOPICS: [&str; 9] = [
 ];
 
 fn main(rt: HostRuntime) -> io::Result<()> {
-    let mut page = Page::new(rt.alloc());
+    let mut page = String::new(rt.alloc());
     for topic in TOPICS {
         let cases = fs::read_to_string(&rt, topic)?;
         let mut bench = NetBench::new(rt.alloc())?;
         for line in cases.lines() {
-            obey(rt.alloc(), &mut bench, line, &mut page);
+            obey(rt.alloc(), &mut bench, line, &mut page)?;
         }
     }
-    page.kept?;
-    rt.print(page.text)
+    rt.print(page)
 }
