@@ -9,7 +9,7 @@ OWN = {
     "events": ("events", "what passed in a run, in one order over all channels"),
     "cover": ("cover", "what of a program never happened in some runs"),
     "profile": ("profile", "where the time of a run goes, by statement, by turn of a loop and by channel"),
-    "pace": ("pace", "how long a round takes at most, as is proved, and how long rounds of a run took"),
+    "pace": ("pace", "how long n rounds take at most, as is proved, and how long rounds of a run took"),
     "buffered": ("buffered", "the text of a program with a one-place buffer on a channel"),
     "stat": ("stat", "how large a circuit is, by part and by kind of part"),
     "tree": ("picture", "draws the parts of a circuit"),

@@ -1,4 +1,4 @@
-"""`pace`: how long a round of a program takes its circuit at most, beside the time that rounds of a run took."""
+"""`pace`: how long n rounds of a program take its circuit at most, beside the time that rounds of a run took."""
 
 from __future__ import annotations
 
@@ -15,11 +15,12 @@ from companion.until import MOST_MOVES
 from companion.waves import Wave, wave_of
 
 ABOUT = """\
-Prints what the proved program chp_pace says of a program: `round`, the longest way of moves from the
-steps of one round to those of the next where each call has a copy of its procedure's body, and `bound`,
-how many moves, one behind the other, a round takes at most in the circuit that `compile` writes. With a
-script it runs that circuit, each move taking 1, and prints for the first rounds that pass something new
-by when the circuit had passed all that so many rounds pass, and the bound of so many. The status is 0."""
+Prints what the proved program chp_pace says of a program: `round`, a number that no way of moves from
+the steps of one round to those of the next exceeds where each call has a copy of its procedure's body,
+and `bound`, so many moves, one behind the other, for each of n rounds of the circuit that `compile`
+writes without --buffer. With a script it runs that circuit, each move taking 1, and prints for the first
+rounds that pass something new by when the circuit had passed all that so many rounds pass (`-` where the
+run was too short), and the bound of so many. The status is that of chp_pace."""
 VARIABLE = "CHP_PACE"  # names another program
 
 
@@ -40,7 +41,7 @@ def path() -> str:
 def told(source: str) -> tuple[str, int]:
     """What chp_pace prints of a program, and the bound in it. chpc is asked first, since it builds chp_pace too."""
     program.wanted(["check", source])
-    if not os.access(path(), os.X_OK):
+    if not (os.path.isfile(path()) and os.access(path(), os.X_OK)):
         raise Refusal(f"{path()} isn't there: ./chpc builds it, and {VARIABLE} may name a built one elsewhere", 127)
     with program.started([source], subprocess.PIPE, subprocess.PIPE, path()) as run:
         out, err = run.communicate()
@@ -89,7 +90,7 @@ def measured(source: str, script: str, most: int, bound: int) -> Iterator[str]:
 
 
 def main(words: Sequence[str]) -> int:
-    """0."""
+    """0, where chp_pace ends so."""
     given = parser().parse_args(list(words))
     with Progress("pace") as progress:
         text, bound = told(given.source)

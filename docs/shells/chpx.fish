@@ -112,7 +112,7 @@ complete -c chpx -n '__fish_seen_subcommand_from profile' -l to -x
 complete -c chpx -n '__fish_seen_subcommand_from profile' -l from -x
 complete -c chpx -n '__fish_seen_subcommand_from profile' -l most -x
 complete -c chpx -n '__fish_seen_subcommand_from profile' -l json
-complete -c chpx -n __fish_use_subcommand -a pace -d 'how long a round takes at most, as is proved, and how long rounds of a run took'
+complete -c chpx -n __fish_use_subcommand -a pace -d 'how long n rounds take at most, as is proved, and how long rounds of a run took'
 complete -c chpx -n '__fish_seen_subcommand_from pace' -l rounds -x
 complete -c chpx -n __fish_use_subcommand -a buffered -d 'the text of a program with a one-place buffer on a channel'
 complete -c chpx -n __fish_use_subcommand -a stat -d 'how large a circuit is, by part and by kind of part'
