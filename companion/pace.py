@@ -43,7 +43,7 @@ def told(source: str) -> tuple[str, int]:
     program.wanted(["check", source])
     if not (os.path.isfile(path()) and os.access(path(), os.X_OK)):
         raise Refusal(f"{path()} isn't there: ./chpc builds it, and {VARIABLE} may name a built one elsewhere", 127)
-    with program.started([source], subprocess.PIPE, subprocess.PIPE, path()) as run:
+    with program.started([source], subprocess.PIPE, subprocess.PIPE, path(), VARIABLE) as run:
         out, err = run.communicate()
     answer = Answer(program.shell_status(run.returncode), out, err)
     if answer.status:

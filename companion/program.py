@@ -63,12 +63,14 @@ def shell_status(code: int) -> int:
     return code if code >= 0 else 128 - code
 
 
-def started(words: Sequence[str], out: int | None, err: int | None, name: str) -> subprocess.Popen[bytes]:
-    """Starts the program of this name."""
+def started(
+    words: Sequence[str], out: int | None, err: int | None, name: str, variable: str = "CHPC"
+) -> subprocess.Popen[bytes]:
+    """Starts the program of this name, in place of which the variable may name another."""
     try:
         return subprocess.Popen([name, *words], stdin=subprocess.DEVNULL, stdout=out, stderr=err)
     except OSError as error:
-        other = "" if "CHPC" in os.environ else "; the variable CHPC may name a built chpc elsewhere"
+        other = "" if variable in os.environ else f"; the variable {variable} may name a built one elsewhere"
         raise Refusal(f"{name} can't be started: {error.strerror}{other}", 127) from error
 
 

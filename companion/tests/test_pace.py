@@ -51,10 +51,16 @@ class Pace(Case):
         reports = ["done 0\nX:\nY:", "X: 3\nY:", "X: 3\nY:", "X: 3 4\nY: 7", "X: 3 4 5\nY: 7"]
 
         def wanted(words: list[str]) -> Answer:
+            if words[0] == "compile":
+                return Answer(0, b"", b"")
             return Answer(0, f"end spent\nrounds {words[4]}\n{reports[int(words[4]) - 1]}\n".encode(), b"")
 
         changes = [(5, "X.a", "1"), (7, "X.a", "0"), (11, "X.a", "1"), (12, "n4", "1"), (30, "Y.a", "1")]
         wave = Wave({}, [Change(*it) for it in changes])
-        with mock.patch.object(program, "wanted", wanted):
+        waves = mock.patch.object(pace, "wave_of", lambda *_, **__: wave)
+        with mock.patch.object(program, "wanted", wanted), waves:
             found = [(n, pace.time_of(wave, counts)) for n, counts in pace.new_rounds("f", "s", 5)]
+            table = list(pace.measured("f", "s", 5, 20))
         self.assertEqual(found, [(2, 5), (4, 30), (5, None)])
+        rows = ["  rounds    time   bound", "       2       5      40", "       4      30      80", "       5       -     100"]
+        self.assertEqual(table, rows)
