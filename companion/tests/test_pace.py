@@ -62,5 +62,4 @@ class Pace(Case):
             found = [(n, pace.time_of(wave, counts)) for n, counts in pace.new_rounds("f", "s", 5)]
             table = list(pace.measured("f", "s", 5, 20))
         self.assertEqual(found, [(2, 5), (4, 30), (5, None)])
-        rows = ["  rounds    time   bound", "       2       5      40", "       4      30      80", "       5       -     100"]
-        self.assertEqual(table, rows)
+        self.assertEqual([row.split() for row in table[1:]], [["2", "5", "40"], ["4", "30", "80"], ["5", "-", "100"]])
