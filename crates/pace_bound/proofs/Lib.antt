@@ -9,3 +9,5 @@ mod Chains
 mod Members
 mod Holding
 mod Ending
+mod Halved
+mod Whole

@@ -10,18 +10,19 @@ use Rattle.width_check.specs.View.{process_of, members_in}
 use Rattle.handshake_expand.specs.Layout.{capped}
 use Rattle.handshake_expand.specs.PartTree.{HasFormedGuards}
 use Rattle.handshake_expand.proofs.Rows.{member_at}
-use Rattle.round_time.specs.Longest.{first, turn_first, guards_depth, low, turn_low, choice_low, within, turn_within, choice_within}
-use Rattle.pace_bound.specs.Clearing.{onward, turned_again}
+use Rattle.round_time.specs.Longest.{guards_depth, low, turn_low, choice_low}
+use Rattle.pace_bound.specs.Clearing.{turned_again}
+use Rattle.pace_bound.specs.Halving.{first_by, turn_first_by, onward, within_by, turn_within_by, choice_within_by}
 
 pub formed_guards : (channels : List Channel) (vars : List Var) (cs : Choices) → AreChoices channels vars cs → HasFormedGuards cs
 formed_guards channels vars no_choices h = tt
 formed_guards channels vars (and_choice g p more) h = (h.0.formed, formed_guards channels vars more h.2)
 
-pub turn_first_is : (P : TypedProgram) (ss : List TStmt) (s : TStmt) → 2 ≤ length ss → s ≡ get_or ss 0 s
-    → turn_first P (members_in ss) ≡ suc (first P (process_of s))
-turn_first_is P [] s some is = absurd (omega arith)
-turn_first_is P (a ∷ []) s some is = absurd (omega arith)
-turn_first_is P (a ∷ b ∷ ss) s some is = ap (λ x. suc (first P (process_of x))) (sym is)
+pub turn_first_is : (halved : Bool) (P : TypedProgram) (ss : List TStmt) (s : TStmt) → 2 ≤ length ss → s ≡ get_or ss 0 s
+    → turn_first_by halved P (members_in ss) ≡ suc (first_by halved P (process_of s))
+turn_first_is b P [] s some is = absurd (omega arith)
+turn_first_is b P (a ∷ []) s some is = absurd (omega arith)
+turn_first_is b P (a ∷ x ∷ ss) s some is = ap (λ s. suc (first_by b P (process_of s))) (sym is)
 
 -- the last member of a sequence
 pub turn_low_is : (P : TypedProgram) (held i : ℕ) (ss : List TStmt) (s : TStmt) → i + 1 ≡ length ss → s ≡ get_or ss i s
@@ -38,15 +39,16 @@ held_least P held no_choices = omega arith
 held_least P held (and_choice g p more) = let h = held_least P held more in omega arith
 
 -- from a member of a sequence on: inside of it, on to the next one, and what is behind
-pub turn_within_at : (P : TypedProgram) (ss : List TStmt) (i : ℕ) (s : TStmt) → i < length ss → s ≡ get_or ss i s
-    → turn_within P (members_in (drop i ss)) ≡
-    max (within P (process_of s)) (max (onward P (members_in (drop i ss))) (turn_within P (members_in (drop (i + 1) ss))))
-turn_within_at P ss i s inside is =
-    ap (turn_within P) (member_at ss i s inside is) ∙ (by (members_in (drop (i + 1) ss))
-    ∙ ap (λ m. max (within P (process_of s)) (max (onward P m) (turn_within P (members_in (drop (i + 1) ss))))) (sym (member_at ss i s inside is)))
+pub turn_within_at : (halved : Bool) (P : TypedProgram) (ss : List TStmt) (i : ℕ) (s : TStmt) → i < length ss → s ≡ get_or ss i s
+    → turn_within_by halved P (members_in (drop i ss)) ≡
+    max (within_by halved P (process_of s)) (max (onward halved P (members_in (drop i ss))) (turn_within_by halved P (members_in (drop (i + 1) ss))))
+turn_within_at b P ss i s inside is =
+    ap (turn_within_by b P) (member_at ss i s inside is) ∙ (by (members_in (drop (i + 1) ss))
+    ∙ ap (λ m. max (within_by b P (process_of s)) (max (onward b P m) (turn_within_by b P (members_in (drop (i + 1) ss))))) (sym (member_at ss i s inside is)))
   where
     by : (more : Processes)
-        → turn_within P (and_member (process_of s) more) ≡ max (within P (process_of s)) (max (onward P (and_member (process_of s) more)) (turn_within P more))
+        → turn_within_by b P (and_member (process_of s) more) ≡
+        max (within_by b P (process_of s)) (max (onward b P (and_member (process_of s) more)) (turn_within_by b P more))
     by no_members = omega arith
     by (and_member q more) = refl
 
@@ -57,19 +59,20 @@ member_typed channels vars [] i s h inside is = absurd (omega arith)
 member_typed channels vars (x ∷ ss) zero s h inside is = subst (λ y. IsProcess channels vars (process_of y)) (sym is) h.0
 member_typed channels vars (x ∷ ss) (suc i) s h inside is = member_typed channels vars ss i s h.1 (omega arith) is
 
-pub single_left : (P : TypedProgram) (ss : List TStmt) → length ss ≤ 1 → onward P (members_in ss) ≡ 0
-single_left P [] few = refl
-single_left P (a ∷ []) few = refl
-single_left P (a ∷ b ∷ ss) few = absurd (omega arith)
+pub single_left : (halved : Bool) (P : TypedProgram) (ss : List TStmt) → length ss ≤ 1 → onward halved P (members_in ss) ≡ 0
+single_left b P [] few = refl
+single_left b P (a ∷ []) few = refl
+single_left b P (a ∷ x ∷ ss) few = absurd (omega arith)
 
-pub choosing_within : (P : TypedProgram) (again : Bool) (cs : Choices) → within P (choosing again cs) ≡
-    max (turned_again P again cs) (choice_within P (3 + guards_depth cs) cs)
-choosing_within P true cs = omega arith
-choosing_within P false cs = omega arith
+pub choosing_within : (halved : Bool) (P : TypedProgram) (again : Bool) (cs : Choices) → within_by halved P (choosing again cs) ≡
+    max (turned_again P again cs) (choice_within_by halved P (3 + guards_depth cs) cs)
+choosing_within b P true cs = omega arith
+choosing_within b P false cs = omega arith
 
-pub started_capped : (P : TypedProgram) (cs : Choices) (n : ℕ) → capped (choice_within P (capped n) cs) ≡ capped (choice_within P n cs)
-started_capped P no_choices n = refl
-started_capped P (and_choice g p more) n = by (within P p) (first P p) _ _ (started_capped P more n)
+pub started_capped : (halved : Bool) (P : TypedProgram) (cs : Choices) (n : ℕ)
+    → capped (choice_within_by halved P (capped n) cs) ≡ capped (choice_within_by halved P n cs)
+started_capped b P no_choices n = refl
+started_capped b P (and_choice g p more) n = by (within_by b P p) (first_by b P p) _ _ (started_capped b P more n)
   where
     inner : (f x y : ℕ) → capped x ≡ capped y → capped (max (capped n + f) x) ≡ capped (max (n + f) y)
     inner f x y h = omega arith

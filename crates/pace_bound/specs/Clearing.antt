@@ -1,10 +1,9 @@
--- The falls of lines, as they are worked out for all channels and variables before, and ways in sequences and
--- repetitions.
+-- The falls of lines, as they are worked out for all channels and variables before, and ways in repetitions.
 use Rattle.std.specs.Prelude.{◌≡◌, ℕ, ◌+◌, ◌<◌, Bool, true, false, List, length, slice_index}
-use Rattle.width_check.specs.Processes.{Processes, and_member, Choices, TypedProgram}
+use Rattle.width_check.specs.Processes.{Choices, TypedProgram}
 use Rattle.width_check.specs.Typing.{kind_at}
 use Rattle.handshake_expand.specs.Layout.{capped}
-use Rattle.round_time.specs.Longest.{writes_fall, channel_low, low, turn_first, choice_low, guards_depth}
+use Rattle.round_time.specs.Longest.{writes_fall, channel_low, choice_low, guards_depth}
 
 -- what a function says of each number up to a count, saturated
 pub record IsTableOf (count : ℕ) (f : ℕ → ℕ) (table : List ℕ) : Type 0 where
@@ -15,11 +14,6 @@ pub record IsTableOf (count : ℕ) (f : ℕ → ℕ) (table : List ℕ) : Type 0
 pub record AreFalls (P : TypedProgram) (ends writes : List ℕ) : Type 0 where
   pub of_channels : IsTableOf (length P.channels) (λ c. channel_low P (kind_at P.channels c) c) ends
   pub of_writes : IsTableOf (length P.vars) (writes_fall P) writes
-
--- from the last step of the first of some members to the first step of the second
-abbrev pub onward : TypedProgram → Processes → ℕ
-onward P (and_member p (and_member q more)) = low P 2 p + 1 + turn_first P (and_member q more)
-onward P _ = 0
 
 -- from the last step of a branch to the latch of the next turn, of a repetition
 abbrev pub turned_again : TypedProgram → (again : Bool) → Choices → ℕ

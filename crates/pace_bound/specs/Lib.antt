@@ -2,3 +2,4 @@ pub mod Bits
 pub mod Behind
 pub mod Clearing
 pub mod Noting
+pub mod Halving

@@ -1,13 +1,14 @@
 //! From the request of a statement to its first step.
 
-ghost use Rattle.std.specs.Prelude.{◌≡◌, ◌≤◌, length};
+ghost use Rattle.std.specs.Prelude.{◌≡◌, ℕ, ◌≤◌, true, length};
 ghost use Rattle.width_check.specs.Typed.{program_of};
 ghost use Rattle.width_check.specs.Typing.{IsProcess, AreProcesses, channel_width, kind_at};
 ghost use Rattle.width_check.specs.View.{formula_of, process_of, members_in};
 ghost use Rattle.width_check.specs.Values.{IsWellFormed};
 ghost use Rattle.width_check.specs.Reads.{reads};
 ghost use Rattle.handshake_expand.specs.Layout.{capped};
-ghost use Rattle.round_time.specs.Longest.{depth, tree_height, var_height, assign_first, send_first, receive_first, first, turn_first};
+ghost use Rattle.round_time.specs.Longest.{depth, tree_height, var_height, send_first, receive_first};
+ghost use Rattle.pace_bound.specs.Halving.{assign_first_by, first_by, turn_first_by};
 
 use crate::depth::{expr_depth, guards_depth};
 use crate::width::{channel_height, kind_of, var_height};
@@ -15,19 +16,31 @@ use chp_base::Kind;
 use handshake_expand::reads;
 use width_check::{TExpr, TStmt, Typed};
 
+/// Of an assignment that reads its own target, whose expression has so many gates one behind the other, and its target
+/// a tree so high.
+fn own_first(halved: bool, gates: u64, tree: u64) -> u64
+    ensures { (e : ℕ) → gates ≡ capped e → result ≡ capped (assign_first_by halved true e tree) }
+{
+    if halved {
+        gates.saturating_add(tree).saturating_add(5)
+    } else {
+        gates
+            .saturating_mul(2)
+            .saturating_add(tree.saturating_mul(3))
+            .saturating_add(17)
+    }
+}
+
 /// Of an assignment.
-fn assign_first(program: &Typed, var: u32, value: &TExpr) -> u64
+fn assign_first(program: &Typed, halved: bool, var: u32, value: &TExpr) -> u64
     requires { IsWellFormed (formula_of value.now) }
-    ensures { result ≡ capped (assign_first (reads var (formula_of value.now)) (depth (formula_of value.now))
+    ensures { result ≡ capped (assign_first_by halved (reads var (formula_of value.now)) (depth (formula_of value.now))
         (var_height (program_of program.now) var)) }
 {
     let gates = expr_depth(value);
     let tree = var_height(program, var);
     if reads(value, var) {
-        gates
-            .saturating_mul(2)
-            .saturating_add(tree.saturating_mul(3))
-            .saturating_add(17)
+        own_first(halved, gates, tree)
     } else {
         gates.saturating_add(tree).saturating_add(4)
     }
@@ -60,21 +73,21 @@ fn receive_first(program: &Typed, chan: u32, var: u32) -> u64
     }
 }
 
-/// From the request of a statement to its first step; saturates at 2^64 - 1.
-pub(crate) fn first(program: &Typed, s: &TStmt) -> u64
+/// From the request of a statement to its first step, of the program as it is or in halves; saturates at 2^64 - 1.
+pub(crate) fn first(program: &Typed, halved: bool, s: &TStmt) -> u64
     requires { IsProcess program.now.channels program.now.vars (process_of s.now) }
-    ensures { result ≡ capped (first (program_of program.now) (process_of s.now)) }
+    ensures { result ≡ capped (first_by halved (program_of program.now) (process_of s.now)) }
 {
     match s {
         TStmt::Skip | TStmt::Repeat { .. } => 1,
-        TStmt::Assign { var, value, .. } => assign_first(program, *var, value),
+        TStmt::Assign { var, value, .. } => assign_first(program, halved, *var, value),
         TStmt::Send { chan, value, .. } => send_first(program, *chan, value),
         TStmt::Receive { chan, var, .. } => receive_first(program, *chan, *var),
-        TStmt::Then { parts } => first(program, &parts[0]).saturating_add(1),
+        TStmt::Then { parts } => first(program, halved, &parts[0]).saturating_add(1),
         TStmt::Beside { parts } => {
             let mut most: u64 = 0;
             for part in parts {
-                most = most.max(first(program, part));
+                most = most.max(first(program, halved, part));
             }
             most.saturating_add(1)
         }
@@ -86,12 +99,12 @@ pub(crate) fn first(program: &Typed, s: &TStmt) -> u64
 }
 
 /// The same of statements that follow one the other.
-pub(crate) fn turn_first(program: &Typed, members: &[TStmt]) -> u64
+pub(crate) fn turn_first(program: &Typed, halved: bool, members: &[TStmt]) -> u64
     requires some { 1 ≤ length members.now }
     requires members { AreProcesses program.now.channels program.now.vars (members_in members.now) }
-    ensures { result ≡ capped (turn_first (program_of program.now) (members_in members.now)) }
+    ensures { result ≡ capped (turn_first_by halved (program_of program.now) (members_in members.now)) }
 {
-    let own = first(program, &members[0]);
+    let own = first(program, halved, &members[0]);
     if members.len() > 1 {
         own.saturating_add(1)
     } else {

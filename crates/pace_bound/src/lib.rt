@@ -12,4 +12,4 @@ mod table;
 mod width;
 mod within;
 
-pub use longest::longest_of;
+pub use longest::{longest_in_halves, longest_of};

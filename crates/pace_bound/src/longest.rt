@@ -2,10 +2,13 @@
 
 ghost use Rattle.std.specs.Prelude.{◌≡◌, IfOk};
 ghost use Rattle.width_check.specs.Typed.{program_of};
+ghost use Rattle.width_check.specs.Typing.{IsTyped};
 ghost use Rattle.width_check.specs.View.{process_of};
+ghost use Rattle.chp_meaning.specs.Halves.{halved_program};
 ghost use Rattle.handshake_expand.specs.Layout.{capped};
 ghost use Rattle.round_time.specs.Longest.{longest};
 ghost use Rattle.pace_bound.specs.Clearing.{AreFalls};
+ghost use Rattle.pace_bound.specs.Halving.{longest_by};
 
 use crate::first::first;
 use crate::low::{Falls, low};
@@ -14,15 +17,16 @@ use crate::within::within;
 use std::alloc::{AllocError, Global};
 use width_check::Typed;
 
-/// The same, where the falls of lines are known.
-fn longest_by(program: &Typed, falls: &Falls) -> u64
+/// The same, where the falls of lines are known, of the program as it is or in halves.
+fn longest_by(program: &Typed, falls: &Falls, halved: bool) -> u64
     requires { AreFalls (program_of program.now) falls.now.channels.items falls.now.writes.items }
-    ensures { result ≡ capped (longest (program_of program.now)) }
+    ensures bound { result ≡ capped (longest_by halved (program_of program.now)) }
+    ensures typed { IsTyped program.now.channels program.now.vars (process_of program.now.body) }
 {
     let body = program.body();
-    let begins = first(program, body).saturating_add(2);
+    let begins = first(program, halved, body).saturating_add(2);
     let ends = low(program, falls, body, 2).saturating_add(2);
-    within(program, falls, body).max(begins.max(ends))
+    within(program, falls, halved, body).max(begins.max(ends))
 }
 
 /// How many moves, one behind the other, the circuit of the program makes at most from the steps of one round to those
@@ -34,5 +38,14 @@ pub fn longest_of(alloc: Global, program: &Typed) -> Result<u64, AllocError>
     ensures { IfOk result (λ n. n ≡ capped (longest (program_of program.now))) }
 {
     let falls = falls(alloc, program)?;
-    Ok(longest_by(program, &falls))
+    Ok(longest_by(program, &falls, false))
+}
+
+/// The same of the program in halves: each assignment that reads its own target is two, to a variable that nothing else
+/// has, and from that. No such program is made, and it takes no more time or memory than `longest_of`.
+pub fn longest_in_halves(alloc: Global, program: &Typed) -> Result<u64, AllocError>
+    ensures { IfOk result (λ n. n ≡ capped (longest (halved_program (program_of program.now)))) }
+{
+    let falls = falls(alloc, program)?;
+    Ok(longest_by(program, &falls, true))
 }

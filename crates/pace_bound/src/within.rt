@@ -3,26 +3,45 @@
 ghost use Rattle.std.specs.Prelude.{◌≡◌, ◌+◌, ◌<◌, Bool, length, drop};
 ghost use Rattle.width_check.specs.Typed.{program_of};
 ghost use Rattle.width_check.specs.Typing.{IsProcess, AreProcesses, AreChoices};
-ghost use Rattle.width_check.specs.View.{process_of, members_in, choices_in};
+ghost use Rattle.width_check.specs.View.{formula_of, process_of, members_in, choices_in};
+ghost use Rattle.width_check.specs.Values.{IsWellFormed};
+ghost use Rattle.width_check.specs.Reads.{reads};
 ghost use Rattle.handshake_expand.specs.Layout.{capped};
-ghost use Rattle.round_time.specs.Longest.{guards_depth, within};
-ghost use Rattle.pace_bound.specs.Clearing.{AreFalls, onward, turned_again};
+ghost use Rattle.round_time.specs.Longest.{depth, guards_depth, var_height};
+ghost use Rattle.pace_bound.specs.Clearing.{AreFalls, turned_again};
+ghost use Rattle.pace_bound.specs.Halving.{assign_within, onward, within_by};
 
-use crate::depth::guards_depth;
+use crate::depth::{expr_depth, guards_depth};
 use crate::first::{first, turn_first};
 use crate::low::{Falls, choice_low, low};
-use width_check::{TArm, TStmt, Typed};
+use crate::width::var_height;
+use handshake_expand::reads;
+use width_check::{TArm, TExpr, TStmt, Typed};
+
+/// From the step of the first half of an assignment to that of the second, where it is in halves.
+fn assign_within(program: &Typed, halved: bool, var: u32, value: &TExpr) -> u64
+    requires { IsWellFormed (formula_of value.now) }
+    ensures { result ≡ capped (assign_within halved (reads var (formula_of value.now)) (depth (formula_of value.now))
+        (var_height (program_of program.now) var)) }
+{
+    if halved && reads(value, var) {
+        let trees = var_height(program, var).saturating_mul(2);
+        expr_depth(value).saturating_add(trees).saturating_add(12)
+    } else {
+        0
+    }
+}
 
 /// From the last step of a member of a sequence to the first step of the next one; 0 for the last member.
-fn between(program: &Typed, falls: &Falls, parts: &[TStmt], place: usize) -> u64
+fn between(program: &Typed, falls: &Falls, halved: bool, parts: &[TStmt], place: usize) -> u64
     requires falls { AreFalls (program_of program.now) falls.now.channels.items falls.now.writes.items }
     requires there { place < length parts.now }
     requires members { AreProcesses program.now.channels program.now.vars (members_in (drop place parts.now)) }
-    ensures { result ≡ capped (onward (program_of program.now) (members_in (drop place parts.now))) }
+    ensures { result ≡ capped (onward halved (program_of program.now) (members_in (drop place parts.now))) }
 {
     if place + 1 < parts.len() {
         low(program, falls, &parts[place], 2)
-            .saturating_add(turn_first(program, &parts[place + 1..]))
+            .saturating_add(turn_first(program, halved, &parts[place + 1..]))
             .saturating_add(1)
     } else {
         0
@@ -45,25 +64,27 @@ fn turned_again(program: &Typed, falls: &Falls, again: bool, arms: &[TArm], guar
     }
 }
 
-/// The longest way inside of a statement from the steps of one round to those of the next; saturates at 2^64 - 1.
-pub(crate) fn within(program: &Typed, falls: &Falls, s: &TStmt) -> u64
+/// The longest way inside of a statement from the steps of one round to those of the next, of the program as it is or
+/// in halves; saturates at 2^64 - 1.
+pub(crate) fn within(program: &Typed, falls: &Falls, halved: bool, s: &TStmt) -> u64
     requires falls { AreFalls (program_of program.now) falls.now.channels.items falls.now.writes.items }
     requires process { IsProcess program.now.channels program.now.vars (process_of s.now) }
-    ensures { result ≡ capped (within (program_of program.now) (process_of s.now)) }
+    ensures { result ≡ capped (within_by halved (program_of program.now) (process_of s.now)) }
 {
     match s {
+        TStmt::Assign { var, value, .. } => assign_within(program, halved, *var, value),
         TStmt::Then { parts } => {
             let mut most: u64 = 0;
             for place in 0..parts.len() {
-                let inner = within(program, falls, &parts[place]);
-                most = most.max(inner.max(between(program, falls, parts, place)));
+                let inner = within(program, falls, halved, &parts[place]);
+                most = most.max(inner.max(between(program, falls, halved, parts, place)));
             }
             most
         }
         TStmt::Beside { parts } => {
             let mut most: u64 = 0;
             for part in parts {
-                most = most.max(within(program, falls, part));
+                most = most.max(within(program, falls, halved, part));
             }
             most
         }
@@ -72,15 +93,15 @@ pub(crate) fn within(program: &Typed, falls: &Falls, s: &TStmt) -> u64
             let started = guards.saturating_add(3);
             let mut most = turned_again(program, falls, *again, arms, guards);
             for arm in arms {
-                let inner = within(program, falls, &arm.body);
-                let reached = started.saturating_add(first(program, &arm.body));
+                let inner = within(program, falls, halved, &arm.body);
+                let reached = started.saturating_add(first(program, halved, &arm.body));
                 most = most.max(inner.max(reached));
             }
             most
         }
         TStmt::Repeat { body } => {
             let back = low(program, falls, body, 1).saturating_add(1);
-            within(program, falls, body).max(first(program, body).max(back))
+            within(program, falls, halved, body).max(first(program, halved, body).max(back))
         }
         _ => 0,
     }

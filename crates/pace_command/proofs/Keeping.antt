@@ -8,7 +8,6 @@ use Rattle.prs_core.specs.Nets.{NetValue, IsNet}
 use Rattle.reset_net.specs.Resets.{reset_of}
 use Rattle.width_check.specs.Form.{typed_form}
 use Rattle.width_check.specs.Processes.{TypedProgram}
-use Rattle.width_check.specs.Sharing.{MeetsSharing}
 use Rattle.width_check.specs.Typing.{IsTyped}
 use Rattle.chp_meaning.specs.Halves.{halved_program}
 use Rattle.handshake_expand.specs.Layout.{capped, nodes_of}
@@ -38,19 +37,19 @@ record Round (p : TypedProgram) : Type 0 where
   whole : k ≤ capped (whole_bound p)
   twice : 2 * k ≤ capped (2 * whole_bound p)
 
-round_of : (p : TypedProgram) → longest (halved_program p) ≤ longest p → nodes_of p ≤ 65536 → Round p
-round_of p less few = by (reads_target p.body) refl
+round_of : (p : TypedProgram) → nodes_of p ≤ 65536 → Round p
+round_of p few = by (reads_target p.body) refl
   where
-    bound_is : (b : Bool) → reads_target p.body ≡ b → whole_bound p ≡ (if b then 2 * longest p else longest p)
-    bound_is b is = ap (λ c. if c then 2 * longest p else longest p) is
+    bound_is : (b : Bool) → reads_target p.body ≡ b → whole_bound p ≡ (if b then 2 * longest (halved_program p) else longest p)
+    bound_is b is = ap (λ c. if c then 2 * longest (halved_program p) else longest p) is
 
     by : (b : Bool) → reads_target p.body ≡ b → Round p
-    by true is = let bound : whole_bound p ≡ 2 * longest p = bound_is true is in
+    by true is = let bound : whole_bound p ≡ 2 * longest (halved_program p) = bound_is true is in
         record {
           k = 2 * min (longest (halved_program p)) (sweeps_for_round p);
           enough = as_halves;
-          whole = omega (arith, bound, few, less);
-          twice = omega (arith, bound, few, less);
+          whole = omega (arith, bound, few);
+          twice = omega (arith, bound, few);
         }
     by false is = let bound : whole_bound p ≡ longest p = bound_is false is in
         record {
@@ -75,8 +74,7 @@ module _ (timed : (n : NetValue) (p : TypedProgram) (sweeps : ℕ) → Carries n
     timed_reset = timed_reset (net_with bodies) p bound net plain carries keeps;
   }
 
-  module _ (no_longer : (p : TypedProgram) → IsTyped p.channels p.vars p.body → MeetsSharing p.body → longest (halved_program p) ≤ longest p)
-      (carry : TranslationCarries) (whole : (p : TypedProgram) → IsTyped p.channels p.vars p.body → nodes_of p ≤ 65536 → IsNet (translation p))
+  module _ (carry : TranslationCarries) (whole : (p : TypedProgram) → IsTyped p.channels p.vars p.body → nodes_of p ≤ 65536 → IsNet (translation p))
       (keep : (p : TypedProgram) → IsTranslated p → nodes_of p ≤ 65536 → (sweeps : ℕ) → IsRoundTime p sweeps → KeepsTime (translation p) p sweeps)
       (faithful : SharedNetsAreFaithful) (asked : CallsAsked) (typed : CallsTyped)
       (keep_shared : (C : CallProgram) → IsCallProgram C → IsTranslated (inlined_program C) → nodes_of (inlined_program C) ≤ 65536
@@ -84,7 +82,7 @@ module _ (timed : (n : NetValue) (p : TypedProgram) (sweeps : ℕ) → Carries n
       → (sweeps : ℕ) → IsRoundTime (inlined_program C) sweeps → KeepsTime (call_net C (call_names C)) (inlined_program C) (2 * sweeps)) where
     copied_kept : {p : TypedProgram} → IsTranslated p → nodes_of p ≤ 65536 → KeepsBound (copies_of p) (capped (whole_bound p))
     copied_kept {p} is few =
-        let r = round_of p (no_longer p is.typed is.sharing) few in
+        let r = round_of p few in
         kept (copies_of p) (capped (whole_bound p)) (whole p is.typed few) refl (carry p is)
         (keeps_more (translation p) p r.k (capped (whole_bound p)) r.whole (keep p is few r.k r.enough))
 
@@ -107,7 +105,7 @@ module _ (timed : (n : NetValue) (p : TypedProgram) (sweeps : ℕ) → Carries n
         let small = few_shared h few in
         let nodes = few_nodes (shared h) few in
         let it : IsFaithful false (shared h) = faithful false t p h small in
-        let r = round_of p (no_longer p is.typed is.sharing) nodes in
+        let r = round_of p nodes in
         kept (shared h) (capped (2 * whole_bound p)) it.plain refl it.carries
         (keeps_more (net_with (shared h)) p (2 * r.k) (capped (2 * whole_bound p)) r.twice (shared_keep h is nodes small r.k r.enough))
 

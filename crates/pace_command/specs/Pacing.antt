@@ -6,6 +6,7 @@ use Rattle.width_check.specs.Accepted.{IsAccepted}
 use Rattle.width_check.specs.Calls.{IsCallFree}
 use Rattle.width_check.specs.Form.{typed_form}
 use Rattle.width_check.specs.Processes.{TypedProgram}
+use Rattle.chp_meaning.specs.Halves.{halved_program}
 use Rattle.handshake_expand.specs.Layout.{capped}
 use Rattle.round_time.specs.Longest.{longest}
 use Rattle.command_answers.specs.declared.answer.Ending.TheVariants.{Done}
@@ -20,9 +21,9 @@ pace_text round bound = concat (
     codes "round " ∷ decimal round ∷ codes "\nbound " ∷ decimal bound ∷ codes "\n" ∷ [])
 
 -- for how many moves, one behind the other, a round of the circuit with a copy for each call is proved to last at most:
--- twice as many as the longest way where some assignment reads its own target
+-- where some assignment reads its own target, twice as many as the longest way of the program in halves
 abbrev pub whole_bound : TypedProgram → ℕ
-whole_bound p = if reads_target p.body then 2 * longest p else longest p
+whole_bound p = if reads_target p.body then 2 * longest (halved_program p) else longest p
 
 -- and of the circuit that is compiled, in which all calls of a procedure share one body: twice as many again where the
 -- program has procedures or calls; this is the program without them

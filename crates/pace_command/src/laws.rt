@@ -9,8 +9,7 @@ use call_compose::{calls_asked, calls_typed};
 use command_steps::laws::meant_programs_are_shaped;
 use net_compose::laws::{carries, whole_nets};
 use net_pace::{
-    halves_take_no_longer, keeps_time, keeps_time_reset, keeps_timed_pace, keeps_timed_pace_reset,
-    shared_bodies_keep_time,
+    keeps_time, keeps_time_reset, keeps_timed_pace, keeps_timed_pace_reset, shared_bodies_keep_time,
 };
 use program_commands::laws::shared_nets_are_faithful;
 use width_check::laws::form_is_typed;
@@ -27,7 +26,6 @@ pub fn bounds_are_kept()
     form_is_typed();
     carries();
     whole_nets();
-    halves_take_no_longer();
     keeps_time();
     shared_bodies_keep_time();
     keeps_timed_pace();

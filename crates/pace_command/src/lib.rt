@@ -1,4 +1,4 @@
-//! The command of the program `chp_pace`: how long a round of a program takes its circuit at most.
+//! The command of the program `chp_pace`: how long rounds of a program take its circuit at most.
 #![tactic(auto)]
 
 pub mod laws;

@@ -44,13 +44,14 @@ fn run<'a, S: Shelf, K: Sink>(
     }
 }
 
-/// Prints how long a round of the program in the file that is named takes its circuit at most. The words are the name
-/// of one file and nothing else, and whatever it begins with. Statuses and lines are those of `chpc`.
+/// Prints how long rounds of the program in the file that is named take its circuit at most. The words are the name of
+/// one file and nothing else, and whatever it begins with. Statuses and lines are those of `chpc`.
 ///
-/// With status 0 the output is exactly two lines: `round`, the length of the longest way of moves from the steps of one
-/// round to those of the next in the program with a copy of the body for each call; and `bound`, how many moves, one
-/// behind the other, a round of the circuit that `compile` writes takes at most, which that circuit keeps to (`paced`).
-/// That the file holds this program is said where the shelf is observable, and what was written where the output is.
+/// With status 0 the output is exactly two lines: `round`, a number of moves that no way from the steps of one round to
+/// those of the next exceeds, in the program with a copy of the body for each call; and `bound`: n rounds of the
+/// circuit that `compile` writes without `--buffer`, if that isn't too large, take at most n times as many moves, one
+/// behind the other (`paced`). That the file holds this program is said where the shelf is observable, and what was
+/// written where the output is.
 ///
 /// With other statuses the words are not one name (`usage`), the file isn't there or the shelf failed (`read`), the
 /// output failed (`write`), it refuses, or memory ran out (`ended` has them all, with the line that is said); and then

@@ -2,6 +2,7 @@
 
 ghost use Rattle.std.specs.Prelude.{◌≡◌, ◌*◌, if◌then◌else◌, IfOk};
 ghost use Rattle.chp_syntax.specs.View.{program_tree};
+ghost use Rattle.width_check.specs.Processes.{TypedProgram};
 ghost use Rattle.width_check.specs.Typed.{program_of as typed_of};
 ghost use Rattle.handshake_expand.specs.Layout.{capped};
 ghost use Rattle.round_time.specs.Longest.{longest};
@@ -13,7 +14,7 @@ use crate::targets::reads_target;
 use chp_syntax::Program;
 use command_answers::{Ending, Output};
 use itoa::Buffer;
-use pace_bound::longest_of;
+use pace_bound::{longest_in_halves, longest_of};
 use sharing_check::Disjoint;
 use std::alloc::{AllocError, Global};
 use width_check::{Typed, is_call_free};
@@ -32,23 +33,23 @@ fn pace_text(alloc: Global, round: u64, bound: u64) -> Result<Vec<u8>, AllocErro
 }
 
 /// The bound where each call has a copy.
-fn whole_bound(program: &Typed, round: u64) -> u64
+fn whole_bound(alloc: Global, program: &Typed, round: u64) -> Result<u64, AllocError>
     requires { round ≡ capped (longest (typed_of program.now)) }
-    ensures { result ≡ capped (whole_bound (typed_of program.now)) }
+    ensures { IfOk result (λ n. n ≡ capped (whole_bound (typed_of program.now))) }
 {
     if reads_target(program.body()) {
-        round.saturating_mul(2)
+        let halves = longest_in_halves(alloc, program)?;
+        Ok(halves.saturating_mul(2))
     } else {
-        round
+        Ok(round)
     }
 }
 
-/// The bound of the circuit that `compile` writes for the program, of which this is the checked form.
-fn bound(program: &Program, checked: &Disjoint, round: u64) -> u64
-    requires round { round ≡ capped (longest (typed_of checked.now)) }
-    ensures { IsBound (program_tree program.now) (typed_of checked.now) result }
+/// The bound of the circuit that `compile` writes for the program, where it is this much with a copy for each call.
+fn bound(program: &Program, whole: u64) -> u64
+    ensures { (plain : TypedProgram) → whole ≡ capped (whole_bound plain)
+        → IsBound (program_tree program.now) plain result }
 {
-    let whole = whole_bound(checked.typed(), round);
     if is_call_free(program) {
         whole
     } else {
@@ -65,8 +66,10 @@ pub(crate) fn pace_report(
     requires { IsFormOf (program_tree program.now) (typed_of checked.now) }
     ensures { IfOk result (λ output. PacesProgram (program_tree program.now) (told_answer output)) }
 {
-    let round = longest_of(alloc, checked.typed())?;
-    let bound = bound(program, checked, round);
+    let plain = checked.typed();
+    let round = longest_of(alloc, plain)?;
+    let whole = whole_bound(alloc, plain, round)?;
+    let bound = bound(program, whole);
     let text = pace_text(alloc, round, bound)?;
     Ok(Output {
         text,

@@ -9,4 +9,4 @@ pub returns-else-place-parts : goal.returns-else-place-parts
 returns-else-place-parts c =
     let parts = c.args.parts.now in
     let few : length (drop c.args.place parts) ≤ 1 = let l = length-drop c.args.place parts in omega arith in
-    sym (ap capped (single_left (program_of c.args.program.now) (drop c.args.place parts) few))
+    sym (ap capped (single_left c.args.halved (program_of c.args.program.now) (drop c.args.place parts) few))

@@ -8,6 +8,6 @@ returns c = λ given file text is bodies has few.
     let shaped = c.meant_programs_are_shaped.ensures is.text is.program is.plain is.read.reads is.short is.means in
     let translated : IsTranslated (typed_form is.plain) =
     record { typed = c.form_is_typed.ensures is.plain shaped is.accepted.named; sharing = is.accepted.sharing } in
-    bound_kept c.keeps_timed_pace.ensures.net c.keeps_time_reset.ensures.net c.keeps_timed_pace_reset.ensures.net c.halves_take_no_longer.ensures
+    bound_kept c.keeps_timed_pace.ensures.net c.keeps_time_reset.ensures.net c.keeps_timed_pace_reset.ensures.net
     c.carries.ensures c.whole_nets.ensures c.keeps_time.ensures c.shared_nets_are_faithful.ensures c.calls_asked.ensures c.calls_typed.ensures
     c.shared_bodies_keep_time.ensures is.program translated bodies has few is.bound is.bounds
