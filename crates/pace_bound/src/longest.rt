@@ -42,7 +42,7 @@ pub fn longest_of(alloc: Global, program: &Typed) -> Result<u64, AllocError>
 }
 
 /// The same of the program in halves: each assignment that reads its own target is two, to a variable that nothing else
-/// has, and from that. No such program is made, and it takes no more time or memory than `longest_of`.
+/// has, and from that. No such program is made, and memory is taken as by `longest_of`.
 pub fn longest_in_halves(alloc: Global, program: &Typed) -> Result<u64, AllocError>
     ensures { IfOk result (λ n. n ≡ capped (longest (halved_program (program_of program.now)))) }
 {
