@@ -19,7 +19,8 @@ use Rattle.circuit_places.specs.Cores.{of_joined, of_ask, of_any, of_latch, of_s
 use Rattle.circuit_places.specs.Circuit.{Site, Cells, TurnCells, BranchCells, ChoiceCells, GuardCells, QElementCells, joint_count, cell_bit, SiteSpot, done, gate, heard, stored, taking, GuardedSpot, child, latch, next, inner, Spot, of_skip, of_assign, of_send, of_receive, in_members, of_branch, joint, of_loop, ask, in_body, of_core, of_guard, of_choice, of_round, GuardSpot, this_gate, other_gate, ChoiceSpot, this_choice, other_choice, BranchSpot, in_this, in_others, TurnSpot, in_last, in_member, in_later, site_rule, guarded_rule, rule, turn_rule, branch_rule, choice_rule}
 use Rattle.circuit_places.proofs.Meets.{Meets, TurnMeets, EachMeets, ChoiceMeets}
 use Rattle.round_time.specs.Longest.{depth, guards_depth, tree_height, var_height, send_first, receive_first, assign_first, first, turn_first, each_first, within, choice_within}
-use Rattle.circuit_time.proofs.Trails.{Clearing, rail_left, rail_ahead, gate_depth, joint_level, choices_first, back, turn_back, choice_back, site_trail, guards_trail, latch_trail, start_trail, turn_fall, guarded_trail, trail, choice_trail, branch_trail, turn_trail}
+use Rattle.round_time.specs.Phases.{choices_first}
+use Rattle.circuit_time.proofs.Trails.{Clearing, rail_left, rail_ahead, gate_depth, joint_level, back, turn_back, choice_back, site_trail, guards_trail, latch_trail, start_trail, turn_fall, guarded_trail, trail, choice_trail, branch_trail, turn_trail}
 use Rattle.circuit_time.proofs.Depths.{depth_most, depth_some}
 use Rattle.circuit_time.proofs.Requests.{first_some}
 use Rattle.circuit_time.proofs.OwnTrails.{Covers, TurnCovers, EachCovers, ChoiceCovers}

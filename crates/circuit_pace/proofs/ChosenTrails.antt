@@ -23,14 +23,14 @@ abbrev this_of : {g : Formula} {p : Process} {more : Choices} → Spot p → Cho
 this_of d (this_choice s) = s
 this_of d (other_choice s) = d
 
-this_apart : {g : Formula} {p : Process} {more : Choices} {s q : Spot p} → s ≢ q → this_choice {g = g} {more = more} s ≢ this_choice q
+pub this_apart : {g : Formula} {p : Process} {more : Choices} {s q : Spot p} → s ≢ q → this_choice {g = g} {more = more} s ≢ this_choice q
 this_apart {s = s} ne e = ne (ap (this_of s) e)
 
 abbrev other_of : {g : Formula} {p : Process} {more : Choices} → ChoiceSpot more → ChoiceSpot (and_choice g p more) → ChoiceSpot more
 other_of d (this_choice s) = d
 other_of d (other_choice s) = s
 
-other_apart : {g : Formula} {p : Process} {more : Choices} {s q : ChoiceSpot more} → s ≢ q → other_choice {g = g} {p = p} s ≢ other_choice q
+pub other_apart : {g : Formula} {p : Process} {more : Choices} {s q : ChoiceSpot more} → s ≢ q → other_choice {g = g} {p = p} s ≢ other_choice q
 other_apart {s = s} ne e = ne (ap (other_of s) e)
 
 -- what follows the fall of a branch's start

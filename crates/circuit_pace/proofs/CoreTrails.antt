@@ -17,7 +17,8 @@ use Rattle.circuit_places.proofs.ChoiceMoves.{spot_at}
 use Rattle.circuit_places.proofs.Places.{Mode, asks, acks, at_choice, at_turning, ChoiceAt, control_at, inside_at, choice_leave, choice_cells, choice_own, choice_guard, choice_inner, can_is, no_leave}
 use Rattle.circuit_places.proofs.StillSteps.{choice_rises, choice_value}
 use Rattle.round_time.specs.Longest.{guards_depth}
-use Rattle.circuit_time.proofs.Trails.{Clearing, choices_first, choice_back, latch_trail, start_trail, guards_trail, choice_trail}
+use Rattle.round_time.specs.Phases.{choices_first}
+use Rattle.circuit_time.proofs.Trails.{Clearing, choice_back, latch_trail, start_trail, guards_trail, choice_trail}
 use Rattle.circuit_time.proofs.OwnTrails.{Shorter}
 
 abbrev pub CoreCells : Choices → Type 0

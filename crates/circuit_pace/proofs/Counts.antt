@@ -68,11 +68,11 @@ abbrev pub Counted : TypedProgram → OfSite
 Counted P held down q = ((c : ℕ) → acked_at c q down ≤ acked_of P c)
     × (((x : ℕ) → written_at P x q down ≤ written_of P x) × ((c : ℕ) → taken_at P c q down ≤ taken_of P c))
 
-here_is : (n k a b : ℕ) → (if n == n then a else 0) ≤ b → a ≤ b
-here_is n k a b e = let z : (if n == n then a else 0) ≡ a = ap (λ (c : Bool). if c then a else 0) (self_number n) in omega (arith, e, z)
+pub here_is : (n a b : ℕ) → (if n == n then a else 0) ≤ b → a ≤ b
+here_is n a b e = let z : (if n == n then a else 0) ≡ a = ap (λ (c : Bool). if c then a else 0) (self_number n) in omega (arith, e, z)
 
 module _ (P : TypedProgram) where
-  counted : EverySite P (Counted P) 2 1 P.body
+  pub counted : EverySite P (Counted P) 2 1 P.body
   counted =
       let a = site_all P (λ c held down q. acked_at c q down
       ≤ acked_of P c) 2 1 P.body (λ c. downs_each P (acked_at c) (acked_of P c) 2 1 P.body (omega arith)) in
@@ -89,12 +89,12 @@ module _ (P : TypedProgram) where
   mutual
     covers_of : (held down : ℕ) (p : Process) → AllOrdered p → EverySite P (Counted P) held down p → Covers P (counts P) held down p
     covers_of held down skipping o e = tt
-    covers_of held down (assigning x at d) o e = (o, here_is x x (suc down) (written_of P x) (e.1.0 x))
-    covers_of held down (sending c at d) o e = (o, here_is c c (suc down) (acked_of P c) (e.0 c))
+    covers_of held down (assigning x at d) o e = (o, here_is x (suc down) (written_of P x) (e.1.0 x))
+    covers_of held down (sending c at d) o e = (o, here_is c (suc down) (acked_of P c) (e.0 c))
     covers_of held down (receiving c at x to) o e = (
-      here_is c c (suc down) (acked_of P c) (e.0 c),
-      here_is x x (2 + acked_of P c) (written_of P x) (e.1.0 x),
-      here_is c c (3 + var_height P x + written_of P x) (taken_of P c) (e.1.1 c),
+      here_is c (suc down) (acked_of P c) (e.0 c),
+      here_is x (2 + acked_of P c) (written_of P x) (e.1.0 x),
+      here_is c (3 + var_height P x + written_of P x) (taken_of P c) (e.1.1 c),
     )
     covers_of held down (in_turn ms) o e = turn_covers held down ms o e
     covers_of held down (side_by_side ms) o e =
@@ -198,8 +198,8 @@ module _ (P : TypedProgram) where
             omega (arith, l, z))
         at_site held down (receiving c at y to) (w, n) = pick y (2 + acked_of P c) (λ same.
             let a = acked_leaves c in
-            let b = here_is c c (suc down) (acked_of P c) (n.0.0 c) in
-            let d = here_is c c (writes_fall P y + 4 + var_height P y) (over_sites (receive_clears P c) 2 P.body) (n.1 c) in
+            let b = here_is c (suc down) (acked_of P c) (n.0.0 c) in
+            let d = here_is c (writes_fall P y + 4 + var_height P y) (over_sites (receive_clears P c) 2 P.body) (n.1 c) in
             let m = le-max_right (rails_fall P (kind_at P.channels c) c + 2) (over_sites (receive_clears P c) 2 P.body) in
             let z : writes_fall P y + 2 + var_height P y ≡ writes_fall P x + 2 + var_height P x = ap (λ (i : ℕ). writes_fall P i + 2 + var_height P i) same in
             omega (arith, a, b, d, m, z))
@@ -234,8 +234,8 @@ module _ (P : TypedProgram) where
         at_site : (held down : ℕ) (q : Process) → Cleared held down q → taken_at P c q down ≤ longest P - (rails_fall P (kind_at P.channels c) c + 1)
         at_site held down (receiving k at x to) (w, n) = pick k (3 + var_height P x + written_of P x) (λ same.
             let a = written_leaves x in
-            let b = here_is x x (2 + acked_of P k) (written_of P x) (n.0.1.0 x) in
-            let d = here_is x x (max (rails_fall P (kind_at P.channels k) k) (held + 1) + 2) (writes_fall P x) (w.0.writes x) in
+            let b = here_is x (2 + acked_of P k) (written_of P x) (n.0.1.0 x) in
+            let d = here_is x (max (rails_fall P (kind_at P.channels k) k) (held + 1) + 2) (writes_fall P x) (w.0.writes x) in
             let m = le-max_left (rails_fall P (kind_at P.channels k) k) (held + 1) in
             let z : rails_fall P (kind_at P.channels k) k
             ≡ rails_fall P (kind_at P.channels c) c = ap (λ (i : ℕ). rails_fall P (kind_at P.channels i) i) same in

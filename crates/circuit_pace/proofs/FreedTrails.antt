@@ -19,7 +19,8 @@ use Rattle.circuit_places.proofs.Begin.{ChoiceQuiet}
 use Rattle.circuit_places.proofs.Places.{low_choice_quiet, low_quiet}
 use Rattle.circuit_places.proofs.StillSteps.{choice_rises, choice_value}
 use Rattle.round_time.specs.Longest.{first}
-use Rattle.circuit_time.proofs.Trails.{Clearing, choices_first, guards_trail, start_trail, choice_trail}
+use Rattle.round_time.specs.Phases.{choices_first}
+use Rattle.circuit_time.proofs.Trails.{Clearing, guards_trail, start_trail, choice_trail}
 use Rattle.circuit_time.proofs.Requests.{first_some, asked}
 use Rattle.circuit_time.proofs.LeafTrails.{goes_with}
 

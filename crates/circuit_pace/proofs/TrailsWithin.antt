@@ -8,7 +8,8 @@ use Rattle.std.proofs.Math.Nat.{le-max_left, le-max_right, max-le}
 use Rattle.width_check.specs.Processes.{Formula, Process, in_turn, side_by_side, choosing, repeating, Processes, no_members, and_member, member_count, Choices, no_choices, and_choice, TypedProgram}
 use Rattle.width_check.specs.Typing.{kind_at}
 use Rattle.round_time.specs.Longest.{guards_depth, tree_height, var_height, over_sites, over_turn, over_each, over_choices, send_holds, rails_fall, write_holds, writes_fall, channel_low, first, turn_first, each_first, low, turn_low, each_low, choice_low, within, turn_within, each_within, choice_within}
-use Rattle.circuit_time.proofs.Trails.{Clearing, choices_first}
+use Rattle.round_time.specs.Phases.{choices_first}
+use Rattle.circuit_time.proofs.Trails.{Clearing}
 use Rattle.circuit_time.proofs.Requests.{turn_some}
 
 -- how long sends on a channel hold its rails

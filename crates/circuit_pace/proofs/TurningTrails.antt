@@ -20,7 +20,8 @@ use Rattle.circuit_places.proofs.CoreMoves.{own, guard, branch}
 use Rattle.circuit_places.proofs.ChoiceMoves.{spot_at}
 use Rattle.circuit_places.proofs.Places.{Mode, running, answered, asks, At, at_turning, ChoiceAt, control_at, inside_at, ChosenAt, chosen_index, chosen_cells, choice_cells, choice_shown, choice_round, ChoiceFits, cells, moves, can_is, low_neutral}
 use Rattle.round_time.specs.Longest.{guards_depth}
-use Rattle.circuit_time.proofs.Trails.{Clearing, choices_first, choice_back, latch_trail, guards_trail, trail}
+use Rattle.round_time.specs.Phases.{choices_first}
+use Rattle.circuit_time.proofs.Trails.{Clearing, choice_back, latch_trail, guards_trail, trail}
 use Rattle.circuit_time.proofs.Requests.{Plain}
 use Rattle.circuit_time.proofs.Releases.{latch_among}
 use Rattle.circuit_time.proofs.OwnTrails.{GuardsOrdered, Shorter, Led}

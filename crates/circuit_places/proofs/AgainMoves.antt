@@ -157,7 +157,7 @@ module _ {n : ℕ} {G Q B C S T : Type 0} (W : Guards n G Q) (K : Branches n B C
     way = refl;
     fits = f;
     flow = K.flow_reading _ _;
-    term = ends refl refl g f o;
+    term = ends refl refl refl g f o;
     keeps = keeps;
   }
     where

@@ -131,13 +131,13 @@ module _ (P : TypedProgram) (env : Seen) (clean : Clean P env) (choices : Choice
   step_follows : (again : Bool) (z : Told) (b : Bool) (x y : Term) → CoreStep again Waves Kids (story again choices) z b x y
       → Follows (ToldBy env z.0.read) b x y
   step_follows again z b x _ (stays e) = inl (e, refl)
-  step_follows again z b _ _ (chooses e i g f a) = here_follows b (choosing again choices) (branch_term again choices (opened (body_at choices i)))
+  step_follows again z b _ _ (chooses e does i g f a) = here_follows b does (choosing again choices) (branch_term again choices (opened (body_at choices i)))
       (it_chooses i (λ store agree. open_alone P env.bit clean.single store choices laws
       (agreed z.0.read (λ v h. ap (λ (w : Told). w.0.read v) e ∙ h) store agree) g f i a))
-  step_follows true z b _ _ (ends e t g f o) = here_follows b (choosing true choices) finished
+  step_follows true z b _ _ (ends e does t g f o) = here_follows b does (choosing true choices) finished
       (it_ends (λ store agree. open_none P env.bit clean.single store choices laws
       (agreed z.0.read (λ v h. ap (λ (w : Told). w.0.read v) e ∙ h) store agree) g f o))
-  step_follows false z b _ _ (ends e t g f o) = absurd (cc t)
+  step_follows false z b _ _ (ends e does t g f o) = absurd (cc t)
   step_follows false z b _ _ (goes_on s t r) = r
   step_follows true z b _ _ (goes_on s t r) = followed_follows (ToldBy env z.0.read) (and_member (choosing true choices) no_members) b s t r
 

@@ -50,9 +50,9 @@ inner_follows : (Told : Choices → List Process → Type 0) (step u : Bool) (m 
 inner_follows Told step false running running s x y h g was over r = r
 inner_follows Told step false running answered s x y h g was over r = subst (λ (z : Term). Follows Told step x z) (over (λ e. cc e)) r
 inner_follows Told step true returning returning s x y h g was over (inl e) = inl (e.0, refl)
-inner_follows Told step true returning returning s x y h g was over (inr z) = absurd (no_silent (was (λ e. cc e)) z)
+inner_follows Told step true returning returning s x y h g was over (inr z) = absurd (no_silent (was (λ e. cc e)) z.1)
 inner_follows Told step true returning idle s x y h g was over (inl e) = inl (e.0, refl)
-inner_follows Told step true returning idle s x y h g was over (inr z) = absurd (no_silent (was (λ e. cc e)) z)
+inner_follows Told step true returning idle s x y h g was over (inr z) = absurd (no_silent (was (λ e. cc e)) z.1)
 inner_follows Told _ _ _ _ s x y h g was over r = absurd (cc (h, g))
 
 -- a move inside a Q-element

@@ -3,6 +3,7 @@ use Rattle.std.proofs.Common.{◌≡◌, ℕ, zero, suc, ◌-◌, ◌+◌, ◌*�
 use Rattle.std.proofs.lemmas.List.{get_or-set_other, get_or-set_same, length-set}
 use Rattle.std.proofs.lemmas.Bool.Decides.{nat_tests}
 use Rattle.std.specs.Prelude.{slice_index, slice_get, map, Option, Some, None, if◌then◌else◌}
+use mathlib.Core.Path.{path_j, subst_refl}
 use Rattle.env_script.specs.declared.script.Count.{Count}
 use Rattle.env_script.specs.declared.script.Count.TheVariants.{All, Times}
 use Rattle.env_script.specs.Scripts.{OfferValue, gives, takes, nothing, offer_at, is_over}
@@ -114,6 +115,15 @@ started P script fitted due few = record {
     long zero = refl
     long (suc n) = ap (λ k. suc k) (long n)
 
+-- what has passed, said otherwise, leaves where the run has come to
+same_run : {P : TypedProgram} {script : List OfferValue} {from : Configuration} {most : ℕ} {y : Term} {bits : ℕ → Rails} {busy : ℕ → Bool} {due : ℕ}
+    (hs : Bool → List (List ℕ)) {a b : Bool} (e : a ≡ b) (z : Followed P script from most (hs a) y bits busy due)
+    → (subst (λ (c : Bool). Followed P script from most (hs c) y bits busy due) e z).to ≡ z.to
+same_run {P} {script} {from} {most} {y} {bits} {busy} {due} hs {a} e z = path_j
+    (λ (b : Bool) (p : a ≡ b). (subst (λ (c : Bool). Followed P script from most (hs c) y bits busy due) p z).to ≡ z.to)
+    (ap (λ (f : Followed P script from most (hs a) y bits busy due). f.to)
+    (subst_refl (λ (c : Bool). Followed P script from most (hs c) y bits busy due) z)) e
+
 -- the branches that are open are those of the store
 pub open_is : (c : Configuration) (choices : Choices) → open_branches c choices ≡ open_by (slice_index c.store) choices
 open_is c no_choices = refl
@@ -171,7 +181,7 @@ module _ {P : TypedProgram} {script : List OfferValue} {from : Configuration} {m
   silent : (step : Bool) → suc left_due ≤ circuit_most P → (step ≡ false → suc left_due ≤ due) → (y : Term) → Follows (Decided P bits busy) step t y
       → Followed P script from (suc most) hs y now after left_due
   silent step few less y (inl e) = stays (less e.0) y e.1
-  silent step few less y (inr s) = by s.statement s.rest s.goes s.act
+  silent step few less y (inr (does, s)) = by s.statement s.rest s.goes s.act
     where
       by : (s : Process) (l : Term) → Goes (Decided P bits busy) s l → Act t s l y → Followed P script from (suc most) hs y now after left_due
       by _ _ skips a = leaves few skipping finished y a (a_skip (stands skipping finished y a))
@@ -513,3 +523,77 @@ follows w busy after fitted r brought y (wrote_node x i) e frees left_due few st
     kept x w (wrote_turned w x i) busy after r left_due few less move.0 frees y move.1
 follows w busy after fitted r brought y (joint_node x k) e frees left_due few step less move =
     kept x w (joint_turned w x k) busy after r left_due few less move.0 frees y move.1
+
+-- no assignment is made by the move
+abbrev pub NotStored : {P : TypedProgram} {busy after : ℕ → Bool} {x : ℕ} {w now : Wires} {t y : Term} → Stored P busy after x w now t y → Type 0
+NotStored (no_store same e) = Unit {0}
+NotStored (cleared high low e) = Unit {0}
+NotStored (takes_in low high a e) = Unit {0}
+NotStored (stores low high told pass) = ⊥
+
+-- the move is no step
+abbrev pub NoStep : (P : TypedProgram) (w : Wires) (busy after : ℕ → Bool) (does : Bool) (t y : Term) (n : Node P.body) → Moves P w busy after does t y n → Type 0
+NoStep P w busy after does t y (ack_node k) move = w.ack k ≡ true
+NoStep P w busy after does t y (wrote_node x i) move = NotStored move.1
+NoStep P w busy after does t y (joint_node x k) move = NotStored move.1
+NoStep P w busy after does t y n move = does ≡ false
+
+module _ {P : TypedProgram} {script : List OfferValue} {from : Configuration} {most : ℕ} {hs : List (List ℕ)} {t : Term} (w : Wires) (busy after : ℕ → Bool)
+    {due : ℕ} (r : Followed P script from most hs t w.bit busy due) (left_due : ℕ) (few : suc left_due ≤ circuit_most P) where
+  silent_stays : (now : ℕ → Rails) (free : (x : ℕ) → after x ≡ false → (now x ≡ w.bit x) × (busy x ≡ false)) (step : Bool)
+      (less : step ≡ false → suc left_due ≤ due) (y : Term) (move : Follows (Decided P w.bit busy) step t y) → step ≡ false
+      → (silent r left_due now after free step few less y move).to ≡ r.to
+  unfolding silent stays
+  silent_stays now free step less y (inl e) still = refl
+  silent_stays now free step less y (inr (does, s)) still = absurd (cc (does, still))
+
+  kept_stays : (x : ℕ) (now : Wires) (less : Unrisen P x w now after → suc left_due ≤ due) (others : Others P x w now)
+      (frees : (y : ℕ) → Freed P w now (busy y) (after y) y ⊥) (y : Term) (move : Stored P busy after x w now t y) → NotStored move
+      → (kept x w now busy after r left_due few less others frees y move).to ≡ r.to
+  unfolding kept stays
+  kept_stays x now less others frees y (no_store same e) still = refl
+  kept_stays x now less others frees y (cleared high low e) still = refl
+  kept_stays x now less others frees y (takes_in low high a e) still = refl
+  kept_stays x now less others frees y (stores low high told pass) still = absurd still
+
+  module _ (fitted : Fitted P script) (y : Term) (k : ℕ) (less : w.ack k ≡ true → suc left_due ≤ due) (high : w.ack k ≡ true) where
+    acknowledged_stays : (free : (x : ℕ) → after x ≡ false → (w.bit x ≡ w.bit x) × (busy x ≡ false))
+        (e : answers (channel_width P.channels k) w k (completed hs k) (offer_at script k) ≡ true) (b : Bool) (h : w.ack k ≡ b)
+        (move : Passing P (wires_seen P w) busy (of_channel k) b t y)
+        → (acknowledged w fitted r left_due few w.bit after free k less y e b h move).to ≡ r.to
+    unfolding acknowledged stays
+    acknowledged_stays free e true h move = refl
+    acknowledged_stays free e false h move = absurd (cc (high, h))
+
+    acks_stay : (e : is_heard (kind_at P.channels k) ≡ false → answers (channel_width P.channels k) w k (completed hs k) (offer_at script k) ≡ true)
+        (brought : Arriving P script hs w) (move : Acks P busy after k w t y)
+        → (acks w busy after fitted r left_due few y k less e brought move).to ≡ r.to
+    unfolding acks stays
+    acks_stay e brought (taken_out out move free) = acknowledged_stays (λ x f. (refl, free x f)) (e out) (w.ack k) refl move
+    acks_stay e brought (released heard up same free) =
+        same_run (λ (b : Bool). if b then hs else cells_passed hs k (value_on (channel_width P.channels k) (w.rail (of_channel k)))) (sym up)
+        (stays r left_due w.bit after (λ x f. (refl, free x f)) (less up) y same)
+    acks_stay e brought (taken_in heard alone a) = absurd (cc (high, a.lands.low))
+    acks_stay e brought (taken_over heard merged a) = absurd (cc (high, a.lands.low))
+
+  -- the program stays where it is by a move that is no step of it
+  pub follows_stays : (fitted : Fitted P script) (brought : Arriving P script hs w) (y : Term) (n : Node P.body)
+      (e : (k : ℕ) → n ≡ ack_node k → is_heard (kind_at P.channels k) ≡ false
+      → answers (channel_width P.channels k) w k (completed hs k) (offer_at script k) ≡ true)
+      (frees : (x : ℕ) → Freed P w (wires_after w n) (busy x) (after x) x (Arrival P w n)) (step : Bool)
+      (less : Stays P w after step n → suc left_due ≤ due) (move : Moves P w busy after step t y n) → NoStep P w busy after step t y n move
+      → (follows w busy after fitted r brought y n e frees left_due few step less move).to ≡ r.to
+  unfolding follows
+  follows_stays fitted brought y go_node e frees step less move still =
+      silent_stays w.bit (calm w w busy after (λ x. refl) frees) step less y move still
+  follows_stays fitted brought y (own_node s) e frees step less move still =
+      silent_stays w.bit (calm w w busy after (λ x. refl) frees) step less y move still
+  follows_stays fitted brought y (rail_node k i one) e frees step less move still =
+      silent_stays w.bit (calm w (rail_turned w k i one) busy after (λ x. refl) frees) step less y move still
+  follows_stays fitted brought y (ack_node k) e frees step less move still = acks_stay fitted y k less still (e k refl) brought move
+  follows_stays fitted brought y (bit_node x i one) e frees step less move still =
+      silent_stays (bit_turned w x i one).bit (calm w (bit_turned w x i one) busy after (λ x. refl) frees) step less y move still
+  follows_stays fitted brought y (wrote_node x i) e frees step less move still =
+      kept_stays x (wrote_turned w x i) less move.0 frees y move.1 still
+  follows_stays fitted brought y (joint_node x k) e frees step less move still =
+      kept_stays x (joint_turned w x k) less move.0 frees y move.1 still

@@ -10,7 +10,7 @@ use Rattle.width_check.specs.Processes.{Formula, Process, assigning, sending, re
 use Rattle.width_check.specs.Sharing.{writes_var, done_at}
 use Rattle.width_check.specs.Typing.{var_width}
 use Rattle.chp_meaning.specs.Fitting.{In}
-use Rattle.chp_meaning.specs.Terms.{Place, statement_at}
+use Rattle.chp_meaning.specs.Terms.{Term, Place, statement_at}
 use Rattle.chp_meaning.specs.Steps.{Configuration, Step}
 use Rattle.chp_meaning.specs.Rounds.{enabled_places, taken, round}
 use Rattle.chp_meaning.proofs.Places.{Distinct}
@@ -186,6 +186,12 @@ module _ (P : TypedProgram) {x : Whole P.body} {c : Configuration} (fit : Fits c
   armed_on _ apart (joint_armed v i at t h low turns) =
       joint_armed v i at t (stands_on (assigning v at t) h) (va_low v (λ to f k. two_assign v at to t f h k) low) turns
 
+-- the node's move is the step at one of these places
+pub record StepAt {p : Process} (t : Term) (ps : List Place) (n : Node p) : Type 0 where
+  pub place : Place
+  pub among : In ps place
+  pub makes : Makes t place n
+
 -- for each of these places a node is enabled and armed
 abbrev Loaded : (P : TypedProgram) → List OfferValue → Whole P.body → Configuration → List Place → List (Node P.body) → Type 0
 Loaded P script x c [] [] = Unit {0}
@@ -268,21 +274,32 @@ module _ (P : TypedProgram) (script : List OfferValue) (fitted : Fitted P script
   record Round (x : Whole P.body) (c : Configuration) (ps : List Place) : Type 0 where
     pub nodes : List (Node P.body)
     pub loaded : Loaded P script x c ps nodes
+    pub each : (n : Node P.body) → In nodes n → StepAt c.term ps n
+
+  with_more : {t : Term} {p : Place} {ps : List Place} (n : Node P.body) (ns : List (Node P.body)) → Makes t p n
+      → ((m : Node P.body) → In ns m → StepAt t ps m) → (m : Node P.body) → In (n ∷ ns) m → StepAt t (p ∷ ps) m
+  with_more {t} {p} n ns makes each m (inl same) = record { place = p; among = inl refl; makes = subst (λ z. Makes t p z) same makes }
+  with_more n ns makes each m (inr i) = let s = each m i in record { place = s.place; among = inr s.among; makes = s.makes }
 
   load : {from : Configuration} {moves : ℕ} {x : Whole P.body} (r : Reached P script from moves x)
       → ((n : Node P.body) → enabled P script x n ≡ true → is_step P r.place x.wires n ≡ true) → (ps : List Place)
       → ((p : Place) → In ps p → Can r.followed.to p) → Round x r.followed.to ps
-  load r quiet [] can = record { nodes = []; loaded = tt }
+  load r quiet [] can = record { nodes = []; loaded = tt; each = λ n i. absurd i }
   load {x = x} r quiet (p ∷ ps) can =
       let s = can p (inl refl) in
       let n = each_made P fitted x.wires x.histories r.place r.good (λ m e. quiet m (enabled_is P script r m ∙ e)) r.root r.followed s.1 in
       let on : enabled P script x n.0 ≡ true = enabled_is P script r n.0 ∙ n.1 in
       let more = load r quiet ps (λ q i. can q (inr i)) in
-      record { nodes = n.0 ∷ more.nodes; loaded = (on, armed P script r n.0 (quiet n.0 on) n.2, s, more.loaded) }
+      record {
+        nodes = n.0 ∷ more.nodes;
+        loaded = (on, armed P script r n.0 (quiet n.0 on) n.2, s, more.loaded);
+        each = with_more n.0 more.nodes n.2 more.each;
+      }
 
   -- Where each enabled move is a step, one layer of moves leads to the configuration after a round.
   pub record RoundMade {from : Configuration} {moves : ℕ} {x : Whole P.body} (r : Reached P script from moves x) : Type 0 where
     pub nodes : List (Node P.body)
+    pub each : (n : Node P.body) → In nodes n → StepAt r.followed.to.term (enabled_places r.followed.to) n
     pub layer : IsCellLayer P script x nodes
     pub then_at : Reached P script (round r.followed.to) 0 (cells_after P x nodes)
     pub is : then_at.followed.to ≡ round r.followed.to
@@ -294,4 +311,10 @@ module _ (P : TypedProgram) (script : List OfferValue) (fitted : Fitted P script
       let ps = enabled_places c in
       let l = load r quiet ps (can_each c) in
       let z = run_layer ps l.nodes x c (restart P script r) refl fit (listed_once c) l.loaded in
-      record { nodes = l.nodes; layer = loaded_layer P script x c fit (present P script fitted r) ps l.nodes (listed_once c) l.loaded; then_at = z.0; is = z.1 }
+      record {
+        nodes = l.nodes;
+        each = l.each;
+        layer = loaded_layer P script x c fit (present P script fitted r) ps l.nodes (listed_once c) l.loaded;
+        then_at = z.0;
+        is = z.1;
+      }

@@ -116,17 +116,20 @@ pub record Silent (Told : Choices → List Process → Type 0) (x y : Term) : Ty
 
 -- the term stays, where the move is no step, or makes such a step
 abbrev pub Follows : (Told : Choices → List Process → Type 0) → (step : Bool) → Term → Term → Type 0
-Follows Told step x y = ((step ≡ false) × (y ≡ x)) ⊎ Silent Told x y
+Follows Told step x y = ((step ≡ false) × (y ≡ x)) ⊎ ((step ≡ true) × Silent Told x y)
 
 pub followed_follows : (Told : Choices → List Process → Type 0) (more : Processes) (step : Bool) (x y : Term) → Follows Told step x y
     → Follows Told step (followed x more) (followed y more)
 followed_follows Told more step x y (inl e) = inl (e.0, ap (λ z. followed z more) e.1)
-followed_follows Told more step x y (inr s) = inr (record {
-  statement = s.statement;
-  rest = s.rest;
-  goes = s.goes;
-  act = followed_act more x s.statement s.rest y s.act;
-})
+followed_follows Told more step x y (inr (does, s)) = inr (
+  does,
+  record {
+    statement = s.statement;
+    rest = s.rest;
+    goes = s.goes;
+    act = followed_act more x s.statement s.rest y s.act;
+  },
+)
 
 -- what is told by less is told by more
 pub wider : (T U : Choices → List Process → Type 0) → ((choices : Choices) (ps : List Process) → T choices ps → U choices ps) → (s : Process) (l : Term)
@@ -140,7 +143,7 @@ pub follows_wider : (T U : Choices → List Process → Type 0) → ((choices : 
     → (step : Bool) (x y : Term)
     → Follows T step x y → Follows U step x y
 follows_wider T U f step x y (inl e) = inl e
-follows_wider T U f step x y (inr s) = inr (record { statement = s.statement; rest = s.rest; goes = wider T U f s.statement s.rest s.goes; act = s.act })
+follows_wider T U f step x y (inr (does, s)) = inr (does, record { statement = s.statement; rest = s.rest; goes = wider T U f s.statement s.rest s.goes; act = s.act })
 
 pub told_wider : (env : Seen) (read more : ℕ → Bool) → ((x : ℕ) → read x ≡ true → more x ≡ true) → (choices : Choices) (ps : List Process)
     → ToldBy env read choices ps → ToldBy env more choices ps
@@ -187,55 +190,65 @@ pub record SilentInside (Told : Choices → List Process → Type 0) (ts us : Te
   pub act : ActInside ts statement rest us
 
 abbrev pub FollowsInside : (Told : Choices → List Process → Type 0) → (step : Bool) → Terms → Terms → Type 0
-FollowsInside Told step ts us = ((step ≡ false) × (us ≡ ts)) ⊎ SilentInside Told ts us
+FollowsInside Told step ts us = ((step ≡ false) × (us ≡ ts)) ⊎ ((step ≡ true) × SilentInside Told ts us)
 
 pub this_follows : (Told : Choices → List Process → Type 0) (ts : Terms) (step : Bool) (x y : Term) → Follows Told step x y
     → FollowsInside Told step (and_branch x ts) (and_branch y ts)
 this_follows Told ts step x y (inl e) = inl (e.0, ap (λ z. and_branch z ts) e.1)
-this_follows Told ts step x y (inr s) = inr (record {
-  statement = s.statement;
-  rest = s.rest;
-  goes = s.goes;
-  act = this_act ts x s.statement s.rest y s.act;
-})
+this_follows Told ts step x y (inr (does, s)) = inr (
+  does,
+  record {
+    statement = s.statement;
+    rest = s.rest;
+    goes = s.goes;
+    act = this_act ts x s.statement s.rest y s.act;
+  },
+)
 
 pub other_follows : (Told : Choices → List Process → Type 0) (x : Term) (step : Bool) (ts us : Terms) → FollowsInside Told step ts us
     → FollowsInside Told step (and_branch x ts) (and_branch x us)
 other_follows Told x step ts us (inl e) = inl (e.0, ap (λ z. and_branch x z) e.1)
-other_follows Told x step ts us (inr s) = inr (record {
-  statement = s.statement;
-  rest = s.rest;
-  goes = s.goes;
-  act = other_act x ts s.statement s.rest us s.act;
-})
+other_follows Told x step ts us (inr (does, s)) = inr (
+  does,
+  record {
+    statement = s.statement;
+    rest = s.rest;
+    goes = s.goes;
+    act = other_act x ts s.statement s.rest us s.act;
+  },
+)
 
 pub inside_wider : (T U : Choices → List Process → Type 0) → ((choices : Choices) (ps : List Process) → T choices ps → U choices ps) → (step : Bool)
     (ts us : Terms) → FollowsInside T step ts us → FollowsInside U step ts us
 inside_wider T U f step ts us (inl e) = inl e
-inside_wider T U f step ts us (inr s) = inr (record { statement = s.statement; rest = s.rest; goes = wider T U f s.statement s.rest s.goes; act = s.act })
+inside_wider T U f step ts us (inr (does, s)) = inr (does, record { statement = s.statement; rest = s.rest; goes = wider T U f s.statement s.rest s.goes; act = s.act })
 
 pub together_follows : (Told : Choices → List Process → Type 0) (step : Bool) (ts us : Terms) → FollowsInside Told step ts us
     → Follows Told step (together ts) (together us)
 together_follows Told step ts us (inl e) = inl (e.0, ap together e.1)
-together_follows Told step ts us (inr s) = inr (record {
-  statement = s.statement;
-  rest = s.rest;
-  goes = s.goes;
-  act = together_act ts s.statement s.rest us s.act;
-})
+together_follows Told step ts us (inr (does, s)) = inr (
+  does,
+  record {
+    statement = s.statement;
+    rest = s.rest;
+    goes = s.goes;
+    act = together_act ts s.statement s.rest us s.act;
+  },
+)
 
-pub here_follows : {Told : Choices → List Process → Type 0} (step : Bool) (s : Process) (l : Term) → Goes Told s l → Follows Told step (active s) l
-here_follows step s l g = inr (record { statement = s; rest = l; goes = g; act = record { at = here; stands = refl; then_is = refl } })
+pub here_follows : {Told : Choices → List Process → Type 0} (step : Bool) → step ≡ true → (s : Process) (l : Term) → Goes Told s l
+    → Follows Told step (active s) l
+here_follows step does s l g = inr (does, record { statement = s; rest = l; goes = g; act = record { at = here; stands = refl; then_is = refl } })
 
 pub skip_follows : (Told : Choices → List Process → Type 0) → Follows Told true (active skipping) finished
-skip_follows Told = here_follows true skipping finished skips
+skip_follows Told = here_follows true refl skipping finished skips
 
 pub loop_follows : (Told : Choices → List Process → Type 0) (p : Process) (x y : Term) → x ≡ finished → y ≡ opened p
     → Follows Told true (followed x (again p)) (followed y (again p))
 loop_follows Told p x y e f =
     subst (λ (z : Term). Follows Told true (followed z (again p)) (followed y (again p))) (sym e)
     (subst (λ (z : Term). Follows Told true (active (repeating p)) (followed z (again p))) (sym f)
-    (here_follows true (repeating p) (followed (opened p) (again p)) goes_on))
+    (here_follows true refl (repeating p) (followed (opened p) (again p)) goes_on))
 
 -- a statement that isn't running is done
 no_run : (m k n : Mode) → link m k n ≡ true → (m ≡ running → ⊥) → n ≡ running → ⊥

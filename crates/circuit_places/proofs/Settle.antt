@@ -1,5 +1,5 @@
--- A move that is no step of the program makes what is due less, so that after few of them each move that is enabled is a step.
--- Then one layer more leads to the configuration after a round: n rounds take at most n times as many layers.
+-- A move that is no step of the program leaves the configuration, and makes what is due less, so that after few of them each move that is
+-- enabled is a step. Then one layer more leads to the configuration after a round: n rounds take at most n times as many layers.
 --
 -- P: the program; w: what the wires of a circuit show; g: where its body is, guarded by the root; v: a variable; n: a node.
 use Rattle.std.proofs.Common.{◌≡◌, ◌≢◌, ℕ, zero, suc, ◌*◌, ◌<◌, ◌≤◌, Bool, true, false, List, [], ◌∷◌, ◌++◌, length, refl, sym, ap, ◌∙◌, subst, inl, inr, arith, length-append}
@@ -28,16 +28,16 @@ use Rattle.circuit_places.proofs.Fires.{Passes}
 use Rattle.circuit_places.proofs.Writing.{guarded_writing_there}
 use Rattle.circuit_places.proofs.Writers.{Writes, guarded_writes}
 use Rattle.circuit_places.proofs.Blocks.{joint_some}
-use Rattle.circuit_places.proofs.System.{Good, root_left, node_steps, Stored, no_store, cleared, stores, takes_in, Fitted}
+use Rattle.circuit_places.proofs.System.{Good, root_left, node_steps, Moves, Stored, no_store, cleared, stores, takes_in, Fitted}
 use Rattle.circuit_places.proofs.Unrisen.{Unrisen, Stays}
 use Rattle.circuit_places.proofs.CircuitDue.{circuit_due, due_fits}
 use Rattle.circuit_places.proofs.CircuitFalls.{circuit_falls}
-use Rattle.circuit_places.proofs.Follow.{Followed}
+use Rattle.circuit_places.proofs.Follow.{Followed, NotStored, NoStep, follows_stays}
 use Rattle.circuit_places.proofs.BlockMoves.{next_of}
 use Rattle.circuit_places.proofs.Quiet.{is_step}
 use Rattle.circuit_places.proofs.Trees.{TreesSettle}
 use Rattle.circuit_places.proofs.Meets.{ExpressionsHold}
-use Rattle.circuit_places.proofs.Carry.{Reached, next_reached, may, present, fits, reached}
+use Rattle.circuit_places.proofs.Carry.{Reached, next_reached, may, present, ack_may, fits, reached}
 use Rattle.circuit_places.proofs.Search.{searches}
 use Rattle.circuit_places.proofs.StepMoves.{restart}
 use Rattle.circuit_places.proofs.Phases.{below}
@@ -87,17 +87,16 @@ module _ (P : TypedProgram) (script : List OfferValue) {from : Configuration} {m
   unsaid_any answered g ne good f fit still y pass side up = unsaid g good f refl fit still y pass side up
   unsaid_any returning g ne good f fit still y pass side up = absurd (ne refl)
 
--- What is no step makes what is due less.
+-- What is no step leaves the configuration, and makes what is due less.
 module _ (P : TypedProgram) (script : List OfferValue) (fitted : Fitted P script) {from : Configuration} {moves : ℕ} {x : Whole P.body}
     (r : Reached P script from moves x) (fit : Fits r.followed.to.term) where
-  unrisen : (v : ℕ) (now : Wires) → 1 ≤ var_width P.vars v → (after : ℕ → Bool) (y : Term)
-      → Stored P (guarded_writing (line_ack P x.wires) r.place) after v x.wires now (root_left (line_ack P x.wires) r.place) y
-      → (not (line_ack P x.wires (of_var v)) && ((guarded_shown r.place).says (of_var v) && line_ack P now (of_var v))) ≡ false
-      → Unrisen P v x.wires now after
-  unrisen v now some after y (no_store same e) q = inl same
-  unrisen v now some after y (cleared high low e) q = inr (inl low)
-  unrisen v now some after y (takes_in low high a e) q = inr (inr a)
-  unrisen v now some after y (stores low high told pass) q =
+  not_stored : (v : ℕ) (now : Wires) → 1 ≤ var_width P.vars v → (after : ℕ → Bool) (y : Term)
+      (move : Stored P (guarded_writing (line_ack P x.wires) r.place) after v x.wires now (root_left (line_ack P x.wires) r.place) y)
+      → (not (line_ack P x.wires (of_var v)) && ((guarded_shown r.place).says (of_var v) && line_ack P now (of_var v))) ≡ false → NotStored move
+  not_stored v now some after y (no_store same e) q = tt
+  not_stored v now some after y (cleared high low e) q = tt
+  not_stored v now some after y (takes_in low high a e) q = tt
+  not_stored v now some after y (stores low high told pass) q =
       let f = r.followed in
       let valid : is_some (value_on (var_width P.vars v) (x.wires.rail (of_var v))) ≡ true =
       ap is_some (pass.read (slice_index f.to.store) (λ z less calm. f.stored z less calm)) in
@@ -106,6 +105,36 @@ module _ (P : TypedProgram) (script : List OfferValue) (fitted : Fitted P script
       absurd (unsaid_any P script x.wires v some low r.mode r.place r.root r.good f fit
       (silent_by (line_ack P x.wires (of_var v)) ((guarded_shown r.place).says (of_var v)) (line_ack P now (of_var v)) low high q) y pass side up)
 
+  unrisen : (v : ℕ) (now : Wires) (after : ℕ → Bool) (y : Term)
+      (move : Stored P (guarded_writing (line_ack P x.wires) r.place) after v x.wires now (root_left (line_ack P x.wires) r.place) y) → NotStored move
+      → Unrisen P v x.wires now after
+  unrisen v now after y (no_store same e) z = inl same
+  unrisen v now after y (cleared high low e) z = inr (inl low)
+  unrisen v now after y (takes_in low high a e) z = inr (inr a)
+  unrisen v now after y (stores low high told pass) z = absurd z
+
+  -- what the move makes of the program
+  abbrev move_of : (n : Node P.body) (e : enabled P script x n ≡ true) → Moves P x.wires (guarded_writing (line_ack P x.wires) r.place)
+      (guarded_writing (line_ack P (wires_after x.wires n)) (next_reached P script fitted r n e).place) (node_steps r.place n)
+      (root_left (line_ack P x.wires) r.place) (root_left (line_ack P (wires_after x.wires n)) (next_reached P script fitted r n e).place) n
+  move_of n e = (next_of P script fitted x.histories r.good n (may P script r n e)).term r.root
+
+  no_step : (n : Node P.body) (e : enabled P script x n ≡ true) → is_step P r.place x.wires n ≡ false
+      → NoStep P x.wires (guarded_writing (line_ack P x.wires) r.place)
+      (guarded_writing (line_ack P (wires_after x.wires n)) (next_reached P script fitted r n e).place) (node_steps r.place n)
+      (root_left (line_ack P x.wires) r.place) (root_left (line_ack P (wires_after x.wires n)) (next_reached P script fitted r n e).place) n (move_of n e)
+  no_step go_node e still = refl
+  no_step (own_node s) e still = still
+  no_step (rail_node k i one) e still = refl
+  no_step (ack_node k) e still = high_by (x.wires.ack k) still
+  no_step (bit_node v i one) e still = refl
+  no_step (wrote_node v i) e still =
+      let less : i < var_width P.vars v = below i (var_width P.vars v) (present P script fitted r (wrote_node v i) e) in
+      not_stored v (wrote_turned x.wires v i) (omega (arith, less)) _ _ (move_of (wrote_node v i) e).1 still
+  no_step (joint_node v i) e still =
+      not_stored v (joint_turned x.wires v i) (joint_some (var_width P.vars v) (x.wires.wrote v) (x.wires.joint v) i (may P script r (joint_node v i) e)) _ _
+      (move_of (joint_node v i) e).1 still
+
   stays : (n : Node P.body) (e : enabled P script x n ≡ true) → is_step P r.place x.wires n ≡ false
       → Stays P x.wires (guarded_writing (line_ack P (wires_after x.wires n)) (next_reached P script fitted r n e).place) (node_steps r.place n) n
   stays go_node e still = refl
@@ -113,18 +142,19 @@ module _ (P : TypedProgram) (script : List OfferValue) (fitted : Fitted P script
   stays (rail_node k i one) e still = refl
   stays (ack_node k) e still = high_by (x.wires.ack k) still
   stays (bit_node v i one) e still = refl
-  stays (wrote_node v i) e still =
-      let less : i < var_width P.vars v = below i (var_width P.vars v) (present P script fitted r (wrote_node v i) e) in
-      let some : 1 ≤ var_width P.vars v = omega (arith, less) in
-      let y = next_of P script fitted x.histories r.good (wrote_node v i) (may P script r (wrote_node v i) e) in
-      unrisen v (wrote_turned x.wires v i) some (guarded_writing (line_ack P (wrote_turned x.wires v i)) y.to)
-      (root_left (line_ack P (wrote_turned x.wires v i)) y.to) (y.term r.root).1 still
-  stays (joint_node v i) e still =
-      let m = may P script r (joint_node v i) e in
-      let some : 1 ≤ var_width P.vars v = joint_some (var_width P.vars v) (x.wires.wrote v) (x.wires.joint v) i m in
-      let y = next_of P script fitted x.histories r.good (joint_node v i) m in
-      unrisen v (joint_turned x.wires v i) some (guarded_writing (line_ack P (joint_turned x.wires v i)) y.to)
-      (root_left (line_ack P (joint_turned x.wires v i)) y.to) (y.term r.root).1 still
+  stays (wrote_node v i) e still = unrisen v (wrote_turned x.wires v i) _ _ (move_of (wrote_node v i) e).1 (no_step (wrote_node v i) e still)
+  stays (joint_node v i) e still = unrisen v (joint_turned x.wires v i) _ _ (move_of (joint_node v i) e).1 (no_step (joint_node v i) e still)
+
+  -- such a move leaves the configuration
+  pub leaves_to : (n : Node P.body) (e : enabled P script x n ≡ true) → is_step P r.place x.wires n ≡ false
+      → (next_reached P script fitted r n e).followed.to ≡ r.followed.to
+  leaves_to n e still =
+      let y = next_of P script fitted x.histories r.good n (may P script r n e) in
+      follows_stays x.wires (guarded_writing (line_ack P x.wires) r.place) (guarded_writing (line_ack P (wires_after x.wires n)) y.to) r.followed
+      (circuit_due P y.to (wires_after x.wires n)) (due_fits P y.to (wires_after x.wires n)) fitted r.brought
+      (root_left (line_ack P (wires_after x.wires n)) y.to) n (ack_may P script r n e) y.frees (node_steps r.place n)
+      (λ stays. circuit_falls P script r.place x.wires x.histories r.good n r.root (present P script fitted r n e) (may P script r n e) y stays) (y.term r.root)
+      (no_step n e still)
 
   pub eases : (n : Node P.body) (e : enabled P script x n ≡ true) → is_step P r.place x.wires n ≡ false
       → suc (circuit_due P (next_reached P script fitted r n e).place (wires_after x.wires n)) ≤ circuit_due P r.place x.wires

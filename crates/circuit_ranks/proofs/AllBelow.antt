@@ -2,8 +2,7 @@
 -- `longest` layers.
 --
 -- P: the program; r: how the state x is reached; n: a node, or how many rounds.
-use Rattle.std.proofs.Common.{◌≡◌, ℕ, suc, ◌-◌, ◌*◌, ◌≤◌, Bool, true, false, List, ◌++◌, length, refl, sym, ap, ◌∙◌, arith}
-use Rattle.std.specs.Prelude.{◌||◌}
+use Rattle.std.proofs.Common.{◌≡◌, ℕ, suc, ◌-◌, ◌*◌, ◌≤◌, List, ◌++◌, length, refl, sym, ap, ◌∙◌, arith}
 use Rattle.env_script.specs.Scripts.{OfferValue}
 use Rattle.env_script.specs.Runs.{history_at}
 use Rattle.width_check.specs.Processes.{TypedProgram}
@@ -12,6 +11,7 @@ use Rattle.chp_meaning.specs.Steps.{Configuration}
 use Rattle.chp_meaning.specs.Rounds.{rounds_from}
 use Rattle.chp_meaning.proofs.Fitting.{Fits}
 use Rattle.function_blocks.specs.Rails.{one_rule_fires}
+use Rattle.function_blocks.proofs.Tables.{or_false}
 use Rattle.circuit_places.specs.Circuit.{guarded_rule}
 use Rattle.circuit_places.specs.Whole.{Whole, wires_seen, Node, go_node, own_node, rail_node, ack_node, bit_node, wrote_node, joint_node}
 use Rattle.circuit_places.proofs.System.{Fitted}
@@ -23,10 +23,6 @@ use Rattle.circuit_pace.proofs.OwnBounded.{own_bounded}
 use Rattle.circuit_ranks.proofs.Ranks.{rank}
 use Rattle.circuit_ranks.proofs.SiteRooms.{long_some}
 use Rattle.circuit_ranks.proofs.FarBounded.{far_bounded}
-
-or_false : (b : Bool) → (b || false) ≡ b
-or_false true = refl
-or_false false = refl
 
 pub one_more : (P : TypedProgram) → suc (longest P - 1) ≡ longest P
 one_more P = let l = long_some P in omega (arith, l)

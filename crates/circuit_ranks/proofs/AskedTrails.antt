@@ -35,7 +35,7 @@ listens_low c _ = refl
 abbrev pub asking : Asked → Reading
 asking f p r x = is_asked f p r x
 
-asked_spread : (f : Asked) → Spread (asking f)
+pub asked_spread : (f : Asked) → Spread (asking f)
 asked_spread f = record {
   turn = turn_asked f;
   branch = branch_asked f;

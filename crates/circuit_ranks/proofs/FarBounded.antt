@@ -12,6 +12,7 @@ use Rattle.env_script.specs.Runs.{completed}
 use Rattle.width_check.specs.Processes.{TypedProgram}
 use Rattle.width_check.specs.Typing.{kind_at, channel_width, var_width}
 use Rattle.chp_meaning.specs.Steps.{Configuration}
+use Rattle.function_blocks.proofs.Tables.{or_false}
 use Rattle.circuit_places.specs.Lines.{Line, of_channel, of_var}
 use Rattle.circuit_places.specs.Circuit.{turns, joint_count}
 use Rattle.circuit_places.specs.Whole.{Whole, line_ack, is_sent, is_merged, Node, go_node, own_node, rail_node, ack_node, bit_node, wrote_node, joint_node, enabled, offers}
@@ -33,10 +34,6 @@ use Rattle.circuit_pace.proofs.Counts.{acked_of, written_of, taken_of}
 use Rattle.circuit_ranks.proofs.Ranks.{listens_on, assigns_to, is_asked, is_received, late_of, late, rail_falls, rail_rises, rank}
 use Rattle.circuit_ranks.proofs.Claims.{is_far}
 use Rattle.circuit_ranks.proofs.SiteRooms.{long, long_some, acked_less, taken_less, written_room, received_room, sent_room, heard_room, listened}
-
-or_false : (b : Bool) → (b || false) ≡ b
-or_false true = refl
-or_false false = refl
 
 -- a node that says that its bit is written, under a low acknowledge, has a rail by which that is
 written_up : (n : Now) → legal n ≡ true → n.va ≡ false → n.wa ≡ true → (n.wt || n.wf) ≡ true

@@ -16,8 +16,9 @@ use Rattle.width_check.specs.Processes.{Process, skipping, assigning, sending, r
 use Rattle.width_check.specs.Typing.{kind_at, channel_width, var_width}
 use Rattle.chp_meaning.specs.Steps.{Configuration}
 use Rattle.function_blocks.specs.Rails.{Rails, one_rule_fires, same_bit, no_rule, turns}
+use Rattle.function_blocks.proofs.Tables.{or_false}
 use Rattle.circuit_places.specs.Lines.{Line, of_channel, of_var}
-use Rattle.circuit_places.specs.Circuit.{GuardedSpot, rails_turned, tree_value, tree_node, tree_answer, tree_rule, site_rails, takers}
+use Rattle.circuit_places.specs.Circuit.{GuardedSpot, rails_turned, tree_value, tree_node, tree_answer, tree_rule, site_rails}
 use Rattle.circuit_places.specs.Whole.{Whole, Wires, wires_seen, line_ack, is_sent, is_heard, is_merged, merged, bit_rule, wrote_rule, brings, drives, offers, answers, Node, go_node, own_node, rail_node, ack_node, bit_node, wrote_node, joint_node, rule_in, enabled, ack_turned, rail_turned, bit_turned, wrote_turned, joint_turned, cells_moved}
 use Rattle.circuit_places.proofs.RailLemmas.{fst_true, snd_true, both_true, not_true, same_value}
 use Rattle.circuit_places.proofs.LineNames.{self_number, same_number, self_line}
@@ -29,7 +30,7 @@ use Rattle.circuit_places.proofs.Trees.{node_moves}
 use Rattle.circuit_places.proofs.PortLeaf.{turned_there, turned_else}
 use Rattle.circuit_places.proofs.Places.{guarded_shown}
 use Rattle.circuit_places.proofs.LineMoves.{Turned, this, that, turned_at, gives_of, drives_up}
-use Rattle.circuit_places.proofs.AckMoves.{same_answers, same_offers, acked_far, acked_near, done_far}
+use Rattle.circuit_places.proofs.AckMoves.{same_answers, same_offers, acked_near}
 use Rattle.circuit_places.proofs.BlockMoves.{some_of}
 use Rattle.circuit_places.proofs.System.{heard_turns, Fitted, takes_of}
 use Rattle.circuit_places.proofs.Quiet.{is_step}
@@ -45,18 +46,12 @@ use Rattle.circuit_pace.proofs.Counts.{counts}
 use Rattle.circuit_ranks.proofs.Ranks.{listens_on, is_asked, late, rail_falls, rail_rises, rank}
 use Rattle.circuit_ranks.proofs.Underway.{listened_takes}
 use Rattle.circuit_ranks.proofs.TopJoints.{top_node, top_answer, one_answer, bit_wrote_top, wrote_joint_top, joint_joint_top, leaf_over, node_over}
-use Rattle.circuit_ranks.proofs.FarStates.{Lower, kept, says_stays, wrote_ack, joint_ack, wrote_there, wrote_fires, joint_fires, joint_wide, wrote_late, joint_late, bit_own, ack_own, rail_own, write_own, wrote_own, joint_own}
-
-or_false : (b : Bool) → (b || false) ≡ b
-or_false true = refl
-or_false false = refl
+use Rattle.circuit_ranks.proofs.FarStates.{Lower, kept, still_wrote, still_joint, wrote_ack, joint_ack, wrote_there, wrote_fires, joint_fires, joint_wide, wrote_late, joint_late, bit_own, ack_own, rail_own, write_own, wrote_own, joint_own}
+use Rattle.circuit_ranks.proofs.FarKept.{apart_number, ack_keeps, wrote_keeps, joint_keeps}
 
 never_own : (b : Bool) → b ≡ not b → ⊥
 never_own true e = cc e
 never_own false e = cc e
-
-apart_number : (v u : ℕ) → (v == u) ≡ false → u ≡ v → ⊥
-apart_number v u h e = not_both h (ap (λ n. v == n) e ∙ self_number v)
 
 in_kind : (k : Kind) → is_sent k ≡ false → k ≡ In
 in_kind In e = refl
@@ -128,17 +123,6 @@ module _ (P : TypedProgram) (script : List OfferValue) (fitted : Fitted P script
   abbrev done : ℕ → ℕ
   done c = completed x.histories c
 
-  -- a step of an assignment isn't made, where no more than the place has changed
-  still_wrote : (n : Node P.body) (on : enabled P script x n ≡ true) → (cells_moved P x n).root ≡ x.root → (v i : ℕ)
-      → is_step P (next_reached P script fitted r n on).place w (wrote_node v i) ≡ false → is_step P r.place w (wrote_node v i) ≡ false
-  still_wrote n on root v i z = ap (λ (b : Bool). not (line_ack P w (of_var v)) && (b && line_ack P (wrote_turned w v i) (of_var v)))
-      (sym (says_stays P script fitted r n on root v)) ∙ z
-
-  still_joint : (n : Node P.body) (on : enabled P script x n ≡ true) → (cells_moved P x n).root ≡ x.root → (v k : ℕ)
-      → is_step P (next_reached P script fitted r n on).place w (joint_node v k) ≡ false → is_step P r.place w (joint_node v k) ≡ false
-  still_joint n on root v k z = ap (λ (b : Bool). not (line_ack P w (of_var v)) && (b && line_ack P (joint_turned w v k) (of_var v)))
-      (sym (says_stays P script fitted r n on root v)) ∙ z
-
   -- ---- an acknowledge falls
 
   module _ (c : ℕ) (s : First (ack_node c)) where
@@ -205,9 +189,7 @@ module _ (P : TypedProgram) (script : List OfferValue) (fitted : Fitted P script
             ∙ ap (λ (b : Bool). rail_rises P In (tree_height (channel_width P.channels c)) b) unasked)
 
     ack_lower : (m : Node P.body) → Then (ack_node c) s m → Less (ack_node c) m
-    ack_lower go_node t = kept P script fitted r (ack_node c) go_node (λ e. cc e) t.on refl refl
     ack_lower (own_node q) t = ack_own P script fitted r covers c s q t
-    ack_lower (rail_node (of_var v) i one) t = kept P script fitted r (ack_node c) (rail_node (of_var v) i one) (λ e. cc e) t.on refl refl
     ack_lower (rail_node (of_channel d) i one) t = cases (d == c)
         (λ (h : (d == c) ≡ true).
         either (one_rule_fires (rule_in P x (rail_node (of_channel d) i one)))
@@ -217,26 +199,15 @@ module _ (P : TypedProgram) (script : List OfferValue) (fitted : Fitted P script
         rank P (cells_moved P x (ack_node c)) (rail_node (of_channel k) i one) < rank P x (ack_node c)) (sym same)
         (in_rail i one (subst (λ (k : ℕ). offers (channel_width P.channels k) (ack_turned w c) k (completed (cells_moved P x (ack_node c)).histories k)
         (offer_at script k) i one ≡ true) same z)))))
-        (λ (h : (d == c) ≡ false). kept P script fitted r (ack_node c) (rail_node (of_channel d) i one) (λ e. cc e)
-        (sym (ap (λ b. one_rule_fires (rule_in P x (rail_node (of_channel d) i one)) || b)
-        (same_offers w (ack_turned w c) d (acked_far w c d h) refl (offer_at script d) (channel_width P.channels d) (done d)
-        (completed (cells_moved P x (ack_node c)).histories d) i one (done_far P w x.histories c d h))) ∙ t.on) refl refl)
+        (λ (h : (d == c) ≡ false). ack_keeps P script fitted r c s.on (rail_node (of_channel d) i one) h t)
     ack_lower (ack_node d) t = cases (d == c)
         (λ (h : (d == c) ≡ true). absurd (not_both (acked_near w c d h ∙ ap not ack_high) (twice ((ack_turned w c).ack d) t.still)))
-        (λ (h : (d == c) ≡ false). kept P script fitted r (ack_node c) (ack_node d) (λ e. apart_number d c h (let a : c ≡ d = cc e in a))
-        (sym (ap (λ (b : Bool). one_rule_fires (if is_heard (kind_at P.channels d) then merged b (takers P.body x.root.inner d) else no_rule b)
-        || answers (channel_width P.channels d) (ack_turned w c) d (completed (cells_moved P x (ack_node c)).histories d) (offer_at script d))
-        (acked_far w c d h)
-        ∙ ap (λ b. one_rule_fires (rule_in P x (ack_node d)) || b)
-        (ap (λ k. answers (channel_width P.channels d) (ack_turned w c) d k (offer_at script d)) (done_far P w x.histories c d h)
-        ∙ same_answers w (ack_turned w c) d (acked_far w c d h) refl (offer_at script d) (channel_width P.channels d) (done d))) ∙ t.on)
-        (ap not (sym (acked_far w c d h)) ∙ t.still)
-        (ap (λ (b : Bool). if b then (counts P).acked d else 0) (acked_far w c d h)))
-    ack_lower (bit_node v i one) t = kept P script fitted r (ack_node c) (bit_node v i one) (λ e. cc e) t.on refl refl
-    ack_lower (wrote_node v i) t =
-        kept P script fitted r (ack_node c) (wrote_node v i) (λ e. cc e) t.on (still_wrote (ack_node c) s.on refl v i t.still) refl
-    ack_lower (joint_node v k) t =
-        kept P script fitted r (ack_node c) (joint_node v k) (λ e. cc e) t.on (still_joint (ack_node c) s.on refl v k t.still) refl
+        (λ (h : (d == c) ≡ false). ack_keeps P script fitted r c s.on (ack_node d) h t)
+    ack_lower go_node t = ack_keeps P script fitted r c s.on go_node refl t
+    ack_lower (rail_node (of_var v) i one) t = ack_keeps P script fitted r c s.on (rail_node (of_var v) i one) refl t
+    ack_lower (bit_node v i one) t = ack_keeps P script fitted r c s.on (bit_node v i one) refl t
+    ack_lower (wrote_node v i) t = ack_keeps P script fitted r c s.on (wrote_node v i) refl t
+    ack_lower (joint_node v k) t = ack_keeps P script fitted r c s.on (joint_node v k) refl t
 
   -- ---- a rail moves
 
@@ -432,9 +403,9 @@ module _ (P : TypedProgram) (script : List OfferValue) (fitted : Fitted P script
         high false e = absurd (cc e)
     rail_lower (bit_node v j b) t = kept P script fitted r (rail_node (of_channel c) i one) (bit_node v j b) (λ e. cc e) t.on refl refl
     rail_lower (wrote_node v j) t = kept P script fitted r (rail_node (of_channel c) i one) (wrote_node v j) (λ e. cc e) t.on
-        (still_wrote (rail_node (of_channel c) i one) s.on refl v j t.still) refl
+        (still_wrote P script fitted r (rail_node (of_channel c) i one) s.on refl v j t.still) refl
     rail_lower (joint_node v k) t = kept P script fitted r (rail_node (of_channel c) i one) (joint_node v k) (λ e. cc e) t.on
-        (still_joint (rail_node (of_channel c) i one) s.on refl v k t.still) refl
+        (still_joint P script fitted r (rail_node (of_channel c) i one) s.on refl v k t.still) refl
 
   -- ---- a rail moves by which a variable is written
 
@@ -479,7 +450,7 @@ module _ (P : TypedProgram) (script : List OfferValue) (fitted : Fitted P script
             → Less (rail_node (of_var v) i one) (wrote_node v j)
         by (inl before) = kept P script fitted r (rail_node (of_var v) i one) (wrote_node v j) (λ e. cc e)
             (or_false (one_rule_fires (wrote_rule (w.rail (of_var v)) (w.bit v) (w.wrote v) j)) ∙ before)
-            (still_wrote (rail_node (of_var v) i one) s.on refl v j t.still) refl
+            (still_wrote P script fitted r (rail_node (of_var v) i one) s.on refl v j t.still) refl
         by (inr less) = inl less
 
     write_lower : (m : Node P.body) → Then (rail_node (of_var v) i one) s m → Less (rail_node (of_var v) i one) m
@@ -512,9 +483,9 @@ module _ (P : TypedProgram) (script : List OfferValue) (fitted : Fitted P script
         (write_wrote j (subst (λ (k : ℕ). Then (rail_node (of_var v) i one) s (wrote_node k j)) same t)))
         (λ (h : (u == v) ≡ false). kept P script fitted r (rail_node (of_var v) i one) (wrote_node u j) (λ e. cc e)
         (sym (ap (λ (y : Rails). one_rule_fires (wrote_rule y (w.bit u) (w.wrote u) j) || false) (write_far u h)) ∙ t.on)
-        (still_wrote (rail_node (of_var v) i one) s.on refl u j t.still) refl)
+        (still_wrote P script fitted r (rail_node (of_var v) i one) s.on refl u j t.still) refl)
     write_lower (joint_node u k) t = kept P script fitted r (rail_node (of_var v) i one) (joint_node u k) (λ e. cc e) t.on
-        (still_joint (rail_node (of_var v) i one) s.on refl u k t.still) refl
+        (still_joint P script fitted r (rail_node (of_var v) i one) s.on refl u k t.still) refl
 
   -- ---- a rail of a bit moves
 
@@ -607,7 +578,7 @@ module _ (P : TypedProgram) (script : List OfferValue) (fitted : Fitted P script
             ⊎ ((var_height P v ≡ 0) × (late P x v ≡ 0) × (w.wrote v j ≡ false))) → Less (bit_node v i one) (wrote_node v j)
         by (inl before) = kept P script fitted r (bit_node v i one) (wrote_node v j) (λ e. cc e)
             (or_false (one_rule_fires (wrote_rule (w.rail (of_var v)) (w.bit v) (w.wrote v) j)) ∙ before)
-            (still_wrote (bit_node v i one) s.on refl v j t.still) refl
+            (still_wrote P script fitted r (bit_node v i one) s.on refl v j t.still) refl
         by (inr (inl less)) = inl less
         by (inr (inr (flat, none, low))) =
             let next = next_reached P script fitted r (bit_node v i one) s.on in
@@ -640,22 +611,13 @@ module _ (P : TypedProgram) (script : List OfferValue) (fitted : Fitted P script
         (bit_wrote_pair j (subst (λ (k : ℕ). Then (bit_node v i one) s (wrote_node k j)) same t)))
         (λ (h : (u == v) ≡ false). kept P script fitted r (bit_node v i one) (wrote_node u j) (λ e. cc e)
         (sym (ap (λ (y : Rails). one_rule_fires (wrote_rule (w.rail (of_var u)) y (w.wrote u) j) || false) (bit_far u h)) ∙ t.on)
-        (still_wrote (bit_node v i one) s.on refl u j t.still) refl)
+        (still_wrote P script fitted r (bit_node v i one) s.on refl u j t.still) refl)
     bit_lower (joint_node u k) t = kept P script fitted r (bit_node v i one) (joint_node u k) (λ e. cc e) t.on
-        (still_joint (bit_node v i one) s.on refl u k t.still) refl
+        (still_joint P script fitted r (bit_node v i one) s.on refl u k t.still) refl
 
   -- ---- a node moves that says that a bit is written
 
-  -- what changes in one block alone makes no step of another
-  step_far : (n : Node P.body) (on : enabled P script x n ≡ true) → (cells_moved P x n).root ≡ x.root → (u : ℕ) (a b c d : Bool)
-      → a ≡ c → b ≡ d → (not a && ((guarded_shown (next_reached P script fitted r n on).place).says (of_var u) && b)) ≡ false
-      → (not c && ((guarded_shown r.place).says (of_var u) && d)) ≡ false
-  step_far n on root u a b c d e f z =
-      ap (λ y. not y && ((guarded_shown r.place).says (of_var u) && d)) (sym e)
-      ∙ (ap (λ y. not a && ((guarded_shown r.place).says (of_var u) && y)) (sym f)
-      ∙ (ap (λ y. not a && (y && b)) (sym (says_stays P script fitted r n on root u)) ∙ z))
-
-  -- nor does a move that turns the acknowledge over go beside another of its block
+  -- a move that turns the acknowledge over doesn't go beside another of its block
   over : (low high : Bool) → low ≡ false → high ≡ true → high ≡ low → ⊥
   over low high e f g = not_both (g ∙ e) f
 
@@ -665,9 +627,6 @@ module _ (P : TypedProgram) (script : List OfferValue) (fitted : Fitted P script
 
     told_here : told.wrote v ≡ turned (w.wrote v) i
     told_here = ap (λ (b : Bool). if b then turned (w.wrote v) i else w.wrote v) (self_number v)
-
-    told_far : (u : ℕ) → (u == v) ≡ false → told.wrote u ≡ w.wrote u
-    told_far u h = ap (λ (b : Bool). if b then turned (w.wrote v) i else w.wrote u) h
 
     told_less : i < var_width P.vars v
     told_less = wrote_there P script fitted r v i s.on
@@ -730,39 +689,21 @@ module _ (P : TypedProgram) (script : List OfferValue) (fitted : Fitted P script
             absurd (omega (arith, two, none))
 
     wrote_lower : (m : Node P.body) → Then (wrote_node v i) s m → Less (wrote_node v i) m
-    wrote_lower go_node t = kept P script fitted r (wrote_node v i) go_node (λ e. cc e) t.on refl refl
     wrote_lower (own_node q) t = wrote_own P script fitted r covers v i s q t
-    wrote_lower (rail_node (of_channel c) j b) t = kept P script fitted r (wrote_node v i) (rail_node (of_channel c) j b) (λ e. cc e)
-        (sym (ap (λ y. one_rule_fires (rule_in P x (rail_node (of_channel c) j b)) || y)
-        (same_offers w told c refl refl (offer_at script c) (channel_width P.channels c) (done c) (done c) j b refl)) ∙ t.on) refl refl
-    wrote_lower (rail_node (of_var u) j b) t = kept P script fitted r (wrote_node v i) (rail_node (of_var u) j b) (λ e. cc e) t.on refl refl
-    wrote_lower (ack_node d) t = kept P script fitted r (wrote_node v i) (ack_node d) (λ e. cc e)
-        (sym (ap (λ b. one_rule_fires (rule_in P x (ack_node d)) || b)
-        (same_answers w told d refl refl (offer_at script d) (channel_width P.channels d) (done d))) ∙ t.on) t.still refl
-    wrote_lower (bit_node u j b) t = kept P script fitted r (wrote_node v i) (bit_node u j b) (λ e. cc e) t.on refl refl
     wrote_lower (wrote_node u j) t = cases (u == v)
         (λ (h : (u == v) ≡ true). let same = same_number u v h in
         subst (λ (k : ℕ). Less (wrote_node v i) (wrote_node k j)) (sym same)
         (wrote_pair j (subst (λ (k : ℕ). Then (wrote_node v i) s (wrote_node k j)) same t)))
-        (λ (h : (u == v) ≡ false). let far = told_far u h in
-        kept P script fitted r (wrote_node v i) (wrote_node u j) (λ e. apart_number u v h (let a : v ≡ u = cc e in a))
-        (sym (ap (λ (y : ℕ → Bool). one_rule_fires (wrote_rule (w.rail (of_var u)) (w.bit u) y j) || false) far) ∙ t.on)
-        (step_far (wrote_node v i) s.on refl u (line_ack P told (of_var u)) (line_ack P (wrote_turned told u j) (of_var u)) (line_ack P w (of_var u))
-        (line_ack P (wrote_turned w u j) (of_var u)) (ap (λ (y : ℕ → Bool). tree_answer (var_width P.vars u) y (w.joint u)) far)
-        (wrote_ack P script fitted r told u j ∙ (ap (λ (y : ℕ → Bool). tree_answer (var_width P.vars u) (turned y j) (w.joint u)) far
-        ∙ sym (wrote_ack P script fitted r w u j))) t.still)
-        (ap (λ (y : ℕ → Bool). wrote_trail (var_height P u) ((counts P).written u) (late P x u) (y j)) far))
+        (λ (h : (u == v) ≡ false). wrote_keeps P script fitted r v i s.on (wrote_node u j) h t)
     wrote_lower (joint_node u k) t = cases (u == v)
         (λ (h : (u == v) ≡ true). let same = same_number u v h in
         subst (λ (n : ℕ). Less (wrote_node v i) (joint_node n k)) (sym same)
         (wrote_joint_pair k (subst (λ (n : ℕ). Then (wrote_node v i) s (joint_node n k)) same t)))
-        (λ (h : (u == v) ≡ false). let far = told_far u h in
-        kept P script fitted r (wrote_node v i) (joint_node u k) (λ e. cc e)
-        (sym (ap (λ (y : ℕ → Bool). one_rule_fires (tree_rule (var_width P.vars u) y (w.joint u) k) || false) far) ∙ t.on)
-        (step_far (wrote_node v i) s.on refl u (line_ack P told (of_var u)) (line_ack P (joint_turned told u k) (of_var u)) (line_ack P w (of_var u))
-        (line_ack P (joint_turned w u k) (of_var u)) (ap (λ (y : ℕ → Bool). tree_answer (var_width P.vars u) y (w.joint u)) far)
-        (joint_ack P script fitted r told u k ∙ (ap (λ (y : ℕ → Bool). tree_answer (var_width P.vars u) y (turned (w.joint u) k)) far
-        ∙ sym (joint_ack P script fitted r w u k))) t.still) refl)
+        (λ (h : (u == v) ≡ false). wrote_keeps P script fitted r v i s.on (joint_node u k) h t)
+    wrote_lower go_node t = wrote_keeps P script fitted r v i s.on go_node refl t
+    wrote_lower (rail_node k j b) t = wrote_keeps P script fitted r v i s.on (rail_node k j b) refl t
+    wrote_lower (ack_node d) t = wrote_keeps P script fitted r v i s.on (ack_node d) refl t
+    wrote_lower (bit_node u j b) t = wrote_keeps P script fitted r v i s.on (bit_node u j b) refl t
 
   -- ---- a node of a variable's tree moves
 
@@ -772,9 +713,6 @@ module _ (P : TypedProgram) (script : List OfferValue) (fitted : Fitted P script
 
     jointed_here : jointed.joint v ≡ turned (w.joint v) i
     jointed_here = ap (λ (b : Bool). if b then turned (w.joint v) i else w.joint v) (self_number v)
-
-    jointed_far : (u : ℕ) → (u == v) ≡ false → jointed.joint u ≡ w.joint u
-    jointed_far u h = ap (λ (b : Bool). if b then turned (w.joint v) i else w.joint u) h
 
     wide_enough : 1 ≤ var_width P.vars v
     wide_enough = joint_wide P script fitted r v i s.on
@@ -847,17 +785,9 @@ module _ (P : TypedProgram) (script : List OfferValue) (fitted : Fitted P script
         here (inr ne) = by ne (joint_joint_top (var_width P.vars v) ((counts P).written v) (late P x v) (w.wrote v) (w.joint v) i k ne z)
 
     joint_lower : (m : Node P.body) → Then (joint_node v i) s m → Less (joint_node v i) m
-    joint_lower go_node t = kept P script fitted r (joint_node v i) go_node (λ e. cc e) t.on refl refl
     joint_lower (own_node q) t = joint_own P script fitted r covers v i s q t
-    joint_lower (rail_node (of_channel c) j b) t = kept P script fitted r (joint_node v i) (rail_node (of_channel c) j b) (λ e. cc e)
-        (sym (ap (λ y. one_rule_fires (rule_in P x (rail_node (of_channel c) j b)) || y)
-        (same_offers w jointed c refl refl (offer_at script c) (channel_width P.channels c) (done c) (done c) j b refl)) ∙ t.on) refl refl
-    joint_lower (rail_node (of_var u) j b) t = kept P script fitted r (joint_node v i) (rail_node (of_var u) j b) (λ e. cc e) t.on refl refl
-    joint_lower (ack_node d) t = kept P script fitted r (joint_node v i) (ack_node d) (λ e. cc e)
-        (sym (ap (λ b. one_rule_fires (rule_in P x (ack_node d)) || b)
-        (same_answers w jointed d refl refl (offer_at script d) (channel_width P.channels d) (done d))) ∙ t.on) t.still refl
-    joint_lower (bit_node u j b) t = kept P script fitted r (joint_node v i) (bit_node u j b) (λ e. cc e) t.on refl refl
-    joint_lower (wrote_node u j) t = kept P script fitted r (joint_node v i) (wrote_node u j) (λ e. cc e) t.on (cases (u == v) near apart) refl
+    joint_lower (wrote_node u j) t = cases (u == v) (λ h. kept P script fitted r (joint_node v i) (wrote_node u j) (λ e. cc e) t.on (near h) refl)
+        (λ (h : (u == v) ≡ false). joint_keeps P script fitted r v i s.on (wrote_node u j) h t)
       where
         near : (u == v) ≡ true → is_step P r.place w (wrote_node u j) ≡ false
         near h =
@@ -869,25 +799,15 @@ module _ (P : TypedProgram) (script : List OfferValue) (fitted : Fitted P script
             (over (line_ack P w (of_var u)) (tree_answer (var_width P.vars u) (turned (w.wrote u) j) (w.joint u)) low
             (sym (wrote_ack P script fitted r w u j) ∙ high))).1 i
             (subst (λ (n : ℕ). node_moves (var_width P.vars n) (w.wrote n) (w.joint n) i ≡ true) (sym same) (joint_fires P script fitted r v i s.on)))
-
-        apart : (u == v) ≡ false → is_step P r.place w (wrote_node u j) ≡ false
-        apart h = let far = jointed_far u h in
-            step_far (joint_node v i) s.on refl u (line_ack P jointed (of_var u)) (line_ack P (wrote_turned jointed u j) (of_var u)) (line_ack P w (of_var u))
-            (line_ack P (wrote_turned w u j) (of_var u)) (ap (λ (y : ℕ → Bool). tree_answer (var_width P.vars u) (w.wrote u) y) far)
-            (wrote_ack P script fitted r jointed u j ∙ (ap (λ (y : ℕ → Bool). tree_answer (var_width P.vars u) (turned (w.wrote u) j) y) far
-            ∙ sym (wrote_ack P script fitted r w u j))) t.still
     joint_lower (joint_node u k) t = cases (u == v)
         (λ (h : (u == v) ≡ true). let same = same_number u v h in
         subst (λ (n : ℕ). Less (joint_node v i) (joint_node n k)) (sym same)
         (joint_pair k (subst (λ (n : ℕ). Then (joint_node v i) s (joint_node n k)) same t)))
-        (λ (h : (u == v) ≡ false). let far = jointed_far u h in
-        kept P script fitted r (joint_node v i) (joint_node u k) (λ e. apart_number u v h (let a : v ≡ u = cc e in a))
-        (sym (ap (λ (y : ℕ → Bool). one_rule_fires (tree_rule (var_width P.vars u) (w.wrote u) y k) || false) far) ∙ t.on)
-        (step_far (joint_node v i) s.on refl u (line_ack P jointed (of_var u)) (line_ack P (joint_turned jointed u k) (of_var u)) (line_ack P w (of_var u))
-        (line_ack P (joint_turned w u k) (of_var u)) (ap (λ (y : ℕ → Bool). tree_answer (var_width P.vars u) (w.wrote u) y) far)
-        (joint_ack P script fitted r jointed u k ∙ (ap (λ (y : ℕ → Bool). tree_answer (var_width P.vars u) (w.wrote u) (turned y k)) far
-        ∙ sym (joint_ack P script fitted r w u k))) t.still)
-        (ap (λ (y : ℕ → Bool). joint_trail (var_height P u) (joint_level (var_width P.vars u) k) ((counts P).written u) (late P x u) (y k)) far))
+        (λ (h : (u == v) ≡ false). joint_keeps P script fitted r v i s.on (joint_node u k) h t)
+    joint_lower go_node t = joint_keeps P script fitted r v i s.on go_node refl t
+    joint_lower (rail_node k j b) t = joint_keeps P script fitted r v i s.on (rail_node k j b) refl t
+    joint_lower (ack_node d) t = joint_keeps P script fitted r v i s.on (ack_node d) refl t
+    joint_lower (bit_node u j b) t = joint_keeps P script fitted r v i s.on (bit_node u j b) refl t
 
   -- any of them
   pub wire_lower : (n : Node P.body) → n ≢ go_node → ((q : GuardedSpot P.body) → n ≢ own_node q) → (s : First n) (m : Node P.body) → Then n s m → Less n m

@@ -12,6 +12,7 @@ use Rattle.width_check.specs.Processes.{TypedProgram}
 use Rattle.width_check.specs.Typing.{kind_at, channel_width, var_width}
 use Rattle.chp_meaning.specs.Steps.{Configuration}
 use Rattle.function_blocks.specs.Rails.{Rails, one_rule_fires}
+use Rattle.function_blocks.proofs.Tables.{or_false}
 use Rattle.circuit_places.specs.Lines.{Line, of_channel, of_var, same_line, Seen}
 use Rattle.circuit_places.specs.Circuit.{QElementCells, Cells, GuardedSpot, rails_turned, tree_answer, guarded_rule}
 use Rattle.circuit_places.specs.Whole.{Whole, Wires, wires_seen, line_ack, is_heard, bit_rule, wrote_rule, value_on, Node, own_node, rail_node, ack_node, bit_node, wrote_node, joint_node, enabled, ack_turned, rail_turned, bit_turned, wrote_turned, joint_turned, wires_after, cells_moved}
@@ -39,13 +40,11 @@ use Rattle.circuit_time.proofs.Trails.{joint_level, guarded_trail}
 use Rattle.circuit_time.proofs.OwnTrails.{Covers}
 use Rattle.circuit_pace.proofs.BlockTrails.{wrote_trail, joint_trail}
 use Rattle.circuit_pace.proofs.Counts.{counts}
-use Rattle.circuit_ranks.proofs.Ranks.{Asked, assigns_to, listens_on, is_asked, is_received, late_of, late, rail_falls, rail_rises, rank}
+use Rattle.circuit_ranks.proofs.Ranks.{assigns_to, listens_on, is_asked, is_received, late_of, late, rail_falls, rail_rises, rank}
+use Rattle.circuit_ranks.proofs.Claims.{LowerThan}
+use Rattle.circuit_ranks.proofs.StateReads.{asked_is}
 use Rattle.circuit_ranks.proofs.Underway.{assigned_says, guarded_told, same_says}
 use Rattle.circuit_ranks.proofs.FarTrails.{Could, Unsaid, unsaid_down, guarded_far, still_far, falls_far, rises_far, rail_falls_far, rail_rises_far}
-
-or_false : (b : Bool) → (b || false) ≡ b
-or_false true = refl
-or_false false = refl
 
 -- of a step of an assignment
 unsaid : (a b c : Bool) → (not a && (b && c)) ≡ false → a ≡ false → c ≡ true → b ≡ false
@@ -58,11 +57,10 @@ module _ (P : TypedProgram) (script : List OfferValue) (fitted : Fitted P script
     (r : Reached P script from moves x) where
   -- what is to be said of a node's move, and another one's behind it
   abbrev pub Lower : (n m : Node P.body) → Type 0
-  Lower n m = (rank P (cells_moved P x n) m < rank P x n)
-      ⊎ ((n ≢ m) × Silent P script fitted (rank P) r m × (rank P (cells_moved P x n) m ≤ rank P x m))
+  Lower n m = LowerThan P script fitted r (rank P x n) n m
 
-  pub kept : (n m : Node P.body) → n ≢ m → enabled P script x m ≡ true → is_step P r.place x.wires m ≡ false
-      → rank P (cells_moved P x n) m ≡ rank P x m → Lower n m
+  pub kept : {R : ℕ} (n m : Node P.body) → n ≢ m → enabled P script x m ≡ true → is_step P r.place x.wires m ≡ false
+      → rank P (cells_moved P x n) m ≡ rank P x m → LowerThan P script fitted r R n m
   kept n m ne on still same = inr (ne, record { on = on; still = still }, omega (arith, same))
 
   -- what assignments are under way is the same behind a move of no own node
@@ -72,10 +70,18 @@ module _ (P : TypedProgram) (script : List OfferValue) (fitted : Fitted P script
       let next = next_reached P script fitted r n on in
       same_says v next.place r.place (sym next.same ∙ (root ∙ r.same))
 
-  -- ---- the acknowledge of a variable rises
+  -- so no assignment makes a step that would make none then
+  pub still_wrote : (n : Node P.body) (on : enabled P script x n ≡ true) → (cells_moved P x n).root ≡ x.root → (v i : ℕ)
+      → is_step P (next_reached P script fitted r n on).place x.wires (wrote_node v i) ≡ false → is_step P r.place x.wires (wrote_node v i) ≡ false
+  still_wrote n on root v i z = ap (λ (b : Bool). not (line_ack P x.wires (of_var v)) && (b && line_ack P (wrote_turned x.wires v i) (of_var v)))
+      (sym (says_stays n on root v)) ∙ z
 
-  asked_at : (f : Asked) → is_asked f P.body x.root.child x.root.inner ≡ is_asked f P.body (guarded_cells r.place).child (guarded_cells r.place).inner
-  asked_at f = ap (λ (y : QElementCells (Cells P.body)). is_asked f P.body y.child y.inner) r.same
+  pub still_joint : (n : Node P.body) (on : enabled P script x n ≡ true) → (cells_moved P x n).root ≡ x.root → (v k : ℕ)
+      → is_step P (next_reached P script fitted r n on).place x.wires (joint_node v k) ≡ false → is_step P r.place x.wires (joint_node v k) ≡ false
+  still_joint n on root v k z = ap (λ (b : Bool). not (line_ack P x.wires (of_var v)) && (b && line_ack P (joint_turned x.wires v k) (of_var v)))
+      (sym (says_stays n on root v)) ∙ z
+
+  -- ---- the acknowledge of a variable rises
 
   -- under no assignment that is a receive's
   rises_late : (v : ℕ) → 1 ≤ var_width P.vars v → (now : Bool)
@@ -97,7 +103,7 @@ module _ (P : TypedProgram) (script : List OfferValue) (fitted : Fitted P script
       unasked : is_asked (assigns_to v) P.body x.root.child x.root.inner ≡ false
       unasked = cases (is_asked (assigns_to v) P.body x.root.child x.root.inner)
           (λ (h : is_asked (assigns_to v) P.body x.root.child x.root.inner ≡ true).
-          absurd (not_both none (assigned_says v (wires_seen P x.wires) r.place r.good.fits (sym (asked_at (assigns_to v)) ∙ h))))
+          absurd (not_both none (assigned_says v (wires_seen P x.wires) r.place r.good.fits (sym (asked_is P script r (assigns_to v)) ∙ h))))
           (λ (h : is_asked (assigns_to v) P.body x.root.child x.root.inner ≡ false). h)
 
       received : is_received v P.body ≡ true
@@ -155,12 +161,13 @@ module _ (P : TypedProgram) (script : List OfferValue) (fitted : Fitted P script
       ∙ (ap (λ (g : QElementCells (Cells P.body)). one_rule_fires (guarded_rule P.body now (asks r.mode) g q)) r.same ∙ guarded_can_is now r.place q))
       ∙ (sym (or_false (one_rule_fires (guarded_rule P.body now x.go x.root q))) ∙ z)
 
-  pub own_lower : (n : Node P.body) (on : enabled P script x n ≡ true) → (cells_moved P x n).root ≡ x.root → (cells_moved P x n).go ≡ x.go
+  pub own_lower : {R : ℕ} (n : Node P.body) (on : enabled P script x n ≡ true) → (cells_moved P x n).root ≡ x.root → (cells_moved P x n).go ≡ x.go
       → ((q : GuardedSpot P.body) → n ≢ own_node q)
       → ((q : GuardedSpot P.body) → guarded_moves (wires_seen P (wires_after x.wires n)) r.place q ≡ true
-      → Could (guarded_moves (wires_seen P x.wires) r.place q) (guarded_trail P (counts P) 0 0 P.body (guarded_cells r.place) q) (rank P x n))
-      → (q : GuardedSpot P.body) → Silent P script fitted (rank P) (next_reached P script fitted r n on) (own_node q) → Lower n (own_node q)
-  own_lower n on root go ne led q t = by (led q z)
+      → Could (guarded_moves (wires_seen P x.wires) r.place q) (guarded_trail P (counts P) 0 0 P.body (guarded_cells r.place) q) R)
+      → (q : GuardedSpot P.body) → Silent P script fitted (rank P) (next_reached P script fitted r n on) (own_node q)
+      → LowerThan P script fitted r R n (own_node q)
+  own_lower {R = R} n on root go ne led q t = by (led q z)
     where
       now : Seen
       now = wires_seen P (wires_after x.wires n)
@@ -185,8 +192,8 @@ module _ (P : TypedProgram) (script : List OfferValue) (fitted : Fitted P script
       at_place : rank P x (own_node q) ≡ guarded_trail P (counts P) 0 0 P.body (guarded_cells r.place) q
       at_place = ap (λ (y : QElementCells (Cells P.body)). guarded_trail P (counts P) 0 0 P.body y q) r.same
 
-      by : Could (guarded_moves (wires_seen P x.wires) r.place q) (guarded_trail P (counts P) 0 0 P.body (guarded_cells r.place) q) (rank P x n)
-          → Lower n (own_node q)
+      by : Could (guarded_moves (wires_seen P x.wires) r.place q) (guarded_trail P (counts P) 0 0 P.body (guarded_cells r.place) q) R
+          → LowerThan P script fitted r R n (own_node q)
       by (inl before) = kept n (own_node q) (ne q) (enabled_is P script r (own_node q) ∙ before) still same
       by (inr less) = inl (omega (arith, less, same, at_place))
 
@@ -283,7 +290,7 @@ module _ (P : TypedProgram) (script : List OfferValue) (fitted : Fitted P script
         guarded_far P (counts P) (wires_seen P x.wires) (wires_seen P now) R (listens_on c)
         (is_heard (kind_at P.channels c) ≡ true → 6 + tree_height (channel_width P.channels c) ≤ R) Any any_down refl
         (rail_rises_far P (counts P) (wires_seen P x.wires) (wires_seen P now) R c i one acks turns h Any)
-        0 0 r.place r.good.meets covers tt (λ y. rises h (asked_at (listens_on c) ∙ y)) q z))
+        0 0 r.place r.good.meets covers tt (λ y. rises h (asked_is P script r (listens_on c) ∙ y)) q z))
       where
         now : Wires
         now = rail_turned x.wires (of_channel c) i one

@@ -47,20 +47,22 @@ pub record FarLeaves (P : TypedProgram) (K : Clearing) (env now : Seen) (R : ℕ
       → Could (port_moves env c x m k q s) (port_trail (up + (3 + var_height P x + K.written x)) down (var_height P x) (K.acked c) (K.written x)
       (port_of (acks m) k q) s) R
 
-module _ (P : TypedProgram) (K : Clearing) (env now : Seen) (R : ℕ) (f : Asked) (T : Type 0) (Cond : Process → Shown → Type 0) (handed : Handed Cond)
-    (bits : now.bit ≡ env.bit) (leaves : FarLeaves P K env now R f T Cond) where
-  same_gate : (e : Formula) (m : Mode) (u : Pairs (gate_count e)) (k : ℕ) (one : Bool) → one_rule_fires (gate_rule e now.bit (asks m) u k one) ≡ true
+-- ---- what moves alike, whether statements see the one or the other
+
+module _ (env now : Seen) (bits : now.bit ≡ env.bit) where
+  pub same_gate : (e : Formula) (m : Mode) (u : Pairs (gate_count e)) (k : ℕ) (one : Bool) → one_rule_fires (gate_rule e now.bit (asks m) u k one) ≡ true
       → one_rule_fires (gate_rule e env.bit (asks m) u k one) ≡ true
   same_gate e m u k one z = ap (λ (b : ℕ → Rails). one_rule_fires (gate_rule e b (asks m) u k one)) (sym bits) ∙ z
 
-  same_guard : {again : Bool} {choices : Choices} {m : Mode} (x : ChoiceAt again choices m) (s : GuardSpot choices) → choice_guard now x s ≡ true
+  pub same_guard : {again : Bool} {choices : Choices} {m : Mode} (x : ChoiceAt again choices m) (s : GuardSpot choices) → choice_guard now x s ≡ true
       → choice_guard env x s ≡ true
   same_guard (control_at {choices = choices} c) s z =
       ap (λ (b : ℕ → Rails). one_rule_fires (guards_rule choices b (control_ask c) (control_guards (low_guards choices) c) s)) (sym bits) ∙ z
   same_guard (inside_at a w) s z = z
 
+module _ (env now : Seen) where
   -- the Q-element of a member that is done
-  past_same : {p : Process} {m : Mode} (g : GuardedAt p m) → (m ≡ running → ⊥) → (s : GuardedSpot p) → guarded_moves now g s ≡ true
+  pub past_same : {p : Process} {m : Mode} (g : GuardedAt p m) → (m ≡ running → ⊥) → (s : GuardedSpot p) → guarded_moves now g s ≡ true
       → guarded_moves env g s ≡ true
   past_same g_rests out s z = z
   past_same (g_in u a h) out s z = absurd (out refl)
@@ -70,6 +72,32 @@ module _ (P : TypedProgram) (K : Clearing) (env now : Seen) (R : ℕ) (f : Asked
   past_same (g_back u) out next z = z
   past_same (g_back u) out (inner s) z = z
 
+  -- what reads an acknowledge that stays
+  pub still_done : (k : Line) (e : Formula) (m : Mode) (u : Pairs (gate_count e)) → now.ack k ≡ env.ack k → site_moves now k e m u done ≡ true
+      → site_moves env k e m u done ≡ true
+  still_done k e m u same z = ap (λ b. if acks m then not b else asks m && b) (sym same) ∙ z
+
+  pub still_heard : (c x : ℕ) (m : Mode) (k : Bool) (q : Rails) → now.ack (of_channel c) ≡ env.ack (of_channel c) → port_moves now c x m k q heard ≡ true
+      → port_moves env c x m k q heard ≡ true
+  still_heard c x m k q same z = ap (λ b. if acks m then not b else asks m && b) (sym same) ∙ z
+
+  pub still_stored : (c x : ℕ) (m : Mode) (k : Bool) (q : Rails) → now.ack (of_var x) ≡ env.ack (of_var x) → port_moves now c x m k q stored ≡ true
+      → port_moves env c x m k q stored ≡ true
+  still_stored c x m k q same z = ap (λ b. if k then not b else asks m && b) (sym same) ∙ z
+
+  pub still_taking : (c x : ℕ) (m : Mode) (k : Bool) (q : Rails) (i : ℕ) (one : Bool) → now.rail (of_channel c) i one ≡ env.rail (of_channel c) i one
+      → port_moves now c x m k q (taking i one) ≡ true → port_moves env c x m k q (taking i one) ≡ true
+  still_taking c x m k q i one same z = ap (λ b. if q i one then not (asks m) && not b else asks m && b) (sym same) ∙ z
+
+-- of what says that a receive has stored, over an acknowledge that is high, only the rise may move, which nothing follows
+pub stored_up : (m : Mode) (k b : Bool) (f R : ℕ) → b ≡ true → (if k then not b else asks m && b) ≡ true → 0 < R → (if k then 1 + f else 0) < R
+stored_up m true b f R high z some = absurd (not_both (ap not high) z)
+stored_up m false b f R high z some = some
+
+-- ---- own nodes of a statement
+
+module _ (P : TypedProgram) (K : Clearing) (env now : Seen) (R : ℕ) (f : Asked) (T : Type 0) (Cond : Process → Shown → Type 0) (handed : Handed Cond)
+    (bits : now.bit ≡ env.bit) (leaves : FarLeaves P K env now R f T Cond) where
   mutual
     pub guarded_far : (plus minus : ℕ) {p : Process} {m : Mode} (g : GuardedAt p m) → Meets P p → Covers P K 2 (suc plus) p → Cond p (guarded_shown g)
         → (is_asked f p (guarded_cells g).child (guarded_cells g).inner ≡ true → T) → (s : GuardedSpot p) → guarded_moves now g s ≡ true
@@ -81,16 +109,16 @@ module _ (P : TypedProgram) (K : Clearing) (env now : Seen) (R : ℕ) (f : Asked
     guarded_far plus minus (g_in u a h) meets covers i up next z = inl z
     guarded_far plus minus g_rests meets covers i up s z = inl z
     guarded_far plus minus g_past meets covers i up s z = inl z
-    guarded_far plus minus {p = p} (g_back u) meets covers i up s z = inl (past_same (g_back {p = p} u) (λ e. cc e) s z)
+    guarded_far plus minus {p = p} (g_back u) meets covers i up s z = inl (past_same env now (g_back {p = p} u) (λ e. cc e) s z)
 
     far : (held down : ℕ) {p : Process} {m : Mode} (a : At p m) → Meets P p → Covers P K held down p → Cond p (shown a)
         → (is_asked f p (asks m) (cells a) ≡ true → T) → (s : Spot p) → moves now a s ≡ true → Could (moves env a s) (trail P K held down p (cells a) s) R
     far held down rests meets covers i up s z = inl z
     far held down (at_skip m h) meets covers i up of_skip z = inl z
     far held down (at_assign {x = x} {at = at} {e = e} m u h) meets covers i up (of_assign done) z = leaves.at_sites (of_var x) at e m u _ down covers.1 i z
-    far held down (at_assign {e = e} m u h) meets covers i up (of_assign (gate k one)) z = inl (same_gate e m u k one z)
+    far held down (at_assign {e = e} m u h) meets covers i up (of_assign (gate k one)) z = inl (same_gate env now bits e m u k one z)
     far held down (at_send {c = c} {at = at} {e = e} m u h) meets covers i up (of_send done) z = leaves.at_sites (of_channel c) at e m u _ down covers.1 i z
-    far held down (at_send {e = e} m u h) meets covers i up (of_send (gate k one)) z = inl (same_gate e m u k one z)
+    far held down (at_send {e = e} m u h) meets covers i up (of_send (gate k one)) z = inl (same_gate env now bits e m u k one z)
     far held down (at_receive {c = c} {x = x} {at = at} {to = to} m k q h) meets covers i up (of_receive s) z =
         leaves.at_ports c x at to m k q held down meets covers i up s z
     far held down (at_turn t) meets covers i up (in_members s) z = turn_far held down t meets covers i up s z
@@ -102,10 +130,10 @@ module _ (P : TypedProgram) (K : Clearing) (env now : Seen) (R : ℕ) (f : Asked
     far held down (at_body a) meets covers i up of_loop z = inl z
     far held down (at_body a) meets covers i up ask z = inl z
     far held down (at_choice x) meets covers i up (of_core s) z = inl z
-    far held down (at_choice x) meets covers i up (of_guard s) z = inl (same_guard x s z)
+    far held down (at_choice x) meets covers i up (of_guard s) z = inl (same_guard env now bits x s z)
     far held down (at_choice x) meets covers i up (of_choice s) z = choice_far (held + 3) (1 + down) false x meets.2 covers.1 i up s z
     far held down (at_turning x) meets covers i up (of_core s) z = inl z
-    far held down (at_turning x) meets covers i up (of_guard s) z = inl (same_guard x s z)
+    far held down (at_turning x) meets covers i up (of_guard s) z = inl (same_guard env now bits x s z)
     far held down (at_turning {choices = choices} x) meets covers i up (of_choice s) z =
         choice_far 4 (3 + guards_depth choices) true x meets.2 covers.1 i up s z
     far held down (at_turning x) meets covers i up (of_round s) z = inl z
@@ -151,7 +179,7 @@ module _ (P : TypedProgram) (K : Clearing) (env now : Seen) (R : ℕ) (f : Asked
         guarded_far (turn_first P (and_member q more) - 1) (turn_back P K down (and_member q more) (low_turn (and_member q more))) g meets.0 covers.0
         (handed.to_first i) (λ y. up (or_left _ _ y)) s z
     turn_far held down (at_member g) meets covers i up (in_later s) z = inl z
-    turn_far held down (at_later {k = k} {n = n} {m = m} g t h) meets covers i up (in_member s) z = inl (past_same g (not_running m k n h) s z)
+    turn_far held down (at_later {k = k} {n = n} {m = m} g t h) meets covers i up (in_member s) z = inl (past_same env now g (not_running m k n h) s z)
     turn_far held down (at_later {q = q} {more = more} {k = k} {n = n} {m = m} g t h) meets covers i up (in_later s) z =
         turn_far (held + 2) down t meets.1 covers.1 (handed.to_later i)
         (λ y. up (or_right _ _ (subst (λ (r : Bool). turn_asked f (and_member q more) r (turn_cells t) ≡ true) (sym (next_is g ∙ link_next m k n h)) y))) s z
@@ -174,23 +202,6 @@ unsaid_down v = record {
 }
 
 module _ (P : TypedProgram) (K : Clearing) (env now : Seen) (R : ℕ) where
-  -- what reads an acknowledge that stays
-  still_done : (k : Line) (e : Formula) (m : Mode) (u : Pairs (gate_count e)) → now.ack k ≡ env.ack k → site_moves now k e m u done ≡ true
-      → site_moves env k e m u done ≡ true
-  still_done k e m u same z = ap (λ b. if acks m then not b else asks m && b) (sym same) ∙ z
-
-  still_heard : (c x : ℕ) (m : Mode) (k : Bool) (q : Rails) → now.ack (of_channel c) ≡ env.ack (of_channel c) → port_moves now c x m k q heard ≡ true
-      → port_moves env c x m k q heard ≡ true
-  still_heard c x m k q same z = ap (λ b. if acks m then not b else asks m && b) (sym same) ∙ z
-
-  still_stored : (c x : ℕ) (m : Mode) (k : Bool) (q : Rails) → now.ack (of_var x) ≡ env.ack (of_var x) → port_moves now c x m k q stored ≡ true
-      → port_moves env c x m k q stored ≡ true
-  still_stored c x m k q same z = ap (λ b. if k then not b else asks m && b) (sym same) ∙ z
-
-  still_taking : (c x : ℕ) (m : Mode) (k : Bool) (q : Rails) (i : ℕ) (one : Bool) → now.rail (of_channel c) i one ≡ env.rail (of_channel c) i one
-      → port_moves now c x m k q (taking i one) ≡ true → port_moves env c x m k q (taking i one) ≡ true
-  still_taking c x m k q i one same z = ap (λ b. if q i one then not (asks m) && not b else asks m && b) (sym same) ∙ z
-
   -- of an answer over an acknowledge that is low only its fall may move, and over one that is high its rise
   low_answer : (m : Mode) (b : Bool) (up down : ℕ) → b ≡ false → (if acks m then not b else asks m && b) ≡ true → down < R
       → (if acks m then down else up) < R
@@ -207,7 +218,7 @@ module _ (P : TypedProgram) (K : Clearing) (env now : Seen) (R : ℕ) where
   pub still_far : ((k : Line) → now.ack k ≡ env.ack k) → ((c i : ℕ) (one : Bool) → now.rail (of_channel c) i one ≡ env.rail (of_channel c) i one)
       → (f : Asked) (T : Type 0) (Cond : Process → Shown → Type 0) → FarLeaves P K env now R f T Cond
   still_far acks_stay rails f T Cond = record {
-    at_sites = λ k at e m u up down covers i z. inl (still_done k e m u (acks_stay k) z);
+    at_sites = λ k at e m u up down covers i z. inl (still_done env now k e m u (acks_stay k) z);
     at_ports = the_port;
   }
     where
@@ -216,9 +227,9 @@ module _ (P : TypedProgram) (K : Clearing) (env now : Seen) (R : ℕ) where
           → port_moves now c x m k q s ≡ true
           → Could (port_moves env c x m k q s) (port_trail (up + (3 + var_height P x + K.written x)) down (var_height P x) (K.acked c) (K.written x)
           (port_of (acks m) k q) s) R
-      the_port c x at to m k q up down meets covers i on heard z = inl (still_heard c x m k q (acks_stay (of_channel c)) z)
-      the_port c x at to m k q up down meets covers i on stored z = inl (still_stored c x m k q (acks_stay (of_var x)) z)
-      the_port c x at to m k q up down meets covers i on (taking j b) z = inl (still_taking c x m k q j b (rails c j b) z)
+      the_port c x at to m k q up down meets covers i on heard z = inl (still_heard env now c x m k q (acks_stay (of_channel c)) z)
+      the_port c x at to m k q up down meets covers i on stored z = inl (still_stored env now c x m k q (acks_stay (of_var x)) z)
+      the_port c x at to m k q up down meets covers i on (taking j b) z = inl (still_taking env now c x m k q j b (rails c j b) z)
 
   -- The acknowledge of a line falls, which at most so many moves follow as the number says.
   pub falls_far : (l : Line) → now.ack l ≡ false → ((k : Line) → same_line k l ≡ false → now.ack k ≡ env.ack k) → now.rail ≡ env.rail
@@ -236,7 +247,7 @@ module _ (P : TypedProgram) (K : Clearing) (env now : Seen) (R : ℕ) where
           → Could (site_moves env k e m u done) (if acks m then down else up) R
       the_site k at e m u up down covers i z = cases (same_line k l)
           (λ (h : same_line k l ≡ true). inr (low_answer m (now.ack k) up down (is_low k h) z (within k down h covers)))
-          (λ (h : same_line k l ≡ false). inl (still_done k e m u (far k h) z))
+          (λ (h : same_line k l ≡ false). inl (still_done env now k e m u (far k h) z))
 
       kept : (m : Mode) (k b : Bool) (f : ℕ) → b ≡ false → (if k then not b else asks m && b) ≡ true → 1 + f < R → (if k then 1 + f else 0) < R
       kept m true b f gone z less = less
@@ -250,14 +261,14 @@ module _ (P : TypedProgram) (K : Clearing) (env now : Seen) (R : ℕ) where
       the_port c x at to m k q up down meets covers i on heard z = cases (same_line (of_channel c) l)
           (λ (h : same_line (of_channel c) l ≡ true).
           inr (low_answer m (now.ack (of_channel c)) _ down (is_low (of_channel c) h) z (within (of_channel c) down h covers.0)))
-          (λ (h : same_line (of_channel c) l ≡ false). inl (still_heard c x m k q (far (of_channel c) h) z))
+          (λ (h : same_line (of_channel c) l ≡ false). inl (still_heard env now c x m k q (far (of_channel c) h) z))
       the_port c x at to m k q up down meets covers i on stored z = cases (same_line (of_var x) l)
           (λ (h : same_line (of_var x) l ≡ true).
           inr (kept m k (now.ack (of_var x)) (K.acked c) (is_low (of_var x) h) z
           (within (of_var x) (1 + K.acked c) h (let a = covers.1 in omega (arith, a)))))
-          (λ (h : same_line (of_var x) l ≡ false). inl (still_stored c x m k q (far (of_var x) h) z))
+          (λ (h : same_line (of_var x) l ≡ false). inl (still_stored env now c x m k q (far (of_var x) h) z))
       the_port c x at to m k q up down meets covers i on (taking j b) z =
-          inl (still_taking c x m k q j b (ap (λ (r : Line → Rails). r (of_channel c) j b) rails) z)
+          inl (still_taking env now c x m k q j b (ap (λ (r : Line → Rails). r (of_channel c) j b) rails) z)
 
   -- The acknowledge of a variable rises to which no assignment is under way: a receive stores, which nothing follows.
   pub rises_far : (v : ℕ) → now.ack (of_var v) ≡ true → ((k : Line) → same_line k (of_var v) ≡ false → now.ack k ≡ env.ack k) → now.rail ≡ env.rail
@@ -271,23 +282,20 @@ module _ (P : TypedProgram) (K : Clearing) (env now : Seen) (R : ℕ) where
       the_site : (k : Line) (at : Span) (e : Formula) (m : Mode) (u : Pairs (gate_count e)) (up down : ℕ) → suc down ≤ cleared K k
           → Unsaid v (site_statement k at e) (site_shown k e u) → site_moves now k e m u done ≡ true
           → Could (site_moves env k e m u done) (if acks m then down else up) R
-      the_site k at e m u up down covers i z = inl (still_done k e m u (far k (unsaid k at e u i)) z)
-
-      kept : (m : Mode) (k b : Bool) (f : ℕ) → b ≡ true → (if k then not b else asks m && b) ≡ true → (if k then 1 + f else 0) < R
-      kept m true b f up z = absurd (not_both (ap not up) z)
-      kept m false b f up z = room
+      the_site k at e m u up down covers i z = inl (still_done env now k e m u (far k (unsaid k at e u i)) z)
 
       the_port : (c x : ℕ) (at to : Span) (m : Mode) (k : Bool) (q : Rails) (up down : ℕ) → PortMeets P c x → Covers P K up down (receiving c at x to)
           → Unsaid v (receiving c at x to) (port_shown c x k q) → (f (receiving c at x to) (asks m) ≡ true → T) → (s : PortSpot)
           → port_moves now c x m k q s ≡ true
           → Could (port_moves env c x m k q s) (port_trail (up + (3 + var_height P x + K.written x)) down (var_height P x) (K.acked c) (K.written x)
           (port_of (acks m) k q) s) R
-      the_port c x at to m k q up down meets covers i on heard z = inl (still_heard c x m k q (far (of_channel c) refl) z)
+      the_port c x at to m k q up down meets covers i on heard z = inl (still_heard env now c x m k q (far (of_channel c) refl) z)
       the_port c x at to m k q up down meets covers i on stored z = cases (x == v)
-          (λ (h : (x == v) ≡ true). inr (kept m k (now.ack (of_var x)) (K.acked c) (ap (λ y. now.ack (of_var y)) (same_number x v h) ∙ high) z))
-          (λ (h : (x == v) ≡ false). inl (still_stored c x m k q (far (of_var x) h) z))
+          (λ (h : (x == v) ≡ true).
+          inr (stored_up m k (now.ack (of_var x)) (K.acked c) R (ap (λ y. now.ack (of_var y)) (same_number x v h) ∙ high) z room))
+          (λ (h : (x == v) ≡ false). inl (still_stored env now c x m k q (far (of_var x) h) z))
       the_port c x at to m k q up down meets covers i on (taking j b) z =
-          inl (still_taking c x m k q j b (ap (λ (r : Line → Rails). r (of_channel c) j b) rails) z)
+          inl (still_taking env now c x m k q j b (ap (λ (r : Line → Rails). r (of_channel c) j b) rails) z)
 
   -- One rail of a channel moves, that of a receive that takes it.
   module _ (d i : ℕ) (one : Bool) (acks_stay : (k : Line) → now.ack k ≡ env.ack k)
@@ -298,7 +306,7 @@ module _ (P : TypedProgram) (K : Clearing) (env now : Seen) (R : ℕ) where
         → port_moves now c x m k q (taking j b) ≡ true → c ≡ d → now.rail (of_channel c) j b ≡ not (env.rail (of_channel d) i one)
         → (if q j b then 2 + var_height P x + K.written x else 5 + var_height P x) < R) → FarLeaves P K env now R f T Cond
     rail_leaves f T Cond taken = record {
-      at_sites = λ k at e m u up down covers i z. inl (still_done k e m u (acks_stay k) z);
+      at_sites = λ k at e m u up down covers i z. inl (still_done env now k e m u (acks_stay k) z);
       at_ports = the_port;
     }
       where
@@ -307,14 +315,14 @@ module _ (P : TypedProgram) (K : Clearing) (env now : Seen) (R : ℕ) where
             → port_moves now c x m k q s ≡ true
             → Could (port_moves env c x m k q s) (port_trail (up + (3 + var_height P x + K.written x)) down (var_height P x) (K.acked c) (K.written x)
             (port_of (acks m) k q) s) R
-        the_port c x at to m k q up down meets covers cond on heard z = inl (still_heard c x m k q (acks_stay (of_channel c)) z)
-        the_port c x at to m k q up down meets covers cond on stored z = inl (still_stored c x m k q (acks_stay (of_var x)) z)
+        the_port c x at to m k q up down meets covers cond on heard z = inl (still_heard env now c x m k q (acks_stay (of_channel c)) z)
+        the_port c x at to m k q up down meets covers cond on stored z = inl (still_stored env now c x m k q (acks_stay (of_var x)) z)
         the_port c x at to m k q up down meets covers cond on (taking j b) z = by (moved c j b)
           where
             by : (now.rail (of_channel c) j b ≡ env.rail (of_channel c) j b)
                 ⊎ ((c ≡ d) × (now.rail (of_channel c) j b ≡ not (env.rail (of_channel d) i one)))
                 → Could (port_moves env c x m k q (taking j b)) (if q j b then 2 + var_height P x + K.written x else 5 + var_height P x) R
-            by (inl same) = inl (still_taking c x m k q j b same z)
+            by (inl same) = inl (still_taking env now c x m k q j b same z)
             by (inr (same, is)) = inr (taken c x at to m k q up down meets covers on j b z same is)
 
     -- it falls, where at most so many moves follow as the number says

@@ -2,14 +2,15 @@
 --
 -- P: the program; r: how the state x is reached; g: where the root is; m: a node; s, t: that a move is silent.
 use Rattle.std.proofs.Common.{◌≡◌, ℕ, ◌-◌, Bool, true, false, List, refl, sym, ap, ◌∙◌, inl, arith}
-use Rattle.std.specs.Prelude.{not, ◌&&◌, ◌||◌}
+use Rattle.std.specs.Prelude.{not, ◌||◌}
 use Rattle.env_script.specs.Scripts.{OfferValue}
 use Rattle.width_check.specs.Processes.{TypedProgram}
 use Rattle.chp_meaning.specs.Steps.{Configuration}
 use Rattle.function_blocks.specs.Rails.{one_rule_fires, no_rule}
+use Rattle.function_blocks.proofs.Tables.{or_false}
 use Rattle.circuit_places.specs.Lines.{of_channel, of_var}
 use Rattle.circuit_places.specs.Circuit.{QElementCells, Cells, GuardedSpot, child, latch, next, inner, low_guarded, low, guarded_rule}
-use Rattle.circuit_places.specs.Whole.{Whole, wires_seen, line_ack, Node, go_node, own_node, rail_node, ack_node, bit_node, wrote_node, joint_node, wrote_turned, joint_turned, cells_moved}
+use Rattle.circuit_places.specs.Whole.{Whole, wires_seen, Node, go_node, own_node, rail_node, ack_node, bit_node, wrote_node, joint_node, cells_moved}
 use Rattle.circuit_places.proofs.Flow.{not_both}
 use Rattle.circuit_places.proofs.Places.{Mode, idle, running, answered, returning, is_idle, GuardedAt, g_rests, g_in, rests, guarded_cells, guarded_moves, guarded_can_is}
 use Rattle.circuit_places.proofs.System.{Fitted}
@@ -20,15 +21,11 @@ use Rattle.circuit_time.proofs.Requests.{first_some}
 use Rattle.circuit_time.proofs.Trails.{guarded_trail}
 use Rattle.circuit_pace.proofs.Counts.{counts}
 use Rattle.circuit_ranks.proofs.Ranks.{rank}
-use Rattle.circuit_ranks.proofs.FarStates.{Lower, kept, says_stays}
+use Rattle.circuit_ranks.proofs.FarStates.{Lower, kept, still_wrote, still_joint}
 
 no_fire : (b : Bool) → one_rule_fires (no_rule b) ≡ false
 no_fire true = refl
 no_fire false = refl
-
-or_false : (b : Bool) → (b || false) ≡ b
-or_false true = refl
-or_false false = refl
 
 module _ (P : TypedProgram) (script : List OfferValue) (fitted : Fitted P script) {from : Configuration} {moves : ℕ} {x : Whole P.body}
     (r : Reached P script from moves x) (s : Silent P script fitted (rank P) r go_node) where
@@ -78,9 +75,7 @@ module _ (P : TypedProgram) (script : List OfferValue) (fitted : Fitted P script
   go_lower (rail_node (of_var v) i one) t = kept P script fitted r go_node (rail_node (of_var v) i one) (λ e. cc e) t.on refl refl
   go_lower (ack_node c) t = kept P script fitted r go_node (ack_node c) (λ e. cc e) t.on t.still refl
   go_lower (bit_node v i one) t = kept P script fitted r go_node (bit_node v i one) (λ e. cc e) t.on refl refl
-  go_lower (wrote_node v i) t = kept P script fitted r go_node (wrote_node v i) (λ e. cc e) t.on
-      (ap (λ (b : Bool). not (line_ack P x.wires (of_var v)) && (b && line_ack P (wrote_turned x.wires v i) (of_var v)))
-      (sym (says_stays P script fitted r go_node s.on refl v)) ∙ t.still) refl
-  go_lower (joint_node v k) t = kept P script fitted r go_node (joint_node v k) (λ e. cc e) t.on
-      (ap (λ (b : Bool). not (line_ack P x.wires (of_var v)) && (b && line_ack P (joint_turned x.wires v k) (of_var v)))
-      (sym (says_stays P script fitted r go_node s.on refl v)) ∙ t.still) refl
+  go_lower (wrote_node v i) t =
+      kept P script fitted r go_node (wrote_node v i) (λ e. cc e) t.on (still_wrote P script fitted r go_node s.on refl v i t.still) refl
+  go_lower (joint_node v k) t =
+      kept P script fitted r go_node (joint_node v k) (λ e. cc e) t.on (still_joint P script fitted r go_node s.on refl v k t.still) refl

@@ -1,9 +1,11 @@
 pub mod Ranks
 pub mod Claims
+pub mod StateReads
 pub mod Underway
 pub mod FarTrails
 pub mod TopJoints
 pub mod FarStates
+pub mod FarKept
 pub mod FarFar
 pub mod GoFirst
 pub mod FarAny
@@ -16,5 +18,6 @@ pub mod SiteReads
 pub mod AskedTrails
 pub mod SiteMoves
 pub mod AskedPlaces
+pub mod OwnKept
 pub mod OwnFar
 pub mod HalvedLongest

@@ -2,52 +2,25 @@
 -- layers.
 --
 -- P: the program; r: how the state x is reached; n, m: nodes.
-use Rattle.std.proofs.Common.{◌≡◌, ◌≢◌, ℕ, ◌<◌, ◌≤◌, true, false, List, refl, ap, inl, inr}
-use Rattle.std.specs.Prelude.{◌⊎◌}
+use Rattle.std.proofs.Common.{List, refl}
 use Rattle.env_script.specs.Scripts.{OfferValue}
-use Rattle.width_check.specs.Processes.{Process, TypedProgram}
+use Rattle.width_check.specs.Processes.{TypedProgram}
 use Rattle.width_check.specs.Typing.{IsProcess}
-use Rattle.chp_meaning.specs.Steps.{Configuration}
-use Rattle.circuit_places.specs.Circuit.{GuardedSpot}
-use Rattle.circuit_places.specs.Whole.{Whole, Node, own_node, go_node, rail_node, ack_node, bit_node, wrote_node, joint_node, enabled, cells_moved}
+use Rattle.circuit_places.specs.Whole.{own_node, go_node, rail_node, ack_node, bit_node, wrote_node, joint_node}
 use Rattle.circuit_places.proofs.Trees.{TreesSettle}
 use Rattle.circuit_places.proofs.Meets.{ExpressionsHold}
-use Rattle.circuit_places.proofs.Stepping.{guarded_steps}
 use Rattle.circuit_places.proofs.System.{Fitted}
-use Rattle.circuit_places.proofs.Carry.{Reached, next_reached}
-use Rattle.circuit_time.proofs.Levels.{LowersRanks, Silent}
+use Rattle.circuit_time.proofs.Levels.{LowersRanks}
 use Rattle.circuit_pace.proofs.OwnLowers.{own_lowers}
 use Rattle.circuit_ranks.proofs.Ranks.{rank}
+use Rattle.circuit_ranks.proofs.Claims.{of_spots}
 use Rattle.circuit_ranks.proofs.OwnFar.{own_far}
 use Rattle.circuit_ranks.proofs.FarAny.{far_any}
 use Rattle.circuit_ranks.proofs.Layers.{RoundsInLayers, cells_in_layers}
 
--- the spot of an own node, or this one
-abbrev spot_in : {p : Process} → GuardedSpot p → Node p → GuardedSpot p
-spot_in s (own_node q) = q
-spot_in s n = s
-
 module _ (P : TypedProgram) (script : List OfferValue) (fitted : Fitted P script) (typed : IsProcess P.channels P.vars P.body) where
-  -- of two own nodes, in the terms of all
-  own_own : {from : Configuration} {moves : ℕ} {x : Whole P.body} (r : Reached P script from moves x) (p : GuardedSpot P.body)
-      (s : Silent P script fitted (rank P) r (own_node p)) (q : GuardedSpot P.body)
-      → Silent P script fitted (rank P) (next_reached P script fitted r (own_node p) s.on) (own_node q)
-      → (rank P (cells_moved P x (own_node p)) (own_node q) < rank P x (own_node p))
-      ⊎ ((own_node p ≢ own_node q) × Silent P script fitted (rank P) r (own_node q)
-      × (rank P (cells_moved P x (own_node p)) (own_node q) ≤ rank P x (own_node q)))
-  own_own {x = x} r p s q t = by (own_lowers P script fitted typed r p s.on s.still q t.on t.still)
-    where
-      by : (rank P (cells_moved P x (own_node p)) (own_node q) < rank P x (own_node p))
-          ⊎ ((p ≢ q) × (enabled P script x (own_node q) ≡ true) × (guarded_steps r.place q ≡ false)
-          × (rank P (cells_moved P x (own_node p)) (own_node q) ≤ rank P x (own_node q)))
-          → (rank P (cells_moved P x (own_node p)) (own_node q) < rank P x (own_node p))
-          ⊎ ((own_node p ≢ own_node q) × Silent P script fitted (rank P) r (own_node q)
-          × (rank P (cells_moved P x (own_node p)) (own_node q) ≤ rank P x (own_node q)))
-      by (inl less) = inl less
-      by (inr (ne, on, still, upto)) = inr ((λ e. ne (ap (spot_in p) e)), record { on = on; still = still }, upto)
-
   pub lowers : LowersRanks P script fitted (rank P)
-  lowers from moves x r (own_node p) s (own_node q) t = own_own r p s q t
+  lowers from moves x r (own_node p) s (own_node q) t = of_spots P script fitted r p q (own_lowers P script fitted typed r p s.on s.still q t.on t.still)
   lowers from moves x r (own_node p) s go_node t = own_far P script fitted typed r p go_node refl s t
   lowers from moves x r (own_node p) s (rail_node k i one) t = own_far P script fitted typed r p (rail_node k i one) refl s t
   lowers from moves x r (own_node p) s (ack_node c) t = own_far P script fitted typed r p (ack_node c) refl s t

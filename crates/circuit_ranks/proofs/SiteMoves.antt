@@ -117,7 +117,7 @@ stored_falls true up down h f v x stored e g =
 abbrev pub rails_read : Line → ℕ → Bool → Reading
 rails_read k i one p r x = any (site_rails p x k i one)
 
-rails_spread : (k : Line) (i : ℕ) (one : Bool) → Spread (rails_read k i one)
+pub rails_spread : (k : Line) (i : ℕ) (one : Bool) → Spread (rails_read k i one)
 rails_spread k i one = record {
   turn = λ ms r x. any (turn_rails ms x k i one);
   branch = λ ms x. any (branch_rails ms x k i one);
@@ -226,7 +226,7 @@ got_spread v i one = record {
 abbrev pub takers_read : ℕ → Reading
 takers_read c p r x = any (takers p x c)
 
-takers_spread : (c : ℕ) → Spread (takers_read c)
+pub takers_spread : (c : ℕ) → Spread (takers_read c)
 takers_spread c = record {
   turn = λ ms r x. any (turn_takers ms x c);
   branch = λ ms x. any (branch_takers ms x c);

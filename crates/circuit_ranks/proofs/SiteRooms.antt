@@ -15,15 +15,15 @@ use Rattle.width_check.specs.Reads.{reads}
 use Rattle.circuit_places.specs.Lines.{Line, of_channel, of_var}
 use Rattle.circuit_places.specs.Circuit.{Bits, Cells, BranchCells, ChoiceCells, TurnCells}
 use Rattle.circuit_places.proofs.RailLemmas.{fst_true}
-use Rattle.circuit_places.proofs.LineNames.{self_number, same_number}
+use Rattle.circuit_places.proofs.LineNames.{same_number}
 use Rattle.circuit_places.proofs.Flow.{not_both, or_left, or_map}
 use Rattle.circuit_places.proofs.Talks.{either}
 use Rattle.circuit_places.proofs.Meets.{Meets, sends, turn_sends, choice_sends, receives, each_receives, choice_receives}
 use Rattle.round_time.specs.Longest.{guards_depth, depth, tree_height, var_height, over_sites, rails_fall, assign_holds, writes_fall, receive_clears, send_first, receive_first, assign_first, first, turn_first, low, within, longest}
 use Rattle.circuit_time.proofs.Requests.{first_some}
 use Rattle.circuit_pace.proofs.TrailsWithin.{Within, sends_hold}
-use Rattle.circuit_pace.proofs.EverySite.{OfSite, EverySite, EveryTurn, EveryBranch, EveryChoice, downs, downs_each, downs_most, within_each, site_map, site_both, site_all}
-use Rattle.circuit_pace.proofs.Counts.{acked_at, acked_of, written_at, written_of, taken_at, taken_of, Counted, root_within, counts_leave}
+use Rattle.circuit_pace.proofs.EverySite.{OfSite, EverySite, EveryTurn, EveryBranch, EveryChoice, downs_most, within_each, site_map, site_both}
+use Rattle.circuit_pace.proofs.Counts.{acked_at, acked_of, written_of, taken_at, taken_of, Counted, here_is, counted, root_within, counts_leave}
 use Rattle.circuit_ranks.proofs.Ranks.{listens_on, is_asked, turn_asked, branch_asked, choice_asked, is_received, some_received, choice_received}
 
 -- functions that say whether a statement has a site of some kind
@@ -119,9 +119,6 @@ pub record AtSite (P : TypedProgram) (held down : ℕ) (q : Process) : Type 0 wh
   pub meets : Meets P q
   pub counted : Counted P held down q
 
-itself : (n a b : ℕ) → (if n == n then a else 0) ≤ b → a ≤ b
-itself n a b e = let z : (if n == n then a else 0) ≡ a = ap (λ (c : Bool). if c then a else 0) (self_number n) in omega (arith, e, z)
-
 if_so : (t : Bool) (a b : ℕ) → a ≤ b → (if t then a else 0) ≤ b
 if_so true a b e = e
 if_so false a b e = omega arith
@@ -156,20 +153,10 @@ long_some P = let a = long P in let b = first_some P P.body in omega (arith, a, 
 module _ (P : TypedProgram) (meets : Meets P P.body) where
   at_sites : EverySite P (AtSite P) 2 1 P.body
   at_sites =
-      let a = site_all P (λ c held down q. acked_at c q down
-      ≤ acked_of P c) 2 1 P.body (λ c. downs_each P (acked_at c) (acked_of P c) 2 1 P.body (omega arith)) in
-      let b = site_all P (λ x held down q. written_at P x q down ≤ written_of P x) 2 1 P.body
-      (λ x. downs_each P (written_at P x) (written_of P x) 2 1 P.body (omega arith)) in
-      let t = site_all P (λ c held down q. taken_at P c q down ≤ taken_of P c) 2 1 P.body
-      (λ c. downs_each P (taken_at P c) (taken_of P c) 2 1 P.body (le-max_right (acked_of P c) (downs P (taken_at P c) 2 1 P.body))) in
-      let bt = site_both P (λ held down q. (x : ℕ) → written_at P x q down ≤ written_of P x) (λ held down q. (c : ℕ) → taken_at P c q down ≤ taken_of P c)
-      2 1 P.body b t in
-      let n = site_both P (λ held down q. (c : ℕ) → acked_at c q down ≤ acked_of P c)
-      (λ held down q. ((x : ℕ) → written_at P x q down ≤ written_of P x) × ((c : ℕ) → taken_at P c q down ≤ taken_of P c)) 2 1 P.body a bt in
       let w = within_each P (longest P) 2 1 P.body (root_within P) meets in
       site_map P (λ held down q. (Within P (longest P) held down q × Meets P q) × Counted P held down q) (AtSite P)
       (λ held down q e. record { inside = e.0.0; meets = e.0.1; counted = e.1 }) 2 1 P.body
-      (site_both P (λ held down q. Within P (longest P) held down q × Meets P q) (Counted P) 2 1 P.body w n)
+      (site_both P (λ held down q. Within P (longest P) held down q × Meets P q) (Counted P) 2 1 P.body w (counted P))
 
   written_leaves : (x : ℕ) → written_of P x ≤ longest P - (writes_fall P x + 2 + var_height P x)
   written_leaves x = (counts_leave P meets).written x
@@ -180,18 +167,18 @@ module _ (P : TypedProgram) (meets : Meets P P.body) where
   at_assign held down x at e s =
       let l = s.inside.firsts in
       let f = assign_long (reads x e) (depth e) (var_height P x) in
-      let w = itself x (assign_holds (reads x e) held (depth e)) (writes_fall P x) (s.inside.writes x) in
+      let w = here_is x (assign_holds (reads x e) held (depth e)) (writes_fall P x) (s.inside.writes x) in
       let h = holds_some (reads x e) held (depth e) in
-      let n = itself x (suc down) (written_of P x) (s.counted.1.0 x) in
+      let n = here_is x (suc down) (written_of P x) (s.counted.1.0 x) in
       let a = written_leaves x in
       (omega (arith, w, h, n, a), omega (arith, l, f))
 
   at_receive : (held down c : ℕ) (at : Span) (x : ℕ) (to : Span) → AtSite P held down (receiving c at x to)
       → (2 + acked_of P c ≤ written_of P x) × (5 + var_height P x + written_of P x ≤ longest P)
   at_receive held down c at x to s =
-      let w = itself x (max (rails_fall P (kind_at P.channels c) c) (held + 1) + 2) (writes_fall P x) (s.inside.writes x) in
+      let w = here_is x (max (rails_fall P (kind_at P.channels c) c) (held + 1) + 2) (writes_fall P x) (s.inside.writes x) in
       let m = le-max_right (rails_fall P (kind_at P.channels c) c) (held + 1) in
-      let n = itself x (2 + acked_of P c) (written_of P x) (s.counted.1.0 x) in
+      let n = here_is x (2 + acked_of P c) (written_of P x) (s.counted.1.0 x) in
       let a = written_leaves x in
       (n, omega (arith, w, m, n, a))
 
@@ -203,7 +190,7 @@ module _ (P : TypedProgram) (meets : Meets P P.body) where
       at_site : (held down : ℕ) (q : Process) → AtSite P held down q → acked_at c q down ≤ longest P - 3
       at_site held down (sending k at e) s =
           let l = s.inside.lows in
-          let n = itself k (held + depth e + 2) (sends_hold P k) (s.inside.sends k) in
+          let n = here_is k (held + depth e + 2) (sends_hold P k) (s.inside.sends k) in
           let f = rails_some P (kind_at P.channels k) k (omega (arith, n)) in
           let m = le-max_left (rails_fall P (kind_at P.channels k) k + 2) (over_sites (receive_clears P k) 2 P.body) in
           if_so (k == c) (suc down) (longest P - 3) (omega (arith, l, f, m))
@@ -211,7 +198,7 @@ module _ (P : TypedProgram) (meets : Meets P P.body) where
           let a = at_receive held down k at x to s in
           let b = a.0 in
           let d = a.1 in
-          let n = itself k (suc down) (acked_of P k) (s.counted.0 k) in
+          let n = here_is k (suc down) (acked_of P k) (s.counted.0 k) in
           if_so (k == c) (suc down) (longest P - 3) (omega (arith, b, d, n))
       at_site held down skipping s = omega arith
       at_site held down (assigning x at e) s = omega arith

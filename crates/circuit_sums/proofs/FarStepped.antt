@@ -3,24 +3,23 @@
 --
 -- P: the program; K: how many moves follow the falls of lines; env: what statements see, now: what they see then; R: how many moves; Q: what is said of each
 -- site; a, g, b, t: where statements are; s: a spot; z: that its move is enabled then.
-use Rattle.std.proofs.Common.{◌≡◌, ℕ, suc, ◌+◌, ◌-◌, ◌<◌, ◌≤◌, ◌==◌, Bool, true, false, List, refl, sym, ap, ◌∙◌, subst, inl, inr, arith}
+use Rattle.std.proofs.Common.{◌≡◌, ℕ, suc, ◌+◌, ◌-◌, ◌<◌, ◌≤◌, ◌==◌, Bool, true, false, List, ap, ◌∙◌, subst, inl, inr, arith}
 use Rattle.std.specs.Prelude.{not, ◌&&◌, if◌then◌else◌}
 use Rattle.chp_base.specs.declared.span.Span.{Span}
 use Rattle.width_check.specs.Processes.{Formula, Process, receiving, Processes, and_member, member_count, Choices, TypedProgram}
 use Rattle.width_check.specs.Typing.{kind_at}
-use Rattle.function_blocks.specs.Rails.{Pairs, one_rule_fires}
+use Rattle.function_blocks.specs.Rails.{Pairs}
 use Rattle.function_blocks.specs.Parts.{gate_count}
 use Rattle.circuit_places.specs.Lines.{Line, of_channel, of_var, same_line, site_statement, Rails, Seen}
-use Rattle.circuit_places.specs.Circuit.{done, gate, PortSpot, heard, stored, taking, GuardedSpot, child, latch, next, inner, Spot, of_skip, of_assign, of_send, of_receive, in_members, of_branch, joint, of_loop, ask, in_body, low_guards, low_turn, gate_rule, guards_rule, of_core, of_guard, of_choice, of_round, GuardSpot, ChoiceSpot, this_choice, other_choice, BranchSpot, in_this, in_others, TurnSpot, in_last, in_member, in_later}
+use Rattle.circuit_places.specs.Circuit.{done, gate, PortSpot, heard, stored, taking, GuardedSpot, child, latch, next, inner, Spot, of_skip, of_assign, of_send, of_receive, in_members, of_branch, joint, of_loop, ask, in_body, low_turn, of_core, of_guard, of_choice, of_round, ChoiceSpot, this_choice, other_choice, BranchSpot, in_this, in_others, TurnSpot, in_last, in_member, in_later}
 use Rattle.circuit_places.proofs.LineNames.{same_line_is}
 use Rattle.circuit_places.proofs.Flow.{cases, not_both}
-use Rattle.circuit_places.proofs.CoreControl.{control_ask, control_guards}
-use Rattle.circuit_places.proofs.Places.{Mode, running, asks, acks, GuardedAt, g_rests, g_in, g_past, g_back, At, rests, at_skip, at_assign, at_send, at_receive, at_turn, at_side, at_body, at_choice, at_turning, at_closing, ChoiceAt, control_at, inside_at, ChosenAt, this_one, another, BranchesAt, no_more, and_at, TurnAt, turn_rests, at_last, at_member, at_later, guarded_cells, cells, choice_cells, chosen_cells, branch_cells, turn_cells, port_of, site_moves, port_moves, guarded_moves, moves, choice_guard, choice_inner, chosen_moves, branch_moves, turn_moves, not_running}
+use Rattle.circuit_places.proofs.Places.{Mode, asks, acks, GuardedAt, g_rests, g_in, g_past, g_back, At, rests, at_skip, at_assign, at_send, at_receive, at_turn, at_side, at_body, at_choice, at_turning, at_closing, ChoiceAt, control_at, inside_at, ChosenAt, this_one, another, BranchesAt, no_more, and_at, TurnAt, turn_rests, at_last, at_member, at_later, guarded_cells, cells, choice_cells, chosen_cells, branch_cells, turn_cells, port_of, site_moves, port_moves, guarded_moves, moves, choice_inner, chosen_moves, branch_moves, turn_moves, not_running}
 use Rattle.round_time.specs.Longest.{depth, guards_depth, tree_height, var_height, turn_first}
 use Rattle.circuit_time.proofs.Trails.{Clearing, rail_left, turn_back, port_trail, guarded_trail, trail, choice_trail, branch_trail, turn_trail}
 use Rattle.circuit_pace.proofs.EverySite.{OfSite, EverySite, EveryTurn, EveryBranch, EveryChoice}
 use Rattle.circuit_pace.proofs.Counts.{counts}
-use Rattle.circuit_ranks.proofs.FarTrails.{Could}
+use Rattle.circuit_ranks.proofs.FarTrails.{Could, same_gate, same_guard, past_same, still_done, still_heard, still_stored, still_taking, stored_up}
 use Rattle.circuit_sums.proofs.Passes.{pass_at, put_at, passes, puts}
 
 -- what follows the fall of a site's request
@@ -38,27 +37,6 @@ pub record RisenLeaves (P : TypedProgram) (K : Clearing) (env now : Seen) (R : �
       (port_of (acks m) k q) s) R
 
 module _ (P : TypedProgram) (K : Clearing) (env now : Seen) (R : ℕ) (Q : OfSite) (bits : now.bit ≡ env.bit) (leaves : RisenLeaves P K env now R Q) where
-  same_gate : (e : Formula) (m : Mode) (u : Pairs (gate_count e)) (k : ℕ) (one : Bool) → one_rule_fires (gate_rule e now.bit (asks m) u k one) ≡ true
-      → one_rule_fires (gate_rule e env.bit (asks m) u k one) ≡ true
-  same_gate e m u k one z = ap (λ (b : ℕ → Rails). one_rule_fires (gate_rule e b (asks m) u k one)) (sym bits) ∙ z
-
-  same_guard : {again : Bool} {choices : Choices} {m : Mode} (x : ChoiceAt again choices m) (s : GuardSpot choices) → choice_guard now x s ≡ true
-      → choice_guard env x s ≡ true
-  same_guard (control_at {choices = choices} c) s z =
-      ap (λ (b : ℕ → Rails). one_rule_fires (guards_rule choices b (control_ask c) (control_guards (low_guards choices) c) s)) (sym bits) ∙ z
-  same_guard (inside_at a w) s z = z
-
-  -- the Q-element of a member that is done
-  past_same : {p : Process} {m : Mode} (g : GuardedAt p m) → (m ≡ running → ⊥) → (s : GuardedSpot p) → guarded_moves now g s ≡ true
-      → guarded_moves env g s ≡ true
-  past_same g_rests out s z = z
-  past_same (g_in u a h) out s z = absurd (out refl)
-  past_same g_past out s z = z
-  past_same (g_back u) out child z = z
-  past_same (g_back u) out latch z = z
-  past_same (g_back u) out next z = z
-  past_same (g_back u) out (inner s) z = z
-
   mutual
     pub guarded_risen : (plus minus : ℕ) {p : Process} {m : Mode} (g : GuardedAt p m) → EverySite P Q 2 (suc plus) p → (s : GuardedSpot p)
         → guarded_moves now g s ≡ true → Could (guarded_moves env g s) (guarded_trail P K plus minus p (guarded_cells g) s) R
@@ -69,16 +47,16 @@ module _ (P : TypedProgram) (K : Clearing) (env now : Seen) (R : ℕ) (Q : OfSit
     guarded_risen plus minus (g_in u a h) every next z = inl z
     guarded_risen plus minus g_rests every s z = inl z
     guarded_risen plus minus g_past every s z = inl z
-    guarded_risen plus minus {p = p} (g_back u) every s z = inl (past_same (g_back {p = p} u) (λ e. cc e) s z)
+    guarded_risen plus minus {p = p} (g_back u) every s z = inl (past_same env now (g_back {p = p} u) (λ e. cc e) s z)
 
     risen : (held down : ℕ) {p : Process} {m : Mode} (a : At p m) → EverySite P Q held down p → (s : Spot p) → moves now a s ≡ true
         → Could (moves env a s) (trail P K held down p (cells a) s) R
     risen held down rests every s z = inl z
     risen held down (at_skip m h) every of_skip z = inl z
     risen held down (at_assign {x = x} {at = at} {e = e} m u h) every (of_assign done) z = leaves.at_sites (of_var x) at e m u held down every z
-    risen held down (at_assign {e = e} m u h) every (of_assign (gate k one)) z = inl (same_gate e m u k one z)
+    risen held down (at_assign {e = e} m u h) every (of_assign (gate k one)) z = inl (same_gate env now bits e m u k one z)
     risen held down (at_send {c = c} {at = at} {e = e} m u h) every (of_send done) z = leaves.at_sites (of_channel c) at e m u held down every z
-    risen held down (at_send {e = e} m u h) every (of_send (gate k one)) z = inl (same_gate e m u k one z)
+    risen held down (at_send {e = e} m u h) every (of_send (gate k one)) z = inl (same_gate env now bits e m u k one z)
     risen held down (at_receive {c = c} {x = x} {at = at} {to = to} m k q h) every (of_receive s) z = leaves.at_ports c x at to m k q held down every s z
     risen held down (at_turn t) every (in_members s) z = turn_risen held down t every s z
     risen held down (at_side {members = members} m t b h) every (of_branch s) z =
@@ -89,10 +67,10 @@ module _ (P : TypedProgram) (K : Clearing) (env now : Seen) (R : ℕ) (Q : OfSit
     risen held down (at_body a) every of_loop z = inl z
     risen held down (at_body a) every ask z = inl z
     risen held down (at_choice x) every (of_core s) z = inl z
-    risen held down (at_choice x) every (of_guard s) z = inl (same_guard x s z)
+    risen held down (at_choice x) every (of_guard s) z = inl (same_guard env now bits x s z)
     risen held down (at_choice x) every (of_choice s) z = choice_risen (held + 3) (1 + down) x every s z
     risen held down (at_turning x) every (of_core s) z = inl z
-    risen held down (at_turning x) every (of_guard s) z = inl (same_guard x s z)
+    risen held down (at_turning x) every (of_guard s) z = inl (same_guard env now bits x s z)
     risen held down (at_turning {choices = choices} x) every (of_choice s) z = choice_risen 4 (3 + guards_depth choices) x every s z
     risen held down (at_turning x) every (of_round s) z = inl z
     risen held down (at_closing c) every (of_core s) z = inl z
@@ -127,7 +105,7 @@ module _ (P : TypedProgram) (K : Clearing) (env now : Seen) (R : ℕ) (Q : OfSit
     turn_risen held down (at_member {q = q} {more = more} g) every (in_member s) z =
         guarded_risen (turn_first P (and_member q more) - 1) (turn_back P K down (and_member q more) (low_turn (and_member q more))) g every.0 s z
     turn_risen held down (at_member g) every (in_later s) z = inl z
-    turn_risen held down (at_later {k = k} {n = n} {m = m} g t h) every (in_member s) z = inl (past_same g (not_running m k n h) s z)
+    turn_risen held down (at_later {k = k} {n = n} {m = m} g t h) every (in_member s) z = inl (past_same env now g (not_running m k n h) s z)
     turn_risen held down (at_later g t h) every (in_later s) z = turn_risen (held + 2) down t every.1 s z
 
 -- ---- the leaves
@@ -142,16 +120,8 @@ module _ (P : TypedProgram) (env now : Seen) (l : Line) (high : now.ack l ≡ tr
       by true z = absurd (not_both (ap not e) z)
       by false z = less
 
-  kept_up : (m : Mode) (k b : Bool) (f R : ℕ) → b ≡ true → (if k then not b else asks m && b) ≡ true → 0 < R → (if k then 1 + f else 0) < R
-  kept_up m true b f R e z some = absurd (not_both (ap not e) z)
-  kept_up m false b f R e z some = some
-
   is_high : (k : Line) → same_line k l ≡ true → now.ack k ≡ true
   is_high k same = ap now.ack (same_line_is k l same) ∙ high
-
-  still_done : (k : Line) (e : Formula) (m : Mode) (u : Pairs (gate_count e)) → now.ack k ≡ env.ack k → site_moves now k e m u done ≡ true
-      → site_moves env k e m u done ≡ true
-  still_done k e m u same z = ap (λ b. if acks m then not b else asks m && b) (sym same) ∙ z
 
   module _ (R : ℕ) (some : 0 < R) (Q : OfSite)
       (site_room : (k : Line) (at : Span) (e : Formula) (held down : ℕ) → same_line k l ≡ true → Q held down (site_statement k at e)
@@ -167,7 +137,7 @@ module _ (P : TypedProgram) (env now : Seen) (l : Line) (high : now.ack l ≡ tr
         the_site k at e m u held down q z = cases (same_line k l)
             (λ (h : same_line k l ≡ true).
             inr (answer_up m (now.ack k) (held + site_back P (counts P) k e) down R (is_high k h) z (site_room k at e held down h q)))
-            (λ (h : same_line k l ≡ false). inl (still_done k e m u (far k h) z))
+            (λ (h : same_line k l ≡ false). inl (still_done env now k e m u (far k h) z))
 
         the_port : (c x : ℕ) (at to : Span) (m : Mode) (k : Bool) (q : Rails) (held down : ℕ) → Q held down (receiving c at x to) → (s : PortSpot)
             → port_moves now c x m k q s ≡ true
@@ -177,13 +147,12 @@ module _ (P : TypedProgram) (env now : Seen) (l : Line) (high : now.ack l ≡ tr
             (λ (h : same_line (of_channel c) l ≡ true).
             inr (answer_up m (now.ack (of_channel c)) (held + (3 + var_height P x + (counts P).written x)) down R (is_high (of_channel c) h) z
             (port_room c x at to held down h w)))
-            (λ (h : same_line (of_channel c) l ≡ false).
-            inl (ap (λ b. if acks m then not b else asks m && b) (sym (far (of_channel c) h)) ∙ z))
+            (λ (h : same_line (of_channel c) l ≡ false). inl (still_heard env now c x m k q (far (of_channel c) h) z))
         the_port c x at to m k q held down w stored z = cases (same_line (of_var x) l)
-            (λ (h : same_line (of_var x) l ≡ true). inr (kept_up m k (now.ack (of_var x)) ((counts P).acked c) R (is_high (of_var x) h) z some))
-            (λ (h : same_line (of_var x) l ≡ false). inl (ap (λ b. if k then not b else asks m && b) (sym (far (of_var x) h)) ∙ z))
+            (λ (h : same_line (of_var x) l ≡ true). inr (stored_up m k (now.ack (of_var x)) ((counts P).acked c) R (is_high (of_var x) h) z some))
+            (λ (h : same_line (of_var x) l ≡ false). inl (still_stored env now c x m k q (far (of_var x) h) z))
         the_port c x at to m k q held down w (taking j b) z =
-            inl (ap (λ (r : Line → Rails). if q j b then not (asks m) && not (r (of_channel c) j b) else asks m && r (of_channel c) j b) (sym rails) ∙ z)
+            inl (still_taking env now c x m k q j b (ap (λ (r : Line → Rails). r (of_channel c) j b) rails) z)
 
 -- what is counted at a site of the line
 counted : (n k b a R : ℕ) → (n == k) ≡ true → (if n == k then 1 + (b + a) else 0) ≤ R → b + a < R

@@ -21,13 +21,13 @@ use Rattle.round_time.specs.Longest.{guards_depth, tree_height, turn_first}
 use Rattle.circuit_time.proofs.Trails.{Clearing, turn_back}
 use Rattle.circuit_pace.proofs.Never.{never}
 use Rattle.circuit_pace.proofs.CoreTrails.{selecting, turning, room_selecting, room_turning}
-use Rattle.circuit_sums.proofs.Phases.{guarded_phase, phase, choice_phase, branch_phase, turn_phase}
+use Rattle.circuit_sums.proofs.Phases.{guarded_phase, spot_phase, choice_phase, branch_phase, turn_phase}
 use Rattle.circuit_sums.proofs.StepTrails.{Stepped, GuardedStepped, TurnStepped, BranchStepped, skip_stepped, ask_stepped, body_stepped, inner_stepped, last_stepped, member_stepped, later_stepped, turn_stepped, this_stepped, others_stepped, side_stepped}
 use Rattle.circuit_sums.proofs.StepCores.{latch_rises, ChosenStepped, this_chosen, other_chosen, branch_steps, select_latched, select_stepped, turn_latched, turn_stepped as turning_stepped, leave_rises}
 
 -- ---- what isn't running makes no step
 
-no_step : {A : Type 0} (b : Bool) → b ≡ false → b ≡ true → A
+pub no_step : {A : Type 0} (b : Bool) → b ≡ false → b ≡ true → A
 no_step b e h = absurd (cc (e, h))
 
 branches_none : {members : Processes} {ks : List Mode} (b : BranchesAt members ks) → NoneRuns ks → (s : BranchSpot members) → branch_does b s ≡ false
@@ -112,7 +112,7 @@ module _ (P : TypedProgram) (K : Clearing) (env : Seen) where
     guarded_stepped plus minus (g_in u a h) meets behind next e z = never z
 
     pub stepped : (held down : ℕ) {p : Process} (a : At p running) → Meets P p → Backed p (shown a) env → (s : Spot p) → moves env a s ≡ true
-        → steps a s ≡ true → Stepped P K held down p env a s (phase P held down p s)
+        → steps a s ≡ true → Stepped P K held down p env a s (spot_phase P held down p s)
     stepped held down (at_skip _ h) meets behind of_skip e z = skip_stepped P K env held down h
     stepped held down (at_assign m u h) meets behind (of_assign s) e z = never z
     stepped held down (at_send m u h) meets behind (of_send s) e z = never z

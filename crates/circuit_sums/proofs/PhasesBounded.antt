@@ -1,21 +1,26 @@
--- The phase of each own node's step is less than `longest`.
+-- The phase of the statement of each own node's step is less than `longest`.
 --
 -- P: the program; L: the bound; p, q, more: statements; held, down: as in trails; w: the context; s: a spot; k: that its rise is a step.
 use Rattle.std.proofs.Common.{◌≡◌, ℕ, suc, ◌+◌, ◌-◌, ◌≤◌, true, false, arith}
 use Rattle.std.specs.Prelude.{max}
 use Rattle.std.proofs.Math.Nat.{max-le}
+use Rattle.width_check.specs.Typing.{IsProcess}
 use Rattle.width_check.specs.Processes.{Process, skipping, assigning, sending, receiving, in_turn, side_by_side, choosing, repeating, Processes, no_members, and_member, member_count, Choices, no_choices, and_choice, choice_count, TypedProgram}
 use Rattle.circuit_places.specs.Heads.{Index}
 use Rattle.circuit_places.specs.Cores.{of_joined, of_ask, of_any, of_latch, of_start, of_answer, of_turn, of_leave}
 use Rattle.circuit_places.specs.Circuit.{GuardedSpot, child, latch, next, inner, Spot, of_skip, of_assign, of_send, of_receive, in_members, of_branch, joint, of_loop, ask, in_body, of_core, of_guard, of_choice, of_round, ChoiceSpot, this_choice, other_choice, BranchSpot, in_this, in_others, TurnSpot, in_last, in_member, in_later}
+use Rattle.circuit_places.proofs.Meets.{Meets}
 use Rattle.circuit_places.proofs.StillSteps.{guarded_rises, rises, branch_rises, choice_rises, turn_rises}
 use Rattle.round_time.specs.Longest.{guards_depth, tree_height, first, turn_first, within, choice_within, longest}
-use Rattle.circuit_time.proofs.Trails.{choices_first}
+use Rattle.round_time.specs.Phases.{over_program, choices_first, skip_at, turn_at, phase}
 use Rattle.circuit_time.proofs.Requests.{first_some}
+use Rattle.circuit_time.proofs.OwnTrails.{Covers}
 use Rattle.circuit_pace.proofs.Never.{never}
-use Rattle.circuit_pace.proofs.Counts.{root_within}
+use Rattle.circuit_pace.proofs.Counts.{counts, root_within}
 use Rattle.circuit_pace.proofs.TrailsWithin.{Within, TurnWithin, EachWithin, ChoiceWithin, left_of_max, right_of_max, turn_of, last_of, member_of, later_of, each_of, branch_of, branches_of, body_of, select_of, repeat_of, arm_of, arms_of, arms_first}
-use Rattle.circuit_sums.proofs.Phases.{guarded_phase, phase, choice_phase, branch_phase, turn_phase}
+use Rattle.circuit_ranks.proofs.SiteRooms.{long_some}
+use Rattle.circuit_sums.proofs.PassesBounded.{all_less}
+use Rattle.circuit_sums.proofs.Statements.{guarded_statement, statement, choice_statement, branch_statement, turn_statement}
 
 module _ (P : TypedProgram) (L : ℕ) where
   -- where there is a branch there is room for its start
@@ -36,21 +41,48 @@ module _ (P : TypedProgram) (L : ℕ) where
       let f = arms_first P L cs (repeat_of P L w) (omega (arith, l)) in
       latch_room (guards_depth cs) (choices_first P cs) (held + 5 + down) f (omega (arith, l))
 
+module _ (P : TypedProgram) (meets : Meets P P.body) (typed : IsProcess P.channels P.vars P.body) where
+  abbrev L : ℕ
+  L = longest P
+
+  -- of a skip, and of what a repetition does, the greatest of all
+  skips_less : suc (over_program P skip_at) ≤ L
+  skips_less = let a = all_less P meets typed skip_at (L - 1) at_each in let l = long_some P in omega (arith, a, l)
+    where
+      at_each : (held down : ℕ) (p : Process) → Meets P p → Covers P (counts P) held down p → Within P L held down p → skip_at held down p ≤ L - 1
+      at_each held down skipping meet covers w = let l = w.lows in omega (arith, l)
+      at_each held down (assigning x at e) meet covers w = omega arith
+      at_each held down (sending k at e) meet covers w = omega arith
+      at_each held down (receiving k at x to) meet covers w = omega arith
+      at_each held down (in_turn ms) meet covers w = omega arith
+      at_each held down (side_by_side ms) meet covers w = omega arith
+      at_each held down (repeating p) meet covers w = omega arith
+      at_each held down (choosing again cs) meet covers w = omega arith
+
+  turns_less : suc (over_program P (turn_at P)) ≤ L
+  turns_less = let a = all_less P meets typed (turn_at P) (L - 1) at_each in let l = long_some P in omega (arith, a, l)
+    where
+      at_each : (held down : ℕ) (p : Process) → Meets P p → Covers P (counts P) held down p → Within P L held down p → turn_at P held down p ≤ L - 1
+      at_each held down (choosing true cs) meet covers w = let r = repeat_room P L cs w in omega (arith, r)
+      at_each held down (choosing false cs) meet covers w = omega arith
+      at_each held down skipping meet covers w = omega arith
+      at_each held down (assigning x at e) meet covers w = omega arith
+      at_each held down (sending k at e) meet covers w = omega arith
+      at_each held down (receiving k at x to) meet covers w = omega arith
+      at_each held down (in_turn ms) meet covers w = omega arith
+      at_each held down (side_by_side ms) meet covers w = omega arith
+      at_each held down (repeating p) meet covers w = omega arith
+
   mutual
-    pub guarded_room : (plus : ℕ) (p : Process) → Within P L 2 (suc plus) p → (s : GuardedSpot p) → guarded_rises s ≡ true → suc (guarded_phase P plus p s) ≤ L
-    guarded_room plus p w (inner s) k = phase_room 2 (1 + plus) p record {
-      lows = (let l = w.lows in omega (arith, l));
-      firsts = w.firsts;
-      inside = w.inside;
-      sends = w.sends;
-      writes = w.writes;
-    } s k
+    guarded_room : (plus : ℕ) (p : Process) → Within P L 2 (suc plus) p → (s : GuardedSpot p) → guarded_rises s ≡ true
+        → suc (phase P (guarded_statement p s)) ≤ L
+    guarded_room plus p w (inner s) k = phase_room 2 (suc plus) p w s k
     guarded_room plus p w child k = never k
     guarded_room plus p w latch k = never k
     guarded_room plus p w next k = never k
 
-    phase_room : (held down : ℕ) (p : Process) → Within P L held down p → (s : Spot p) → rises s ≡ true → suc (phase P held down p s) ≤ L
-    phase_room held down skipping w of_skip k = let l = w.lows in omega (arith, l)
+    phase_room : (held down : ℕ) (p : Process) → Within P L held down p → (s : Spot p) → rises s ≡ true → suc (phase P (statement p s)) ≤ L
+    phase_room held down skipping w of_skip k = skips_less
     phase_room held down (assigning v at d) w (of_assign s) k = never k
     phase_room held down (sending c at d) w (of_send s) k = never k
     phase_room held down (receiving c at v to) w (of_receive s) k = never k
@@ -67,16 +99,16 @@ module _ (P : TypedProgram) (L : ℕ) where
     phase_room held down (choosing again cs) w (of_core (of_start i)) k = never k
     phase_room held down (choosing again cs) w (of_guard s) k = never k
     phase_room held down (choosing false cs) w (of_core (of_latch i)) k =
-        let f = arms_first P L cs (select_of P L w) (started_room cs i (select_of P L w)) in omega (arith, f)
+        let f = arms_first P L cs (select_of P L w) (started_room P L cs i (select_of P L w)) in omega (arith, f)
     phase_room held down (choosing false cs) w (of_choice s) k = choice_room (held + 3) (1 + down) (3 + guards_depth cs) cs (select_of P L w) s k
-    phase_room held down (choosing true cs) w (of_core (of_latch i)) k = repeat_room cs w
+    phase_room held down (choosing true cs) w (of_core (of_latch i)) k = turns_less
     phase_room held down (choosing true cs) w (of_choice s) k = choice_room 4 (3 + guards_depth cs) (3 + guards_depth cs) cs (repeat_of P L w) s k
-    phase_room held down (choosing true cs) w (of_round of_leave) k = repeat_room cs w
+    phase_room held down (choosing true cs) w (of_round of_leave) k = turns_less
     phase_room held down (choosing true cs) w (of_round of_answer) k = never k
     phase_room held down (choosing true cs) w (of_round of_turn) k = never k
 
     turn_room : (held down : ℕ) (ms : Processes) → TurnWithin P L held down ms → (s : TurnSpot ms) → turn_rises s ≡ true
-        → suc (turn_phase P held down ms s) ≤ L
+        → suc (phase P (turn_statement ms s)) ≤ L
     turn_room held down no_members w s k = elim s [ ]
     turn_room held down (and_member p no_members) w (in_last s) k = phase_room held down p (last_of P L w) s k
     turn_room held down (and_member p (and_member q more)) w (in_member s) k =
@@ -84,16 +116,17 @@ module _ (P : TypedProgram) (L : ℕ) where
     turn_room held down (and_member p (and_member q more)) w (in_later s) k = turn_room (held + 2) down (and_member q more) (later_of P L w) s k
 
     branch_room : (plus : ℕ) (ms : Processes) → EachWithin P L (suc plus) ms → (s : BranchSpot ms) → branch_rises s ≡ true
-        → suc (branch_phase P plus ms s) ≤ L
+        → suc (phase P (branch_statement ms s)) ≤ L
     branch_room plus no_members w s k = elim s [ ]
     branch_room plus (and_member p more) w (in_this s) k = guarded_room plus p (branch_of P L w) s k
     branch_room plus (and_member p more) w (in_others s) k = branch_room plus more (branches_of P L w) s k
 
     choice_room : (held down started : ℕ) (cs : Choices) → ChoiceWithin P L held down started cs → (s : ChoiceSpot cs) → choice_rises s ≡ true
-        → suc (choice_phase P held down cs s) ≤ L
+        → suc (phase P (choice_statement cs s)) ≤ L
     choice_room held down started no_choices w s k = elim s [ ]
     choice_room held down started (and_choice g p more) w (this_choice s) k = phase_room held down p (arm_of P L w) s k
     choice_room held down started (and_choice g p more) w (other_choice s) k = choice_room held down started more (arms_of P L w) s k
 
-pub own_phase : (P : TypedProgram) (s : GuardedSpot P.body) → guarded_rises s ≡ true → suc (guarded_phase P 0 P.body s) ≤ longest P
-own_phase P s k = guarded_room P (longest P) 0 P.body (root_within P) s k
+  -- of the whole program's
+  pub own_phase : (s : GuardedSpot P.body) → guarded_rises s ≡ true → suc (phase P (guarded_statement P.body s)) ≤ L
+  own_phase s k = guarded_room 0 P.body (root_within P) s k

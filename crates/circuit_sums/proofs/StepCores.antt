@@ -2,7 +2,7 @@
 --
 -- P: the program; K: how many moves follow the falls of lines; N: the numbers of a core; x: where it is; y: the values of its nodes then; g: the guards'
 -- gates; i: a branch; a: where the branch is that is under way; s, q: spots; n: how many moves; z: that a rule fires; l: what is said of the branch's step.
-use Rattle.std.proofs.Common.{◌≡◌, ◌≢◌, ℕ, suc, ◌+◌, ◌≤◌, Bool, true, false, refl, sym, ap, ◌∙◌, inl, inr, arith}
+use Rattle.std.proofs.Common.{◌≡◌, ℕ, suc, ◌+◌, ◌≤◌, Bool, true, false, refl, sym, ap, ◌∙◌, inl, inr, arith}
 use Rattle.std.specs.Prelude.{not, ◌&&◌, ◌||◌, if◌then◌else◌, max}
 use Rattle.std.proofs.Math.Nat.{max-le}
 use Rattle.width_check.specs.Processes.{Formula, Process, choosing, Choices, and_choice, choice_count, TypedProgram}
@@ -18,14 +18,14 @@ use Rattle.circuit_places.proofs.CoreMoves.{own, guard, branch}
 use Rattle.circuit_places.proofs.ChoiceMoves.{spot_at}
 use Rattle.circuit_places.proofs.Places.{running, At, at_choice, at_turning, ChoiceAt, control_at, inside_at, ChosenAt, this_one, another, chosen_index, cells, choice_cells, chosen_cells, moves, chosen_moves, can_is, low_choice_answers, low_answer, low_quiet, low_choice_quiet}
 use Rattle.circuit_places.proofs.StillSteps.{choice_rises, choice_value}
+use Rattle.round_time.specs.Phases.{latch_phase}
 use Rattle.circuit_time.proofs.Trails.{Clearing, trail, choice_trail}
 use Rattle.circuit_time.proofs.Requests.{Plain}
 use Rattle.circuit_time.proofs.OwnTrails.{Shorter}
 use Rattle.circuit_time.proofs.TurnTrails.{wrapped}
 use Rattle.circuit_pace.proofs.Never.{never}
 use Rattle.circuit_pace.proofs.CoreTrails.{CoreCells, CoreSpots, Numbers, selecting, turning, Room, core_trail, core_spot_rule, core_turned, CorePlain, core_can, core_can_is, branch_apart, spot_apart}
-use Rattle.circuit_pace.proofs.ChosenTrails.{arm_back, one_latch}
-use Rattle.circuit_sums.proofs.Phases.{latch_phase}
+use Rattle.circuit_pace.proofs.ChosenTrails.{this_apart, other_apart, arm_back, one_latch}
 use Rattle.circuit_sums.proofs.StepTrails.{Stepped}
 
 -- a latch that is up stays up under the request, and a start that is low stays low while a guard has a rail high
@@ -47,7 +47,7 @@ module _ (P : TypedProgram) (K : Clearing) (env : Seen) where
 
     pub latch_rises : (g : GuardCells choices) (i : Index (choice_count choices)) → alone i (heads choices g) ≡ true → (q : CoreSpots choices)
         → CoreStep (control_at (evaluating g)) (core_turned choices (choice_cells {again = again} (control_at (evaluating g))) (own (of_latch i)))
-        (own (of_latch i)) (latch_phase P N.left choices) q
+        (own (of_latch i)) (latch_phase N.left choices) q
     latch_rises g i e (own of_joined) z plain = never (sym (core_can_is {again = again} env (control_at (evaluating g)) (own of_joined)) ∙ z)
     latch_rises g i e (own of_ask) z plain = never (sym (core_can_is {again = again} env (control_at (evaluating g)) (own of_ask)) ∙ z)
     latch_rises g i e (own of_any) z plain = inl (omega arith)
@@ -75,21 +75,6 @@ module _ (P : TypedProgram) (K : Clearing) (env : Seen) where
     pub only : choice_answers cs (turned_choice cs (chosen_cells a) s) ≡ hot (chosen_index a) says
     pub up : says ≡ true → (held + arm_back P K down cs (turned_choice cs (chosen_cells a) s) (chosen_index a) ≤ n)
         × (suc down ≤ arm_back P K down cs (turned_choice cs (chosen_cells a) s) (chosen_index a))
-
-  -- two spots of a branch are two of all
-  abbrev this_of : {g : Formula} {p : Process} {more : Choices} → Spot p → ChoiceSpot (and_choice g p more) → Spot p
-  this_of d (this_choice s) = s
-  this_of d (other_choice s) = d
-
-  this_apart : {g : Formula} {p : Process} {more : Choices} {s q : Spot p} → s ≢ q → this_choice {g = g} {more = more} s ≢ this_choice q
-  this_apart {s = s} ne e = ne (ap (this_of s) e)
-
-  abbrev other_of : {g : Formula} {p : Process} {more : Choices} → ChoiceSpot more → ChoiceSpot (and_choice g p more) → ChoiceSpot more
-  other_of d (this_choice s) = d
-  other_of d (other_choice s) = s
-
-  other_apart : {g : Formula} {p : Process} {more : Choices} {s q : ChoiceSpot more} → s ≢ q → other_choice {g = g} {p = p} s ≢ other_choice q
-  other_apart {s = s} ne e = ne (ap (other_of s) e)
 
   pub this_chosen : (held down : ℕ) {g : Formula} {p : Process} {more : Choices} (a : At p running) (s : Spot p) (n : ℕ) → Stepped P K held down p env a s n
       → ChosenStepped held down (and_choice g p more) (this_one a) (this_choice s) n
@@ -243,7 +228,7 @@ module _ (P : TypedProgram) (K : Clearing) (env : Seen) where
     -- the latch of the end rises
     pub leave_rises : (g : GuardCells choices) → over (choice_count choices) (heads choices g) ≡ true
         → Stepped P K held down (choosing true choices) env (at_turning (control_at (evaluating g))) (of_round of_leave)
-        (latch_phase P (turning P held down choices).left choices)
+        (latch_phase (turning P held down choices).left choices)
     leave_rises g e = record { each = here; up = λ e. never e }
       where
         here : (q : Spot (choosing true choices))
@@ -255,7 +240,7 @@ module _ (P : TypedProgram) (K : Clearing) (env : Seen) where
             (trail P K held down (choosing true choices) (flipped (choosing true choices) (cells (at_turning {choices = choices} (control_at (evaluating g))))
             (of_round of_leave)) q)
             (trail P K held down (choosing true choices) (cells (at_turning {choices = choices} (control_at (evaluating g)))) q)
-            (latch_phase P (turning P held down choices).left choices)
+            (latch_phase (turning P held down choices).left choices)
         here (of_core of_joined) z plain = never (sym (can_is env (at_turning (control_at (evaluating g))) (of_core of_joined)) ∙ z)
         here (of_core of_ask) z plain = never (sym (can_is env (at_turning (control_at (evaluating g))) (of_core of_ask)) ∙ z)
         here (of_core of_any) z plain = inl (omega arith)

@@ -12,20 +12,20 @@ use Rattle.width_check.specs.Typing.{kind_at, channel_width}
 use Rattle.circuit_places.specs.Heads.{Bits}
 use Rattle.circuit_places.specs.Lines.{Line}
 use Rattle.circuit_places.specs.Cores.{of_joined, of_ask, of_any, of_latch, of_start, of_answer, of_turn, of_leave}
-use Rattle.circuit_places.specs.Circuit.{QElementCells, Cells, TurnCells, BranchCells, ChoiceCells, GuardedSpot, child, latch, next, inner, Spot, of_skip, of_assign, of_send, of_receive, in_members, of_branch, joint, of_loop, ask, in_body, of_core, of_guard, of_choice, of_round, ChoiceSpot, this_choice, other_choice, BranchSpot, in_this, in_others, TurnSpot, in_last, in_member, in_later, turned_guarded, flipped, turned_choice, turned_branches, turned_turn, site_rails, choice_rails, branch_rails, turn_rails, takers, choice_takers, branch_takers, turn_takers}
+use Rattle.circuit_places.specs.Circuit.{QElementCells, Cells, TurnCells, BranchCells, ChoiceCells, GuardedSpot, child, latch, next, inner, Spot, of_skip, of_assign, of_send, of_receive, in_members, of_branch, joint, of_loop, ask, in_body, of_core, of_guard, of_choice, of_round, ChoiceSpot, this_choice, other_choice, BranchSpot, in_this, in_others, TurnSpot, in_last, in_member, in_later, turned_guarded, flipped, turned_choice, turned_branches, turned_turn, site_rails, takers}
 use Rattle.circuit_places.proofs.Flow.{cases}
-use Rattle.circuit_places.proofs.Sites.{any, any_append}
+use Rattle.circuit_places.proofs.Sites.{any}
 use Rattle.circuit_places.proofs.Places.{guarded_of}
 use Rattle.circuit_places.proofs.Meets.{Meets, TurnMeets, EachMeets, ChoiceMeets}
 use Rattle.circuit_places.proofs.StillSteps.{guarded_rises, rises, guarded_value, value_at, branch_rises, branch_value, choice_rises, choice_value, turn_rises, turn_value}
 use Rattle.round_time.specs.Longest.{guards_depth, tree_height, receive_first, first, turn_first}
 use Rattle.circuit_time.proofs.Trails.{Clearing}
 use Rattle.circuit_pace.proofs.Never.{never}
-use Rattle.circuit_ranks.proofs.Ranks.{Asked, listens_on, is_asked, turn_asked, branch_asked, choice_asked}
+use Rattle.circuit_ranks.proofs.Ranks.{Asked, listens_on, is_asked}
 use Rattle.circuit_ranks.proofs.SiteReads.{Reading, Spread, never as unturned, left_turns, right_turns}
-use Rattle.circuit_ranks.proofs.AskedTrails.{AskedByRequest, asking, still_asked, listen_rises}
-use Rattle.circuit_ranks.proofs.SiteMoves.{rails_read, takers_read}
-use Rattle.circuit_sums.proofs.Phases.{guarded_phase, phase, choice_phase, branch_phase, turn_phase}
+use Rattle.circuit_ranks.proofs.AskedTrails.{AskedByRequest, asking, asked_spread, still_asked, listen_rises}
+use Rattle.circuit_ranks.proofs.SiteMoves.{rails_read, rails_spread, takers_read, takers_spread}
+use Rattle.circuit_sums.proofs.Phases.{guarded_phase, spot_phase, choice_phase, branch_phase, turn_phase}
 
 module _ (P : TypedProgram) (F : Reading) (S : Spread F) (b : Bool) (bound : ℕ)
     (rise : (p : Process) → Meets P p → (x : Cells p) → F p false x ≡ b → F p true x ≡ not b → bound ≤ first P p - 1) where
@@ -44,7 +44,7 @@ module _ (P : TypedProgram) (F : Reading) (S : Spread F) (b : Bool) (bound : ℕ
     guarded_changes plus p meets x next k low e g = never k
 
     changes : (held down : ℕ) (p : Process) → Meets P p → (r : Bool) (x : Cells p) (s : Spot p) → rises s ≡ true → value_at p x s ≡ false → F p r x ≡ b
-        → F p r (flipped p x s) ≡ not b → bound ≤ phase P held down p s
+        → F p r (flipped p x s) ≡ not b → bound ≤ spot_phase P held down p s
     changes held down skipping meets r x of_skip k low e g = unturned b (F skipping r x) e (S.skips r x (not x) ∙ g)
     changes held down (assigning v at d) meets r x (of_assign s) k low e g = never k
     changes held down (sending c at d) meets r x (of_send s) k low e g = never k
@@ -131,65 +131,6 @@ module _ (P : TypedProgram) (F : Reading) (S : Spread F) (b : Bool) (bound : ℕ
         let z = right_turns b (F p bits.0 x.0) (S.choice more bits.1 x.1) (S.choice more bits.1 (turned_choice more x.1 s))
         (sym (S.more_choices d p more bits x) ∙ e) (sym (S.more_choices d p more bits (x.0, turned_choice more x.1 s)) ∙ g) in
         choice_changes held down more meets.1 bits.1 x.1 s k low z.0 z.1
-
--- ---- rails, and what is stored
-
-rails_spread : (k : Line) (i : ℕ) (one : Bool) → Spread (rails_read k i one)
-rails_spread k i one = record {
-  turn = λ ms r x. any (turn_rails ms x k i one);
-  branch = λ ms x. any (branch_rails ms x k i one);
-  choice = λ cs b x. any (choice_rails cs x k i one);
-  skips = λ r x y. refl;
-  turns = λ ms r x. refl;
-  sides = λ ms r x. refl;
-  loops = λ p r x. refl;
-  selects = λ cs r x. refl;
-  repeats = λ cs r x. refl;
-  last_turn = λ p r x. refl;
-  more_turns = λ p q more r x. any_append (site_rails p x.member.inner k i one) (turn_rails (and_member q more) x.later k i one);
-  no_branch = λ x. refl;
-  more_branches = λ p more x. any_append (site_rails p x.0.inner k i one) (branch_rails more x.1 k i one);
-  no_choice = λ b x. refl;
-  more_choices = λ g p more b x. any_append (site_rails p x.0 k i one) (choice_rails more x.1 k i one);
-}
-
-takers_spread : (c : ℕ) → Spread (takers_read c)
-takers_spread c = record {
-  turn = λ ms r x. any (turn_takers ms x c);
-  branch = λ ms x. any (branch_takers ms x c);
-  choice = λ cs b x. any (choice_takers cs x c);
-  skips = λ r x y. refl;
-  turns = λ ms r x. refl;
-  sides = λ ms r x. refl;
-  loops = λ p r x. refl;
-  selects = λ cs r x. refl;
-  repeats = λ cs r x. refl;
-  last_turn = λ p r x. refl;
-  more_turns = λ p q more r x. any_append (takers p x.member.inner c) (turn_takers (and_member q more) x.later c);
-  no_branch = λ x. refl;
-  more_branches = λ p more x. any_append (takers p x.0.inner c) (branch_takers more x.1 c);
-  no_choice = λ b x. refl;
-  more_choices = λ g p more b x. any_append (takers p x.0 c) (choice_takers more x.1 c);
-}
-
-asked_spread : (f : Asked) → Spread (asking f)
-asked_spread f = record {
-  turn = turn_asked f;
-  branch = branch_asked f;
-  choice = choice_asked f;
-  skips = λ r x y. refl;
-  turns = λ ms r x. refl;
-  sides = λ ms r x. refl;
-  loops = λ p r x. refl;
-  selects = λ cs r x. refl;
-  repeats = λ cs r x. refl;
-  last_turn = λ p r x. refl;
-  more_turns = λ p q more r x. refl;
-  no_branch = λ x. refl;
-  more_branches = λ p more x. refl;
-  no_choice = λ b x. refl;
-  more_choices = λ g p more b x. refl;
-}
 
 -- more than follow can't
 too_many : (n : ℕ) → suc n ≤ n → ⊥

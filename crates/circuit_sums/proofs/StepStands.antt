@@ -18,9 +18,10 @@ use Rattle.circuit_places.proofs.StillSteps.{guarded_was_low}
 use Rattle.circuit_places.proofs.OwnSteps.{guarded_none}
 use Rattle.circuit_places.proofs.System.{root_left}
 use Rattle.circuit_places.proofs.Carry.{Reached}
+use Rattle.round_time.specs.Phases.{phase}
 use Rattle.circuit_sums.proofs.Passes.{node_phase}
 use Rattle.circuit_sums.proofs.Statements.{guarded_statement, guarded_stands}
-use Rattle.circuit_sums.proofs.StatementPhases.{phase_of, own_phase_of}
+use Rattle.circuit_sums.proofs.StatementPhases.{own_phase_of}
 
 root_stands : (ack : Line → Bool) {p : Process} (m : Mode) (g : GuardedAt p m) (s : GuardedSpot p) → guarded_steps g s ≡ true
     → statement_at (root_left ack g) (guarded_place s) ≡ Some (guarded_statement p s)
@@ -32,7 +33,7 @@ root_stands ack returning g s z = absurd (not_both (guarded_none g (λ e. cc e) 
 module _ (P : TypedProgram) (script : List OfferValue) {from : Configuration} {moves : ℕ} {x : Whole P.body} (r : Reached P script from moves x)
     (s : GuardedSpot P.body) (does : guarded_steps r.place s ≡ true) where
   pub own_stands : (statement_at r.followed.to.term (guarded_place s) ≡ Some (guarded_statement P.body s))
-      × (node_phase P (own_node s) ≤ phase_of P (guarded_statement P.body s))
+      × (node_phase P (own_node s) ≤ phase P (guarded_statement P.body s))
   own_stands = (
     ap (λ (t : Term). statement_at t (guarded_place s)) r.followed.term ∙ root_stands (line_ack P x.wires) r.mode r.place s does,
     own_phase_of P s (guarded_was_low r.place s does).0,

@@ -1,26 +1,24 @@
 -- Behind each step of the program each silent move has a rank below the step's phase, or was silent before and has no higher rank than then.
 --
 -- P: the program; r: how the state x is reached; n, m: nodes; on: that the step is enabled; does: that it is one.
-use Rattle.std.proofs.Common.{◌≡◌, ◌≢◌, ℕ, ◌<◌, ◌≤◌, true, false, List, refl, ap, inl, inr}
+use Rattle.std.proofs.Common.{◌≡◌, ◌≢◌, ℕ, ◌<◌, ◌≤◌, true, List, refl}
 use Rattle.std.specs.Prelude.{◌⊎◌}
 use Rattle.env_script.specs.Scripts.{OfferValue}
-use Rattle.width_check.specs.Processes.{Process, TypedProgram}
+use Rattle.width_check.specs.Processes.{TypedProgram}
 use Rattle.chp_meaning.specs.Steps.{Configuration}
 use Rattle.circuit_places.specs.Lines.{of_var}
-use Rattle.circuit_places.specs.Circuit.{GuardedSpot}
 use Rattle.circuit_places.specs.Whole.{Whole, line_ack, wrote_turned, joint_turned, Node, own_node, go_node, rail_node, ack_node, bit_node, wrote_node, joint_node, enabled, cells_moved}
 use Rattle.circuit_places.proofs.Places.{guarded_shown}
-use Rattle.circuit_places.proofs.Stepping.{guarded_steps}
 use Rattle.circuit_places.proofs.System.{Fitted}
 use Rattle.circuit_places.proofs.Quiet.{is_step}
 use Rattle.circuit_places.proofs.Carry.{Reached, next_reached}
 use Rattle.circuit_time.proofs.Levels.{Rank, Silent}
 use Rattle.circuit_ranks.proofs.Ranks.{rank}
-use Rattle.circuit_sums.proofs.Phases.{guarded_phase}
+use Rattle.circuit_ranks.proofs.Claims.{of_spots}
 use Rattle.circuit_sums.proofs.Passes.{node_phase}
 use Rattle.circuit_sums.proofs.StepsOwn.{own_steps}
 use Rattle.circuit_sums.proofs.StepsFar.{far_behind}
-use Rattle.circuit_sums.proofs.StepsWires.{Behind, ack_behind, wrote_behind, joint_behind, high_by, assigned}
+use Rattle.circuit_sums.proofs.StepsWires.{ack_behind, wrote_behind, joint_behind, high_by, assigned}
 
 -- of ranks, and of phases of nodes, that none depends on the state
 abbrev pub StepsLead : (P : TypedProgram) (script : List OfferValue) (fitted : Fitted P script) → Rank P → (phase : Node P.body → ℕ) → Type 0
@@ -29,27 +27,9 @@ StepsLead P script fitted rank phase = (from : Configuration) (moves : ℕ) (x :
     → Silent P script fitted rank (next_reached P script fitted r n on) m
     → (rank (cells_moved P x n) m < phase n) ⊎ ((n ≢ m) × Silent P script fitted rank r m × (rank (cells_moved P x n) m ≤ rank x m))
 
--- the spot of an own node, or this one
-abbrev spot_in : {p : Process} → GuardedSpot p → Node p → GuardedSpot p
-spot_in s (own_node q) = q
-spot_in s n = s
-
 module _ (P : TypedProgram) (script : List OfferValue) (fitted : Fitted P script) where
-  -- of two own nodes, in the terms of all
-  own_own : {from : Configuration} {moves : ℕ} {x : Whole P.body} (r : Reached P script from moves x) (s q : GuardedSpot P.body)
-      (on : enabled P script x (own_node s) ≡ true) → guarded_steps r.place s ≡ true
-      → Silent P script fitted (rank P) (next_reached P script fitted r (own_node s) on) (own_node q) → Behind P script fitted r (own_node s) (own_node q)
-  own_own {x = x} r s q on does t = by (own_steps P script fitted r s on does q t.on t.still)
-    where
-      by : (rank P (cells_moved P x (own_node s)) (own_node q) < guarded_phase P 0 P.body s)
-          ⊎ ((s ≢ q) × (enabled P script x (own_node q) ≡ true) × (guarded_steps r.place q ≡ false)
-          × (rank P (cells_moved P x (own_node s)) (own_node q) ≤ rank P x (own_node q)))
-          → Behind P script fitted r (own_node s) (own_node q)
-      by (inl less) = inl less
-      by (inr (ne, could, still, upto)) = inr ((λ e. ne (ap (spot_in s) e)), record { on = could; still = still }, upto)
-
   pub stepped : StepsLead P script fitted (rank P) (node_phase P)
-  stepped from moves x r (own_node s) on does (own_node q) t = own_own r s q on does t
+  stepped from moves x r (own_node s) on does (own_node q) t = of_spots P script fitted r s q (own_steps P script fitted r s on does q t.on t.still)
   stepped from moves x r (own_node s) on does go_node t = far_behind P script fitted r s on does go_node refl t.on t.still
   stepped from moves x r (own_node s) on does (rail_node k i one) t = far_behind P script fitted r s on does (rail_node k i one) refl t.on t.still
   stepped from moves x r (own_node s) on does (ack_node c) t = far_behind P script fitted r s on does (ack_node c) refl t.on t.still

@@ -2,7 +2,7 @@
 -- moves of one rank are made at once, the greatest first.
 --
 -- P: the program; x: a state; n, m: nodes; a rank is a number for each move that is enabled in a state.
-use Rattle.std.proofs.Common.{◌≡◌, ◌≢◌, ℕ, zero, suc, ◌<◌, ◌≤◌, Bool, true, false, List, [], ◌∷◌, length, refl, ap, subst, inl, inr, arith}
+use Rattle.std.proofs.Common.{◌≡◌, ◌≢◌, ℕ, zero, suc, ◌<◌, ◌≤◌, Bool, true, false, List, [], ◌∷◌, length, refl, ap, ◌∙◌, subst, inl, inr, arith}
 use Rattle.std.specs.Prelude.{◌⊎◌, not, ◌&&◌, nat_lt}
 use Rattle.std.proofs.lemmas.Bool.Decides.{nat_tests}
 use Rattle.env_script.specs.Scripts.{OfferValue}
@@ -18,7 +18,7 @@ use Rattle.circuit_places.proofs.Quiet.{is_step}
 use Rattle.circuit_places.proofs.CircuitDue.{circuit_due}
 use Rattle.circuit_places.proofs.Carry.{Reached, next_reached, present}
 use Rattle.circuit_places.proofs.LayerRounds.{cells_after}
-use Rattle.circuit_places.proofs.Settle.{Searches, eases}
+use Rattle.circuit_places.proofs.Settle.{Searches, leaves_to, eases}
 
 -- moves that are enabled in the state, no node twice
 abbrev pub IsSpread : (P : TypedProgram) → List OfferValue → Whole P.body → List (Node P.body) → Type 0
@@ -88,14 +88,15 @@ module _ (P : TypedProgram) (script : List OfferValue) (fitted : Fitted P script
         by (inr none) = inr (λ n s. more n (rest (enabled P script x n && not (is_step P r.place x.wires n)) (not (nat_lt (rank x n) k))
             (loud (enabled P script x n) (is_step P r.place x.wires n) s.on s.still) (none n (present P script fitted r n s.on))))
 
-    -- these moves, of those that are allowed, each node once, bring all below the rank
-    record Descent (from : Configuration) (x : Whole P.body) (k : ℕ) (allowed : Node P.body → Type 0) : Type 0 where
+    -- these moves, of those that are allowed, each node once, bring all below the rank, and leave the configuration
+    record Descent (from to : Configuration) (x : Whole P.body) (k : ℕ) (allowed : Node P.body → Type 0) : Type 0 where
       pub nodes : List (Node P.body)
       pub each : (n : Node P.body) → In nodes n → allowed n
       pub once : (begin : Whole P.body) → ((n : Node P.body) → allowed n → (enabled P script begin n ≡ true) × (is_node P n ≡ true))
           → IsSpread P script begin nodes
       pub moves : ℕ
       pub then_at : Reached P script from moves (cells_after P x nodes)
+      pub stays : then_at.followed.to ≡ to
       pub below : Below then_at k
 
     -- it makes what is due less
@@ -135,12 +136,18 @@ module _ (P : TypedProgram) (script : List OfferValue) (fitted : Fitted P script
     first_allowed allowed n a ns each m (inl same) = subst allowed same a
     first_allowed allowed n a ns each m (inr i) = (each m i).1
 
+    -- where all are below it
+    none : {from : Configuration} {moves : ℕ} {x : Whole P.body} (r : Reached P script from moves x) (k : ℕ) (allowed : Node P.body → Type 0) → Below r k
+        → Descent from r.followed.to x k allowed
+    none {moves = moves} r k allowed below =
+        record { nodes = []; each = λ n i. absurd i; once = λ begin o. tt; moves = moves; then_at = r; stays = refl; below = below }
+
     descend : (fuel : ℕ) {from : Configuration} {moves : ℕ} {x : Whole P.body} (r : Reached P script from moves x) → Fits from.term
-        → circuit_due P r.place x.wires ≤ fuel → (k : ℕ) (allowed : Node P.body → Type 0) → Known r k allowed → Descent from x k allowed
+        → circuit_due P r.place x.wires ≤ fuel → (k : ℕ) (allowed : Node P.body → Type 0) → Known r k allowed → Descent from r.followed.to x k allowed
     descend zero {from = from} {moves = moves} {x = x} r fit few k allowed known = by (found r k)
       where
-        by : ((n : Node P.body) × Silent r n × (k ≤ rank x n)) ⊎ Below r k → Descent from x k allowed
-        by (inr below) = record { nodes = []; each = λ n i. absurd i; once = λ begin o. tt; moves = moves; then_at = r; below = below }
+        by : ((n : Node P.body) × Silent r n × (k ≤ rank x n)) ⊎ Below r k → Descent from r.followed.to x k allowed
+        by (inr below) = none r k allowed below
         by (inl (n, s, high)) = let z = down r fit n s in absurd (omega (arith, z, few))
     descend (suc fuel) {from = from} {moves = moves} {x = x} r fit few k allowed known = by (found r k)
         (λ n s most less. descend fuel (next_reached P script fitted r n s.on) fit less k (λ m. (n ≢ m) × allowed m) (known_on r k allowed known n s most))
@@ -148,8 +155,9 @@ module _ (P : TypedProgram) (script : List OfferValue) (fitted : Fitted P script
         by : ((n : Node P.body) × Silent r n × (k ≤ rank x n)) ⊎ Below r k
             → ((n : Node P.body) (s : Silent r n) → rank x n ≤ k
             → circuit_due P (next_reached P script fitted r n s.on).place (cells_moved P x n).wires ≤ fuel
-            → Descent from (cells_moved P x n) k (λ m. (n ≢ m) × allowed m)) → Descent from x k allowed
-        by (inr below) go = record { nodes = []; each = λ n i. absurd i; once = λ begin o. tt; moves = moves; then_at = r; below = below }
+            → Descent from (next_reached P script fitted r n s.on).followed.to (cells_moved P x n) k (λ m. (n ≢ m) × allowed m))
+            → Descent from r.followed.to x k allowed
+        by (inr below) go = none r k allowed below
         by (inl (n, s, high)) go =
             let z = down r fit n s in
             let a = is_allowed r k allowed known n s high in
@@ -160,23 +168,25 @@ module _ (P : TypedProgram) (script : List OfferValue) (fitted : Fitted P script
               once = λ begin o. ((o n a.0).0, (o n a.0).1, (λ m i. (d.each m i).0), d.once begin (λ m b. o m b.1));
               moves = d.moves;
               then_at = d.then_at;
+              stays = d.stays ∙ leaves_to P script fitted r (leads_fit fit r.followed.leads) n s.on s.still;
               below = d.below;
             }
 
-    -- so many layers lead to a quiet state
-    pub record Calmed (from : Configuration) (x : Whole P.body) (most : ℕ) : Type 0 where
+    -- so many layers lead to a quiet state, and make no step
+    pub record Calmed (from to : Configuration) (x : Whole P.body) (most : ℕ) : Type 0 where
       pub layers : List (List (Node P.body))
       pub are : AreSpread P script x layers
       pub long : length layers ≡ most
       pub moves : ℕ
       pub then_at : Reached P script from moves (spread_behind P x layers)
+      pub stays : then_at.followed.to ≡ to
       pub quiet : (n : Node P.body) → enabled P script (spread_behind P x layers) n ≡ true
           → is_step P then_at.place (spread_behind P x layers).wires n ≡ true
 
     pub calm : (most : ℕ) {from : Configuration} {moves : ℕ} {x : Whole P.body} (r : Reached P script from moves x) → Fits from.term → Below r most
-        → Calmed from x most
+        → Calmed from r.followed.to x most
     calm zero {moves = moves} {x = x} r fit below =
-        record { layers = []; are = tt; long = refl; moves = moves; then_at = r; quiet = λ n e. by n e (is_step P r.place x.wires n) refl }
+        record { layers = []; are = tt; long = refl; moves = moves; then_at = r; stays = refl; quiet = λ n e. by n e (is_step P r.place x.wires n) refl }
       where
         by : (n : Node P.body) → enabled P script x n ≡ true → (b : Bool) → is_step P r.place x.wires n ≡ b → b ≡ true
         by n e true h = refl
@@ -191,5 +201,6 @@ module _ (P : TypedProgram) (script : List OfferValue) (fitted : Fitted P script
           long = ap (λ k. suc k) c.long;
           moves = c.moves;
           then_at = c.then_at;
+          stays = c.stays ∙ d.stays;
           quiet = c.quiet;
         }

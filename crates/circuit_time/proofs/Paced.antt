@@ -17,18 +17,18 @@ use Rattle.circuit_places.proofs.LayerRounds.{IsCellLayer, cells_after, round_ma
 use Rattle.circuit_places.proofs.Search.{searches}
 use Rattle.circuit_time.proofs.Levels.{Rank, IsSpread, AreSpread, spread_behind, LowersRanks, Below, calm}
 
-spread_append : (P : TypedProgram) (x : Whole P.body) (ls ms : List (List (Node P.body)))
+pub spread_append : (P : TypedProgram) (x : Whole P.body) (ls ms : List (List (Node P.body)))
     → spread_behind P x (ls ++ ms) ≡ spread_behind P (spread_behind P x ls) ms
 spread_append P x [] ms = refl
 spread_append P x (l ∷ ls) ms = spread_append P (cells_after P x l) ls ms
 
-are_append : (P : TypedProgram) (script : List OfferValue) (x : Whole P.body) (ls ms : List (List (Node P.body))) → AreSpread P script x ls
+pub are_append : (P : TypedProgram) (script : List OfferValue) (x : Whole P.body) (ls ms : List (List (Node P.body))) → AreSpread P script x ls
     → AreSpread P script (spread_behind P x ls) ms → AreSpread P script x (ls ++ ms)
 are_append P script x [] ms a b = b
 are_append P script x (l ∷ ls) ms a b = (a.0, are_append P script (cells_after P x l) ls ms a.1 b)
 
 -- the layer of a round
-spread_of : (P : TypedProgram) (script : List OfferValue) (x : Whole P.body) (ns : List (Node P.body)) → IsCellLayer P script x ns → IsSpread P script x ns
+pub spread_of : (P : TypedProgram) (script : List OfferValue) (x : Whole P.body) (ns : List (Node P.body)) → IsCellLayer P script x ns → IsSpread P script x ns
 spread_of P script x [] l = tt
 spread_of P script x (n ∷ ns) l = (l.0, l.1, (λ m i. (l.2 m i).0), spread_of P script x ns l.3)
 

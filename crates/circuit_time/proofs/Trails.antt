@@ -14,6 +14,7 @@ use Rattle.circuit_places.specs.Heads.{Index, top, under, Bits}
 use Rattle.circuit_places.specs.Cores.{of_joined, of_ask, of_any, of_latch, of_start, of_answer, of_turn, of_leave}
 use Rattle.circuit_places.specs.Circuit.{QElementCells, Site, Port, Cells, TurnCells, BranchCells, ChoiceCells, GuardCells, joint_count, cell_bit, SiteSpot, done, gate, PortSpot, heard, stored, taking, GuardedSpot, child, latch, next, inner, Spot, of_skip, of_assign, of_send, of_receive, in_members, of_branch, joint, of_loop, ask, in_body, of_core, of_guard, of_choice, of_round, GuardSpot, this_gate, other_gate, ChoiceSpot, this_choice, other_choice, BranchSpot, in_this, in_others, TurnSpot, in_last, in_member, in_later}
 use Rattle.round_time.specs.Longest.{depths, depth, guards_depth, tree_height, var_height, first, turn_first}
+use Rattle.round_time.specs.Phases.{choices_first}
 
 -- moves from there on, by a channel or a variable: `acked` behind the fall of the channel's acknowledge, `written` behind that of the
 -- variable's, `taken` behind the fall of a rail of a channel that is received
@@ -42,11 +43,6 @@ level_from (suc m) n k = if nat_lt k (n / 2) then 1 else suc (level_from m ((n +
 
 abbrev pub joint_level : (leaves k : ℕ) → ℕ
 joint_level n k = level_from n n k
-
--- the greatest way from the start of a branch to its first step
-abbrev pub choices_first : TypedProgram → Choices → ℕ
-choices_first P no_choices = 0
-choices_first P (and_choice g p more) = max (first P p) (choices_first P more)
 
 -- ---- how many moves follow the fall of a statement's request
 

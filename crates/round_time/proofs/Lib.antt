@@ -1,1 +1,4 @@
 mod LongestExamples
+mod SumExamples
+pub mod WaysLengths
+mod WaysExamples

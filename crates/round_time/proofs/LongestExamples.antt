@@ -7,40 +7,40 @@ use Rattle.chp_base.specs.declared.channel.Kind.{Kind}
 use Rattle.chp_base.specs.declared.channel.Kind.TheVariants.{In, Out, Chan}
 use Rattle.chp_syntax.specs.declared.tree.Op.TheVariants as op
 use Rattle.width_check.specs.declared.typed.Var.{Var}
-use Rattle.width_check.specs.Processes.{Formula, constant, reading, joined, chained, compared, no_parts, and_part, no_operations, and_operation, Process, skipping, assigning, sending, receiving, in_turn, side_by_side, choosing, repeating, Processes, no_members, and_member, no_choices, and_choice}
+use Rattle.width_check.specs.Processes.{Formula, constant, reading, joined, chained, compared, no_parts, and_part, no_operations, and_operation, Process, skipping, assigning, sending, receiving, in_turn, side_by_side, choosing, repeating, Processes, no_members, and_member, no_choices, and_choice, TypedProgram}
 use Rattle.round_time.specs.Longest.{longest}
 
-abbrev here : Span
+abbrev pub here : Span
 here = record { from = 0; to = 1 }
 
-abbrev channel : Kind → (width : ℕ) → Channel
+abbrev pub channel : Kind → (width : ℕ) → Channel
 channel kind width = record { name = []; kind = kind; width = width }
 
-abbrev var : (width : ℕ) → Var
+abbrev pub var : (width : ℕ) → Var
 var width = record { name = []; width = width; first = 0 }
 
 -- all of a variable of a width
-abbrev all_of : (width var : ℕ) → Formula
+abbrev pub all_of : (width var : ℕ) → Formula
 all_of zero x = joined no_parts
 all_of (suc n) x = reading x n 0 here
 
-abbrev sum : Formula → Formula → Formula
+abbrev pub sum : Formula → Formula → Formula
 sum e f = chained e (and_operation op.Add f no_operations)
 
-abbrev take : (channel var : ℕ) → Process
+abbrev pub take : (channel var : ℕ) → Process
 take c x = receiving c here x here
 
-abbrev give : (channel : ℕ) → Formula → Process
+abbrev pub give : (channel : ℕ) → Formula → Process
 give c e = sending c here e
 
-abbrev two : Process → Process → Processes
+abbrev pub two : Process → Process → Processes
 two p q = and_member p (and_member q no_members)
 
-abbrev three : Process → Process → Process → Processes
+abbrev pub three : Process → Process → Process → Processes
 three p q r = and_member p (two q r)
 
 -- *[p; q] and *[p; q; r]
-abbrev loop_of : Process → Process → Process
+abbrev pub loop_of : Process → Process → Process
 loop_of p q = repeating (in_turn (two p q))
 
 abbrev long_loop_of : Process → Process → Process → Process
@@ -67,23 +67,32 @@ fifo4 : longest (record {
 fifo4 = refl
 
 -- *[A?a, B?b; p!a + b] || *[p?part, C?c; q!part + c] || *[q?sum; S!sum]
-adder : longest (record {
+abbrev pub adder_program : TypedProgram
+adder_program = record {
   channels = channel In 8 ∷ channel In 8 ∷ channel In 8 ∷ channel Chan 8 ∷ channel Chan 8 ∷ channel Out 8 ∷ [];
   vars = var 8 ∷ var 8 ∷ var 8 ∷ var 8 ∷ var 8 ∷ [];
   body =
       side_by_side (three (loop_of (side_by_side (two (take 0 0) (take 1 1))) (give 3 (sum (all_of 8 0) (all_of 8 1))))
       (loop_of (side_by_side (two (take 3 3) (take 2 2))) (give 4 (sum (all_of 8 3) (all_of 8 2))))
       (loop_of (take 4 4) (give 5 (all_of 8 4))));
-}) ≡ 51
+}
+
+adder : longest adder_program ≡ 51
 adder = refl
 
+-- r := {r[6:0], i}
+abbrev pub shift_in : Process
+shift_in = assigning 1 here (joined (and_part (reading 1 6 0 here) (and_part (all_of 1 0) no_parts)))
+
 -- *[I?i; r := {r[6:0], i}; Q!r]
-shift : longest (record {
+abbrev pub shift_program : TypedProgram
+shift_program = record {
   channels = channel In 1 ∷ channel Out 8 ∷ [];
   vars = var 1 ∷ var 8 ∷ [];
-  body =
-      long_loop_of (take 0 0) (assigning 1 here (joined (and_part (reading 1 6 0 here) (and_part (all_of 1 0) no_parts)))) (give 1 (all_of 8 1));
-}) ≡ 39
+  body = long_loop_of (take 0 0) shift_in (give 1 (all_of 8 1));
+}
+
+shift : longest shift_program ≡ 39
 shift = refl
 
 -- *[C!n; n := n + 1]

@@ -1,1 +1,4 @@
 pub mod Longest
+pub mod Phases
+pub mod Sums
+pub mod Ways

@@ -1,0 +1,16 @@
+-- Where the longest way lies, computed for two programs of examples/.
+use Rattle.std.proofs.Common.{◌≡◌, [], ◌∷◌, refl}
+use Rattle.round_time.specs.Ways.{step_of, way, longest_way, loops}
+use Rattle.round_time.proofs.LongestExamples.{all_of, sum, take, give, adder_program, shift_in, shift_program}
+
+-- from the part that is received beside the third number to the sum that is sent
+adder : longest_way adder_program ≡ way (step_of (take 3 3)) (step_of (give 4 (sum (all_of 8 3) (all_of 8 2)))) 51
+adder = refl
+
+-- of its three loops
+adder_loops : loops adder_program ≡ 40 ∷ 51 ∷ 27 ∷ []
+adder_loops = refl
+
+-- from the bit that is received to the register
+shift : longest_way shift_program ≡ way (step_of (take 0 0)) (step_of shift_in) 39
+shift = refl
