@@ -1,8 +1,9 @@
--- Where the net with copies has a run of so many layers for each round, that with shared bodies has one of twice as many.
+-- Where the net with copies has a run of so many layers that has passed what n rounds pass, that with shared bodies has one of twice as
+-- many.
 --
 -- A: the net with shared bodies; B: the net with copies; S: how they are numbered; P: the program; layers: how many layers of B
--- there are for each round; n: a number of rounds.
-use Rattle.std.proofs.Common.{◌≡◌, ℕ, ◌*◌, Bool, List, [], None, refl, ap, ◌∙◌, subst, arith}
+-- there are; n: a number of rounds.
+use Rattle.std.proofs.Common.{ℕ, ◌*◌, Bool, List, [], None, refl, ap, ◌∙◌, subst}
 use Rattle.prs_core.specs.declared.wires.Wires.{Wires}
 use Rattle.prs_core.specs.Nets.{RulesValue, NetValue, net_of}
 use Rattle.env_script.specs.Scripts.{OfferValue, IsScript}
@@ -13,13 +14,13 @@ use Rattle.handshake_expand.specs.Named.{node_names}
 use Rattle.net_compose.specs.Translation.{translation, composed, first_values, wires_from}
 use Rattle.net_compose.specs.Points.{TranslationCarries}
 use Rattle.net_compose.specs.PartNumbers.{TranslationTakesTurns}
-use Rattle.net_compose.specs.Time.{HasLayers}
+use Rattle.net_compose.specs.Time.{PassesInLayers}
 use Rattle.call_map.specs.Shared.{Sharing, SharesBodies}
 use Rattle.call_map.specs.Carrying.{CopiesKeepAlong, SafeAlong}
 use Rattle.call_map.specs.CallNet.{inlined_program, call_firsts, call_composed}
 use Rattle.call_map.specs.CallPace.{SharedBodiesLayers}
 use Rattle.call_map.proofs.MapStates.{Mapping}
-use Rattle.call_map.proofs.MapDoubled.{twice, twice_is, doubled, owes_none_first}
+use Rattle.call_map.proofs.MapDoubled.{twice_is, doubled, owes_none_first}
 use Rattle.call_map.proofs.Along.{mapping}
 use Rattle.call_map.proofs.CallListed.{call_facts}
 use Rattle.call_map.proofs.CallStands.{sharing}
@@ -27,9 +28,6 @@ use Rattle.call_map.proofs.CallShared.{is_shared}
 use Rattle.call_map.proofs.CallFirsts.{firsts_fit}
 use Rattle.call_map.proofs.CallCarries.{points_keep}
 use Rattle.call_map.proofs.CallTurns.{length_after, points_kept}
-
-times_twice : (n layers : ℕ) → twice (n * layers) ≡ n * (2 * layers)
-times_twice n layers = let e = twice_is (n * layers) in omega (arith, e)
 
 module _ (names more_names : List (List ℕ)) (first more_first : List Bool) (rules more_rules : RulesValue) (ws : List Wires) (S : Sharing) where
   abbrev A : NetValue
@@ -44,20 +42,20 @@ module _ (names more_names : List (List ℕ)) (first more_first : List Bool) (ru
     abbrev mapped : (script : List OfferValue) → IsScript P.channels script → Mapping
     mapped script fits = mapping names more_names first more_first rules more_rules ws S is script (safe script fits) (keep script fits)
 
-    pub shared_layers : (layers : ℕ) → HasLayers B P layers → HasLayers A P (2 * layers)
-    shared_layers layers has script fits n =
+    pub shared_layers : (script : List OfferValue) → IsScript P.channels script → (n layers : ℕ) → PassesInLayers B P script n layers
+        → PassesInLayers A P script n (2 * layers)
+    shared_layers script fits n layers r =
         let M = mapped script fits in
-        let r = has script fits n in
-        let d = doubled M (n * layers) S.one_call (begin_at A first) (begin_at B more_first) (owes_none_first M ([], tt, refl)) r.0 r.1 in (
+        let d = doubled M layers S.one_call (begin_at A first) (begin_at B more_first) (owes_none_first M ([], tt, refl)) r.0 r.1 in (
           d.moves,
-          subst (λ k. Layers A script (begin_at A first) k d.moves) (times_twice n layers) d.layers,
+          subst (λ k. Layers A script (begin_at A first) k d.moves) (twice_is layers) d.layers,
           λ k. let z = r.2 k in (z.0, ap (λ hs. history_at hs k) d.last.owes_none.tells.histories ∙ z.1),
         )
 
 -- what is assumed here are laws of translations
 module _ (carries : TranslationCarries) (turning : TranslationTakesTurns) where
   pub all_layers : SharedBodiesLayers
-  all_layers C is t names layers has =
+  all_layers C is t names =
       let P = inlined_program C in
       let facts = call_facts C is t in
       let net = translation P in
@@ -66,4 +64,4 @@ module _ (carries : TranslationCarries) (turning : TranslationTakesTurns) where
       (λ script fits ns run. ((carries P t).runs script fits ns run).safe)
       (λ script fits ns run. points_keep C facts script (after net (begin_at net net.first) ns)
       (points_kept C facts is.unread is.apart script (after net (begin_at net net.first) ns) (length_after net (begin_at net net.first) ns)
-      (turning P t script fits ns run))) layers has
+      (turning P t script fits ns run)))

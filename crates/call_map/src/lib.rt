@@ -92,10 +92,10 @@ pub fn shared_bodies_progress_reset()
     runs_end_reset();
 }
 
-/// Law: where, for any number of rounds, the net with copies has a run of so many layers for each of them that passes
-/// what they pass, the net with shared bodies has one of twice as many. A layer makes moves that are enabled where it
-/// begins, and none twice; the layer more is that of the bodies' requests and of the calls' answers. `Shared.antt` and
-/// `Carrying.antt` aren't needed to read this.
+/// Law: where the net with copies has a run of so many layers that has passed what n rounds pass under a script, the
+/// net with shared bodies has one of twice as many. A layer makes moves that are enabled where it begins, and none
+/// twice; the layer more is that of the bodies' requests and of the calls' answers. `Shared.antt` and `Carrying.antt`
+/// aren't needed to read this.
 pub fn shared_bodies_layers()
     ensures { SharedBodiesLayers }
 {

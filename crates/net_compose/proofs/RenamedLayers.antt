@@ -1,7 +1,7 @@
 -- The layers of a net are those of the same net with its nodes numbered otherwise.
 --
 -- A: the net; B: the same net with its nodes numbered otherwise; f: the number in A of a node of B; ns: moves of B.
-use Rattle.std.proofs.Common.{◌≡◌, ℕ, zero, suc, ◌*◌, ◌<◌, ◌≤◌, ◌⊎◌, inl, inr, Bool, true, List, [], ◌∷◌, ◌++◌, None, refl, sym, ap, ◌∙◌, subst}
+use Rattle.std.proofs.Common.{◌≡◌, ℕ, zero, suc, ◌<◌, ◌≤◌, ◌⊎◌, inl, inr, Bool, true, List, [], ◌∷◌, ◌++◌, None, refl, sym, ap, ◌∙◌, subst}
 use Rattle.std.proofs.lemmas.Bool.{cases_lt}
 use Rattle.prs_core.specs.Nets.{RulesValue, NetValue, net_of}
 use Rattle.prs_core.specs.declared.wires.Wires.{Wires}
@@ -10,7 +10,7 @@ use Rattle.env_script.specs.Runs.{RunState, history_at, begin_at, after, moved, 
 use Rattle.env_script.specs.Sweeps.{IsLayer, Layers}
 use Rattle.env_script.proofs.Overtakes.{Among, among, contained, after_on}
 use Rattle.width_check.specs.Processes.{TypedProgram}
-use Rattle.net_compose.specs.Time.{HasLayers}
+use Rattle.net_compose.specs.Time.{PassesInLayers}
 use Rattle.net_compose.proofs.Renamed.{IsRenaming, Mirrors, enabled_same, moved_same, past_other, mirrors_first}
 
 module _ (names more_names : List (List ℕ)) (firsts more_firsts : List Bool) (rules more_rules : RulesValue) (ws : List Wires) (f : ℕ → ℕ) (count low : ℕ) where
@@ -78,12 +78,12 @@ module _ (names more_names : List (List ℕ)) (firsts more_firsts : List Bool) (
         let b : after B there ns ≡ after B (after B there l.0) l.1 = ap (after B there) l.2 ∙ after_on B script there l.0 l.1 in
         subst (λ (z : RunState). Same z (after B there ns)) (sym a) (subst (λ (z : RunState). Same (after A (after A st (named l.0)) (named l.1)) z) (sym b) r)
 
-  pub renamed_layers : IsRenaming A B f count low → (P : TypedProgram) (k : ℕ) → HasLayers B P k → HasLayers A P k
-  renamed_layers is P k has script fits n =
-      let r = has script fits n in
+  pub renamed_passes : IsRenaming A B f count low → (P : TypedProgram) (script : List OfferValue) (n k : ℕ) → PassesInLayers B P script n k
+      → PassesInLayers A P script n k
+  renamed_passes is P script n k r =
       let first = mirrors_first names more_names firsts more_firsts rules more_rules ws f count low is script in
-      let last = same_behind is script (n * k) (begin_at A firsts) (begin_at B more_firsts) first r.0 r.1 in (
+      let last = same_behind is script k (begin_at A firsts) (begin_at B more_firsts) first r.0 r.1 in (
         named r.0,
-        layers is script (n * k) (begin_at A firsts) (begin_at B more_firsts) first r.0 r.1,
+        layers is script k (begin_at A firsts) (begin_at B more_firsts) first r.0 r.1,
         λ c. let z = r.2 c in (z.0, ap (λ hs. history_at hs c) last.histories ∙ z.1),
       )

@@ -9,23 +9,32 @@ use Rattle.env_script.proofs.Overtakes.{passes_layers}
 use Rattle.width_check.specs.Processes.{TypedProgram}
 use Rattle.chp_meaning.specs.Rounds.{rounds}
 use Rattle.net_compose.specs.Carries.{Carries}
-use Rattle.net_compose.specs.Time.{KeepsTime, HasLayers}
+use Rattle.net_compose.specs.Time.{KeepsTime, PassesInSweeps, PassesInLayers, HasLayers}
 
-pub keeps_time_by_safe : (net : NetValue) (p : TypedProgram) (layers : ℕ) → IsNet net
-    → ((script : List OfferValue) → IsScript p.channels script → AllSafe net script (begin_at net net.first)) → HasLayers net p layers
-    → KeepsTime net p layers
-keeps_time_by_safe net p layers is safe has script fits moves run n sweeps k =
-    let one = has script fits n in
+-- each run of a net that carries the program is safe
+pub carried_safe : (net : NetValue) (p : TypedProgram) → Carries net p → (script : List OfferValue) → IsScript p.channels script
+    → AllSafe net script (begin_at net net.first)
+carried_safe net p carries script fits ns run = (carries.runs script fits ns run).safe
+
+pub passes_by_safe : (net : NetValue) (p : TypedProgram) (script : List OfferValue) (n layers : ℕ) → IsNet net → AllSafe net script (begin_at net net.first)
+    → PassesInLayers net p script n layers → PassesInSweeps net p script n layers
+passes_by_safe net p script n layers is safe one moves run sweeps k =
     let passed = one.2 k in
-    let more = passes_layers net script is (n * layers) one.0 moves (begin_at net net.first) (safe script fits) one.1 run sweeps k in (
+    let more = passes_layers net script is layers one.0 moves (begin_at net net.first) safe one.1 run sweeps k in (
       passed.0 ++ more.0,
       more.1 ∙ (ap (λ h. h ++ more.0) passed.1 ∙ append_assoc (history_at (rounds p script n).histories k) passed.0 more.0),
     )
 
--- each run of a net that carries the program is safe
+-- and so for each number of rounds
+pub keeps_time_by_safe : (net : NetValue) (p : TypedProgram) (layers : ℕ) → IsNet net
+    → ((script : List OfferValue) → IsScript p.channels script → AllSafe net script (begin_at net net.first)) → HasLayers net p layers
+    → KeepsTime net p layers
+keeps_time_by_safe net p layers is safe has script fits moves run n =
+    passes_by_safe net p script n (n * layers) is (safe script fits) (has script fits n) moves run
+
 pub keeps_time_by_layers : (net : NetValue) (p : TypedProgram) (layers : ℕ) → IsNet net → Carries net p → HasLayers net p layers → KeepsTime net p layers
 keeps_time_by_layers net p layers is carries has =
-    keeps_time_by_safe net p layers is (λ script fits ns other. (carries.runs script fits ns other).safe) has
+    keeps_time_by_safe net p layers is (carried_safe net p carries) has
 
 -- what begins with so many sweeps begins with fewer
 fewer_sweeps : (net : NetValue) (script : List OfferValue) (few many : ℕ) → few ≤ many → (st : RunState) (ns : List ℕ) → Sweeps net script st many ns

@@ -23,12 +23,24 @@ KeepsTime net p sweeps =
     → (n : ℕ) → Sweeps net script (begin_at net net.first) (n * sweeps) moves
     → HasPassed (after net (begin_at net net.first) moves) (rounds p script n)
 
--- For each number of rounds there is one run of as many layers for each that has passed what they pass.
+-- Each run from the net's first values, in every order, whose moves begin with so many sweeps, has passed what n rounds
+-- of the program pass under the script.
+abbrev pub PassesInSweeps : NetValue → TypedProgram → List OfferValue → (n sweeps : ℕ) → Type 0
+PassesInSweeps net p script n sweeps =
+    (moves : List ℕ) → IsRun net script (begin_at net net.first) moves
+    → Sweeps net script (begin_at net net.first) sweeps moves
+    → HasPassed (after net (begin_at net net.first) moves) (rounds p script n)
+
+-- One run of so many layers has passed what n rounds of the program pass under the script.
+abbrev pub PassesInLayers : NetValue → TypedProgram → List OfferValue → (n layers : ℕ) → Type 0
+PassesInLayers net p script n layers =
+    (moves : List ℕ) × Layers net script (begin_at net net.first) layers moves
+    × HasPassed (after net (begin_at net net.first) moves) (rounds p script n)
+
+-- So it is for each number of rounds in as many layers for each.
 abbrev pub HasLayers : NetValue → TypedProgram → (layers : ℕ) → Type 0
 HasLayers net p layers =
-    (script : List OfferValue) → IsScript p.channels script → (n : ℕ)
-    → (moves : List ℕ) × Layers net script (begin_at net net.first) (n * layers) moves
-    × HasPassed (after net (begin_at net net.first) moves) (rounds p script n)
+    (script : List OfferValue) → IsScript p.channels script → (n : ℕ) → PassesInLayers net p script n (n * layers)
 
 -- two sweeps for each node and one more, for each round
 abbrev pub sweeps_for_round : TypedProgram → ℕ

@@ -7,6 +7,7 @@ pub mod ResetKept
 pub mod ValuesKept
 pub mod SweepLayers
 pub mod SharedKept
+pub mod RoundsPassed
 pub mod RoundParts
 pub mod HalfPlaces
 pub mod HalfSteps

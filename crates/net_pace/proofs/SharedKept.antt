@@ -2,14 +2,14 @@
 -- with copies does.
 --
 -- C: the program with calls; P: that with copies.
-use Rattle.std.proofs.Common.{ℕ, ◌*◌, ◌≤◌}
+use Rattle.std.proofs.Common.{◌≡◌, ℕ, ◌*◌, ◌≤◌, subst, arith}
 use Rattle.prs_core.specs.Nets.{IsNet}
 use Rattle.width_check.specs.Processes.{TypedProgram}
 use Rattle.width_check.specs.Typing.{IsTyped}
 use Rattle.handshake_expand.specs.Layout.{nodes_of}
 use Rattle.net_compose.specs.Translation.{translation}
 use Rattle.net_compose.specs.Points.{IsTranslated, TranslationCarries}
-use Rattle.net_compose.specs.Time.{KeepsTime}
+use Rattle.net_compose.specs.Time.{PassesInLayers, KeepsTime}
 use Rattle.net_compose.proofs.TimeKept.{keeps_time_by_layers}
 use Rattle.call_map.specs.CallNet.{CallProgram, IsCallProgram, inlined_program, call_count, call_names, call_net, SharedBodiesCarry, SharedBodiesHold}
 use Rattle.call_map.specs.CallPace.{SharedBodiesLayers}
@@ -25,6 +25,11 @@ module _ (carries : TranslationCarries) (whole : (p : TypedProgram) → IsTyped 
       → KeepsTime (call_net C (call_names C)) (inlined_program C) (2 * sweeps)
   shared_keep_time C is t small few sweeps bound =
       let P = inlined_program C in
-      keeps_time_by_layers (call_net C (call_names C)) P (2 * sweeps) (shared_hold C is t few) (shared_carry C is t (call_names C))
-      (shared_layers C is t (call_names C) sweeps (layers_by_time (translation P) P sweeps (whole P t.typed small) (carries P t)
-      (keeps P t small sweeps bound)))
+      let net = call_net C (call_names C) in
+      let layers = layers_by_time (translation P) P sweeps (whole P t.typed small) (carries P t) (keeps P t small sweeps bound) in
+      keeps_time_by_layers net P (2 * sweeps) (shared_hold C is t few) (shared_carry C is t (call_names C))
+      (λ script fits n. subst (λ (k : ℕ). PassesInLayers net P script n k) (times n sweeps)
+      (shared_layers C is t (call_names C) script fits n (n * sweeps) (layers script fits n)))
+    where
+      times : (n k : ℕ) → 2 * (n * k) ≡ n * (2 * k)
+      times n k = omega arith

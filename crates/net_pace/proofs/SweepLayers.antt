@@ -1,5 +1,5 @@
--- A net that keeps time in so many sweeps has a run of as many layers for each round: each layer makes all moves that are
--- enabled where it begins, and so it is a sweep.
+-- What a net passes in so many sweeps it passes in a run of as many layers: each layer makes all moves that are enabled where
+-- it begins, and so it is a sweep.
 --
 -- st: a state of the net; n: a node; k: how many layers; count: how many nodes there are.
 use Rattle.std.proofs.Common.{◌≡◌, ◌⊎◌, ℕ, zero, suc, ◌*◌, ◌<◌, Bool, true, false, List, [], ◌∷◌, ◌++◌, length, inl, inr, refl, ap, ◌∙◌, arith}
@@ -13,7 +13,8 @@ use Rattle.env_script.proofs.MovesWithin.{move_in}
 use Rattle.env_script.proofs.Overtakes.{Among, among, contained, run_on, safe_after}
 use Rattle.width_check.specs.Processes.{TypedProgram}
 use Rattle.net_compose.specs.Carries.{Carries}
-use Rattle.net_compose.specs.Time.{KeepsTime, HasLayers}
+use Rattle.net_compose.specs.Time.{KeepsTime, PassesInSweeps, PassesInLayers, HasLayers}
+use Rattle.net_compose.proofs.TimeKept.{carried_safe}
 use Rattle.call_map.proofs.LayerMoves.{layer_runs}
 
 -- a node before others, or these alone
@@ -88,7 +89,13 @@ module _ (net : NetValue) (script : List OfferValue) where
         );
       }
 
+pub layers_by_sweeps : (net : NetValue) (p : TypedProgram) (script : List OfferValue) (n sweeps : ℕ) → IsNet net → AllSafe net script (begin_at net net.first)
+    → PassesInSweeps net p script n sweeps → PassesInLayers net p script n sweeps
+layers_by_sweeps net p script n sweeps is safe passes =
+    let r = swept net script is sweeps (begin_at net net.first) safe in
+    (r.moves, r.layers, passes r.moves r.run r.sweeps)
+
+-- and so for each number of rounds
 pub layers_by_time : (net : NetValue) (p : TypedProgram) (sweeps : ℕ) → IsNet net → Carries net p → KeepsTime net p sweeps → HasLayers net p sweeps
 layers_by_time net p sweeps is carries keeps script fits n =
-    let r = swept net script is (n * sweeps) (begin_at net net.first) (λ ns run. (carries.runs script fits ns run).safe) in
-    (r.moves, r.layers, keeps script fits r.moves r.run n r.sweeps)
+    layers_by_sweeps net p script n (n * sweeps) is (carried_safe net p carries script fits) (λ moves run. keeps script fits moves run n)

@@ -13,13 +13,14 @@ ghost use Rattle.round_time.specs.Longest.{longest};
 ghost use Rattle.net_compose.specs.Translation.{translation};
 ghost use Rattle.net_compose.specs.Carries.{Carries};
 ghost use Rattle.net_compose.specs.Points.{IsTranslated};
-ghost use Rattle.net_compose.specs.Time.{KeepsTime};
+ghost use Rattle.net_compose.specs.Time.{KeepsTime, PassesInSweeps};
 ghost use Rattle.call_map.specs.CallNet.{CallProgram, IsCallProgram, inlined_program, call_count, call_names, call_net};
-ghost use Rattle.env_script.specs.Scripts.{OfferValue};
+ghost use Rattle.env_script.specs.Scripts.{OfferValue, IsScript};
 ghost use Rattle.env_script.specs.Runs.{RunState};
 ghost use Rattle.net_pace.specs.Endless.{NoNodeWaits, NoValueWaits, NoValueWaitsReset, SweepsEnd};
 ghost use Rattle.net_pace.specs.HalvedRounds.{TwoRoundsForOne};
 ghost use Rattle.net_pace.specs.Pace.{IsRoundTime, TimedPace, KeepsTimeReset, TimedPaceReset};
+ghost use Rattle.net_pace.specs.Sums.{IsRoundsTime, PassesRounds};
 
 use call_map::{shared_bodies_carry, shared_bodies_hold, shared_bodies_layers};
 use cell_parallel::laws::tree_settles;
@@ -169,4 +170,38 @@ pub fn no_value_waits_reset()
     shared_bodies_carry();
     shared_bodies_hold();
     shared_bodies_keep_time();
+}
+
+/// Law: what n rounds of a program pass under a script its net has passed after as many moves, one behind the other, as
+/// these rounds come to. Each has a number of its own, read off the program's run: its steps are one move, and before
+/// them come as many as the greatest phase of the steps of the round before. Where an assignment reads its own target
+/// these are the rounds of the program in halves, twice as many; and n times what is enough for any round is enough
+/// too. So it is by sweeps, in whatever order the nodes switch; by time, with as many times the longest delay; and with
+/// a reset node from every power-up state, with two more (`every`). With shared bodies twice as many are enough
+/// (`shared`); and what any net that carries its program passes in so many sweeps it passes in each of these ways
+/// (`net`).
+pub fn rounds_pass()
+    ensures every { (p : TypedProgram) → IsTranslated p → nodes_of p ≤ 65536 →
+        (script : List OfferValue) → IsScript p.channels script → (n moves : ℕ) → IsRoundsTime p script n moves →
+        PassesRounds (translation p) p script n moves }
+    ensures shared { (C : CallProgram) → IsCallProgram C → IsTranslated (inlined_program C) →
+        nodes_of (inlined_program C) ≤ 65536 → call_count C ≤ 65536 →
+        (script : List OfferValue) → IsScript (inlined_program C).channels script →
+        (n moves : ℕ) → IsRoundsTime (inlined_program C) script n moves →
+        PassesRounds (call_net C (call_names C)) (inlined_program C) script n (2 * moves) }
+    ensures net { (net : NetValue) (p : TypedProgram) (script : List OfferValue) → IsNet net → net.reset ≡ None →
+        Carries net p → IsScript p.channels script → (n moves : ℕ) → PassesInSweeps net p script n moves →
+        PassesRounds net p script n moves }
+{
+    carries();
+    whole_nets();
+    halves_are_plain();
+    tree_settles();
+    expressions_hold();
+    halves_keep_rounds();
+    reset_runs();
+    keeps_time();
+    shared_bodies_layers();
+    shared_bodies_carry();
+    shared_bodies_hold();
 }

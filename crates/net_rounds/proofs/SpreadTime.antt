@@ -1,24 +1,27 @@
--- The net of a covered program whose assignments don't read their own target has the layers of its circuit of cells: where this makes n rounds in n
--- times `longest` layers, so does the net.
+-- The net of a covered program whose assignments don't read their own target has the layers of its circuit of cells: in as many as this makes n rounds,
+-- so does the net. These are n times `longest`, and what the rounds come to together.
 --
 -- P: the program; st: a state of the net; x: a state of the cells that it shows; n, m: nodes.
-use Rattle.std.proofs.Common.{◌≡◌, ℕ, inl, inr, List, [], ◌∷◌, ◌++◌, length, refl, sym, ap, ◌∙◌, subst}
+use Rattle.std.proofs.Common.{◌≡◌, ℕ, ◌*◌, inl, inr, List, [], ◌∷◌, ◌++◌, length, refl, sym, ap, ◌∙◌, subst}
 use Rattle.prs_core.specs.Nets.{IsNet}
-use Rattle.env_script.specs.Scripts.{OfferValue}
+use Rattle.env_script.specs.Scripts.{OfferValue, IsScript}
 use Rattle.env_script.specs.Runs.{RunState, history_at, begin_at, after, moved}
 use Rattle.env_script.specs.Sweeps.{IsLayer, Layers}
 use Rattle.env_script.proofs.Overtakes.{among, Among, after_on}
 use Rattle.width_check.specs.Processes.{TypedProgram}
 use Rattle.chp_meaning.specs.Fitting.{In}
 use Rattle.chp_meaning.specs.Halves.{IsPlain}
+use Rattle.chp_meaning.specs.Rounds.{rounds}
 use Rattle.circuit_places.specs.Whole.{Whole, Node, cells_moved, first_cells}
 use Rattle.circuit_places.proofs.LayerRounds.{cells_after}
 use Rattle.round_time.specs.Longest.{longest}
+use Rattle.round_time.specs.Sums.{rounds_sum}
 use Rattle.circuit_time.proofs.Levels.{IsSpread, AreSpread, spread_behind}
 use Rattle.circuit_ranks.proofs.Layers.{RoundsInLayers}
+use Rattle.circuit_sums.proofs.Sums.{RoundsInSums}
 use Rattle.net_compose.specs.Translation.{translation}
 use Rattle.net_compose.specs.Carries.{Carries}
-use Rattle.net_compose.specs.Time.{HasLayers, KeepsTime}
+use Rattle.net_compose.specs.Time.{PassesInLayers, HasLayers, KeepsTime}
 use Rattle.net_compose.proofs.FlatNet.{Given, Shows, number_of, Fine, enabled_is, after_move}
 use Rattle.net_compose.proofs.PlainPasses.{starts, fine_node}
 use Rattle.net_compose.proofs.TimeKept.{keeps_time_by_layers}
@@ -86,17 +89,26 @@ module _ (P : TypedProgram) (given : Given P) where
         (sym (after_on (translation P) script st (numbers l) (all_numbers ls)))
         (layers_show (after (translation P) st (numbers l)) (cells_after P x l) (layer_shows st x s x l a.0) ls a.1)
 
-pub longest_layers : RoundsInLayers → (P : TypedProgram) → Given P → IsPlain P → HasLayers (translation P) P (longest P)
-longest_layers law P given is script fits n =
+-- what so many layers of cells have passed
+spread_passes : (P : TypedProgram) → Given P → (script : List OfferValue) (n k : ℕ) (ls : List (List (Node P.body))) → length ls ≡ k
+    → AreSpread P script (first_cells P) ls
+    → ((c : ℕ) → (rest : List ℕ) × (history_at (spread_behind P (first_cells P) ls).histories c ≡ history_at (rounds P script n).histories c ++ rest))
+    → PassesInLayers (translation P) P script n k
+spread_passes P given script n k ls long spread passed =
     let st = begin_at (translation P) (translation P).first in
-    let r = law P is script fits n in
-    let ls = r.0 in
     let moves = all_numbers P given script ls in
-    let shows = layers_show P given script st (first_cells P) (starts P given) ls r.2 in (
+    let shows = layers_show P given script st (first_cells P) (starts P given) ls spread in (
       moves,
-      subst (λ (k : ℕ). Layers (translation P) script st k moves) r.1 (are_layers P given script st (first_cells P) (starts P given) ls r.2),
-      λ k. let z = r.3 k in (z.0, ap (λ hs. history_at hs k) shows.histories ∙ z.1),
+      subst (λ (j : ℕ). Layers (translation P) script st j moves) long (are_layers P given script st (first_cells P) (starts P given) ls spread),
+      λ c. let z = passed c in (z.0, ap (λ hs. history_at hs c) shows.histories ∙ z.1),
     )
+
+pub longest_layers : RoundsInLayers → (P : TypedProgram) → Given P → IsPlain P → HasLayers (translation P) P (longest P)
+longest_layers law P given is script fits n = let r = law P is script fits n in spread_passes P given script n (n * longest P) r.0 r.1 r.2 r.3
+
+pub sums_layers : RoundsInSums → (P : TypedProgram) → Given P → IsPlain P → (script : List OfferValue) → IsScript P.channels script → (n : ℕ)
+    → PassesInLayers (translation P) P script n (rounds_sum P script n)
+sums_layers law P given is script fits n = let r = law P is script fits n in spread_passes P given script n (rounds_sum P script n) r.0 r.1 r.2 r.3
 
 pub keeps_longest : RoundsInLayers → (P : TypedProgram) → Given P → IsPlain P → IsNet (translation P) → Carries (translation P) P
     → KeepsTime (translation P) P (longest P)
