@@ -178,7 +178,7 @@ one_move again g k e = ap (choosing_move again) e ∙ by_again again
     by_again true = refl
     by_again false = refl
 
-step_move : {c d : Configuration} {a : Place} (m : ℕ) → Fits c.term → AllRun c m → (s : Step c a d) (q : Process) → statement_at c.term a ≡ Some q →
+pub step_move : {c d : Configuration} {a : Place} (m : ℕ) → Fits c.term → AllRun c m → (s : Step c a d) (q : Process) → statement_at c.term a ≡ Some q →
     move_of (outset_for c) q ≡ Some (move_from (deal s))
 step_move {c = c} m f run (a_skip on) q h = let e : skipping ≡ q = cc (on, h) in subst (λ p. move_of (outset_for c) p ≡ Some plain_move) e refl
 step_move {c = c} m f run (an_assignment {x = x} {s = s} {e = i} on) q h =
@@ -303,7 +303,7 @@ chosen_can c a false cs m h (One k) e is = let o = open_one c cs k e in (_, a_se
 chosen_can c a true cs m h Many e is = absurd (cc is)
 chosen_can c a false cs m h Many e is = absurd (cc is)
 
-move_can : (c : Configuration) (a : Place) (q : Process) (m : Move) → statement_at c.term a ≡ Some q → move_of (outset_for c) q ≡ Some m → Can c a
+pub move_can : (c : Configuration) (a : Place) (q : Process) (m : Move) → statement_at c.term a ≡ Some q → move_of (outset_for c) q ≡ Some m → Can c a
 move_can c a skipping m h is = (_, a_skip h)
 move_can c a (assigning x s e) m h is = (_, an_assignment h)
 move_can c a (sending k s e) m h is = sent_can c a k s e m h (offer_at c.rests k) refl is
@@ -606,7 +606,7 @@ stays_whole o (side_by_side ms) e unmet = refl
 stays_whole o (choosing again cs) e unmet = stays_chosen again cs (guards_counted (true_guards o.store 0 cs)) e
 stays_whole o (repeating p) e unmet = absurd (cc e)
 
-move_or_none : (x : Option Move) → (x ≡ None) ⊎ ((m : Move) × (x ≡ Some m))
+pub move_or_none : (x : Option Move) → (x ≡ None) ⊎ ((m : Move) × (x ≡ Some m))
 move_or_none None = inl refl
 move_or_none (Some m) = inr (m, refl)
 
@@ -645,7 +645,7 @@ all_say c m f run a q h = by_place (look_up (parts_in (all_steps c)) a (active q
 
 -- the moves are those of the active statements
 
-abbrev At : Term → List Place → List Process → Type 0
+abbrev pub At : Term → List Place → List Process → Type 0
 At t [] [] = Unit {0}
 At t (a ∷ spots) (q ∷ qs) = (statement_at t a ≡ Some q) × At t spots qs
 At t _ _ = ⊥
@@ -664,7 +664,7 @@ at_map t u f lift (a ∷ spots) [] h = absurd h
 at_map t u f lift (a ∷ spots) (q ∷ qs) h = (lift a q h.0, at_map t u f lift spots qs h.1)
 
 mutual
-  places_at : (t : Term) → At t (places t) (actives t)
+  pub places_at : (t : Term) → At t (places t) (actives t)
   places_at finished = tt
   places_at (active p) = (refl, tt)
   places_at (in_sequence t more) = at_map t (in_sequence t more) in_first (λ a q h. h) (places t) (actives t) (places_at t)

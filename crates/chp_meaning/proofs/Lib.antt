@@ -17,6 +17,7 @@ pub mod Tables
 pub mod AtOnceRounds
 pub mod Clearing
 pub mod NextRound
+pub mod Stepping
 pub mod RoundAnswers
 pub mod Starting
 pub mod Alike

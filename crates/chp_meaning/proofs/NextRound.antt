@@ -49,7 +49,7 @@ in_get [] k d lt = absurd (omega (arith, lt))
 in_get (x ∷ xs) zero d lt = inl refl
 in_get (x ∷ xs) (suc k) d lt = inr (in_get xs k d (omega (arith, lt)))
 
-all_from_in : {X : Type 0} (P : X → Type 0) (xs : List X) → ((x : X) → In xs x → P x) → All P xs
+pub all_from_in : {X : Type 0} (P : X → Type 0) (xs : List X) → ((x : X) → In xs x → P x) → All P xs
 all_from_in P xs h = λ k d lt. h (get_or xs k d) (in_get xs k d lt)
 
 record Within (n m : ℕ) (w : Move) : Type 0 where
@@ -183,7 +183,7 @@ settled_stands body c d left moves s p t =
 
 -- what was planned is the round
 
-outset_same : (body : Process) (c : Config) → outset_for (configuration_of body c) ≡ next_outset body c
+pub outset_same : (body : Process) (c : Config) → outset_for (configuration_of body c) ≡ next_outset body c
 outset_same body c =
     let ss : actives (term_of body (remains_of c.left)) ≡ statements body (remains_of c.left) = sym (statements_are body (remains_of c.left)) in
     let n : length (map offer_of_rest c.rests.items) ≡ length c.rests.items = length-map c.rests.items offer_of_rest in
@@ -198,7 +198,7 @@ outset_same body c =
           fold (noted_receive true) (replicate k None) ps;
     }
 
-runs_all : (body : Process) (c : Config) → IsStanding body c → AllRun (configuration_of body c) (length c.store.items)
+pub runs_all : (body : Process) (c : Config) → IsStanding body c → AllRun (configuration_of body c) (length c.store.items)
 runs_all body c s q i =
     let j = subst (λ (ps : List Process). In ps q) (sym (statements_are body (remains_of c.left))) i in
     subst (λ k. Runs k (length c.store.items) q) (sym (length-map c.rests.items offer_of_rest)) (all_run body c s q j)

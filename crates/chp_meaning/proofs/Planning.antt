@@ -1,7 +1,7 @@
 -- What a plan makes of each statement.
 use Rattle.std.proofs.Common.{◌≡◌, ℕ, suc, ◌+◌, ◌<◌, ◌≤◌, Bool, true, false, List, [], ◌∷◌, ◌++◌, length, get_or, drop, refl, sym, ap, ◌∙◌, subst, inl, inr, arith}
 use Rattle.std.specs.Prelude.{if◌then◌else◌, ◌==◌, slice_index, fold, option_to_list, Option}
-use Rattle.std.proofs.lemmas.List.{drop_more, drop_all, length-set, append_assoc}
+use Rattle.std.proofs.lemmas.List.{drop_more, drop_all, length-set, append_assoc, append-nil}
 use Rattle.std.specs.declared.alloc.Global.{Global}
 use Rattle.std.specs.declared.boxed.Box.{Box}
 use Rattle.std.specs.declared.vec.Vec.{Vec}
@@ -10,7 +10,6 @@ use Rattle.width_check.specs.declared.typed.TArm.{TArm}
 use Rattle.width_check.specs.Processes.{Process, skipping, assigning, sending, receiving, in_turn, side_by_side, choosing, repeating, Choices, no_choices, and_choice, choice_count}
 use Rattle.width_check.specs.Values.{value}
 use Rattle.width_check.specs.View.{process_of, choices_in}
-use Rattle.chp_meaning.specs.declared.effect.Move.{Move}
 use Rattle.chp_meaning.specs.declared.effect.TrueGuards.{TrueGuards}
 use Rattle.chp_meaning.specs.declared.effect.TrueGuards.TheVariants.{Zero, One, Several as Many}
 use Rattle.chp_meaning.specs.declared.left.Left.{Left, Branches, Inside}
@@ -163,27 +162,33 @@ remains_next p xs i x lt at h =
 
 -- what is planned
 
-moves_append : (o : Outset) (xs ys : List Process) → moves_of o (xs ++ ys) ≡ moves_of o xs ++ moves_of o ys
+pub moves_append : (o : Outset) (xs ys : List Process) → moves_of o (xs ++ ys) ≡ moves_of o xs ++ moves_of o ys
 moves_append o [] ys = refl
 moves_append o (p ∷ xs) ys = ap (λ ms. option_to_list (move_of o p) ++ ms) (moves_append o xs ys)
     ∙ sym (append_assoc (option_to_list (move_of o p)) (moves_of o xs) (moves_of o ys))
 
-pub moves_more : (o : Outset) (p : Process) (xs : List Left) (i : ℕ) (x : Left) (before after all : List Move) → i < length xs → x ≡ get_or xs i x →
-    after ≡ before ++ moves_of o (statements (part_of p i) (remains_of x))
-    → before ++ moves_of o (each_statements p i (several_of (drop i xs))) ≡ all →
-    after ++ moves_of o (each_statements p (i + 1) (several_of (drop (i + 1) xs))) ≡ all
-moves_more o p xs i x before after all lt at is so_far =
-    let here_moves = moves_of o (statements (part_of p i) (remains_of x)) in
-    let rest = each_statements p (i + 1) (several_of (drop (i + 1) xs)) in
-    ap (λ ms. ms ++ moves_of o rest) is
-    ∙ (append_assoc before here_moves (moves_of o rest)
-    ∙ (ap (λ ms. before ++ ms) (sym (moves_append o (statements (part_of p i) (remains_of x)) rest) ∙ ap (moves_of o) (sym (statements_more p xs i x lt at)))
-    ∙ so_far))
+-- of lists that are told of statements, one statement after the other
 
-pub moves_start : (o : Outset) (p : Process) (l : Left) (v : Vec Left Global) (xs : List Left) (before : List Move) → l ≡ Branches v → xs ≡ v.items
-    → before ++ moves_of o (each_statements p 0 (several_of (drop 0 xs))) ≡ before ++ moves_of o (statements p (remains_of l))
-moves_start o p l v xs before is same = ap (λ ss. before ++ moves_of o ss) (ap (λ (ys : List Left). each_statements p 0 (several_of ys)) same
+pub told_more : {X : Type 0} (told : List Process → List X) → ((ps qs : List Process) → told (ps ++ qs) ≡ told ps ++ told qs) →
+    (p : Process) (xs : List Left) (i : ℕ) (x : Left) (before after all : List X) → i < length xs → x ≡ get_or xs i x →
+    after ≡ before ++ told (statements (part_of p i) (remains_of x))
+    → before ++ told (each_statements p i (several_of (drop i xs))) ≡ all → after ++ told (each_statements p (i + 1) (several_of (drop (i + 1) xs))) ≡ all
+told_more told append p xs i x before after all lt at is so_far =
+    let here = statements (part_of p i) (remains_of x) in
+    let rest = each_statements p (i + 1) (several_of (drop (i + 1) xs)) in
+    ap (λ ms. ms ++ told rest) is
+    ∙ (append_assoc before (told here) (told rest)
+    ∙ (ap (λ ms. before ++ ms) (sym (append here rest) ∙ ap told (sym (statements_more p xs i x lt at))) ∙ so_far))
+
+pub told_start : {X : Type 0} (told : List Process → List X) (p : Process) (l : Left) (v : Vec Left Global) (xs : List Left) (before : List X) →
+    l ≡ Branches v → xs ≡ v.items → before ++ told (each_statements p 0 (several_of (drop 0 xs))) ≡ before ++ told (statements p (remains_of l))
+told_start told p l v xs before is same = ap (λ ss. before ++ told ss) (ap (λ (ys : List Left). each_statements p 0 (several_of ys)) same
     ∙ ap (λ r. statements p r) (sym (branches_said l v is)))
+
+pub told_end : {X : Type 0} (told : List Process → List X) (p : Process) (xs : List Left) (i : ℕ) (before all : List X) → told [] ≡ [] → length xs ≤ i →
+    before ++ told (each_statements p i (several_of (drop i xs))) ≡ all → before ≡ all
+told_end told p xs i before all none le so_far =
+    sym (append-nil before) ∙ (ap (λ ms. before ++ ms) (sym none ∙ ap told (ap (each_statements p i) (sym (no_left_more xs i le)))) ∙ so_far)
 
 pub lefts_more : (o : Outset) (p : Process) (xs : List Left) (i : ℕ) (x : Left) (ls : List Left) (l : Left) (all : Several) → i < length xs →
     x ≡ get_or xs i x → remains_of l ≡ advanced o (part_of p i) (remains_of x)

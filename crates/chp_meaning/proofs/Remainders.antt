@@ -342,22 +342,28 @@ mutual
 abbrev pub Runs : ℕ → ℕ → Process → Type 0
 Runs n m q = IsRunnable n m q × (is_group q ≡ false)
 
-mutual
-  pub statements_run : (n m : ℕ) (p : Process) (r : Remains) → IsRunnable n m p → CanRemain p r → (q : Process) → In (statements p r) q → Runs n m q
-  statements_run n m p over a c q i = absurd i
-  statements_run n m p whole a c q (inl e) = subst (Runs n m) e (a, c)
-  statements_run n m p whole a c q (inr i) = absurd i
-  statements_run n m p (within k r) a c q i = statements_run n m (part_of p k) r (part_runnable n m p k c.0 a) c.3 q i
-  statements_run n m p (alongside rs) a c q i = each_run n m p 0 rs a (λ j lt. omega (arith, lt, c.1)) c.3 q i
+-- what is so of a statement, and of all parts of such a one, is so of the active ones
+module _ (Has : Process → Type 0) (part : (p : Process) (k : ℕ) → k < part_count p → Has p → Has (part_of p k)) where
+  mutual
+    pub statements_have : (p : Process) (r : Remains) → Has p → CanRemain p r → (q : Process) → In (statements p r) q → Has q × (is_group q ≡ false)
+    statements_have p over a c q i = absurd i
+    statements_have p whole a c q (inl e) = subst (λ x. Has x × (is_group x ≡ false)) e (a, c)
+    statements_have p whole a c q (inr i) = absurd i
+    statements_have p (within k r) a c q i = statements_have (part_of p k) r (part p k c.0 a) c.3 q i
+    statements_have p (alongside rs) a c q i = each_have p 0 rs a (λ j lt. omega (arith, lt, c.1)) c.3 q i
 
-  each_run : (n m : ℕ) (p : Process) (k : ℕ) (rs : Several) → IsRunnable n m p → ((j : ℕ) → j < how_many rs → k + j < part_count p) → EachCanRemain p k rs →
-      (q : Process) → In (each_statements p k rs) q → Runs n m q
-  each_run n m p k no_more a lt c q i = absurd i
-  each_run n m p k (and_left r rest) a lt c q i = either (in_either (statements (part_of p k) r) (each_statements p (suc k) rest) q i)
-      (statements_run n m (part_of p k) r (part_runnable n m p k (let first = lt 0 (omega arith) in omega (arith, first)) a) c.0 q)
-      (each_run n m p (suc k) rest a (λ j h. let later = lt (suc j) (omega (arith, h)) in omega (arith, later)) c.1 q)
-    where
-      either : In (statements (part_of p k) r) q ⊎ In (each_statements p (suc k) rest) q → (In (statements (part_of p k) r) q → Runs n m q) →
-          (In (each_statements p (suc k) rest) q → Runs n m q) → Runs n m q
-      either (inl x) f g = f x
-      either (inr x) f g = g x
+    each_have : (p : Process) (k : ℕ) (rs : Several) → Has p → ((j : ℕ) → j < how_many rs → k + j < part_count p) → EachCanRemain p k rs → (q : Process) →
+        In (each_statements p k rs) q → Has q × (is_group q ≡ false)
+    each_have p k no_more a lt c q i = absurd i
+    each_have p k (and_left r rest) a lt c q i = either (in_either (statements (part_of p k) r) (each_statements p (suc k) rest) q i)
+        (statements_have (part_of p k) r (part p k (let first = lt 0 (omega arith) in omega (arith, first)) a) c.0 q)
+        (each_have p (suc k) rest a (λ j h. let later = lt (suc j) (omega (arith, h)) in omega (arith, later)) c.1 q)
+      where
+        either : In (statements (part_of p k) r) q ⊎ In (each_statements p (suc k) rest) q →
+            (In (statements (part_of p k) r) q → Has q × (is_group q ≡ false)) →
+            (In (each_statements p (suc k) rest) q → Has q × (is_group q ≡ false)) → Has q × (is_group q ≡ false)
+        either (inl x) f g = f x
+        either (inr x) f g = g x
+
+pub statements_run : (n m : ℕ) (p : Process) (r : Remains) → IsRunnable n m p → CanRemain p r → (q : Process) → In (statements p r) q → Runs n m q
+statements_run n m = statements_have (IsRunnable n m) (part_runnable n m)

@@ -1,5 +1,5 @@
 -- A round as one change: what each active statement does depends only on the state at the round's start.
-use Rattle.std.specs.Prelude.{ℕ, suc, ◌+◌, ◌-◌, ◌<◌, Bool, true, false, ◌==◌, if◌then◌else◌, nat_lt, List, [], ◌∷◌, ◌++◌, length, take, option_to_list, slice_index, slice_index_or, slice_set, sum_by, Option, Some, None}
+use Rattle.std.specs.Prelude.{ℕ, suc, ◌+◌, ◌-◌, ◌<◌, Bool, true, false, ◌==◌, if◌then◌else◌, nat_lt, List, [], ◌∷◌, ◌++◌, length, take, option_to_list, filter, is_some, slice_index, slice_index_or, slice_set, sum_by, Option, Some, None}
 use Rattle.env_script.specs.Scripts.{OfferValue, gives, takes, nothing, offer_at, is_over}
 use Rattle.env_script.specs.Runs.{history_at}
 use Rattle.width_check.specs.Processes.{Process, skipping, assigning, sending, receiving, choosing, repeating, Choices, no_choices, and_choice}
@@ -133,6 +133,10 @@ abbrev mutual
 abbrev pub moves_of : Outset → List Process → List Move
 moves_of o [] = []
 moves_of o (p ∷ ps) = option_to_list (move_of o p) ++ moves_of o ps
+
+-- those of the statements that make a step
+abbrev pub stepping : Outset → List Process → List Process
+stepping o ps = filter (λ p. is_some (move_of o p)) ps
 
 -- which ends wait on the channels, where these statements are active
 abbrev pub noted_send : Bool → List Bool → Process → List Bool

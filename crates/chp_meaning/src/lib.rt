@@ -3,6 +3,7 @@
 
 mod config;
 mod effect;
+mod enabled;
 pub mod laws;
 mod left;
 mod plan;
@@ -10,4 +11,5 @@ mod run;
 mod settle;
 
 pub use config::{Config, start};
+pub use enabled::next_steps;
 pub use run::{RunEnd, round, run_rounds};

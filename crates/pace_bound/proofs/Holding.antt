@@ -1,6 +1,7 @@
--- How long requests are high, where that is saturated; and what members of a sequence hold.
-use Rattle.std.proofs.Common.{◌≡◌, ℕ, zero, suc, ◌+◌, ◌*◌, ◌<◌, ◌≤◌, Bool, true, false, List, length, drop, get_or, refl, sym, ap, ◌∙◌, ◌⊎◌, inl, inr, arith}
+-- Contexts that are saturated: what is said in them is the same but for what saturates; and what members of a sequence say.
+use Rattle.std.proofs.Common.{◌≡◌, ◌≢◌, ℕ, suc, ◌+◌, ◌*◌, ◌-◌, ◌<◌, ◌≤◌, Bool, true, false, List, length, drop, get_or, refl, sym, ap, ◌∙◌, ◌⊎◌, inl, inr, arith}
 use Rattle.std.specs.Prelude.{max, ◌==◌, if◌then◌else◌}
+use Rattle.std.proofs.lemmas.Bool.{cases_lt}
 use Rattle.width_check.specs.declared.typed.TStmt.{TStmt}
 use Rattle.width_check.specs.Processes.{Process, skipping, assigning, sending, receiving, in_turn, side_by_side, choosing, repeating, Processes, no_members, and_member, member_count, Choices, no_choices, and_choice, TypedProgram}
 use Rattle.width_check.specs.Reads.{reads}
@@ -9,46 +10,17 @@ use Rattle.width_check.specs.View.{process_of, members_in}
 use Rattle.handshake_expand.specs.Layout.{capped}
 use Rattle.handshake_expand.proofs.Rows.{member_at, no_more_members}
 use Rattle.handshake_expand.proofs.Turns.{some_behind, last_alone}
-use Rattle.round_time.specs.Longest.{depth, over_sites, over_turn, over_choices, rails_fall, assign_holds, low, turn_low, choice_low}
-use Rattle.pace_bound.specs.declared.site.Noted.{Noted}
-use Rattle.pace_bound.specs.declared.site.Noted.TheVariants.{Sends, Writes, Receives}
-use Rattle.pace_bound.specs.Noting.{of_site}
+use Rattle.round_time.specs.Longest.{depth, guards_depth, var_height, turn_first, over_sites, over_turn, over_each, over_choices, send_holds, rails_fall, assign_holds, write_holds, receive_clears, low, turn_low, choice_low}
+use Rattle.round_time.specs.Phases.{InContext, over_statements, turn_statements, each_statements, choice_statements, branch_down, acked_at, written, written_at, taken_at, rails_left, pass_at, put_at, skip_at, turn_at, choices_first}
+use Rattle.pace_bound.specs.declared.mark.Noted.{Noted}
+use Rattle.pace_bound.specs.declared.mark.Noted.TheVariants.{Sends, Writes, Receives, Acks, Stores, Takes, Passes, Puts, Skips, Turns}
+use Rattle.pace_bound.specs.Noting.{at_site, of_step}
+use Rattle.pace_bound.proofs.Ending.{two_capped, same_capped}
+use Rattle.pace_bound.proofs.Halved.{both_same}
 
 if_capped : (b : Bool) (x y : ℕ) → capped x ≡ capped y → capped (if b then x else 0) ≡ capped (if b then y else 0)
 if_capped true x y h = h
 if_capped false x y h = refl
-
-assign_capped : (b : Bool) (h e : ℕ) → capped (assign_holds b (capped h) e) ≡ capped (assign_holds b h e)
-assign_capped true h e = omega arith
-assign_capped false h e = omega arith
-
-site_capped : (P : TypedProgram) (noted : Noted) (k : ℕ) (p : Process) (h : ℕ) → capped (of_site P noted k p (capped h)) ≡ capped (of_site P noted k p h)
-site_capped P Sends k skipping h = refl
-site_capped P Sends k (assigning x at e) h = refl
-site_capped P Sends k (sending c at e) h = if_capped (c == k) (capped h + depth e + 2) (h + depth e + 2) (omega arith)
-site_capped P Sends k (receiving c at x to) h = refl
-site_capped P Sends k (in_turn ms) h = refl
-site_capped P Sends k (side_by_side ms) h = refl
-site_capped P Sends k (choosing again cs) h = refl
-site_capped P Sends k (repeating q) h = refl
-site_capped P Writes k skipping h = refl
-site_capped P Writes k (assigning x at e) h =
-    if_capped (x == k) (assign_holds (reads x e) (capped h) (depth e)) (assign_holds (reads x e) h (depth e)) (assign_capped (reads x e) h (depth e))
-site_capped P Writes k (sending c at e) h = refl
-site_capped P Writes k (receiving c at x to) h =
-    if_capped (x == k) (max (rails_fall P (kind_at P.channels c) c) (capped h + 1) + 2) (max (rails_fall P (kind_at P.channels c) c) (h + 1) + 2) (omega arith)
-site_capped P Writes k (in_turn ms) h = refl
-site_capped P Writes k (side_by_side ms) h = refl
-site_capped P Writes k (choosing again cs) h = refl
-site_capped P Writes k (repeating q) h = refl
-site_capped P Receives k skipping h = refl
-site_capped P Receives k (assigning x at e) h = refl
-site_capped P Receives k (sending c at e) h = refl
-site_capped P Receives k (receiving c at x to) h = refl
-site_capped P Receives k (in_turn ms) h = refl
-site_capped P Receives k (side_by_side ms) h = refl
-site_capped P Receives k (choosing again cs) h = refl
-site_capped P Receives k (repeating q) h = refl
 
 max_capped : (a x y : ℕ) → capped x ≡ capped y → capped (max a x) ≡ capped (max a y)
 max_capped a x y h = omega arith
@@ -64,78 +36,207 @@ later : (f : ℕ → ℕ) (h n : ℕ) → ((m : ℕ) → capped (f (capped m)) �
 later f h n is =
     let same : capped (capped h + n) ≡ capped (h + n) = omega arith in sym (is (capped h + n)) ∙ (ap (λ m. capped (f m)) same ∙ is (h + n))
 
-module _ (P : TypedProgram) (noted : Noted) (k : ℕ) where
+-- what saturates in the context of a statement makes no difference to what is said of it, but for what saturates
+abbrev pub Saturates : InContext → Type 0
+Saturates f = (h i d e : ℕ) (p : Process) → capped h ≡ capped i → capped d ≡ capped e → capped (f h d p) ≡ capped (f i e p)
+
+abbrev SiteSaturates : (Process → ℕ → ℕ) → Type 0
+SiteSaturates f = (h i : ℕ) (p : Process) → capped h ≡ capped i → capped (f p h) ≡ capped (f p i)
+
+assign_capped : (b : Bool) (h i e : ℕ) → capped h ≡ capped i → capped (assign_holds b h e) ≡ capped (assign_holds b i e)
+assign_capped true h i e a = omega arith
+assign_capped false h i e a = omega arith
+
+send_saturates : (k : ℕ) → SiteSaturates (send_holds k)
+send_saturates k h i (sending c at x) a = if_capped (c == k) (h + depth x + 2) (i + depth x + 2) (omega arith)
+send_saturates k h i p a = refl
+
+write_saturates : (P : TypedProgram) (k : ℕ) → SiteSaturates (write_holds P k)
+write_saturates P k h i (assigning x at e) a =
+    if_capped (x == k) (assign_holds (reads x e) h (depth e)) (assign_holds (reads x e) i (depth e)) (assign_capped (reads x e) h i (depth e) a)
+write_saturates P k h i (receiving c at x to) a =
+    if_capped (x == k) (max (rails_fall P (kind_at P.channels c) c) (h + 1) + 2) (max (rails_fall P (kind_at P.channels c) c) (i + 1) + 2) (omega arith)
+write_saturates P k h i p a = refl
+
+receive_saturates : (P : TypedProgram) (k : ℕ) → SiteSaturates (receive_clears P k)
+receive_saturates P k h i (receiving c at x to) a = refl
+receive_saturates P k h i p a = refl
+
+acked_saturates : (k : ℕ) → Saturates (acked_at k)
+acked_saturates k h i d e (sending c at x) a b = if_capped (c == k) (suc d) (suc e) (omega arith)
+acked_saturates k h i d e (receiving c at x to) a b = if_capped (c == k) (suc d) (suc e) (omega arith)
+acked_saturates k h i d e p a b = refl
+
+written_saturates : (P : TypedProgram) (k : ℕ) → Saturates (written_at P k)
+written_saturates P k h i d e (assigning x at y) a b = if_capped (x == k) (suc d) (suc e) (omega arith)
+written_saturates P k h i d e p a b = refl
+
+taken_saturates : (P : TypedProgram) (k : ℕ) → Saturates (taken_at P k)
+taken_saturates P k h i d e (receiving c at x to) a b = refl
+taken_saturates P k h i d e p a b = refl
+
+pass_saturates : (P : TypedProgram) (k : ℕ) → Saturates (pass_at P k)
+pass_saturates P k h i d e (sending c at x) a b =
+    let left = rails_left P (kind_at P.channels c) c in
+    if_capped (c == k) (1 + (h + (depth x + left))) (1 + (i + (depth x + left))) (omega arith)
+pass_saturates P k h i d e (receiving c at x to) a b =
+    let left = 3 + var_height P x + written P x in
+    if_capped (c == k) (1 + (h + left)) (1 + (i + left)) (omega arith)
+pass_saturates P k h i d e p a b = refl
+
+put_saturates : (P : TypedProgram) (k : ℕ) → Saturates (put_at P k)
+put_saturates P k h i d e (assigning x at y) a b =
+    let left = depth y + (2 + var_height P x + written P x) in
+    if_capped (x == k) (1 + (h + left)) (1 + (i + left)) (omega arith)
+put_saturates P k h i d e p a b = refl
+
+skip_saturates : Saturates skip_at
+skip_saturates h i d e skipping a b = omega arith
+skip_saturates h i d e p a b = refl
+
+turn_saturates : (P : TypedProgram) → Saturates (turn_at P)
+turn_saturates P h i d e (choosing true cs) a b = latch_capped (guards_depth cs) (choices_first P cs)
+  where
+    latch_capped : (g n : ℕ) → capped (2 + (g + max n (h + 5 + d))) ≡ capped (2 + (g + max n (i + 5 + e)))
+    latch_capped g n = omega arith
+turn_saturates P h i d e p a b = refl
+
+pub step_saturates : (P : TypedProgram) (noted : Noted) (k : ℕ) → Saturates (of_step P noted k)
+step_saturates P Sends k h i d e p a b = send_saturates k h i p a
+step_saturates P (Writes rails) k h i d e p a b = write_saturates P k h i p a
+step_saturates P (Receives writes) k h i d e p a b = receive_saturates P k h i p a
+step_saturates P Acks k h i d e p a b = acked_saturates k h i d e p a b
+step_saturates P (Stores acks) k h i d e p a b = written_saturates P k h i d e p a b
+step_saturates P (Takes stored) k h i d e p a b = taken_saturates P k h i d e p a b
+step_saturates P (Passes lines) k h i d e p a b = pass_saturates P k h i d e p a b
+step_saturates P (Puts stored) k h i d e p a b = put_saturates P k h i d e p a b
+step_saturates P Skips k h i d e p a b = if_capped (0 == k) (skip_at h d p) (skip_at i e p) (skip_saturates h i d e p a b)
+step_saturates P Turns k h i d e p a b = if_capped (0 == k) (turn_at P h d p) (turn_at P i e p) (turn_saturates P h i d e p a b)
+
+-- over all statements of one
+module _ (P : TypedProgram) (f : InContext) (says : Saturates f) where
   mutual
-    pub sites_capped : (p : Process) (h : ℕ) → capped (over_sites (of_site P noted k) (capped h) p) ≡ capped (over_sites (of_site P noted k) h p)
-    sites_capped skipping h = site_capped P noted k skipping h
-    sites_capped (assigning x at e) h = site_capped P noted k (assigning x at e) h
-    sites_capped (sending c at e) h = site_capped P noted k (sending c at e) h
-    sites_capped (receiving c at x to) h = site_capped P noted k (receiving c at x to) h
-    sites_capped (in_turn ms) h = turn_capped ms h
-    sites_capped (side_by_side ms) h = refl
-    sites_capped (choosing false cs) h = later (λ m. over_choices (of_site P noted k) m cs) h 3 (λ m. choices_capped cs m)
-    sites_capped (choosing true cs) h = refl
-    sites_capped (repeating q) h = refl
+    pub statements_capped : Saturates (over_statements P f)
+    statements_capped h i d e skipping a b = says h i d e skipping a b
+    statements_capped h i d e (assigning x at y) a b = says h i d e (assigning x at y) a b
+    statements_capped h i d e (sending c at x) a b = says h i d e (sending c at x) a b
+    statements_capped h i d e (receiving c at x to) a b = says h i d e (receiving c at x to) a b
+    statements_capped h i d e (in_turn ms) a b = turn_capped h i d e ms a b
+    statements_capped h i d e (side_by_side ms) a b = each_capped (branch_down ms h d) (branch_down ms i e) ms (omega arith)
+    statements_capped h i d e (choosing false cs) a b =
+        both_capped _ _ _ _ (says h i d e (choosing false cs) a b) (choices_capped (h + 3) (i + 3) (1 + d) (1 + e) cs (omega arith) (omega arith))
+    statements_capped h i d e (choosing true cs) a b = both_capped _ _ _ _ (says h i d e (choosing true cs) a b) refl
+    statements_capped h i d e (repeating p) a b = refl
 
-    turn_capped : (ms : Processes) (h : ℕ) → capped (over_turn (of_site P noted k) (capped h) ms) ≡ capped (over_turn (of_site P noted k) h ms)
-    turn_capped no_members h = refl
-    turn_capped (and_member p no_members) h = sites_capped p h
-    turn_capped (and_member p (and_member q more)) h =
-        max_capped (over_sites (of_site P noted k) 2 p) (over_turn (of_site P noted k) (capped h + 2) (and_member q more))
-        (over_turn (of_site P noted k) (h + 2) (and_member q more))
-        (later (λ m. over_turn (of_site P noted k) m (and_member q more)) h 2 (λ m. turn_capped (and_member q more) m))
+    turn_capped : (h i d e : ℕ) (ms : Processes) → capped h ≡ capped i → capped d ≡ capped e → capped (turn_statements P f h d ms) ≡
+        capped (turn_statements P f i e ms)
+    turn_capped h i d e no_members a b = refl
+    turn_capped h i d e (and_member p no_members) a b = statements_capped h i d e p a b
+    turn_capped h i d e (and_member p (and_member q more)) a b =
+        max_capped _ (turn_statements P f (h + 2) d (and_member q more)) (turn_statements P f (i + 2) e (and_member q more))
+        (turn_capped (h + 2) (i + 2) d e (and_member q more) (omega arith) b)
 
-    pub choices_capped : (cs : Choices) (h : ℕ) → capped (over_choices (of_site P noted k) (capped h) cs) ≡ capped (over_choices (of_site P noted k) h cs)
-    choices_capped no_choices h = refl
-    choices_capped (and_choice g p more) h = both_capped _ _ _ _ (sites_capped p h) (choices_capped more h)
+    pub each_capped : (d e : ℕ) (ms : Processes) → capped d ≡ capped e → capped (each_statements P f d ms) ≡ capped (each_statements P f e ms)
+    each_capped d e no_members b = refl
+    each_capped d e (and_member p more) b = both_capped _ _ _ _ (statements_capped 2 2 d e p refl b) (each_capped d e more b)
+
+    pub choices_capped : (h i d e : ℕ) (cs : Choices) → capped h ≡ capped i → capped d ≡ capped e → capped (choice_statements P f h d cs) ≡
+        capped (choice_statements P f i e cs)
+    choices_capped h i d e no_choices a b = refl
+    choices_capped h i d e (and_choice g p more) a b = both_capped _ _ _ _ (statements_capped h i d e p a b) (choices_capped h i d e more a b)
 
   -- a member of a sequence, and those behind it
-  pub turn_step : (held its i : ℕ) (ss : List TStmt) (s : TStmt) → i < length ss → s ≡ get_or ss i s → (i + 1 ≡ length ss → its ≡ capped (held + 2 * i))
-      → ((i + 1 ≡ length ss → ⊥) → its ≡ 2) → capped (over_turn (of_site P noted k) (held + 2 * i) (members_in (drop i ss))) ≡
-      max (capped (over_sites (of_site P noted k) its (process_of s)))
-      (capped (over_turn (of_site P noted k) (held + 2 * (i + 1)) (members_in (drop (i + 1) ss))))
-  turn_step held its i ss s inside is last other = by (lt_or_eq (i + 1) (length ss) (omega arith))
+  pub turn_step : (h d its down i : ℕ) (ss : List TStmt) (s : TStmt) → i < length ss → s ≡ get_or ss i s → (i + 1 ≡ length ss → its ≡ capped (h + 2 * i))
+      → (i + 1 ≡ length ss → down ≡ d) → (i + 1 ≢ length ss → its ≡ 2)
+      → (i + 1 ≢ length ss → down ≡ capped (1 + (turn_first P (members_in (drop (i + 1) ss)) - 1)))
+      → capped (turn_statements P f (h + 2 * i) d (members_in (drop i ss))) ≡
+      max (capped (over_statements P f its down (process_of s))) (capped (turn_statements P f (h + 2 * (i + 1)) d (members_in (drop (i + 1) ss))))
+  turn_step h d its down i ss s inside is last_held last_down other_held other_down = by (cases_lt (i + 1) (length ss))
     where
-      f : Process → ℕ → ℕ
-      f = of_site P noted k
+      here : Process
+      here = process_of s
 
-      lt_or_eq : (a b : ℕ) → a ≤ b → (a < b) ⊎ (a ≡ b)
-      lt_or_eq zero zero h = inr refl
-      lt_or_eq zero (suc b) h = inl (omega arith)
-      lt_or_eq (suc a) zero h = absurd (omega arith)
-      lt_or_eq (suc a) (suc b) h = up (lt_or_eq a b (omega arith))
-        where
-          up : (a < b) ⊎ (a ≡ b) → (suc a < suc b) ⊎ (suc a ≡ suc b)
-          up (inl l) = inl (omega arith)
-          up (inr e) = inr (ap suc e)
+      later : Processes
+      later = members_in (drop (i + 1) ss)
 
-      more : (p : Process) (ms : Processes) (h : ℕ) → 0 < member_count ms → over_turn f h (and_member p ms) ≡ max (over_sites f 2 p) (over_turn f (h + 2) ms)
-      more p no_members h some = absurd (omega arith)
-      more p (and_member q ms) h some = refl
-
-      capped_both : (a b : ℕ) → capped (max a b) ≡ max (capped a) (capped b)
-      capped_both a b = omega arith
+      more : (n : ℕ) (ms : Processes) → 0 < member_count ms → turn_statements P f n d (and_member here ms) ≡
+          max (over_statements P f 2 (1 + (turn_first P ms - 1)) here) (turn_statements P f (n + 2) d ms)
+      more n no_members some = absurd (omega arith)
+      more n (and_member q ms) some = refl
 
       none : (a : ℕ) → capped a ≡ max (capped a) (capped 0)
       none a = omega arith
 
-      by : (i + 1 < length ss) ⊎ (i + 1 ≡ length ss) → capped (over_turn f (held + 2 * i) (members_in (drop i ss))) ≡
-          max (capped (over_sites f its (process_of s))) (capped (over_turn f (held + 2 * (i + 1)) (members_in (drop (i + 1) ss))))
+      next : h + 2 * i + 2 ≡ h + 2 * (i + 1)
+      next = omega arith
+
+      rest : ℕ
+      rest = capped (turn_statements P f (h + 2 * (i + 1)) d later)
+
+      by : (i + 1 < length ss) ⊎ (length ss ≤ i + 1) → capped (turn_statements P f (h + 2 * i) d (members_in (drop i ss))) ≡
+          max (capped (over_statements P f its down here)) rest
       by (inl l) =
-          let two : its ≡ 2 = other (λ e. absurd (omega arith)) in
-          let next : held + 2 * i + 2 ≡ held + 2 * (i + 1) = omega arith in
-          ap (λ m. capped (over_turn f (held + 2 * i) m)) (member_at ss i s inside is)
-          ∙ (ap capped (more (process_of s) (members_in (drop (i + 1) ss)) (held + 2 * i) (some_behind ss i l))
-          ∙ (capped_both (over_sites f 2 (process_of s)) (over_turn f (held + 2 * i + 2) (members_in (drop (i + 1) ss)))
-          ∙ (ap (λ n. max (capped (over_sites f n (process_of s))) (capped (over_turn f (held + 2 * i + 2) (members_in (drop (i + 1) ss))))) (sym two)
-          ∙ ap (λ h. max (capped (over_sites f its (process_of s))) (capped (over_turn f h (members_in (drop (i + 1) ss))))) next)))
-      by (inr e) =
-          ap (λ m. capped (over_turn f (held + 2 * i) m)) (last_alone ss i s e is)
-          ∙ (sym (sites_capped (process_of s) (held + 2 * i))
-          ∙ (ap (λ n. capped (over_sites f n (process_of s))) (sym (last e))
-          ∙ (none (over_sites f its (process_of s))
-          ∙ ap (λ m. max (capped (over_sites f its (process_of s))) (capped (over_turn f (held + 2 * (i + 1)) m)))
-          (sym (no_more_members ss (i + 1) (omega arith))))))
+          let other : i + 1 ≢ length ss = λ e. absurd (omega arith) in
+          let follows = 1 + (turn_first P later - 1) in
+          ap (λ m. capped (turn_statements P f (h + 2 * i) d m)) (member_at ss i s inside is)
+          ∙ (ap capped (more (h + 2 * i) later (some_behind ss i l))
+          ∙ (two_capped (over_statements P f 2 follows here) (turn_statements P f (h + 2 * i + 2) d later)
+          ∙ (ap (λ n. max (capped (over_statements P f 2 follows here)) (capped (turn_statements P f n d later))) next
+          ∙ (ap (λ x. max x rest) (statements_capped 2 2 follows down here refl (sym (same_capped down follows (other_down other))))
+          ∙ ap (λ n. max (capped (over_statements P f n down here)) rest) (sym (other_held other))))))
+      by (inr le) =
+          let e : i + 1 ≡ length ss = omega arith in
+          ap (λ m. capped (turn_statements P f (h + 2 * i) d m)) (last_alone ss i s e is)
+          ∙ (statements_capped (h + 2 * i) its d down here (sym (same_capped its (h + 2 * i) (last_held e))) (ap capped (sym (last_down e)))
+          ∙ (none (over_statements P f its down here)
+          ∙ ap (λ m. max (capped (over_statements P f its down here)) (capped (turn_statements P f (h + 2 * (i + 1)) d m)))
+          (sym (no_more_members ss (i + 1) (omega (arith, e))))))
+
+  -- a selection itself, and its branches
+  pub choosing_statements : (again : Bool) (cs : Choices) (h d : ℕ) → over_statements P f h d (choosing again cs) ≡
+      max (f h d (choosing again cs))
+      (choice_statements P f (if again then 4 else (h + 3)) (if again then (3 + guards_depth cs) else (1 + d)) cs)
+  choosing_statements true cs h d = refl
+  choosing_statements false cs h d = refl
+
+beside_none : (a b c : ℕ) → a ≡ 0 → b ≡ c → max a b ≡ c
+beside_none a b c h g = omega arith
+
+-- where nothing is said of selections, and nothing depends on what follows the falls of answers
+module _ (P : TypedProgram) (f : Process → ℕ → ℕ) (none : (again : Bool) (cs : Choices) (h : ℕ) → f (choosing again cs) h ≡ 0) where
+  mutual
+    pub sites_are : (h d : ℕ) (p : Process) → over_statements P (at_site f) h d p ≡ over_sites f h p
+    sites_are h d skipping = refl
+    sites_are h d (assigning x at y) = refl
+    sites_are h d (sending c at x) = refl
+    sites_are h d (receiving c at x to) = refl
+    sites_are h d (in_turn ms) = turn_sites h d ms
+    sites_are h d (side_by_side ms) = each_sites (branch_down ms h d) ms
+    sites_are h d (choosing false cs) = beside_none _ _ _ (none false cs h) (choice_sites (h + 3) (1 + d) cs)
+    sites_are h d (choosing true cs) = beside_none _ _ _ (none true cs h) (choice_sites 4 (3 + guards_depth cs) cs)
+    sites_are h d (repeating p) = sites_are 1 0 p
+
+    turn_sites : (h d : ℕ) (ms : Processes) → turn_statements P (at_site f) h d ms ≡ over_turn f h ms
+    turn_sites h d no_members = refl
+    turn_sites h d (and_member p no_members) = sites_are h d p
+    turn_sites h d (and_member p (and_member q more)) = both_same _ _ _ _ (sites_are 2 _ p) (turn_sites (h + 2) d (and_member q more))
+
+    each_sites : (d : ℕ) (ms : Processes) → each_statements P (at_site f) d ms ≡ over_each f ms
+    each_sites d no_members = refl
+    each_sites d (and_member p more) = both_same _ _ _ _ (sites_are 2 d p) (each_sites d more)
+
+    choice_sites : (h d : ℕ) (cs : Choices) → choice_statements P (at_site f) h d cs ≡ over_choices f h cs
+    choice_sites h d no_choices = refl
+    choice_sites h d (and_choice g p more) = both_same _ _ _ _ (sites_are h d p) (choice_sites h d more)
+
+pub send_sites : (P : TypedProgram) (k h d : ℕ) (p : Process) → over_statements P (at_site (send_holds k)) h d p ≡ over_sites (send_holds k) h p
+send_sites P k h d p = sites_are P (send_holds k) (λ b cs n. refl) h d p
+
+pub write_sites : (P : TypedProgram) (k h d : ℕ) (p : Process) → over_statements P (at_site (write_holds P k)) h d p ≡ over_sites (write_holds P k) h p
+write_sites P k h d p = sites_are P (write_holds P k) (λ b cs n. refl) h d p
+
+pub receive_sites : (P : TypedProgram) (k h d : ℕ) (p : Process) → over_statements P (at_site (receive_clears P k)) h d p ≡ over_sites (receive_clears P k) h p
+receive_sites P k h d p = sites_are P (receive_clears P k) (λ b cs n. refl) h d p
 
 -- of what a statement takes until its answer is low
 module _ (P : TypedProgram) where

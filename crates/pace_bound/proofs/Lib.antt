@@ -9,5 +9,11 @@ mod Chains
 mod Members
 mod Holding
 mod Ending
+mod Marking
 mod Halved
 mod Whole
+mod Summed
+mod Picking
+mod GroupSteps
+mod WaysJoined
+mod LoopsNoted

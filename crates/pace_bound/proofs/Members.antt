@@ -2,15 +2,18 @@
 use Rattle.std.proofs.Common.{◌≡◌, ℕ, zero, suc, ◌+◌, ◌*◌, ◌<◌, ◌≤◌, Bool, true, false, List, [], ◌∷◌, length, drop, get_or, refl, sym, ap, subst, ◌∙◌, arith}
 use Rattle.std.specs.Prelude.{max}
 use Rattle.chp_base.specs.declared.channel.Channel.{Channel}
+use Rattle.chp_base.specs.declared.channel.Kind.{Kind}
+use Rattle.chp_base.specs.declared.channel.Kind.TheVariants.{In, Out, Chan}
 use Rattle.width_check.specs.declared.typed.Var.{Var}
 use Rattle.width_check.specs.declared.typed.TStmt.{TStmt}
-use Rattle.width_check.specs.Processes.{choosing, Processes, no_members, and_member, Choices, no_choices, and_choice, TypedProgram}
-use Rattle.width_check.specs.Typing.{IsProcess, AreProcesses, AreChoices}
+use Rattle.width_check.specs.Processes.{Process, skipping, assigning, sending, receiving, in_turn, side_by_side, choosing, repeating, Processes, no_members, and_member, Choices, no_choices, and_choice, TypedProgram}
+use Rattle.width_check.specs.Typing.{IsProcess, AreProcesses, AreChoices, channel_width, kind_at}
+use Rattle.width_check.specs.Reads.{reads}
 use Rattle.width_check.specs.View.{process_of, members_in}
 use Rattle.handshake_expand.specs.Layout.{capped}
 use Rattle.handshake_expand.specs.PartTree.{HasFormedGuards}
 use Rattle.handshake_expand.proofs.Rows.{member_at}
-use Rattle.round_time.specs.Longest.{guards_depth, low, turn_low, choice_low}
+use Rattle.round_time.specs.Longest.{depth, guards_depth, tree_height, var_height, assign_first, send_first, receive_first, first, low, turn_low, choice_low}
 use Rattle.pace_bound.specs.Clearing.{turned_again}
 use Rattle.pace_bound.specs.Halving.{first_by, turn_first_by, onward, within_by, turn_within_by, choice_within_by}
 
@@ -82,3 +85,43 @@ started_capped b P (and_choice g p more) n = by (within_by b P p) (first_by b P 
 
     by : (w f x y : ℕ) → capped x ≡ capped y → capped (max w (max (capped n + f) x)) ≡ capped (max w (max (n + f) y))
     by w f x y h = outer w (max (capped n + f) x) (max (n + f) y) (inner f x y h)
+
+-- the members behind one
+pub rest_typed : (channels : List Channel) (vars : List Var) (ss : List TStmt) (i : ℕ) → AreProcesses channels vars (members_in (drop i ss))
+    → AreProcesses channels vars (members_in (drop (i + 1) ss))
+rest_typed channels vars ss i h =
+    let next : suc i ≡ i + 1 = omega arith in subst (λ n. AreProcesses channels vars (members_in (drop n ss))) next (behind ss i h)
+  where
+    behind : (ss : List TStmt) (i : ℕ) → AreProcesses channels vars (members_in (drop i ss)) → AreProcesses channels vars (members_in (drop (suc i) ss))
+    behind [] zero h = h
+    behind [] (suc i) h = h
+    behind (x ∷ ss) zero h = h.1
+    behind (x ∷ ss) (suc i) h = behind ss i h
+
+-- a statement doesn't make its first step at once
+pub first_some : (P : TypedProgram) (p : Process) → 1 ≤ first P p
+first_some P skipping = omega arith
+first_some P (assigning x at e) = assign_some (reads x e) (depth e) (var_height P x)
+  where
+    assign_some : (b : Bool) (e h : ℕ) → 1 ≤ assign_first b e h
+    assign_some true e h = omega arith
+    assign_some false e h = omega arith
+first_some P (sending c at e) = send_some (kind_at P.channels c) (depth e) (tree_height (channel_width P.channels c))
+  where
+    send_some : (k : Kind) (e h : ℕ) → 1 ≤ send_first k e h
+    send_some In e h = omega arith
+    send_some Out e h = omega arith
+    send_some Chan e h = omega arith
+first_some P (receiving c at x to) = receive_some (kind_at P.channels c) (var_height P x)
+  where
+    receive_some : (k : Kind) (h : ℕ) → 1 ≤ receive_first k h
+    receive_some In h = omega arith
+    receive_some Out h = omega arith
+    receive_some Chan h = omega arith
+first_some P (in_turn no_members) = omega arith
+first_some P (in_turn (and_member p no_members)) = first_some P p
+first_some P (in_turn (and_member p (and_member q more))) = omega arith
+first_some P (side_by_side ms) = omega arith
+first_some P (choosing false cs) = omega arith
+first_some P (choosing true cs) = omega arith
+first_some P (repeating p) = omega arith

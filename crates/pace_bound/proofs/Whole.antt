@@ -8,7 +8,7 @@ use Rattle.pace_bound.proofs.Halved.{both_same}
 
 module _ (P : TypedProgram) where
   mutual
-    first_whole : (p : Process) → first_by false P p ≡ first P p
+    pub first_whole : (p : Process) → first_by false P p ≡ first P p
     first_whole skipping = refl
     first_whole (assigning x at e) = refl
     first_whole (sending c at e) = refl
@@ -19,7 +19,7 @@ module _ (P : TypedProgram) where
     first_whole (choosing true cs) = refl
     first_whole (repeating p) = refl
 
-    turn_first_whole : (ms : Processes) → turn_first_by false P ms ≡ turn_first P ms
+    pub turn_first_whole : (ms : Processes) → turn_first_by false P ms ≡ turn_first P ms
     turn_first_whole no_members = refl
     turn_first_whole (and_member p no_members) = first_whole p
     turn_first_whole (and_member p (and_member q more)) = ap (λ k. suc k) (first_whole p)
@@ -30,7 +30,7 @@ module _ (P : TypedProgram) where
         both_same (first_by false P p) (each_first_by false P more) (first P p) (each_first P more) (first_whole p) (each_first_whole more)
 
   mutual
-    within_whole : (p : Process) → within_by false P p ≡ within P p
+    pub within_whole : (p : Process) → within_by false P p ≡ within P p
     within_whole skipping = refl
     within_whole (assigning x at e) = refl
     within_whole (sending c at e) = refl

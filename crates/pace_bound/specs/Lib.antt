@@ -3,3 +3,5 @@ pub mod Behind
 pub mod Clearing
 pub mod Noting
 pub mod Halving
+pub mod Summing
+pub mod Whereabouts

@@ -2,19 +2,20 @@
 
 ghost use Rattle.std.specs.Prelude.{◌≡◌, ℕ, ◌≤◌, true, length};
 ghost use Rattle.width_check.specs.Typed.{program_of};
-ghost use Rattle.width_check.specs.Typing.{IsProcess, AreProcesses, channel_width, kind_at};
-ghost use Rattle.width_check.specs.View.{formula_of, process_of, members_in};
+ghost use Rattle.width_check.specs.Typing.{IsProcess, AreProcesses, AreChoices, channel_width, kind_at};
+ghost use Rattle.width_check.specs.View.{formula_of, process_of, members_in, choices_in};
 ghost use Rattle.width_check.specs.Values.{IsWellFormed};
 ghost use Rattle.width_check.specs.Reads.{reads};
 ghost use Rattle.handshake_expand.specs.Layout.{capped};
 ghost use Rattle.round_time.specs.Longest.{depth, tree_height, var_height, send_first, receive_first};
+ghost use Rattle.round_time.specs.Phases.{choices_first};
 ghost use Rattle.pace_bound.specs.Halving.{assign_first_by, first_by, turn_first_by};
 
 use crate::depth::{expr_depth, guards_depth};
 use crate::width::{channel_height, kind_of, var_height};
 use chp_base::Kind;
 use handshake_expand::reads;
-use width_check::{TExpr, TStmt, Typed};
+use width_check::{TArm, TExpr, TStmt, Typed};
 
 /// Of an assignment that reads its own target, whose expression has so many gates one behind the other, and its target
 /// a tree so high.
@@ -38,7 +39,7 @@ fn assign_first(program: &Typed, halved: bool, var: u32, value: &TExpr) -> u64
         (var_height (program_of program.now) var)) }
 {
     let gates = expr_depth(value);
-    let tree = var_height(program, var);
+    let tree = var_height(program, var as usize);
     if reads(value, var) {
         own_first(halved, gates, tree)
     } else {
@@ -66,7 +67,7 @@ fn receive_first(program: &Typed, chan: u32, var: u32) -> u64
     ensures { result ≡ capped (receive_first (kind_at program.now.channels chan)
         (var_height (program_of program.now) var)) }
 {
-    let tree = var_height(program, var);
+    let tree = var_height(program, var as usize);
     match kind_of(program, chan as usize) {
         Kind::In => tree.saturating_add(8),
         Kind::Out | Kind::Chan => tree.saturating_add(7),
@@ -110,4 +111,16 @@ pub(crate) fn turn_first(program: &Typed, halved: bool, members: &[TStmt]) -> u6
     } else {
         own
     }
+}
+
+/// From the start of a branch to its first step, of the branch that has the longest way.
+pub(crate) fn choices_first(program: &Typed, arms: &[TArm]) -> u64
+    requires { AreChoices program.now.channels program.now.vars (choices_in arms.now) }
+    ensures { result ≡ capped (choices_first (program_of program.now) (choices_in arms.now)) }
+{
+    let mut most: u64 = 0;
+    for arm in arms {
+        most = most.max(first(program, false, &arm.body));
+    }
+    most
 }

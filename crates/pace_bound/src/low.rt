@@ -10,7 +10,7 @@ ghost use Rattle.pace_bound.specs.Clearing.{AreFalls};
 
 use crate::depth::guards_depth;
 use crate::height::tree_height;
-use crate::site::var_clears;
+use crate::mark::var_clears;
 use width_check::{TArm, TStmt, Typed};
 
 /// From a step on a line to the fall of the line.
@@ -31,7 +31,7 @@ pub(crate) fn low(program: &Typed, falls: &Falls, s: &TStmt, held: u64) -> u64
 {
     match s {
         TStmt::Skip | TStmt::Repeat { .. } => held.saturating_add(1),
-        TStmt::Assign { var, .. } => var_clears(program, &falls.writes, *var, 2),
+        TStmt::Assign { var, .. } => var_clears(program, &falls.writes, *var as usize, 2),
         TStmt::Send { chan, .. } | TStmt::Receive { chan, .. } => falls.channels[*chan as usize],
         TStmt::Then { parts } => {
             let last = parts.len() - 1;

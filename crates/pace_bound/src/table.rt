@@ -7,10 +7,13 @@ ghost use Rattle.width_check.specs.View.{process_of};
 ghost use Rattle.width_check.specs.Processes.{TypedProgram};
 ghost use Rattle.handshake_expand.specs.Layout.{capped};
 ghost use Rattle.round_time.specs.Longest.{over_sites, send_holds, rails_fall, writes_fall, receive_clears, channel_low};
+ghost use Rattle.round_time.specs.Phases.{over_program};
 ghost use Rattle.pace_bound.specs.Clearing.{IsTableOf, AreFalls};
+ghost use Rattle.pace_bound.specs.Noting.{of_step, noted_count, IsGiven};
 
 use crate::low::Falls;
-use crate::site::{Noted, note_sites};
+use crate::mark::Noted;
+use crate::site::{ROOT, note_steps};
 use crate::width::kind_of;
 use chp_base::Kind;
 use std::alloc::{AllocError, Global};
@@ -24,6 +27,23 @@ fn zeros(alloc: Global, count: usize) -> Result<Vec<u64>, AllocError>
     for _place in 0..count {
         table.push(0)?;
     }
+    Ok(table)
+}
+
+/// What is noted of all statements of a program, for so many channels or variables.
+pub(crate) fn noted_table(
+    alloc: Global,
+    program: &Typed,
+    count: usize,
+    noted: Noted,
+) -> Result<Vec<u64>, AllocError>
+    requires all { count ≡ noted_count (program_of program.now) noted }
+    requires given { IsGiven (program_of program.now) noted }
+    ensures { IfOk result (λ v. IsTableOf count (λ k. over_program (program_of program.now)
+        (of_step (program_of program.now) noted.entry k)) v.items) }
+{
+    let mut table = zeros(alloc, count)?;
+    note_steps(program, program.body(), ROOT, noted, &mut table);
     Ok(table)
 }
 
@@ -55,8 +75,7 @@ fn rails_fall(alloc: Global, program: &Typed) -> Result<Vec<u64>, AllocError>
     ensures { IfOk result (λ v. IsTableOf (length program.now.channels)
         (λ c. rails_fall (program_of program.now) (kind_at program.now.channels c) c) v.items) }
 {
-    let mut table = zeros(alloc, program.channels().len())?;
-    note_sites(program, program.body(), 2, Noted::Sends, &[], &mut table);
+    let mut table = noted_table(alloc, program, program.channels().len(), Noted::Sends)?;
     settle_rails(program, &mut table);
     Ok(table)
 }
@@ -67,9 +86,12 @@ fn writes_fall(alloc: Global, program: &Typed, rails: &[u64]) -> Result<Vec<u64>
         (λ c. rails_fall (program_of program.now) (kind_at program.now.channels c) c) rails.now }
     ensures { IfOk result (λ v. IsTableOf (length program.now.vars) (writes_fall (program_of program.now)) v.items) }
 {
-    let mut table = zeros(alloc, program.vars().len())?;
-    note_sites(program, program.body(), 2, Noted::Writes, rails, &mut table);
-    Ok(table)
+    noted_table(
+        alloc,
+        program,
+        program.vars().len(),
+        Noted::Writes { rails },
+    )
 }
 
 /// From a step on a channel to the fall of the answers of both ends, by when its rails fall, and when receives on it
@@ -108,9 +130,8 @@ fn channels_fall(
     ensures { IfOk result (λ v. IsTableOf (length program.now.channels)
         (λ c. channel_low (program_of program.now) (kind_at program.now.channels c) c) v.items) }
 {
-    let body = program.body();
-    let mut table = zeros(alloc, program.channels().len())?;
-    note_sites(program, body, 2, Noted::Receives, writes, &mut table);
+    let count = program.channels().len();
+    let mut table = noted_table(alloc, program, count, Noted::Receives { writes })?;
     settle_ends(program, rails, &mut table);
     Ok(table)
 }

@@ -33,17 +33,17 @@ fn channel_bits(program: &Typed, chan: u32) -> u8
 
 /// The number of bits of a variable; 0 for a variable that the program doesn't have.
 #[tactic(auto, using(handshake_expand::proofs::Rows::var_found, handshake_expand::proofs::Rows::no_var))]
-fn var_bits(program: &Typed, var: u32) -> u8
+fn var_bits(program: &Typed, var: usize) -> u8
     ensures { result ≡ var_width program.now.vars var }
 {
-    match program.vars().get(var as usize) {
+    match program.vars().get(var) {
         Some(declared) => declared.width,
         None => 0,
     }
 }
 
 /// The height of the completion tree over a variable's bits.
-pub(crate) fn var_height(program: &Typed, var: u32) -> u64
+pub(crate) fn var_height(program: &Typed, var: usize) -> u64
     ensures { result ≡ var_height (program_of program.now) var }
 {
     tree_height(u64::from(var_bits(program, var)))

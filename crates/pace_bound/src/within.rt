@@ -25,7 +25,7 @@ fn assign_within(program: &Typed, halved: bool, var: u32, value: &TExpr) -> u64
         (var_height (program_of program.now) var)) }
 {
     if halved && reads(value, var) {
-        let trees = var_height(program, var).saturating_mul(2);
+        let trees = var_height(program, var as usize).saturating_mul(2);
         expr_depth(value).saturating_add(trees).saturating_add(12)
     } else {
         0

@@ -3,10 +3,10 @@ use Rattle.std.proofs.lemmas.List.{get_or_read}
 use Rattle.width_check.specs.View.{process_of}
 use Rattle.chp_meaning.specs.declared.left.Left.{the_lemmas}
 use Rattle.chp_meaning.specs.Remaining.{several_of}
-use Rattle.chp_meaning.specs.AtOnce.{each_advanced}
+use Rattle.chp_meaning.specs.AtOnce.{each_advanced, moves_of}
 use Rattle.chp_meaning.specs.Standing.{outset_of}
 use Rattle.chp_meaning.proofs.Rows.{front}
-use Rattle.chp_meaning.proofs.Planning.{inner_remains, carries_part, remains_start, remains_more, remains_next, moves_start, moves_more, lefts_more, lefts_end}
+use Rattle.chp_meaning.proofs.Planning.{inner_remains, carries_part, remains_start, remains_more, remains_next, moves_append, told_start, told_more, lefts_more, lefts_end}
 use Rattle.chp_meaning.proofs.plan.+advanced.Goals as goal
 
 pub advanced-requires : goal.advanced-requires
@@ -38,7 +38,7 @@ loop-index-init t c =
     let start = remains_start c.args.left.now c.in-Branches.lefts xs p c.in-Branches.is same c.requires.remains in
     record {
       lefts = ap (λ ls. front ls (each_advanced o p 0 (several_of xs))) c.new-next.ensures.items;
-      moves = moves_start o p c.args.left.now c.in-Branches.lefts xs c.args.moves.now.items c.in-Branches.is same;
+      moves = told_start (moves_of o) p c.args.left.now c.in-Branches.lefts xs c.args.moves.now.items c.in-Branches.is same;
       remains = start.1;
       count = start.0;
     }
@@ -53,7 +53,7 @@ loop-index-preserved t c =
     record {
       lefts = rw c.in_ok-push-in-Branches.ensures.items (lefts_more o p xs i _ c.loop-index.next.items _ _ c.loop-index-test.true c.left-item.is
           (rw c.part-in-loop-index.ensures at c.in_ok-advanced-in-Branches.ensures.left) kept.lefts);
-      moves = moves_more o p xs i _ c.loop-index.moves.items _ _ c.loop-index-test.true c.left-item.is
+      moves = told_more (moves_of o) (moves_append o) p xs i _ c.loop-index.moves.items _ _ c.loop-index-test.true c.left-item.is
           (rw c.part-in-loop-index.ensures at c.in_ok-advanced-in-Branches.ensures.moves) kept.moves;
       remains = remains_next p xs i _ c.loop-index-test.true c.left-item.is kept.remains;
       count = kept.count;

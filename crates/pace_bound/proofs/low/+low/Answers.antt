@@ -9,7 +9,7 @@ use Rattle.handshake_expand.specs.Layout.{capped}
 use Rattle.handshake_expand.specs.PartTree.{HasFormedGuards}
 use Rattle.handshake_expand.proofs.Rows.{then_is, beside_is, select_is, no_more_members, no_more_arms, members_counted}
 use Rattle.handshake_expand.proofs.Turns.{turn_typed}
-use Rattle.round_time.specs.Longest.{tree_height, guards_depth, low, each_low, choice_low}
+use Rattle.round_time.specs.Longest.{writes_fall, tree_height, guards_depth, low, each_low, choice_low}
 use Rattle.pace_bound.proofs.Members.{formed_guards, turn_low_is, held_least, member_typed}
 use Rattle.pace_bound.proofs.Holding.{low_capped, choice_low_capped}
 use Rattle.pace_bound.proofs.Ending.{left_none, left_least, branches_sum, again_sum, one_after}
@@ -58,7 +58,9 @@ loop-arm-init t c =
     }
 
 pub returns-in-Assign : goal.returns-in-Assign
-returns-in-Assign t c = c.var_clears.ensures ∙ ap (λ s. capped (low (program_of c.args.program.now) c.args.held (process_of s))) (sym c.in-Assign.is)
+returns-in-Assign t c =
+    c.var_clears.ensures (writes_fall (program_of c.args.program.now)) (rw c.deref.ensures.value c.requires.falls.of_writes)
+    ∙ ap (λ s. capped (low (program_of c.args.program.now) c.args.held (process_of s))) (sym c.in-Assign.is)
 
 pub returns-in-Then : goal.returns-in-Then
 returns-in-Then t c =

@@ -1,0 +1,34 @@
+-- Points and ways as the program holds them, and what is said of those that are found.
+use Rattle.std.specs.Prelude.{◌≡◌, ◌<◌, ◌-◌, ◌^◌, max, List, [], ◌∷◌}
+use Rattle.width_check.specs.Processes.{Processes, and_member, TypedProgram}
+use Rattle.width_check.specs.View.{process_of}
+use Rattle.handshake_expand.specs.Layout.{capped}
+use Rattle.round_time.specs.Ways as told
+use Rattle.round_time.specs.Ways.{started, step_of, ended, way, to_next, greatest_length, longest_of}
+use Rattle.pace_bound.specs.declared.ways.Point.{Point}
+use Rattle.pace_bound.specs.declared.ways.Point.TheVariants.{Started, Step, Ended}
+use Rattle.pace_bound.specs.declared.ways.Way.{Way}
+
+abbrev pub point_of : Point → told.Point
+point_of Started = started
+point_of (Step s) = step_of (process_of s.now)
+point_of Ended = ended
+
+abbrev pub way_of : Way → told.Way
+way_of w = way (point_of w.from) (point_of w.to) w.length
+
+-- this way, or, where its length is 2^64 - 1 or more, one that is said to have 2^64 - 1 moves
+pub record IsWay (w : told.Way) (found : Way) : Type 0 where
+  pub long : found.length ≡ capped w.length
+  pub exact : found.length < 2 ^ 64 - 1 → way_of found ≡ w
+
+-- of a way and some more, the first of the longest ones, or, where those are too long, one that is said to have 2^64 - 1
+-- moves
+pub record IsLongestOf (best found : Way) (more : List told.Way) : Type 0 where
+  pub long : found.length ≡ max best.length (capped (greatest_length more))
+  pub exact : greatest_length more < 2 ^ 64 - 1 → way_of found ≡ longest_of (way_of best) more
+
+-- in a sequence, the way from the first of some members on to the next
+abbrev pub onward_ways : TypedProgram → Processes → List told.Way
+onward_ways P (and_member p (and_member q more)) = to_next P p q more ∷ []
+onward_ways P _ = []
