@@ -270,6 +270,11 @@ def has_procedures(text):
     return re.search(rb"\bproc\b", re.sub(rb"//[^\n]*", b"", text)) is not None
 
 
+def channels_of(text):
+    """The kinds, names and widths of the channels of a text as it is made here."""
+    return [(kind, name, int(width)) for kind, name, width in re.findall(r"^(in|out|chan) (\w+) : (\d+)", text, re.M)]
+
+
 def spread(draw, text):
     """The same program with other blanks and with comments."""
     return re.sub("[ \n]", lambda _: draw.choice(BLANKS), text)

@@ -1,5 +1,6 @@
-"""A model of how long a round of a program takes its circuit at most, beside the proved call: how many moves, one behind the other, its
-nodes make at most between the steps of one round and those of the next.
+"""A model of how long rounds of a program take its circuit at most, beside the proved calls: how many moves, one behind the other, its
+nodes make at most between the steps of one round and those of the next (`longest`), and until it has passed what so many rounds under a
+script pass (`rounds_sum`).
 
 It goes by the tree of a program, in which each call is a copy of its procedure's body. An assignment that reads its own target
 (`through`) is two in a body, by a hidden variable (`halves`).
@@ -10,8 +11,11 @@ from dataclasses import replace
 
 sys.path.insert(0, os.path.dirname(os.path.dirname(os.path.abspath(__file__))))
 
+from companion.chp_expr import Node, Use  # noqa: E402
 from companion.chp_reader import read_program  # noqa: E402
+from companion.chp_tree import Expr  # noqa: E402
 from companion.widths import own  # noqa: E402
+from rounds import Rounds  # noqa: E402
 
 BITWISE, RIPPLING, LESS, EQUAL = ("&", "|", "^"), ("+", "-"), ("<", "<=", ">", ">="), ("=", "!=")
 
@@ -75,6 +79,7 @@ class Model:
         program = read_program(text)
         self.widths = {decl.name: decl.width for decl in program.decls}
         self.kinds = {decl.name: decl.kind for decl in program.decls if decl.kind != "var"}
+        self.firsts = {decl.name: decl.first for decl in program.decls if decl.kind == "var"}
         self.body = self.inlined(program.body, program.procs, halved)
         self.fall()
 
@@ -213,14 +218,137 @@ class Model:
         return max(2 + self.first(self.body), self.low(self.body, 2) + 2, self.within(self.body, 2))
 
 
+class Phases(Model):
+    """For how many moves those go on, one behind the other, that follow a step: its phase, by crates/round_time/specs/Phases.antt. Here an
+    assignment in two halves is two statements. `let_go` is as above, and `down` how many moves follow the fall of a statement's answer."""
+
+    def inlined(self, stmt, procs, is_split):
+        made = super().inlined(stmt, procs, is_split)
+        return self.in_two(made) if made.kind == "halves" else made
+
+    def in_two(self, stmt):
+        """An assignment that reads its own target as two, by a variable of its own, which all copies of it have."""
+        hidden = f"{stmt.name} of {stmt.start}"
+        self.widths[hidden], self.firsts[hidden] = self.widths[stmt.name], 0
+        read = Expr(stmt.start, stmt.end, (Use(hidden),), Node("name", stmt.start, stmt.end, use=Use(hidden)))
+        halves = [replace(stmt, kind="assign", name=hidden), replace(stmt, kind="assign", value=read)]
+        return replace(stmt, kind="sequence", value=None, children=halves)
+
+    def begun(self, stmt, place):
+        """From the request of the members of a sequence from a place on to their first step."""
+        return self.first(stmt.children[place]) + (place + 1 < len(stmt.children))
+
+    def downs(self, stmt, let_go, down):
+        """How many moves follow the fall of the answer of each statement within one."""
+        count, tree = len(stmt.children), height(len(stmt.children))
+        if stmt.kind == "sequence":
+            return [1 + (self.begun(stmt, place) - 1) for place in range(1, count)] + [down]
+        if stmt.kind == "again":
+            return [3 + self.guards(stmt)] * count
+        return [{"parallel": 1 + tree + let_go + 2 + tree + down, "select": 1 + down}.get(stmt.kind, 0)] * count
+
+    def contexts(self, stmt, let_go=2, down=1):
+        """The statements that have a step, each in its context, but for loops, whose step doesn't depend on it."""
+        if stmt.kind not in ("sequence", "parallel", "loop"):
+            yield stmt, let_go, down
+        for (inner, its), its_down in zip(self.inner(stmt, let_go), self.downs(stmt, let_go, down), strict=True):
+            yield from self.contexts(inner, its, its_down)
+
+    def greatest(self, of, **wanted):
+        """The greatest number of those statements that have these kinds and names, or 0."""
+        found = (it for it in self.contexts(self.body) if all(getattr(it[0], key) in values for key, values in wanted.items()))
+        return max((of(*it) for it in found), default=0)
+
+    def acked(self, channel):
+        """How many moves follow the fall of a channel's acknowledge, that included."""
+        return self.greatest(lambda stmt, let_go, down: 1 + down, kind=["send", "receive"], name=[channel])
+
+    def assigned(self, name):
+        """The same of the acknowledge of a variable."""
+        received = self.greatest(lambda stmt, let_go, down: 2 + self.acked(stmt.name), kind=["receive"], target=[name])
+        return max(received, self.greatest(lambda stmt, let_go, down: 1 + down, kind=["assign"], name=[name]))
+
+    def taken(self, channel):
+        """The same of a channel's rails."""
+        clears = self.greatest(lambda stmt, let_go, down: 3 + self.cleared(stmt.target), kind=["receive"], name=[channel])
+        return max(self.acked(channel), clears)
+
+    def cleared(self, name):
+        """What follows the fall of a variable's bits: of the tree, and of its acknowledge."""
+        return self.height_of(name) + self.assigned(name)
+
+    def passes(self, channel):
+        """The phase of a value that passes on a channel."""
+        rails = 2 + self.acked(channel) if self.kinds[channel] == "out" else 1 + self.taken(channel)
+        sent = self.greatest(lambda stmt, let_go, down: 1 + let_go + self.own_depth(stmt) + rails, kind=["send"], name=[channel])
+        got = self.greatest(lambda stmt, let_go, down: 1 + let_go + 3 + self.cleared(stmt.target), kind=["receive"], name=[channel])
+        return max(2 + self.acked(channel), 1 + self.taken(channel), sent, got)
+
+    def puts(self, name):
+        """The phase of an assignment to a variable."""
+        clears = 2 + self.cleared(name)
+        return max(clears, self.greatest(lambda stmt, let_go, down: 1 + let_go + self.own_depth(stmt) + clears, kind=["assign"], name=[name]))
+
+    def latched(self, stmt, left):
+        """The phase of a latch of a selection, of which so many moves are left when the guards have fallen."""
+        return 2 + self.guards(stmt) + max(left, *map(self.first, stmt.children))
+
+    def phase(self, stmt):
+        """That of a statement's step."""
+        if stmt.kind == "skip":
+            return self.greatest(lambda stmt, let_go, down: let_go + 1 + down, kind=["skip"])
+        if stmt.kind == "assign":
+            return self.puts(stmt.name)
+        if stmt.kind in ("send", "receive"):
+            return self.passes(stmt.name)
+        if stmt.kind == "again":
+            return self.greatest(lambda stmt, let_go, down: self.latched(stmt, let_go + 5 + down), kind=["again"])
+        return self.latched(stmt, 0) if stmt.kind == "select" else self.first(stmt.children[0]) - 1
+
+
 def longest(text):
     """The longest way of the program with this text."""
     return Model(text).longest()
 
 
+def reads_target(text):
+    """Whether an assignment outside of procedures reads its own target."""
+    whole = Model(text)
+    return any(stmt.kind == "through" for stmt, _ in whole.sites(whole.body))
+
+
 def bound(text):
     """How long each of n rounds takes at most, as proved of the circuit in which each call is a copy: twice as long as the longest way of
     the program in halves where an assignment reads its own target."""
-    whole = Model(text)
-    reads = any(stmt.kind == "through" for stmt, _ in whole.sites(whole.body))
-    return 2 * Model(text, halved=True).longest() if reads else whole.longest()
+    return 2 * Model(text, halved=True).longest() if reads_target(text) else longest(text)
+
+
+def steps_of(text, script, most):
+    """The statements that make the steps of each round until none is left, of so many rounds at most."""
+    model = Phases(text)
+    made = Rounds(model.kinds, model.widths, model.firsts, model.body, script)
+    for _ in range(most):
+        if not (steps := made.enabled()):
+            break
+        yield [stmt for _, stmt in steps]
+        made.round()
+
+
+def rounds_sum(text, script, n):
+    """So many moves, one behind the other, lead at most to the steps of the n-th round under the script, by
+    crates/round_time/specs/Sums.antt, in the circuit in which each call is a copy."""
+    model, phases = Phases(text), {}
+    total, leads = 0, 1 + model.first(model.body)
+    for steps in steps_of(text, script, n):
+        its = {(stmt.start, stmt.kind, stmt.name): stmt for stmt in steps}
+        phases.update({key: model.phase(stmt) for key, stmt in its.items() if key not in phases})
+        total, leads = total + leads + 1, max(phases[key] for key in its)
+    return total
+
+
+def told(text, script, most=1000):
+    """The rounds and the sum that chp_pace tells of a program under a script: where an assignment reads its own target each round counts as
+    `bound` says, and all counts twice where the bodies of procedures are shared."""
+    rounds = sum(1 for _ in steps_of(text, script, most))
+    total = rounds * bound(text) if reads_target(text) else rounds_sum(text, script, rounds)
+    return rounds, total * (2 if read_program(text).procs else 1)

@@ -126,9 +126,8 @@ def heads(reader: Statements, decls: list[Decl]) -> dict[str, Stmt]:
         else:
             reader.take(":")
             width = number_of(reader.take("number").text) or 0
-            if kind == "var" and reader.has("="):
-                reader.take("number")
-            decls.append(Decl(kind, name.text, width, name.start, name.end))
+            first = number_of(reader.take("number").text) or 0 if kind == "var" and reader.has("=") else 0
+            decls.append(Decl(kind, name.text, width, name.start, name.end, first))
         reader.take(";")
     return procs
 

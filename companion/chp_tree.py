@@ -58,13 +58,15 @@ class Stmt:
 
 @dataclass(frozen=True)
 class Decl:
-    """A declaration: `in`, `out`, `chan` or `var`, with name, width and the place of the name."""
+    """A declaration: `in`, `out`, `chan` or `var`, with name, width and the place of the name, and a variable's first
+    value."""
 
     kind: str
     name: str
     width: int
     start: int
     end: int
+    first: int = 0
 
 
 @dataclass

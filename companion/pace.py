@@ -18,9 +18,11 @@ ABOUT = """\
 Prints what the proved program chp_pace says of a program: `round`, a number that no way of moves from
 the steps of one round to those of the next exceeds where each call has a copy of its procedure's body,
 and `bound`, so many moves, one behind the other, for each of n rounds of the circuit that `compile`
-writes without --buffer. With a script it runs that circuit, each move taking 1, and prints for the first
-rounds that pass something new by when the circuit had passed all that so many rounds pass (`-` where the
-run was too short), and the bound of so many. The status is that of chp_pace."""
+writes without --buffer. With a script also `rounds`, how many rounds are made under it until no step is
+left, 1,000 at most, and `sum`, so many moves, one behind the other, until that circuit has passed what
+these pass. Then it runs the circuit, each move taking 1, and prints for the first rounds that pass
+something new by when the circuit had passed all that so many rounds pass (`-` where the run was too
+short), and the bound of so many. The status is that of chp_pace."""
 VARIABLE = "CHP_PACE"  # names another program
 
 
@@ -38,16 +40,18 @@ def path() -> str:
     return os.environ.get(VARIABLE) or os.path.join(program.TOP, "crates", "chp_pace", "out", "chp_pace")
 
 
-def told(source: str) -> tuple[str, int]:
-    """What chp_pace prints of a program, and the bound in it. chpc is asked first, since it builds chp_pace too."""
+def told(source: str, script: str | None) -> tuple[str, int]:
+    """What chp_pace prints of a program and maybe of a script, and the bound in it. chpc is asked first, since it
+    builds chp_pace too. A script is refused as by `run`."""
     program.wanted(["check", source])
     if not (os.path.isfile(path()) and os.access(path(), os.X_OK)):
         raise Refusal(f"{path()} isn't there: ./chpc builds it, and {VARIABLE} may name a built one elsewhere", 127)
-    with program.started([source], subprocess.PIPE, subprocess.PIPE, path(), VARIABLE) as run:
+    words = [source, script] if script else [source]
+    with program.started(words, subprocess.PIPE, subprocess.PIPE, path(), VARIABLE) as run:
         out, err = run.communicate()
     answer = Answer(program.shell_status(run.returncode), out, err)
     if answer.status:
-        raise Ended([source], answer)
+        raise Ended(["run", *words] if script else words, answer)
     return answer.text(), int(answer.text().split()[3])
 
 
@@ -93,7 +97,7 @@ def main(words: Sequence[str]) -> int:
     """0, where chp_pace ends so."""
     given = parser().parse_args(list(words))
     with Progress("pace") as progress:
-        text, bound = told(given.source)
+        text, bound = told(given.source, given.script)
         lines = list(measured(given.source, given.script, given.rounds, bound)) if given.script else []
         progress.clear()
     sys.stdout.write(text + "".join(f"{line}\n" for line in lines))

@@ -11,7 +11,9 @@ from companion.tests.base import Case
 from companion.waves import Change, Wave
 
 PRINTED = '#!/bin/sh\nprintf "round 21\\nbound 42\\n"\n'
+TWO_MORE = '[ $# = 1 ] || printf "rounds 2\\nsum 70\\n"\n'
 REFUSES = '#!/bin/sh\necho "chp: 6 no memory" >&2\nexit 6\n'
+NO_SCRIPT = '#!/bin/sh\necho "chp: 8 51 NoSuchChannel at line 1" >&2\nexit 8\n'
 
 
 class Pace(Case):
@@ -30,6 +32,21 @@ class Pace(Case):
         self.stand_in(PRINTED)
         ran = self.chpx("pace", self.example("one.chp"))
         self.assertEqual((ran.status, ran.out, ran.err), (0, "round 21\nbound 42\n", ""))
+
+    def test_script(self) -> None:
+        """Where there is a script chp_pace is given that too, and what it prints comes before the times of a run."""
+        self.stand_in(PRINTED + TWO_MORE)
+        with mock.patch.object(pace, "measured", lambda *_: iter(["  rounds    time   bound"])):
+            ran = self.chpx("pace", self.example("one.chp"), self.example("one.script"))
+        self.assertEqual((ran.status, ran.err), (0, ""))
+        self.assertEqual(ran.out, "round 21\nbound 42\nrounds 2\nsum 70\n  rounds    time   bound\n")
+
+    def test_no_script(self) -> None:
+        """A script that chp_pace refuses is told as by `run`."""
+        self.stand_in(NO_SCRIPT)
+        ran = self.chpx("pace", self.example("one.chp"), self.write("s", "Q: 1\n"))
+        self.assertEqual((ran.status, ran.out), (8, ""))
+        self.has(ran.err, ["chp: 8 51 NoSuchChannel at line 1", "s:1", "Q: 1"])
 
     def test_refused(self) -> None:
         """A program that chpc refuses is told as by `check`; where chp_pace ends otherwise, so does chpx."""

@@ -2,4 +2,6 @@ mod Members
 mod Bounds
 mod Ending
 mod Untargeted
+mod Enough
 mod Keeping
+mod Pausing

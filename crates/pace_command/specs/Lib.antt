@@ -1,4 +1,5 @@
 pub mod Targets
 pub mod Pacing
+pub mod Names
 pub mod Kept
 pub mod Ends

@@ -1,6 +1,8 @@
-//! The command of the program `chp_pace`: how long rounds of a program take its circuit at most.
+//! The command of the program `chp_pace`: how long rounds of a program take its circuit at most, any ones and those
+//! under a script.
 #![tactic(auto)]
 
+mod asked;
 pub mod laws;
 mod main_call;
 mod pace;

@@ -1,13 +1,18 @@
 use Rattle.std.proofs.Common.{◌∙◌, ◌++◌, ap, sym, append-nil}
 use Rattle.command_answers.specs.Statuses.{is_whole}
-use Rattle.pace_command.proofs.Ending.{paced_of, silent_of}
+use Rattle.pace_command.proofs.Ending.{paced_of, read_of, silent_of}
 use Rattle.pace_command.proofs.main_call.pace_main.Goals as goal
 
 pub returns-clause-paced : goal.returns-clause-paced
 returns-clause-paced g c = λ is.
     let (appended, ends, put) = c.run-end.ensures.ended in
-    let (file, named, paces) = paced_of _ _ _ _ ends (sym c.status.ensures ∙ is) in
-    (file, appended, named, paces, c.bounds_are_kept.ensures _ _ _ paces, put)
+    let (asked, named, paces) = paced_of _ _ _ _ ends (sym c.status.ensures ∙ is) in
+    (asked, appended, named, paces, c.bounds_are_kept.ensures _ _ _ paces, put)
+
+pub returns-clause-read : goal.returns-clause-read
+returns-clause-read g c = λ is.
+    let (appended, ends, put) = c.run-end.ensures.ended in
+    read_of _ _ _ _ ends (sym c.status.ensures ∙ is)
 
 pub returns-clause-silent : goal.returns-clause-silent
 returns-clause-silent g c = λ not cut told.
