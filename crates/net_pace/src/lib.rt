@@ -174,12 +174,12 @@ pub fn no_value_waits_reset()
 
 /// Law: what n rounds of a program pass under a script its net has passed after as many moves, one behind the other, as
 /// these rounds come to. Each has a number of its own, read off the program's run: its steps are one move, and before
-/// them come as many as the greatest phase of the steps of the round before. Where an assignment reads its own target
-/// these are the rounds of the program in halves, twice as many; and n times what is enough for any round is enough
-/// too. So it is by sweeps, in whatever order the nodes switch; by time, with as many times the longest delay; and with
-/// a reset node from every power-up state, with two more (`every`). With shared bodies twice as many are enough
-/// (`shared`); and what any net that carries its program passes in so many sweeps it passes in each of these ways
-/// (`net`).
+/// them come as many as the greatest phase of the steps of the round before, or, before those of the first, the rise of
+/// `go` and what leads to the body's first step. Where an assignment reads its own target these are the rounds of the
+/// program in halves, twice as many; and n times what is enough for any round is enough too. So it is by sweeps, in
+/// whatever order the nodes switch; by time, with as many times the longest delay; and with a reset node from every
+/// power-up state, with two more (`every`). With shared bodies twice as many are enough (`shared`); and what any net
+/// that carries its program passes in so many sweeps it passes in each of these ways (`net`).
 pub fn rounds_pass()
     ensures every { (p : TypedProgram) → IsTranslated p → nodes_of p ≤ 65536 →
         (script : List OfferValue) → IsScript p.channels script → (n moves : ℕ) → IsRoundsTime p script n moves →

@@ -22,8 +22,8 @@ pub record IsWay (w : told.Way) (found : Way) : Type 0 where
   pub long : found.length ≡ capped w.length
   pub exact : found.length < 2 ^ 64 - 1 → way_of found ≡ w
 
--- of a way and some more, the first of the longest ones, or, where those are too long, one that is said to have 2^64 - 1
--- moves
+-- of a way and some more, the first of the longest ones, or, where those are too long, one that is said to have
+-- 2^64 - 1 moves
 pub record IsLongestOf (best found : Way) (more : List told.Way) : Type 0 where
   pub long : found.length ≡ max best.length (capped (greatest_length more))
   pub exact : greatest_length more < 2 ^ 64 - 1 → way_of found ≡ longest_of (way_of best) more

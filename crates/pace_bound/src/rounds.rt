@@ -20,8 +20,7 @@ use env_script::Script;
 use std::alloc::{AllocError, Global};
 use width_check::Typed;
 
-/// How many rounds a run made, and how many moves, one behind the other, the circuit makes at most until it has passed
-/// what they pass.
+/// How many rounds a run made, and what `rounds_sum` says of them, in moves one behind the other.
 #[derive(Clone, Copy)]
 pub struct RunSum {
     pub rounds: u32,
@@ -93,11 +92,13 @@ fn sum_under(
 
 /// Makes rounds of the program under the script until no step is left, and `most` at most. Tells how many it made, and
 /// how many moves, one behind the other, the circuit of the program makes at most until it has passed what these rounds
-/// pass, by the definition `rounds_sum`; saturates at 2^64 - 1. That is the way from the start to the steps of the first
-/// round, and from those of each to those of the next: each for itself, where `longest_of` has one number for all, that
-/// of the dearest part of the program. It fails if memory runs out: beside what a run of the rounds takes it takes a
-/// number for each channel and each variable, and a list of a round's steps. For each round it needs the time of the
-/// round twice, and once more for the guards and the first steps of the branches of each selection that makes a step.
+/// pass, by the definition `rounds_sum`; saturates at 2^64 - 1. That circuits keep to it where no assignment reads its
+/// own target is the law `rounds_pass` of `net_pace`; of other programs nothing is said of the circuit. It is the way
+/// from the start to the steps of the first round, and from those of each to those of the next: each for itself, where
+/// `longest_of` has one number for all, that of the dearest part of the program. It fails if memory runs out: beside
+/// what a run of the rounds takes it takes some numbers for each channel and each variable, and a list of a round's
+/// steps. For each round it needs the time of the round twice, and once more for the guards and the first steps of the
+/// branches of each selection that makes a step, and for the first step of the body of each loop that does.
 pub fn sum_of_rounds(
     alloc: Global,
     program: &Typed,

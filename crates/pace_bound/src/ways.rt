@@ -23,7 +23,7 @@ use width_check::{TArm, TStmt, Typed};
 /// Where a way begins or ends.
 #[derive(Clone, Copy)]
 pub enum Point<'p> {
-    /// With the rise of `go`.
+    /// Before the rise of `go`.
     Started,
     /// With the step of this statement.
     Step(&'p TStmt),
@@ -303,9 +303,10 @@ fn longest_within<'p>(program: &Typed, falls: &Falls, s: &'p TStmt, best: Way<'p
 }
 
 /// Where the longest way of a program lies from the steps of one round to those of the next, by the definition
-/// `longest_way`, which reads it off the program: the first one in the order of the text, where several are as long. Its
-/// length is what `longest_of` gives; of a way of 2^64 - 1 moves or more nothing is said but that. It fails if memory
-/// runs out, which is taken as by `longest_of`.
+/// `longest_way`, which reads it off the program: the first one in the order of the text, where several are as long.
+/// Its length is `longest`, by a lemma of `round_time`; of a way of 2^64 - 1 moves or more nothing is said but that. A
+/// point is told up to statements that are alike: of two skips it may be either. It fails if memory runs out, which is
+/// taken as by `longest_of`.
 pub fn longest_way<'p>(alloc: Global, program: &'p Typed) -> Result<Way<'p>, AllocError>
     ensures { IfOk result (IsWay (longest_way (program_of program.now))) }
 {

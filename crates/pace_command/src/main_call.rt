@@ -59,8 +59,9 @@ fn run<'a, S: Shelf, K: Sink>(
 ///
 /// With other statuses the words are neither one name nor two (`usage`), a file isn't there or the shelf failed
 /// (`read`), the output failed (`write`), it refuses, or memory ran out (`ended` has them all, with the line that is
-/// said); and then nothing is written, unless the output failed (`silent`). The script is read once the program is
-/// accepted, and refused as `run` refuses it: for the first fault of its first line that has one, or as too long.
+/// said); and then nothing is written, unless the output failed (`silent`). An answer goes by the script only once
+/// the program is accepted, and it is refused as `run` refuses it: for the first fault of its first line that has one,
+/// or as too long.
 pub fn pace_main<S: Shelf, K: Sink, W: Sink>(
     alloc: Global,
     words: &[String],

@@ -35,8 +35,10 @@ last_to_begin-requires-clause-members t c =
 pub first_step-requires-in-Beside : goal.first_step-requires-in-Beside
 first_step-requires-in-Beside t c =
     let facts = subst (λ (s : Process). IsProcess c.args.program.now.channels c.args.program.now.vars s) (beside_is _ _ c.in-Beside.is) c.requires in
-    let inside = subst (λ (l : List TStmt). c.last_to_begin.result < length l) c.deref.ensures.value c.last_to_begin.ensures.there in
-    (search (rules, the_lemmas, get_or_read), member_typed _ _ c.in-Beside.parts.items c.last_to_begin.result c.index-in-Beside.result.now facts.1 inside c.index-in-Beside.ensures)
+    let inside = subst (λ (l : List TStmt). c.last_to_begin.result < length l) c.deref.ensures.value c.last_to_begin.ensures.there in (
+      search (rules, the_lemmas, get_or_read),
+      member_typed _ _ c.in-Beside.parts.items c.last_to_begin.result c.index-in-Beside.result.now facts.1 inside c.index-in-Beside.ensures,
+    )
 
 pub returns-in-Then : goal.returns-in-Then
 returns-in-Then t c small =

@@ -111,14 +111,17 @@ returns-in-Select-false-default t c n held small =
     let P = program_of c.args.program.now in
     let items = c.in-Select-false-default.arms.items in
     let k = c.last_arm_to_fall-place.result in
-    let is = select_is _ _ _ c.in-Select-false-default.is ∙ ap (λ b. choosing b (choices_in items)) (sym c.in-Select-false-default.again-is ∙ c.in-Select-false-default.again-test) in
+    let is = select_is _ _ _ c.in-Select-false-default.is
+    ∙ ap (λ b. choosing b (choices_in items)) (sym c.in-Select-false-default.again-is ∙ c.in-Select-false-default.again-test) in
     let itself = choosing false (choices_in items) in
-    let its : c.saturating_add-its-in-Select-false-default.result ≡ capped (n + 3) = omega (arith, held, c.saturating_add-its-in-Select-false-default.ensures) in
+    let its : c.saturating_add-its-in-Select-false-default.result ≡ capped (n + 3) =
+    omega (arith, held, c.saturating_add-its-in-Select-false-default.ensures) in
     let value = c.deref-in-Select-false-default.ensures.value in
     let inside = subst (λ (l : List TArm). k < length l) value c.last_arm_to_fall-place.ensures.there in
     let few : low P n itself < 2 ^ 64 - 1 = subst (λ p. low P n p < 2 ^ 64 - 1) is small in
     let found = subst (λ (l : List TArm). choice_low P (n + 3) (choices_in l) < 2 ^ 64 - 1
     → farthest itself (choice_last_step P (n + 3) (choices_in l)) ≡ last_step P (n + 3) (branch_of (choices_in l) k)) value
     (c.last_arm_to_fall-place.ensures.farthest (n + 3) itself its) in
-    let step = branch_ends P (n + 3) itself items k c.index-in-Select-false-default.result.now inside c.index-in-Select-false-default.ensures (omega (arith, few)) found in
+    let step = branch_ends P (n + 3) itself items k c.index-in-Select-false-default.result.now inside c.index-in-Select-false-default.ensures
+    (omega (arith, few)) found in
     c.last_step-in-Select-false-default.ensures (n + 3) its step.small ∙ (step.same ∙ ap (last_step P n) (sym is))

@@ -34,7 +34,8 @@ loop-place-preserved t c =
       longest = λ found h. c.loop-place.invariant.longest found (subst (IsLongestOf c.loop-place.way found)
           (sym (turn_ways_at P items i s inside c.index.ensures))
           (joined c.loop-place.way c.longest_within-inner.result found (ways_within P (process_of s)) (onward_ways P (members_in (drop i items)) ++ rest)
-          c.longest_within-inner.ensures (joined c.longest_within-inner.result c.on_to_next-way.result found (onward_ways P (members_in (drop i items))) rest gap h)));
+          c.longest_within-inner.ensures
+          (joined c.longest_within-inner.result c.on_to_next-way.result found (onward_ways P (members_in (drop i items))) rest gap h)));
       formed = (this_typed _ _ items i s c.index.ensures inside c.loop-place.invariant.formed).1;
     }
 
