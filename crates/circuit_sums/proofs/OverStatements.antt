@@ -28,7 +28,8 @@ module _ (P : TypedProgram) (f : InContext) (M : ℕ) where
     over_each held down (receiving c at x to) e = e
     over_each held down (in_turn ms) e = turn_each held down ms e
     over_each held down (side_by_side ms) e = let n = tree_height (member_count ms) in
-        subst (λ d. EveryBranch P (λ held down q. f held down q ≤ M) d ms) (one_more (n + (held + (2 + n + down)))) (branch_each (branch_down ms held down) ms e)
+        subst (λ d. EveryBranch P (λ held down q. f held down q ≤ M) d ms) (one_more (n + (held + (2 + n + down))))
+        (branch_each (branch_down ms held down) ms e)
     over_each held down (repeating p) e = over_each 1 0 p e
     over_each held down (choosing false cs) e = choice_each (held + 3) (1 + down) cs (right_of_max (f held down (choosing false cs)) _ M e)
     over_each held down (choosing true cs) e = choice_each 4 (3 + guards_depth cs) cs (right_of_max (f held down (choosing true cs)) _ M e)

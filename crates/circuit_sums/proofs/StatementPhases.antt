@@ -17,7 +17,8 @@ use Rattle.circuit_sums.proofs.Statements.{guarded_statement, statement, choice_
 module _ (P : TypedProgram) where
   -- what is said of a part is below what is said of all
   abbrev Above : (held down : ℕ) → Process → Type 0
-  Above held down p = (over_statements P skip_at held down p ≤ over_program P skip_at) × (over_statements P (turn_at P) held down p ≤ over_program P (turn_at P))
+  Above held down p = (over_statements P skip_at held down p ≤ over_program P skip_at)
+      × (over_statements P (turn_at P) held down p ≤ over_program P (turn_at P))
 
   mutual
     guarded_of : (plus : ℕ) (p : Process) → Above 2 (1 + plus) p → (s : GuardedSpot p) → guarded_rises s ≡ true
@@ -64,12 +65,16 @@ module _ (P : TypedProgram) where
     turn_of held down no_members a b s k = elim s [ ]
     turn_of held down (and_member p no_members) a b (in_last s) k = of_spot held down p (a, b) s k
     turn_of held down (and_member p (and_member q more)) a b (in_member s) k = guarded_of (turn_first P (and_member q more) - 1) p (
-      left_of_max (over_statements P skip_at 2 (1 + (turn_first P (and_member q more) - 1)) p) (turn_statements P skip_at (held + 2) down (and_member q more)) _ a,
-      left_of_max (over_statements P (turn_at P) 2 (1 + (turn_first P (and_member q more) - 1)) p) (turn_statements P (turn_at P) (held + 2) down (and_member q more)) _ b,
+      left_of_max (over_statements P skip_at 2 (1 + (turn_first P (and_member q more) - 1)) p)
+          (turn_statements P skip_at (held + 2) down (and_member q more)) _ a,
+      left_of_max (over_statements P (turn_at P) 2 (1 + (turn_first P (and_member q more) - 1)) p)
+          (turn_statements P (turn_at P) (held + 2) down (and_member q more)) _ b,
     ) s k
     turn_of held down (and_member p (and_member q more)) a b (in_later s) k = turn_of (held + 2) down (and_member q more)
-        (right_of_max (over_statements P skip_at 2 (1 + (turn_first P (and_member q more) - 1)) p) (turn_statements P skip_at (held + 2) down (and_member q more)) _ a)
-        (right_of_max (over_statements P (turn_at P) 2 (1 + (turn_first P (and_member q more) - 1)) p) (turn_statements P (turn_at P) (held + 2) down (and_member q more)) _ b) s k
+        (right_of_max (over_statements P skip_at 2 (1 + (turn_first P (and_member q more) - 1)) p)
+        (turn_statements P skip_at (held + 2) down (and_member q more)) _ a)
+        (right_of_max (over_statements P (turn_at P) 2 (1 + (turn_first P (and_member q more) - 1)) p)
+        (turn_statements P (turn_at P) (held + 2) down (and_member q more)) _ b) s k
 
     each_of : (plus : ℕ) (ms : Processes) → each_statements P skip_at (1 + plus) ms ≤ over_program P skip_at
         → each_statements P (turn_at P) (1 + plus) ms ≤ over_program P (turn_at P) → (s : BranchSpot ms) → branch_rises s ≡ true

@@ -11,44 +11,44 @@ use Rattle.chp_meaning.specs.Remaining.{member_at, branch_of}
 use Rattle.handshake_expand.specs.Layout.{capped}
 use Rattle.handshake_expand.proofs.Rows.{arm_at}
 use Rattle.round_time.specs.Longest.{first, each_first, low, each_low, choice_low}
-use Rattle.round_time.specs.Ways.{Reached, first_greatest, farthest}
+use Rattle.round_time.specs.Ways.{StepAway, first_greatest, farthest}
 use Rattle.pace_bound.specs.declared.ways.Farthest.{Farthest}
 
-abbrev moves_of : Reached → ℕ
+abbrev moves_of : StepAway → ℕ
 moves_of s = s.1
 
-abbrev reached : (step : ℕ → Process) → Farthest → Reached
+abbrev reached : (step : ℕ → Process) → Farthest → StepAway
 reached step f = (step f.place, f.moves)
 
-abbrev with_moves : ℕ → Process → Reached
+abbrev with_moves : ℕ → Process → StepAway
 with_moves n p = (p, n)
 
 -- the farthest of all of some parts is that of the best so far and of those that are left
-abbrev pub IsPicked : (step : ℕ → Process) → (best : Farthest) → (left all : List Reached) → Type 0
+abbrev pub IsPicked : (step : ℕ → Process) → (best : Farthest) → (left all : List StepAway) → Type 0
 IsPicked step best left all = (itself : Process) → (first_greatest moves_of (reached step best) left).0 ≡ farthest itself all
 
-pub picked_first : (step : ℕ → Process) (best : Farthest) (p : Process) (n : ℕ) (left all : List Reached) → step best.place ≡ p → best.moves ≡ n
+pub picked_first : (step : ℕ → Process) (best : Farthest) (p : Process) (n : ℕ) (left all : List StepAway) → step best.place ≡ p → best.moves ≡ n
     → all ≡ with_moves n p ∷ left → IsPicked step best left all
 picked_first step best p n left all there moves is itself =
     ap (λ (q : Process). (first_greatest moves_of (with_moves best.moves q) left).0) there
     ∙ (ap (λ (m : ℕ). (first_greatest moves_of (with_moves m p) left).0) moves ∙ sym (ap (farthest itself) is))
 
-pub picked_more : (step : ℕ → Process) (best here next : Farthest) (p : Process) (n : ℕ) (left before all : List Reached)
+pub picked_more : (step : ℕ → Process) (best here next : Farthest) (p : Process) (n : ℕ) (left before all : List StepAway)
     → next ≡ (if nat_lt best.moves here.moves then here else best) → step here.place ≡ p → here.moves ≡ n → before ≡ with_moves n p ∷ left
     → IsPicked step best before all → IsPicked step next left all
 picked_more step best here next p n left before all is there moves parts h itself =
-    ap (λ (s : Reached). (first_greatest moves_of s left).0) (by (nat_lt best.moves here.moves) is)
+    ap (λ (s : StepAway). (first_greatest moves_of s left).0) (by (nat_lt best.moves here.moves) is)
     ∙ (ap (λ (m : ℕ). (first_greatest moves_of (if nat_lt best.moves m then with_moves m p else reached step best) left).0) moves
-    ∙ (ap (λ (l : List Reached). (first_greatest moves_of (reached step best) l).0) (sym parts) ∙ h itself))
+    ∙ (ap (λ (l : List StepAway). (first_greatest moves_of (reached step best) l).0) (sym parts) ∙ h itself))
   where
     by : (b : Bool) → next ≡ (if b then here else best) → reached step next ≡ (if b then with_moves here.moves p else reached step best)
     by true e = ap (reached step) e ∙ ap (with_moves here.moves) there
     by false e = ap (reached step) e
 
-pub picked_all : (step : ℕ → Process) (best : Farthest) (left all : List Reached) (itself : Process) → left ≡ [] → IsPicked step best left all
+pub picked_all : (step : ℕ → Process) (best : Farthest) (left all : List StepAway) (itself : Process) → left ≡ [] → IsPicked step best left all
     → farthest itself all ≡ step best.place
 picked_all step best left all itself none h =
-    sym (ap (λ (l : List Reached). (first_greatest moves_of (reached step best) l).0) (sym none) ∙ h itself)
+    sym (ap (λ (l : List StepAway). (first_greatest moves_of (reached step best) l).0) (sym none) ∙ h itself)
 
 pub placed : (count : ℕ) (best here next : Farthest) → next ≡ (if nat_lt best.moves here.moves then here else best) → best.place < count → here.place < count
     → next.place < count

@@ -12,7 +12,7 @@ use Rattle.handshake_expand.specs.Layout.{capped}
 use Rattle.handshake_expand.proofs.Rows.{member_at}
 use Rattle.round_time.specs.Longest.{guards_depth, first, low}
 use Rattle.round_time.specs.Ways as told
-use Rattle.round_time.specs.Ways.{step_of, way, longest_of, first_step, last_step, to_turn, to_body, to_loop, ways_within, turn_ways, choice_ways}
+use Rattle.round_time.specs.Ways.{step_of, way, first_longest, first_step, last_step, to_turn, to_body, to_loop, ways_within, turn_ways, choice_ways}
 use Rattle.round_time.proofs.WaysLengths.{number_of, greatest_append, lengths_append}
 use Rattle.pace_bound.specs.declared.ways.Way.{Way}
 use Rattle.pace_bound.specs.Whereabouts.{way_of, IsWay, IsLongestOf, onward_ways}
@@ -31,7 +31,7 @@ ends_at from to other m n found h e t = record {
 pub nothing : (best : Way) → IsLongestOf best best []
 nothing best = record { long = omega arith; exact = λ small. refl }
 
-pub single : (best next found : Way) (w : told.Way) → way_of found ≡ longest_of (way_of best) (way_of next ∷ []) → IsWay w next
+pub single : (best next found : Way) (w : told.Way) → way_of found ≡ first_longest (way_of best) (way_of next ∷ []) → IsWay w next
     → IsLongestOf best found (w ∷ [])
 single best next found w is h =
     let length : found.length ≡ max best.length (max next.length 0) =
@@ -39,7 +39,7 @@ single best next found w is h =
     let long = h.long in
     record {
       long = omega (arith, length, long);
-      exact = λ small. is ∙ ap (λ (v : told.Way). longest_of (way_of best) (v ∷ [])) (h.exact (omega (arith, long, small)));
+      exact = λ small. is ∙ ap (λ (v : told.Way). first_longest (way_of best) (v ∷ [])) (h.exact (omega (arith, long, small)));
     }
 
 pub joined : (first mid last : Way) (xs ys : List told.Way) → IsLongestOf first mid xs → IsLongestOf mid last ys → IsLongestOf first last (xs ++ ys)
@@ -51,11 +51,11 @@ joined first mid last xs ys h g =
       long = omega (arith, both, one, two);
       exact = λ small.
           g.exact (omega (arith, both, small))
-          ∙ (ap (λ (v : told.Way). longest_of v ys) (h.exact (omega (arith, both, small)))
+          ∙ (ap (λ (v : told.Way). first_longest v ys) (h.exact (omega (arith, both, small)))
           ∙ sym (greatest_append (λ (v : told.Way). v.length) (way_of first) xs ys));
     }
 
-pub whole : (begun : told.Way) (first found : Way) (ws : List told.Way) → IsWay begun first → IsLongestOf first found ws → IsWay (longest_of begun ws) found
+pub whole : (begun : told.Way) (first found : Way) (ws : List told.Way) → IsWay begun first → IsLongestOf first found ws → IsWay (first_longest begun ws) found
 whole begun first found ws h g =
     let length = number_of (λ (v : told.Way). v.length) begun ws in
     let one = h.long in
@@ -63,7 +63,7 @@ whole begun first found ws h g =
     record {
       long = omega (arith, length, one, two);
       exact = λ small.
-          g.exact (omega (arith, two, small)) ∙ ap (λ (v : told.Way). longest_of v ws) (h.exact (omega (arith, two, small)));
+          g.exact (omega (arith, two, small)) ∙ ap (λ (v : told.Way). first_longest v ws) (h.exact (omega (arith, two, small)));
     }
 
 -- from a member of a sequence on: inside of it, on to the next one, and what is behind
@@ -114,9 +114,9 @@ again P p cs best mid found is h g =
 
 -- in a loop: to its body, inside of that, and back to its own step
 pub repeated : (P : TypedProgram) (p q : Process) (best begins begun inner ends found : Way) → p ≡ repeating q
-    → IsWay (way (step_of p) (step_of (first_step P q)) (0 + first P q)) begins → way_of begun ≡ longest_of (way_of best) (way_of begins ∷ [])
+    → IsWay (way (step_of p) (step_of (first_step P q)) (0 + first P q)) begins → way_of begun ≡ first_longest (way_of best) (way_of begins ∷ [])
     → IsLongestOf begun inner (ways_within P q)
-    → IsWay (way (step_of (last_step P 1 q)) (step_of p) (low P 1 q + 1)) ends → way_of found ≡ longest_of (way_of inner) (way_of ends ∷ [])
+    → IsWay (way (step_of (last_step P 1 q)) (step_of p) (low P 1 q + 1)) ends → way_of found ≡ first_longest (way_of inner) (way_of ends ∷ [])
     → IsLongestOf best found (ways_within P p)
 repeated P p q best begins begun inner ends found is to begun_is h back found_is =
     let one : IsWay (to_body P q) begins =

@@ -4,7 +4,7 @@ use Rattle.width_check.specs.Processes.{Processes, and_member, TypedProgram}
 use Rattle.width_check.specs.View.{process_of}
 use Rattle.handshake_expand.specs.Layout.{capped}
 use Rattle.round_time.specs.Ways as told
-use Rattle.round_time.specs.Ways.{started, step_of, ended, way, to_next, greatest_length, longest_of}
+use Rattle.round_time.specs.Ways.{started, step_of, ended, way, to_next, greatest_length, first_longest}
 use Rattle.pace_bound.specs.declared.ways.Point.{Point}
 use Rattle.pace_bound.specs.declared.ways.Point.TheVariants.{Started, Step, Ended}
 use Rattle.pace_bound.specs.declared.ways.Way.{Way}
@@ -26,7 +26,7 @@ pub record IsWay (w : told.Way) (found : Way) : Type 0 where
 -- 2^64 - 1 moves
 pub record IsLongestOf (best found : Way) (more : List told.Way) : Type 0 where
   pub long : found.length ≡ max best.length (capped (greatest_length more))
-  pub exact : greatest_length more < 2 ^ 64 - 1 → way_of found ≡ longest_of (way_of best) more
+  pub exact : greatest_length more < 2 ^ 64 - 1 → way_of found ≡ first_longest (way_of best) more
 
 -- in a sequence, the way from the first of some members on to the next
 abbrev pub onward_ways : TypedProgram → Processes → List told.Way

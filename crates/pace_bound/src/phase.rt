@@ -13,7 +13,7 @@ ghost use Rattle.pace_bound.specs.Noting.{of_step, noted_count, IsGiven};
 
 use crate::first::{choices_first, first};
 use crate::mark::{Lines, Noted, latch_moves, var_clears};
-use crate::site::{ROOT, note_steps};
+use crate::site::note_all;
 use crate::table::noted_table;
 use std::alloc::{AllocError, Global};
 use width_check::{TArm, TStmt, Typed};
@@ -58,13 +58,7 @@ fn after_rails(
     ensures { IfOk result (λ v. IsTableOf (length program.now.channels) (taken (program_of program.now)) v.items) }
 {
     let mut table = Vec::from_slice(alloc, acks)?;
-    note_steps(
-        program,
-        program.body(),
-        ROOT,
-        Noted::Takes { stores },
-        &mut table,
-    );
+    note_all(program, Noted::Takes { stores }, &mut table);
     Ok(table)
 }
 
@@ -103,13 +97,7 @@ fn passes(alloc: Global, program: &Typed, lines: &Lines) -> Result<Vec<u64>, All
     ensures { IfOk result (λ v. IsTableOf (length program.now.channels) (passes (program_of program.now)) v.items) }
 {
     let mut table = lines_fall(alloc, lines)?;
-    note_steps(
-        program,
-        program.body(),
-        ROOT,
-        Noted::Passes { lines },
-        &mut table,
-    );
+    note_all(program, Noted::Passes { lines }, &mut table);
     Ok(table)
 }
 
@@ -132,13 +120,7 @@ fn puts(alloc: Global, program: &Typed, stores: &[u64]) -> Result<Vec<u64>, Allo
     ensures { IfOk result (λ v. IsTableOf (length program.now.vars) (puts (program_of program.now)) v.items) }
 {
     let mut table = writes_fall(alloc, program, stores)?;
-    note_steps(
-        program,
-        program.body(),
-        ROOT,
-        Noted::Puts { stores },
-        &mut table,
-    );
+    note_all(program, Noted::Puts { stores }, &mut table);
     Ok(table)
 }
 
@@ -149,7 +131,7 @@ fn most_of(program: &Typed, noted: Noted) -> u64
     ensures { result ≡ capped (over_program (program_of program.now) (of_step (program_of program.now) noted.entry 0)) }
 {
     let mut table = [0];
-    note_steps(program, program.body(), ROOT, noted, &mut table);
+    note_all(program, noted, &mut table);
     table[0]
 }
 

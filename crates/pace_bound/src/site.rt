@@ -4,7 +4,7 @@ ghost use Rattle.std.specs.Prelude.{◌≡◌, ◌<◌, length, max, slice_index
 ghost use Rattle.width_check.specs.Typed.{program_of};
 ghost use Rattle.width_check.specs.Typing.{IsProcess};
 ghost use Rattle.width_check.specs.View.{process_of};
-ghost use Rattle.round_time.specs.Phases.{over_statements};
+ghost use Rattle.round_time.specs.Phases.{over_statements, over_program};
 ghost use Rattle.pace_bound.specs.Noting.{of_step, noted_count, IsGiven, IsRaised};
 
 use crate::context::{Context, of_arm, of_branch, of_member};
@@ -12,7 +12,7 @@ use crate::mark::{Noted, mark_of};
 use width_check::{TStmt, Typed};
 
 /// Of the program's body.
-pub(crate) const ROOT: Context = Context { held: 2, down: 1 };
+const ROOT: Context = Context { held: 2, down: 1 };
 
 /// Raises a number of a list to another one, if that is greater.
 fn raise(table: &mut [u64], place: u32, least: u64)
@@ -37,7 +37,7 @@ fn note_step(program: &Typed, s: &TStmt, at: Context, noted: Noted, table: &mut 
 }
 
 /// Notes all statements of a statement.
-pub(crate) fn note_steps(program: &Typed, s: &TStmt, at: Context, noted: Noted, table: &mut [u64])
+fn note_steps(program: &Typed, s: &TStmt, at: Context, noted: Noted, table: &mut [u64])
     requires process { IsProcess program.now.channels program.now.vars (process_of s.now) }
     requires given { IsGiven (program_of program.now) noted }
     requires sized { length table.old ≡ noted_count (program_of program.now) noted }
@@ -72,4 +72,14 @@ pub(crate) fn note_steps(program: &Typed, s: &TStmt, at: Context, noted: Noted, 
             note_step(program, s, at, noted, table);
         }
     }
+}
+
+/// Notes all statements of a program.
+pub(crate) fn note_all(program: &Typed, noted: Noted, table: &mut [u64])
+    requires given { IsGiven (program_of program.now) noted }
+    requires sized { length table.old ≡ noted_count (program_of program.now) noted }
+    ensures { IsRaised (λ k. over_program (program_of program.now) (of_step (program_of program.now) noted.entry k))
+        table.old table.new }
+{
+    note_steps(program, program.body(), ROOT, noted, table);
 }

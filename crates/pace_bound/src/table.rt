@@ -13,7 +13,7 @@ ghost use Rattle.pace_bound.specs.Noting.{of_step, noted_count, IsGiven};
 
 use crate::low::Falls;
 use crate::mark::Noted;
-use crate::site::{ROOT, note_steps};
+use crate::site::note_all;
 use crate::width::kind_of;
 use chp_base::Kind;
 use std::alloc::{AllocError, Global};
@@ -43,7 +43,7 @@ pub(crate) fn noted_table(
         (of_step (program_of program.now) noted.entry k)) v.items) }
 {
     let mut table = zeros(alloc, count)?;
-    note_steps(program, program.body(), ROOT, noted, &mut table);
+    note_all(program, noted, &mut table);
     Ok(table)
 }
 

@@ -7,8 +7,8 @@ ghost use Rattle.width_check.specs.Typing.{IsProcess, AreProcesses, AreChoices};
 ghost use Rattle.width_check.specs.View.{process_of, members_in, choices_in};
 ghost use Rattle.chp_meaning.specs.Remaining.{member_at, branch_of};
 ghost use Rattle.handshake_expand.specs.Layout.{capped};
-ghost use Rattle.round_time.specs.Longest.{guards_depth, first, each_first, low, each_low, choice_low};
-ghost use Rattle.round_time.specs.Ways.{step_of, way, farthest, first_step, each_first_step, last_step, each_last_step, choice_last_step, to_turn, ways_within, longest_of, longest_way, loops_within, loops};
+ghost use Rattle.round_time.specs.Longest.{guards_depth, first, each_first, low, each_low, choice_low, longest};
+ghost use Rattle.round_time.specs.Ways.{step_of, way, farthest, first_step, each_first_step, last_step, each_last_step, choice_last_step, to_turn, ways_within, first_longest, longest_way, loops_within, loops};
 ghost use Rattle.pace_bound.specs.Clearing.{AreFalls};
 ghost use Rattle.pace_bound.specs.Whereabouts.{point_of, way_of, IsWay, IsLongestOf, onward_ways};
 
@@ -225,7 +225,7 @@ fn to_turn<'p>(
 
 /// The longer one of two ways; the first one where both are as long.
 fn longer<'p>(best: Way<'p>, next: Way<'p>) -> Way<'p>
-    ensures { way_of result ≡ longest_of (way_of best.entry) (way_of next.entry ∷ []) }
+    ensures { way_of result ≡ first_longest (way_of best.entry) (way_of next.entry ∷ []) }
 {
     if next.length > best.length {
         next
@@ -304,11 +304,12 @@ fn longest_within<'p>(program: &Typed, falls: &Falls, s: &'p TStmt, best: Way<'p
 
 /// Where the longest way of a program lies from the steps of one round to those of the next, by the definition
 /// `longest_way`, which reads it off the program: the first one in the order of the text, where several are as long.
-/// Its length is `longest`, by a lemma of `round_time`; of a way of 2^64 - 1 moves or more nothing is said but that. A
-/// point is told up to statements that are alike: of two skips it may be either. It fails if memory runs out, which is
-/// taken as by `longest_of`.
+/// Its length is that of `longest_of`; of a way of 2^64 - 1 moves or more nothing is said but that. A point is told up
+/// to statements that are alike: of two skips it may be either. It fails if memory runs out, which is taken as by
+/// `longest_of`.
 pub fn longest_way<'p>(alloc: Global, program: &'p Typed) -> Result<Way<'p>, AllocError>
-    ensures { IfOk result (IsWay (longest_way (program_of program.now))) }
+    ensures way { IfOk result (IsWay (longest_way (program_of program.now))) }
+    ensures longest { IfOk result (λ found. found.length ≡ capped (longest (program_of program.now))) }
 {
     let falls = falls(alloc, program)?;
     let body = program.body();

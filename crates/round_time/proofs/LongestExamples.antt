@@ -116,11 +116,14 @@ merge : longest (record {
 merge = refl
 
 -- *[L?x]: from the loop's step, behind which the receive lets go, to its next one
-taken : longest (record {
+abbrev pub taken_program : TypedProgram
+taken_program = record {
   channels = channel In 1 ∷ [];
   vars = var 1 ∷ [];
   body = repeating (take 0 0);
-}) ≡ 9
+}
+
+taken : longest taken_program ≡ 9
 taken = refl
 
 -- *[C?c; [c = 0 -> skip [] c = 1 -> skip]]: to the latch of the selection, behind its guards

@@ -1,5 +1,5 @@
 -- The greatest length of the ways of a program is how long its longest way is.
-use Rattle.std.proofs.Common.{◌≡◌, ℕ, ◌+◌, Bool, true, false, List, [], ◌∷◌, ◌++◌, map, refl, ◌∙◌, arith}
+use Rattle.std.proofs.Common.{◌≡◌, ℕ, ◌+◌, Bool, true, false, List, [], ◌∷◌, ◌++◌, map, refl, sym, ◌∙◌, arith}
 use Rattle.std.specs.Prelude.{max, nat_lt, if◌then◌else◌}
 use Rattle.std.proofs.lemmas.Bool.Decides.{nat_tests}
 use Rattle.width_check.specs.Processes.{Process, skipping, assigning, sending, receiving, in_turn, side_by_side, choosing, repeating, Processes, no_members, and_member, Choices, no_choices, and_choice, TypedProgram}
@@ -81,8 +81,4 @@ ways_longest P =
     omega arith
 
 pub longest_is : (P : TypedProgram) → longest P ≡ (longest_way P).length
-longest_is P =
-    let inner = within_most P P.body in
-    let all = lengths_append (ways_within P P.body) (to_end P ∷ []) in
-    let best = number_of (λ (w : Way). w.length) (to_begin P) (ways_within P P.body ++ to_end P ∷ []) in
-    omega arith
+longest_is P = ways_longest P ∙ sym (number_of (λ (w : Way). w.length) (to_begin P) (ways_within P P.body ++ to_end P ∷ []))

@@ -1,5 +1,6 @@
--- How many moves follow a step of a program in its circuit, one behind the other, before the next steps: the phase of
--- the step. It is read off the program alone, and off the statement that makes the step.
+-- How many moves follow a step of a program in its circuit at most, one behind the other, before the next steps: the
+-- phase of the step. It is read off the program alone, and off the statement that makes the step; circuits keep to it
+-- where no assignment reads its own target.
 --
 -- P: the program; p, q: statements; held: for how many moves the request of a statement stays high once it has
 -- answered; down: how many moves follow the fall of its answer.
@@ -20,9 +21,11 @@ abbrev pub branch_down : Processes → (held down : ℕ) → ℕ
 branch_down members held down =
     1 + (tree_height (member_count members) + (held + (2 + tree_height (member_count members) + down)))
 
--- The greatest of what a function says of the statements of a statement that have a step, each in its context, but for
--- loops, whose step doesn't depend on it. What follows the fall of an answer:
---   of a member of a sequence, the last one apart: its Q-element ends, and the next member begins
+-- A function says a number of a statement in its context; this is the greatest that it says of all statements in this
+-- one that make steps. A loop itself isn't asked, but its body is: its step doesn't depend on the context. What follows
+-- the fall of an answer:
+--   of a member of a sequence, the last one apart: its Q-element ends, and the next member comes to its first step,
+--   which isn't counted
 --   of a branch of a parallel composition: as above
 --   of a branch of a selection: the selection's answer
 --   of one of a repetition: the guards of the next turn
@@ -86,6 +89,7 @@ abbrev pub taken_at : TypedProgram → (chan held down : ℕ) → Process → �
 taken_at P c held down (receiving k at x to) = if k == c then 3 + var_height P x + written P x else 0
 taken_at P c held down p = 0
 
+-- or, where nothing receives, as the channel's acknowledge falls
 abbrev pub taken : TypedProgram → (chan : ℕ) → ℕ
 taken P c = max (acked P c) (over_program P (taken_at P c))
 
@@ -103,6 +107,7 @@ pass_at P c held down (sending k at e) =
 pass_at P c held down (receiving k at x to) = if k == c then 1 + (held + (3 + var_height P x + written P x)) else 0
 pass_at P c held down p = 0
 
+-- What comes first in these is less than any site's own number, and stands for channels and variables without one.
 abbrev pub passes : TypedProgram → (chan : ℕ) → ℕ
 passes P c = max (max (2 + acked P c) (1 + taken P c)) (over_program P (pass_at P c))
 

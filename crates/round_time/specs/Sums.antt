@@ -1,5 +1,5 @@
 -- How long rounds of a program take its circuit at most, read off its run under a script: each for itself, by the
--- phases of the steps that are made in the round before.
+-- phases of the steps that are made in the round before. Circuits keep to it where no assignment reads its own target.
 --
 -- P: the program; c: a configuration; n: how many rounds.
 use Rattle.std.specs.Prelude.{ℕ, zero, suc, ◌+◌, List, map, Option, Some, None}
@@ -11,11 +11,12 @@ use Rattle.chp_meaning.specs.Rounds.{enabled_places, round}
 use Rattle.round_time.specs.Longest.{greatest, first}
 use Rattle.round_time.specs.Phases.{phase}
 
--- the phase of the step at a place
+-- of a statement, if there is one
 abbrev pub phase_of : TypedProgram → Option Process → ℕ
 phase_of P (Some p) = phase P p
 phase_of P None = 0
 
+-- the phase of the step at a place
 abbrev pub phase_at : TypedProgram → Configuration → Place → ℕ
 phase_at P c at = phase_of P (statement_at c.term at)
 

@@ -7,7 +7,7 @@ use Rattle.std.specs.Prelude.{ℕ, ◌+◌, true, false, nat_lt, if◌then◌els
 use Rattle.width_check.specs.Processes.{Process, in_turn, side_by_side, choosing, repeating, Processes, no_members, and_member, Choices, no_choices, and_choice, TypedProgram}
 use Rattle.round_time.specs.Longest.{greatest, guards_depth, first, turn_first, low, choice_low, within}
 
--- where a way begins or ends: with the rise of `go`, with the step of a statement, or with the rise of `done`
+-- where a way begins or ends: before the rise of `go`, with the step of a statement, or with the rise of `done`
 pub data Point : Type 0 where
   started : Point
   step_of : Process → Point
@@ -28,13 +28,13 @@ first_greatest number best (x ∷ more) =
 -- ---- the first and the last step of a statement
 
 -- A statement that makes a step, with how many moves lead to it, or follow it until the answer has fallen.
-abbrev pub Reached : Type 0
-Reached = Process × ℕ
+abbrev pub StepAway : Type 0
+StepAway = Process × ℕ
 
 -- the first one of the most moves, or the statement itself where it has no parts
-abbrev pub farthest : (itself : Process) → List Reached → Process
+abbrev pub farthest : (itself : Process) → List StepAway → Process
 farthest itself [] = itself
-farthest itself (s ∷ more) = (first_greatest (λ (s : Reached). s.1) s more).0
+farthest itself (s ∷ more) = (first_greatest (λ (s : StepAway). s.1) s more).0
 
 -- The statement whose step is the first one of a statement: of a parallel composition the one that is the longest way
 -- off its request. A selection's, a repetition's and a loop's is its own.
@@ -48,12 +48,12 @@ abbrev mutual
   turn_first_step P itself no_members = itself
   turn_first_step P itself (and_member p more) = first_step P p
 
-  pub each_first_step : TypedProgram → Processes → List Reached
+  pub each_first_step : TypedProgram → Processes → List StepAway
   each_first_step P no_members = []
   each_first_step P (and_member p more) = (first_step P p, first P p) ∷ each_first_step P more
 
 -- The statement whose step is the last one of a statement: of a parallel composition or a selection the one from which
--- it takes the branch's answer longest to fall. A repetition's is its own, and a loop has no last step.
+-- it takes the branch's answer longest to fall. A repetition's is its own; a loop has none, and stands for itself.
 abbrev mutual
   pub last_step : TypedProgram → (held : ℕ) → Process → Process
   last_step P held (in_turn members) = turn_last_step P (in_turn members) held members
@@ -68,11 +68,11 @@ abbrev mutual
   turn_last_step P itself held (and_member p (and_member q more)) =
       turn_last_step P itself (held + 2) (and_member q more)
 
-  pub each_last_step : TypedProgram → Processes → List Reached
+  pub each_last_step : TypedProgram → Processes → List StepAway
   each_last_step P no_members = []
   each_last_step P (and_member p more) = (last_step P 2 p, low P 2 p) ∷ each_last_step P more
 
-  pub choice_last_step : TypedProgram → (held : ℕ) → Choices → List Reached
+  pub choice_last_step : TypedProgram → (held : ℕ) → Choices → List StepAway
   choice_last_step P held no_choices = []
   choice_last_step P held (and_choice g p more) =
       (last_step P held p, low P held p) ∷ choice_last_step P held more
@@ -145,11 +145,11 @@ abbrev pub greatest_length : List Way → ℕ
 greatest_length ws = greatest (map (λ (w : Way). w.length) ws)
 
 -- the first of the greatest length
-abbrev pub longest_of : Way → List Way → Way
-longest_of = first_greatest (λ (w : Way). w.length)
+abbrev pub first_longest : Way → List Way → Way
+first_longest = first_greatest (λ (w : Way). w.length)
 
 abbrev pub longest_way : TypedProgram → Way
-longest_way P = longest_of (to_begin P) (ways_within P P.body ++ to_end P ∷ [])
+longest_way P = first_longest (to_begin P) (ways_within P P.body ++ to_end P ∷ [])
 
 -- ---- loops
 
