@@ -116,7 +116,7 @@ module _ (carry : TranslationCarries) (whole : (p : TypedProgram) → IsTyped p.
     sum_kept program is bodies has nodes unscripted = tt
     sum_kept program {p} is bodies has nodes (scripted {script = script} holds of) =
         let fits = holds.is.kept in
-        let n = of.rounds in
+        let n = of.count in
         let r = rounds_of p (few_nodes bodies nodes) script n of.made.few in
         let w = written is bodies nodes in
         let (few, less, passed) = passes (λ net q sweeps. PassesInSweeps net q script n sweeps)

@@ -25,7 +25,7 @@ abbrev pub KeepsSum : {given : Given} {program : ProgramTree} {p : TypedProgram}
     SummedIf given program p file → Type 0
 KeepsSum bodies unscripted = Unit {0}
 KeepsSum {p = p} bodies (scripted {script = script} holds of) =
-    PassesRounds (net_with bodies) p script of.rounds of.sum
+    PassesRounds (net_with bodies) p script of.count of.sum
 
 -- so with the net that is written for the program of a printed text, without a buffer, if it isn't too large
 abbrev pub IsKept : {given : Given} {asked : AskedPace} {output : List ℕ} → IsPaceOf given asked output → Type 0

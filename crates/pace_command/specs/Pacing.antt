@@ -60,25 +60,25 @@ pub record AreMade (p : TypedProgram) (script : List OfferValue) (n : ℕ) : Typ
   pub goes_on : (k : ℕ) → k < n → CanStep (rounds p script k)
 
 -- how many are made, and what they come to
-pub record Summed (program : ProgramTree) (plain : TypedProgram) (script : List OfferValue) : Type 0 where
-  pub rounds : ℕ
+pub record RoundsSummed (program : ProgramTree) (plain : TypedProgram) (script : List OfferValue) : Type 0 where
+  pub count : ℕ
   pub sum : ℕ
-  pub made : AreMade plain script rounds
-  pub sums : IsSum program plain script rounds sum
+  pub made : AreMade plain script count
+  pub sums : IsSum program plain script count sum
 
 -- ---- what is printed
 
 -- a line: a word and a number
-abbrev pub line : (word : List ℕ) → ℕ → List ℕ
-line word n = concat (word ∷ codes " " ∷ decimal n ∷ codes "\n" ∷ [])
+abbrev pub number_line : (word : List ℕ) → ℕ → List ℕ
+number_line word n = concat (word ∷ codes " " ∷ decimal n ∷ codes "\n" ∷ [])
 
 -- the two lines of a program
 abbrev pub pace_text : (round bound : ℕ) → List ℕ
-pace_text round bound = line (codes "round") round ++ line (codes "bound") bound
+pace_text round bound = number_line (codes "round") round ++ number_line (codes "bound") bound
 
 -- and two more under a script
 abbrev pub sum_text : (rounds sum : ℕ) → List ℕ
-sum_text rounds sum = line (codes "rounds") rounds ++ line (codes "sum") sum
+sum_text rounds sum = number_line (codes "rounds") rounds ++ number_line (codes "sum") sum
 
 -- the text for the program that is meant, and behind it this
 pub record PaceReport (program : ProgramTree) (plain : TypedProgram) (more : List ℕ) (answer : Answer) : Type 0 where
@@ -89,8 +89,8 @@ pub record PaceReport (program : ProgramTree) (plain : TypedProgram) (more : Lis
 -- the text for it and its script
 pub record SumReport (program : ProgramTree) (plain : TypedProgram) (script : List OfferValue) (answer : Answer) :
     Type 0 where
-  pub of : Summed program plain script
-  pub report : PaceReport program plain (sum_text of.rounds of.sum) answer
+  pub of : RoundsSummed program plain script
+  pub report : PaceReport program plain (sum_text of.count of.sum) answer
 
 -- ---- what is answered
 
@@ -122,13 +122,13 @@ pub data SummedIf (given : Given) (program : ProgramTree) (plain : TypedProgram)
   where
     unscripted : SummedIf given program plain None
     scripted : {file : List ℕ} {script : List OfferValue} → HoldsScript given file plain.channels script →
-        Summed program plain script → SummedIf given program plain (Some file)
+        RoundsSummed program plain script → SummedIf given program plain (Some file)
 
 -- its two lines
 abbrev pub sum_lines : {given : Given} {program : ProgramTree} {plain : TypedProgram} {file : Option (List ℕ)} →
     SummedIf given program plain file → List ℕ
 sum_lines unscripted = []
-sum_lines (scripted holds of) = sum_text of.rounds of.sum
+sum_lines (scripted holds of) = sum_text of.count of.sum
 
 -- the first file holds a program, the one that it means is accepted, and this is the text for that and for the script
 -- that is named

@@ -10,7 +10,7 @@ ghost use Rattle.handshake_expand.specs.Layout.{capped};
 ghost use Rattle.round_time.specs.Longest.{longest};
 ghost use Rattle.round_time.specs.Sums.{rounds_sum};
 ghost use Rattle.command_answers.specs.Replies.{told_answer};
-ghost use Rattle.pace_command.specs.Pacing.{IsCompiled, PaceReport, SumReport, line, pace_text, sum_text, whole_bound, whole_sum};
+ghost use Rattle.pace_command.specs.Pacing.{IsCompiled, PaceReport, SumReport, number_line, pace_text, sum_text, whole_bound, whole_sum};
 
 use crate::targets::reads_target;
 use chp_syntax::Program;
@@ -26,7 +26,7 @@ const MOST_OF_ROUNDS: u32 = 1000;
 
 /// Adds a word and its number.
 fn add_line(text: &mut Vec<u8>, word: &[u8], number: u64) -> Result<(), AllocError>
-    ensures { OnOk result (text.new.items ≡ text.old.items ++ line word.now number) }
+    ensures { OnOk result (text.new.items ≡ text.old.items ++ number_line word.now number) }
 {
     let mut digits = Buffer::new();
     text.extend_from_slice(word)?;

@@ -14,7 +14,7 @@ returns c =
     let sum = c.compiled-2.result in
     record {
       of = record {
-        rounds = rounds;
+        count = rounds;
         sum = sum;
         made = record { few = c.in_ok-run.ensures.few; ends = c.in_ok-run.ensures.ends; goes_on = c.in_ok-run.ensures.goes_on };
         sums = c.compiled-2.ensures (whole_sum plain script rounds) (c.whole_sum-sum.ensures script c.in_ok-run.ensures.sum);
