@@ -172,7 +172,8 @@ pub data CoreStep (again : Bool) {n : ℕ} {G Q B C S T : Type 0} (W : Guards n 
   stays : {s : T} → step ≡ false → CoreStep again W K y z step s s
   chooses : z ≡ K.reading true → step ≡ true → (i : Index n) (g : G) → W.good true g ≡ true → alone i (W.heads g) ≡ true
       → CoreStep again W K y z step y.whole (y.wrap (K.opened i))
-  ends : z ≡ K.reading true → step ≡ true → again ≡ true → (g : G) → W.good true g ≡ true → over n (W.heads g) ≡ true → CoreStep again W K y z step y.whole y.gone
+  ends : z ≡ K.reading true → step ≡ true → again ≡ true → (g : G) → W.good true g ≡ true → over n (W.heads g) ≡ true
+      → CoreStep again W K y z step y.whole y.gone
   goes_on : (s t : T) → K.Follows step z s t → CoreStep again W K y z step (y.wrap s) (y.wrap t)
 
 goes_back : (d : Mode) → goes returning d ≡ true → (asks d ≡ false) × (isnt_running d ≡ true)

@@ -532,7 +532,8 @@ NotStored (takes_in low high a e) = Unit {0}
 NotStored (stores low high told pass) = ⊥
 
 -- the move is no step
-abbrev pub NoStep : (P : TypedProgram) (w : Wires) (busy after : ℕ → Bool) (does : Bool) (t y : Term) (n : Node P.body) → Moves P w busy after does t y n → Type 0
+abbrev pub NoStep : (P : TypedProgram) (w : Wires) (busy after : ℕ → Bool) (does : Bool) (t y : Term) (n : Node P.body)
+    → Moves P w busy after does t y n → Type 0
 NoStep P w busy after does t y (ack_node k) move = w.ack k ≡ true
 NoStep P w busy after does t y (wrote_node x i) move = NotStored move.1
 NoStep P w busy after does t y (joint_node x k) move = NotStored move.1
