@@ -144,7 +144,7 @@ pub follows_wider : (T U : Choices → List Process → Type 0) → ((choices : 
     → Follows T step x y → Follows U step x y
 follows_wider T U f step x y (inl e) = inl e
 follows_wider T U f step x y (inr (does, s))
-  = inr (does, record { statement = s.statement; rest = s.rest; goes = wider T U f s.statement s.rest s.goes; act = s.act })
+    = inr (does, record { statement = s.statement; rest = s.rest; goes = wider T U f s.statement s.rest s.goes; act = s.act })
 
 pub told_wider : (env : Seen) (read more : ℕ → Bool) → ((x : ℕ) → read x ≡ true → more x ≡ true) → (choices : Choices) (ps : List Process)
     → ToldBy env read choices ps → ToldBy env more choices ps
@@ -223,7 +223,7 @@ pub inside_wider : (T U : Choices → List Process → Type 0) → ((choices : C
     (ts us : Terms) → FollowsInside T step ts us → FollowsInside U step ts us
 inside_wider T U f step ts us (inl e) = inl e
 inside_wider T U f step ts us (inr (does, s))
-  = inr (does, record { statement = s.statement; rest = s.rest; goes = wider T U f s.statement s.rest s.goes; act = s.act })
+    = inr (does, record { statement = s.statement; rest = s.rest; goes = wider T U f s.statement s.rest s.goes; act = s.act })
 
 pub together_follows : (Told : Choices → List Process → Type 0) (step : Bool) (ts us : Terms) → FollowsInside Told step ts us
     → Follows Told step (together ts) (together us)
