@@ -10,8 +10,9 @@ use Rattle.width_check.specs.View.{process_of, members_in}
 use Rattle.handshake_expand.specs.Layout.{capped}
 use Rattle.handshake_expand.proofs.Rows.{then_is, beside_is}
 use Rattle.round_time.specs.Longest.{within}
-use Rattle.round_time.specs.Ways.{loops_within, each_loops}
+use Rattle.round_time.specs.Ways.{Loop, loops_within, each_loops}
 use Rattle.pace_bound.specs.Halving.{within_by}
+use Rattle.pace_bound.specs.Whereabouts.{capped_loop}
 use Rattle.pace_bound.proofs.Whole.{within_whole}
 
 pub group_loops : (P : TypedProgram) (s : TStmt) (v : Vec TStmt Global) → (s ≡ Then v) ⊎ (s ≡ Beside v)
@@ -24,22 +25,25 @@ pub group_typed : (channels : List Channel) (vars : List Var) (s : TStmt) (v : V
 group_typed channels vars s v (inl is) h = (subst (IsProcess channels vars) (then_is s v is) h).1
 group_typed channels vars s v (inr is) h = (subst (IsProcess channels vars) (beside_is s v is) h).1
 
--- one more is noted, and then those that are left
-pub noted_more : (now next all before here left : List ℕ) → now ++ map capped before ≡ all → before ≡ here ++ left
-    → next ≡ now ++ map capped here → next ++ map capped left ≡ all
+-- one more statement's are noted, and then those of what is left
+pub noted_more : (now next all : List Loop) (before here left : List Loop) → now ++ map capped_loop before ≡ all → before ≡ here ++ left
+    → next ≡ now ++ map capped_loop here → next ++ map capped_loop left ≡ all
 noted_more now next all before here left h parts is =
-    ap (λ l. l ++ map capped left) is
-    ∙ (append_assoc now (map capped here) (map capped left)
-    ∙ (ap (λ l. now ++ l) (sym (map-append capped here left)) ∙ (ap (λ l. now ++ map capped l) (sym parts) ∙ h)))
+    ap (λ l. l ++ map capped_loop left) is
+    ∙ (append_assoc now (map capped_loop here) (map capped_loop left)
+    ∙ (ap (λ l. now ++ l) (sym (map-append capped_loop here left)) ∙ (ap (λ l. now ++ map capped_loop l) (sym parts) ∙ h)))
 
-pub noted_all : (now all left : List ℕ) → now ++ map capped left ≡ all → left ≡ [] → now ≡ all
-noted_all now all left h none = sym (append-nil now) ∙ (ap (λ l. now ++ map capped l) (sym none) ∙ h)
+pub noted_all : (now all left : List Loop) → now ++ map capped_loop left ≡ all → left ≡ [] → now ≡ all
+noted_all now all left h none = sym (append-nil now) ∙ (ap (λ l. now ++ map capped_loop l) (sym none) ∙ h)
 
-pub loop_noted : (P : TypedProgram) (p q : Process) (old pushed new : List ℕ) (n : ℕ) → p ≡ repeating q → n ≡ capped (within_by false P p)
-    → pushed ≡ old ++ n ∷ [] → new ≡ pushed ++ map capped (loops_within P q) → new ≡ old ++ map capped (loops_within P p)
-loop_noted P p q old pushed new n is number pushed_is new_is =
-    let rest = map capped (loops_within P q) in
+-- a loop is noted, and then those within its body
+pub loop_noted : (P : TypedProgram) (p q : Process) (old new : List Loop) (n : ℕ) → p ≡ repeating q → n ≡ capped (within_by false P p)
+    → new ≡ (old ++ record { statement = p; length = n } ∷ []) ++ map capped_loop (loops_within P q)
+    → new ≡ old ++ map capped_loop (loops_within P p)
+loop_noted P p q old new n is number new_is =
+    let rest = map capped_loop (loops_within P q) in
     new_is
-    ∙ (ap (λ l. l ++ rest) pushed_is
-    ∙ (append_assoc old (n ∷ []) rest
-    ∙ (ap (λ k. old ++ k ∷ rest) (number ∙ ap capped (within_whole P p ∙ ap (within P) is)) ∙ ap (λ r. old ++ map capped (loops_within P r)) (sym is))))
+    ∙ (append_assoc old (record { statement = p; length = n } ∷ []) rest
+    ∙ (ap (λ k. old ++ record { statement = p; length = k } ∷ rest) (number ∙ ap capped (within_whole P p ∙ ap (within P) is))
+    ∙ (ap (λ r. old ++ record { statement = r; length = capped (within P (repeating q)) } ∷ rest) is
+    ∙ ap (λ r. old ++ map capped_loop (loops_within P r)) (sym is))))

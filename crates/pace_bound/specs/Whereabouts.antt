@@ -1,10 +1,11 @@
--- Points and ways as the program holds them, and what is said of those that are found.
+-- Points, ways and loops as the program holds them, and what is said of those that are found.
 use Rattle.std.specs.Prelude.{◌≡◌, ◌<◌, ◌-◌, ◌^◌, max, List, [], ◌∷◌}
 use Rattle.width_check.specs.Processes.{Processes, and_member, TypedProgram}
 use Rattle.width_check.specs.View.{process_of}
 use Rattle.handshake_expand.specs.Layout.{capped}
 use Rattle.round_time.specs.Ways as told
 use Rattle.round_time.specs.Ways.{started, step_of, ended, way, to_next, greatest_length, first_longest}
+use Rattle.pace_bound.specs.declared.ways.Loop.{Loop}
 use Rattle.pace_bound.specs.declared.ways.Point.{Point}
 use Rattle.pace_bound.specs.declared.ways.Point.TheVariants.{Started, Step, Ended}
 use Rattle.pace_bound.specs.declared.ways.Way.{Way}
@@ -16,6 +17,13 @@ point_of Ended = ended
 
 abbrev pub way_of : Way → told.Way
 way_of w = way (point_of w.from) (point_of w.to) w.length
+
+abbrev pub loop_of : Loop → told.Loop
+loop_of l = record { statement = process_of l.statement.now; length = l.longest }
+
+-- numbers stop at 2^64 - 1
+abbrev pub capped_loop : told.Loop → told.Loop
+capped_loop l = record { statement = l.statement; length = capped l.length }
 
 -- this way, or, where its length is 2^64 - 1 or more, one that is said to have 2^64 - 1 moves
 pub record IsWay (w : told.Way) (found : Way) : Type 0 where

@@ -20,4 +20,4 @@ mod within;
 
 pub use longest::{longest_in_halves, longest_of};
 pub use rounds::{RunSum, sum_of_rounds};
-pub use ways::{Point, Way, longest_way, loops_of};
+pub use ways::{Loop, Point, Way, longest_way, loops_of};

@@ -102,7 +102,7 @@ fn passes(alloc: Global, program: &Typed, lines: &Lines) -> Result<Vec<u64>, All
 }
 
 /// What follows the falls of the rails by which each variable is written.
-fn writes_fall(alloc: Global, program: &Typed, stores: &[u64]) -> Result<Vec<u64>, AllocError>
+fn stores_fall(alloc: Global, program: &Typed, stores: &[u64]) -> Result<Vec<u64>, AllocError>
     requires { IsTableOf (length program.now.vars) (written (program_of program.now)) stores.now }
     ensures { IfOk result (λ v. IsTableOf (length program.now.vars)
         (λ x. 2 + var_height (program_of program.now) x + written (program_of program.now) x) v.items) }
@@ -119,7 +119,7 @@ fn puts(alloc: Global, program: &Typed, stores: &[u64]) -> Result<Vec<u64>, Allo
     requires { IsTableOf (length program.now.vars) (written (program_of program.now)) stores.now }
     ensures { IfOk result (λ v. IsTableOf (length program.now.vars) (puts (program_of program.now)) v.items) }
 {
-    let mut table = writes_fall(alloc, program, stores)?;
+    let mut table = stores_fall(alloc, program, stores)?;
     note_all(program, Noted::Puts { stores }, &mut table);
     Ok(table)
 }

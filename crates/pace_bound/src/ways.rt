@@ -10,7 +10,7 @@ ghost use Rattle.handshake_expand.specs.Layout.{capped};
 ghost use Rattle.round_time.specs.Longest.{guards_depth, first, each_first, low, each_low, choice_low, longest};
 ghost use Rattle.round_time.specs.Ways.{step_of, way, farthest, first_step, each_first_step, last_step, each_last_step, choice_last_step, to_turn, ways_within, first_longest, longest_way, loops_within, loops};
 ghost use Rattle.pace_bound.specs.Clearing.{AreFalls};
-ghost use Rattle.pace_bound.specs.Whereabouts.{point_of, way_of, IsWay, IsLongestOf, onward_ways};
+ghost use Rattle.pace_bound.specs.Whereabouts.{point_of, way_of, loop_of, capped_loop, IsWay, IsLongestOf, onward_ways};
 
 use crate::depth::guards_depth;
 use crate::first::{first, turn_first};
@@ -318,45 +318,57 @@ pub fn longest_way<'p>(alloc: Global, program: &'p Typed) -> Result<Way<'p>, All
     Ok(longer(inner, from_last(program, &falls, body, 2, Point::Ended, 2)))
 }
 
-/// Notes how long the longest way inside of each loop of a statement is.
-fn note_loops(
+/// A loop, and how long the longest way inside of it is; the number saturates at 2^64 - 1.
+#[derive(Clone, Copy)]
+pub struct Loop<'p> {
+    pub statement: &'p TStmt,
+    pub longest: u64,
+}
+
+/// Notes each loop of a statement, with how long the longest way inside of it is.
+fn note_loops<'p>(
     program: &Typed,
     falls: &Falls,
-    s: &TStmt,
-    lengths: &mut Vec<u64>,
+    s: &'p TStmt,
+    loops: &mut Vec<Loop<'p>>,
 ) -> Result<(), AllocError>
     requires falls { AreFalls (program_of program.now) falls.now.channels.items falls.now.writes.items }
     requires process { IsProcess program.now.channels program.now.vars (process_of s.now) }
-    ensures { OnOk result (lengths.new.items
-        ≡ lengths.old.items ++ map capped (loops_within (program_of program.now) (process_of s.now))) }
+    ensures { OnOk result (map loop_of loops.new.items
+        ≡ map loop_of loops.old.items
+        ++ map capped_loop (loops_within (program_of program.now) (process_of s.now))) }
 {
     match s {
         TStmt::Then { parts } | TStmt::Beside { parts } => {
             for part in parts {
-                note_loops(program, falls, part, lengths)?;
+                note_loops(program, falls, part, loops)?;
             }
         }
         TStmt::Select { arms, .. } => {
             for arm in arms {
-                note_loops(program, falls, &arm.body, lengths)?;
+                note_loops(program, falls, &arm.body, loops)?;
             }
         }
         TStmt::Repeat { body } => {
-            lengths.push(within(program, falls, false, s))?;
-            note_loops(program, falls, body, lengths)?;
+            let longest = within(program, falls, false, s);
+            loops.push(Loop {
+                statement: s,
+                longest,
+            })?;
+            note_loops(program, falls, body, loops)?;
         }
         _ => {}
     }
     Ok(())
 }
 
-/// How long the longest way inside of each loop of a program is, in the order of the text; each number saturates at
-/// 2^64 - 1. It fails if memory runs out.
-pub fn loops_of(alloc: Global, program: &Typed) -> Result<Vec<u64>, AllocError>
-    ensures { IfOk result (λ lengths. lengths.items ≡ map capped (loops (program_of program.now))) }
+/// The loops of a program in the order of the text, each with how long the longest way inside of it is. A loop is told
+/// up to statements that are alike. It fails if memory runs out.
+pub fn loops_of<'p>(alloc: Global, program: &'p Typed) -> Result<Vec<Loop<'p>>, AllocError>
+    ensures { IfOk result (λ found. map loop_of found.items ≡ map capped_loop (loops (program_of program.now))) }
 {
     let falls = falls(alloc, program)?;
-    let mut lengths = Vec::new(alloc);
-    note_loops(program, &falls, program.body(), &mut lengths)?;
-    Ok(lengths)
+    let mut found = Vec::new(alloc);
+    note_loops(program, &falls, program.body(), &mut found)?;
+    Ok(found)
 }

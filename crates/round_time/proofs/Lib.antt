@@ -1,4 +1,5 @@
 mod LongestExamples
+mod CallExamples
 mod SumExamples
 pub mod WaysLengths
 mod WaysExamples

@@ -1,5 +1,5 @@
 -- Where the longest way lies, computed for two programs of examples/, and all ways of a small one.
-use Rattle.std.proofs.Common.{◌≡◌, [], ◌∷◌, refl}
+use Rattle.std.proofs.Common.{◌≡◌, [], ◌∷◌, map, refl}
 use Rattle.width_check.specs.Processes.{repeating}
 use Rattle.round_time.specs.Ways.{started, step_of, ended, way, ways, longest_way, loops}
 use Rattle.round_time.proofs.LongestExamples.{all_of, sum, take, give, adder_program, shift_in, shift_program, taken_program}
@@ -9,7 +9,7 @@ adder : longest_way adder_program ≡ way (step_of (take 3 3)) (step_of (give 4 
 adder = refl
 
 -- of its three loops
-adder_loops : loops adder_program ≡ 40 ∷ 51 ∷ 27 ∷ []
+adder_loops : map (λ l. l.length) (loops adder_program) ≡ 40 ∷ 51 ∷ 27 ∷ []
 adder_loops = refl
 
 -- from the bit that is received to the register

@@ -153,22 +153,30 @@ longest_way P = first_longest (to_begin P) (ways_within P P.body ++ to_end P ∷
 
 -- ---- loops
 
--- of each loop the longest way inside of it
+-- a loop, and the length of the longest way inside of it
+pub record Loop : Type 0 where
+  pub statement : Process
+  pub length : ℕ
+
+abbrev pub looping : TypedProgram → (body : Process) → Loop
+looping P p = record { statement = repeating p; length = within P (repeating p) }
+
+-- those of a statement, in the order of the text
 abbrev mutual
-  pub loops_within : TypedProgram → Process → List ℕ
+  pub loops_within : TypedProgram → Process → List Loop
   loops_within P (in_turn members) = each_loops P members
   loops_within P (side_by_side members) = each_loops P members
   loops_within P (choosing again choices) = choice_loops P choices
-  loops_within P (repeating p) = within P (repeating p) ∷ loops_within P p
+  loops_within P (repeating p) = looping P p ∷ loops_within P p
   loops_within P p = []
 
-  pub each_loops : TypedProgram → Processes → List ℕ
+  pub each_loops : TypedProgram → Processes → List Loop
   each_loops P no_members = []
   each_loops P (and_member p more) = loops_within P p ++ each_loops P more
 
-  pub choice_loops : TypedProgram → Choices → List ℕ
+  pub choice_loops : TypedProgram → Choices → List Loop
   choice_loops P no_choices = []
   choice_loops P (and_choice g p more) = loops_within P p ++ choice_loops P more
 
-abbrev pub loops : TypedProgram → List ℕ
+abbrev pub loops : TypedProgram → List Loop
 loops P = loops_within P P.body

@@ -2,7 +2,7 @@ use Rattle.std.proofs.Common.{arith}
 use Rattle.width_check.specs.Typed.{program_of}
 use Rattle.round_time.specs.Phases.{written}
 use Rattle.pace_bound.proofs.Ending.{table_more}
-use Rattle.pace_bound.proofs.phase.writes_fall.Goals as goal
+use Rattle.pace_bound.proofs.phase.stores_fall.Goals as goal
 
 pub loop-place-preserved : goal.loop-place-preserved
 loop-place-preserved c =
