@@ -8,12 +8,13 @@ It goes by the tree of a program, in which each call is a copy of its procedure'
 import os
 import sys
 from dataclasses import replace
+from typing import NamedTuple
 
 sys.path.insert(0, os.path.dirname(os.path.dirname(os.path.abspath(__file__))))
 
 from companion.chp_expr import Node, Use  # noqa: E402
 from companion.chp_reader import read_program  # noqa: E402
-from companion.chp_tree import Expr  # noqa: E402
+from companion.chp_tree import Expr, Stmt  # noqa: E402
 from companion.widths import own  # noqa: E402
 from rounds import Rounds  # noqa: E402
 
@@ -70,6 +71,37 @@ def bits_of(node, width, widths):
     return made
 
 
+class Way(NamedTuple):
+    """So many moves, one behind the other, from the step of one statement to that of another; from power-up, or to the end, where there
+    is none."""
+
+    start: Stmt | None
+    end: Stmt | None
+    length: int
+
+
+def first_name(stmt):
+    """Where the first name stands in a statement's text, if one does."""
+    if stmt.name:
+        return (stmt.start, stmt.start + len(stmt.name))
+    for place, child in enumerate(stmt.children):
+        reads = [node for node in stmt.guards[place].tree.walk() if node.use] if stmt.guards else []
+        if found := (reads[0].start, reads[0].start + len(reads[0].use.name)) if reads else first_name(child):
+            return found
+    return None
+
+
+def placed(word, stmt):
+    """A word, and behind it the place of the statement's first name, if it has one."""
+    at = first_name(stmt)
+    return f"{word} at {at[0]}..{at[1]}" if at else word
+
+
+def point(stmt, none):
+    """How chp_pace tells where a way begins or ends."""
+    return placed("assign" if stmt.kind == "halves" else stmt.kind, stmt) if stmt else none
+
+
 class Model:
     """The bound of a program, and of each statement the parts of it. `let_go` is for how long the request of a statement is high
     once it has answered. Where `halved`, all assignments that read their own target are two, as those of bodies are: to a hidden
@@ -85,7 +117,7 @@ class Model:
 
     def inlined(self, stmt, procs, is_split):
         """The statement with a copy of its body for each call, and with assignments that read their own target as two, if they are
-        split. A body of a group is the group that its call stands in, where they are of one kind."""
+        split."""
         if stmt.kind == "call":
             return self.inlined(procs[stmt.name], procs, True)
         kind = "halves" if is_split and stmt.kind == "through" else stmt.kind
@@ -190,32 +222,70 @@ class Model:
             return max(self.low(*it) for it in inner) + 3 + let_go + 2 * height(len(inner))
         return 1 + max(let_go + 3, *(self.low(*it) for it in inner))
 
+    def first_step(self, stmt):
+        """The statement whose step is the first one of a statement: of a parallel composition the one that is farthest off."""
+        if stmt.kind == "sequence":
+            return self.first_step(stmt.children[0])
+        return self.first_step(max(stmt.children, key=self.first)) if stmt.kind == "parallel" else stmt
+
+    def last_step(self, stmt, let_go):
+        """The statement whose step is the last one: of branches that of the one whose answer falls last."""
+        if stmt.kind not in ("sequence", "parallel", "select"):
+            return stmt
+        inner = list(self.inner(stmt, let_go))
+        return self.last_step(*(inner[-1] if stmt.kind == "sequence" else max(inner, key=lambda it: self.low(*it))))
+
+    def to_next(self, stmt, inner, place):
+        """From the last step of a member of a sequence to the first one of what follows it."""
+        following = inner[place + 1][0]
+        length = self.low(*inner[place]) + 1 + self.first(following) + (place + 2 < len(inner))
+        return Way(self.last_step(*inner[place]), self.first_step(following), length)
+
+    def branch_ways(self, stmt, let_go):
+        """Those within a selection or a repetition."""
+        inner = list(self.inner(stmt, let_go))
+        for it in inner:
+            yield Way(stmt, self.first_step(it[0]), 3 + self.guards(stmt) + self.first(it[0]))
+            yield from self.ways(*it)
+        if stmt.kind == "again":
+            last = max(inner, key=lambda it: self.low(*it))
+            yield Way(self.last_step(*last), stmt, max(4, self.low(*last)) + 4 + self.guards(stmt))
+
     def ways(self, stmt, let_go):
-        """The lengths of the ways within a statement from the steps of one round to those of the next, beside those within
-        the statements in it."""
+        """The ways within a statement from the steps of one round to those of the next, in the order of the text."""
         inner = list(self.inner(stmt, let_go))
         if stmt.kind == "halves":
             # from the first half's step until its rails have fallen, then the bits' nodes and its answer; to that of the second
-            yield self.own_depth(stmt) + 12 + 2 * self.height_of(stmt.name)
-        if stmt.kind == "sequence":
-            for place in range(1, len(inner)):
-                yield self.low(*inner[place - 1]) + 1 + self.first(inner[place][0]) + (place + 1 < len(inner))
-        if stmt.kind == "loop":
-            yield self.first(stmt.children[0])
-            yield self.low(*inner[0]) + 1
+            yield Way(stmt, stmt, self.own_depth(stmt) + 12 + 2 * self.height_of(stmt.name))
         if stmt.kind in ("select", "again"):
-            for it in inner:
-                yield 3 + self.guards(stmt) + self.first(it[0])
-        if stmt.kind == "again":
-            yield max(4, *(self.low(*it) for it in inner)) + 4 + self.guards(stmt)
+            yield from self.branch_ways(stmt, let_go)
+            return
+        if stmt.kind == "loop":
+            yield Way(stmt, self.first_step(stmt.children[0]), self.first(stmt.children[0]))
+        for place, it in enumerate(inner):
+            yield from self.ways(*it)
+            if stmt.kind == "sequence" and place + 1 < len(inner):
+                yield self.to_next(stmt, inner, place)
+        if stmt.kind == "loop":
+            yield Way(self.last_step(*inner[0]), stmt, self.low(*inner[0]) + 1)
 
     def within(self, stmt, let_go):
-        """The longest way within a statement."""
-        return max([0, *self.ways(stmt, let_go), *(self.within(*it) for it in self.inner(stmt, let_go))])
+        """How long the longest way within a statement is."""
+        return max((way.length for way in self.ways(stmt, let_go)), default=0)
+
+    def longest_way(self):
+        """The first one of the longest ways."""
+        begin = Way(None, self.first_step(self.body), 2 + self.first(self.body))
+        end = Way(self.last_step(self.body, 2), None, self.low(self.body, 2) + 2)
+        return max([begin, *self.ways(self.body, 2), end], key=lambda way: way.length)
 
     def longest(self):
-        """The longest way."""
-        return max(2 + self.first(self.body), self.low(self.body, 2) + 2, self.within(self.body, 2))
+        """How long the longest way is."""
+        return self.longest_way().length
+
+    def loops(self):
+        """The loops in the order of the text, each with how long the longest way within it is."""
+        return [(stmt, self.within(stmt, 2)) for stmt in self.body.walk() if stmt.kind == "loop"]
 
 
 class Phases(Model):
@@ -344,6 +414,16 @@ def rounds_sum(text, script, n):
         phases.update({key: model.phase(stmt) for key, stmt in its.items() if key not in phases})
         total, leads = total + leads + 1, max(phases[key] for key in its)
     return total
+
+
+def ways_told(text):
+    """The lines of chp_pace on where the longest way of a program lies, and on its loops."""
+    model = Model(text)
+    way = model.longest_way()
+    yield f"from {point(way.start, 'start')}"
+    yield f"to {point(way.end, 'end')}"
+    for stmt, length in model.loops():
+        yield placed(f"loop {length}", stmt)
 
 
 def told(text, script, most=1000):

@@ -3,12 +3,14 @@
 from __future__ import annotations
 
 import os
+import re
 import subprocess
 import sys
 from collections.abc import Iterator, Sequence
 
 from companion import options, program
 from companion.options import Parser, natural
+from companion.places import Text
 from companion.program import Answer, Ended, Refusal
 from companion.terminal import Progress
 from companion.until import MOST_MOVES
@@ -18,7 +20,9 @@ ABOUT = """\
 Prints what the proved program chp_pace says of a program: `round`, a number that no way of moves from
 the steps of one round to those of the next exceeds where each call has a copy of its procedure's body,
 and `bound`, so many moves, one behind the other, for each of n rounds of the circuit that `compile`
-writes without --buffer. With a script also `rounds`, how many rounds are made under it until no step is
+writes without --buffer; between which statements' steps the longest of these ways lies (`from`, `to`), and
+the longest way within each loop (`loop`), with the line and the column of the first name in each of these.
+With a script also `rounds`, how many rounds are made under it until no step is
 left, 1,000 at most, and `sum`, so many moves, one behind the other, until that circuit has passed what
 these pass. Then it runs the circuit, each move taking 1, and prints for the first rounds that pass
 something new by when the circuit had passed all that so many rounds pass (`-` where the run was too
@@ -52,7 +56,13 @@ def told(source: str, script: str | None) -> tuple[str, int]:
     answer = Answer(program.shell_status(run.returncode), out, err)
     if answer.status:
         raise Ended(["run", *words] if script else words, answer)
-    return answer.text(), int(answer.text().split()[3])
+    return answer.text(), int(re.findall(r"^bound (\d+)$", answer.text(), re.MULTILINE)[0])
+
+
+def placed(text: str, source: str) -> str:
+    """The lines with places as FILE:LINE:COLUMN."""
+    file = Text(source, options.read(source))
+    return re.sub(r"(?<= at )(\d+)\.\.\d+$", lambda at: file.told(int(at[1])), text, flags=re.MULTILINE)
 
 
 def passed(source: str, script: str, rounds: int) -> dict[str, int]:
@@ -100,5 +110,5 @@ def main(words: Sequence[str]) -> int:
         text, bound = told(given.source, given.script)
         lines = list(measured(given.source, given.script, given.rounds, bound)) if given.script else []
         progress.clear()
-    sys.stdout.write(text + "".join(f"{line}\n" for line in lines))
+    sys.stdout.write(placed(text, given.source) + "".join(f"{line}\n" for line in lines))
     return 0

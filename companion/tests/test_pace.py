@@ -41,6 +41,14 @@ class Pace(Case):
         self.assertEqual((ran.status, ran.err), (0, ""))
         self.assertEqual(ran.out, "round 21\nbound 42\nrounds 2\nsum 70\n  rounds    time   bound\n")
 
+    def test_places(self) -> None:
+        """Places in bytes are told by line and column; what has none stays as it is."""
+        self.stand_in(PRINTED + 'printf "from send at 45..46\\nto end\\nloop 9 at 0..2\\nloop 3\\n"\n')
+        source = self.example("one.chp")
+        ran = self.chpx("pace", source)
+        wanted = f"round 21\nbound 42\nfrom send at {source}:3:7\nto end\nloop 9 at {source}:1:1\nloop 3\n"
+        self.assertEqual((ran.status, ran.out, ran.err), (0, wanted, ""))
+
     def test_no_script(self) -> None:
         """A script that chp_pace refuses is told as by `run`."""
         self.stand_in(NO_SCRIPT)

@@ -5,8 +5,7 @@ use Rattle.chp_edge.specs.Faults.{Rose, IsReadFault}
 use Rattle.chp_syntax.specs.Trees.{ProgramTree}
 use Rattle.width_check.specs.Form.{typed_form}
 use Rattle.width_check.specs.Processes.{TypedProgram}
-use Rattle.handshake_expand.specs.Layout.{capped}
-use Rattle.round_time.specs.Longest.{longest}
+use Rattle.round_time.specs.Ways.{Way}
 use Rattle.command_answers.specs.declared.answer.Ending.{Ending}
 use Rattle.command_answers.specs.declared.answer.Ending.TheVariants as ending
 use Rattle.command_answers.specs.declared.answer.Stop.{Stop}
@@ -20,7 +19,7 @@ use Rattle.command_answers.specs.Statuses.{is_whole}
 use Rattle.command_answers.proofs.StatusKinds.{no_refusal, refusing_status}
 use Rattle.command_steps.specs.RunSteps.{a_script}
 use Rattle.command_steps.specs.Steps.{a_file, a_program, accepted}
-use Rattle.pace_command.specs.Pacing.{AskedPace, IsBound, IsPaceOf, Paces, PacesUnder, SummedIf, unscripted, scripted, files_of, pace_text, sum_lines}
+use Rattle.pace_command.specs.Pacing.{AskedPace, IsBound, IsLongestIfCounted, IsPaceOf, Paces, PacesUnder, SummedIf, unscripted, scripted, files_of, pace_text, sum_lines}
 use Rattle.pace_command.specs.Ends.{Counts, Ends, formless, whole, cut_off, refused, unread, no_memory}
 
 -- ---- what is written is the text for the program of the file, and for the script
@@ -30,17 +29,29 @@ record Said (given : Given) (file : Option (List ℕ)) (program : ProgramTree) (
   is_done : end ≡ ending.Done
   bound : ℕ
   bounds : IsBound program plain bound
+  way : Way
+  lies : IsLongestIfCounted plain way
   under : SummedIf given program plain file
-  told : text ≡ pace_text (capped (longest plain)) bound ++ sum_lines under
+  told : text ≡ pace_text plain bound way ++ sum_lines under
 
 said : (given : Given) (file : Option (List ℕ)) (program : ProgramTree) (plain : TypedProgram) (end : Ending) (text : List ℕ)
     → PacesUnder given file program plain (writes end text) → Said given file program plain end text
 said given None program plain end text report =
-    record { is_done = cc report.told; bound = report.bound; bounds = report.bounds; under = unscripted; told = cc report.told }
+    record {
+      is_done = cc report.told;
+      bound = report.bound;
+      bounds = report.bounds;
+      way = report.way;
+      lies = report.lies;
+      under = unscripted;
+      told = cc report.told;
+    }
 said given (Some file) program plain end text (a_file {text = x} gives short (a_script is more)) = record {
   is_done = cc more.report.told;
   bound = more.report.bound;
   bounds = more.report.bounds;
+  way = more.report.way;
+  lies = more.report.lies;
   under = scripted (record { text = x; gives = gives; short = short; is = is }) more.of;
   told = cc more.report.told;
 }
@@ -61,6 +72,8 @@ pace_of given asked end text (a_file {text = x} gives short (a_program {program 
         accepted = are;
         bound = it.bound;
         bounds = it.bounds;
+        way = it.way;
+        lies = it.lies;
         under = it.under;
         told = it.told;
       },

@@ -1,4 +1,6 @@
 pub mod Targets
+pub mod FirstNames
+pub mod WayTexts
 pub mod Pacing
 pub mod Names
 pub mod Kept

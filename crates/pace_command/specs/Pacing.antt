@@ -1,5 +1,5 @@
 -- What is answered for a program, and maybe a script of it: how long its rounds take at most.
-use Rattle.std.specs.Prelude.{◌≡◌, ◌⊎◌, ℕ, ◌*◌, ◌<◌, ◌≤◌, List, [], ◌∷◌, ◌++◌, length, Option, Some, None, codes, decimal, if◌then◌else◌, option_to_list}
+use Rattle.std.specs.Prelude.{◌≡◌, ◌⊎◌, ℕ, ◌*◌, ◌<◌, ◌≤◌, ◌^◌, ◌-◌, map, List, [], ◌∷◌, ◌++◌, length, Option, Some, None, codes, decimal, if◌then◌else◌, option_to_list}
 use Rattle.std.specs.List.{concat}
 use Rattle.chp_syntax.specs.Trees.{ProgramTree}
 use Rattle.env_script.specs.Scripts.{OfferValue}
@@ -13,6 +13,8 @@ use Rattle.chp_meaning.specs.Rounds.{rounds}
 use Rattle.handshake_expand.specs.Layout.{capped}
 use Rattle.round_time.specs.Longest.{longest}
 use Rattle.round_time.specs.Sums.{rounds_sum}
+use Rattle.round_time.specs.Ways.{Way, longest_way, loops}
+use Rattle.pace_bound.specs.Whereabouts.{capped_loop}
 use Rattle.command_answers.specs.declared.answer.Ending.TheVariants.{Done}
 use Rattle.command_answers.specs.Answers.{Given, Gives, Answer, writes}
 use Rattle.command_steps.specs.Held.{HoldsScript}
@@ -20,6 +22,7 @@ use Rattle.command_steps.specs.Inlined.{Means}
 use Rattle.command_steps.specs.RunSteps.{FromScript, most_of_script}
 use Rattle.command_steps.specs.Steps.{FromChecks, FromFile, FromProgram, IsTextOf, most_of_text}
 use Rattle.pace_command.specs.Targets.{reads_target}
+use Rattle.pace_command.specs.WayTexts.{way_text, loops_text}
 
 -- ---- a round, and rounds under a script
 
@@ -72,9 +75,15 @@ pub record RoundsSummed (program : ProgramTree) (plain : TypedProgram) (script :
 abbrev pub number_line : (word : List ℕ) → ℕ → List ℕ
 number_line word n = concat (word ∷ codes " " ∷ decimal n ∷ codes "\n" ∷ [])
 
--- the two lines of a program
-abbrev pub pace_text : (round bound : ℕ) → List ℕ
-pace_text round bound = number_line (codes "round") round ++ number_line (codes "bound") bound
+-- a way is the longest one, if that has fewer than 2^64 - 1 moves
+abbrev pub IsLongestIfCounted : TypedProgram → Way → Type 0
+IsLongestIfCounted p way = longest p < 2 ^ 64 - 1 → way ≡ longest_way p
+
+-- the lines of a program
+abbrev pub pace_text : TypedProgram → (bound : ℕ) → Way → List ℕ
+pace_text p bound way = concat (
+    number_line (codes "round") (capped (longest p)) ∷ number_line (codes "bound") bound
+    ∷ way_text way ∷ loops_text (map capped_loop (loops p)) ∷ [])
 
 -- and two more under a script
 abbrev pub sum_text : (rounds sum : ℕ) → List ℕ
@@ -84,7 +93,9 @@ sum_text rounds sum = number_line (codes "rounds") rounds ++ number_line (codes 
 pub record PaceReport (program : ProgramTree) (plain : TypedProgram) (more : List ℕ) (answer : Answer) : Type 0 where
   pub bound : ℕ
   pub bounds : IsBound program plain bound
-  pub told : answer ≡ writes Done (pace_text (capped (longest plain)) bound ++ more)
+  pub way : Way
+  pub lies : IsLongestIfCounted plain way
+  pub told : answer ≡ writes Done (pace_text plain bound way ++ more)
 
 -- the text for it and its script
 pub record SumReport (program : ProgramTree) (plain : TypedProgram) (script : List OfferValue) (answer : Answer) :
@@ -143,5 +154,7 @@ pub record IsPaceOf (given : Given) (asked : AskedPace) (output : List ℕ) : Ty
   pub accepted : IsAccepted plain
   pub bound : ℕ
   pub bounds : IsBound program (typed_form plain) bound
+  pub way : Way
+  pub lies : IsLongestIfCounted (typed_form plain) way
   pub under : SummedIf given program (typed_form plain) asked.script
-  pub told : output ≡ pace_text (capped (longest (typed_form plain))) bound ++ sum_lines under
+  pub told : output ≡ pace_text (typed_form plain) bound way ++ sum_lines under

@@ -1,6 +1,6 @@
 //! What is printed of an accepted program.
 
-ghost use Rattle.std.specs.Prelude.{◌≡◌, ◌++◌, ◌*◌, ℕ, List, [], IfOk, OnOk};
+ghost use Rattle.std.specs.Prelude.{◌≡◌, ◌++◌, ◌*◌, ℕ, List, [], map, IfOk, OnOk};
 ghost use Rattle.chp_syntax.specs.View.{program_tree};
 ghost use Rattle.env_script.specs.Scripts.{IsScript, OfferValue};
 ghost use Rattle.width_check.specs.Sharing.{MeetsSharing};
@@ -9,71 +9,49 @@ ghost use Rattle.width_check.specs.View.{process_of};
 ghost use Rattle.handshake_expand.specs.Layout.{capped};
 ghost use Rattle.round_time.specs.Longest.{longest};
 ghost use Rattle.round_time.specs.Sums.{rounds_sum};
+ghost use Rattle.round_time.specs.Ways as told;
+ghost use Rattle.round_time.specs.Ways.{longest_way, loops};
+ghost use Rattle.command_answers.specs.declared.answer.Ending.TheVariants.{Done};
+ghost use Rattle.command_answers.specs.Answers.{writes};
 ghost use Rattle.command_answers.specs.Replies.{told_answer};
-ghost use Rattle.pace_command.specs.Pacing.{IsCompiled, PaceReport, SumReport, number_line, pace_text, sum_text, whole_bound, whole_sum};
+ghost use Rattle.pace_bound.specs.Whereabouts.{IsWay, capped_loop};
+ghost use Rattle.pace_command.specs.Pacing.{IsCompiled, IsLongestIfCounted, PaceReport, SumReport, whole_bound, whole_sum};
+ghost use Rattle.pace_command.specs.WayTexts.{way_text, loops_text};
 
+use crate::lines::{add_line, add_loops, add_sum, add_way};
 use crate::targets::reads_target;
 use chp_syntax::Program;
 use command_answers::{Ending, Output};
 use env_script::Script;
-use itoa::Buffer;
-use pace_bound::{RunSum, longest_in_halves, longest_of, sum_of_rounds};
+use pace_bound::{RunSum, Way, longest_in_halves, longest_way, loops_of, sum_of_rounds};
 use std::alloc::{AllocError, Global};
 use width_check::{Typed, is_call_free};
 
 /// The most rounds that are made under a script.
 const MOST_OF_ROUNDS: u32 = 1000;
 
-/// Adds a word and its number.
-fn add_line(text: &mut Vec<u8>, word: &[u8], number: u64) -> Result<(), AllocError>
-    ensures { OnOk result (text.new.items ≡ text.old.items ++ number_line word.now number) }
-{
-    let mut digits = Buffer::new();
-    text.extend_from_slice(word)?;
-    text.extend_from_slice(b" ")?;
-    text.extend_from_slice(digits.format(number).as_bytes())?;
-    text.extend_from_slice(b"\n")
-}
-
-/// The two lines of a program.
-fn pace_text(alloc: Global, round: u64, bound: u64) -> Result<Vec<u8>, AllocError>
-    ensures { IfOk result (λ text. text.items ≡ pace_text round bound) }
-{
-    let mut text = Vec::new(alloc);
-    add_line(&mut text, b"round", round)?;
-    add_line(&mut text, b"bound", bound)?;
-    Ok(text)
-}
-
-/// Adds the two lines of its rounds under a script.
-fn add_sum(text: &mut Vec<u8>, rounds: u32, sum: u64) -> Result<(), AllocError>
-    ensures { OnOk result (text.new.items ≡ text.old.items ++ sum_text rounds sum) }
-{
-    add_line(text, b"rounds", rounds as u64)?;
-    add_line(text, b"sum", sum)
-}
-
 /// How long a round lasts at most where each call has a copy.
 #[derive(Clone, Copy)]
-struct Round {
+struct Round<'p> {
     /// The longest way from the steps of one round to those of the next.
-    longest: u64,
+    way: Way<'p>,
     /// What is proved of the circuit.
     bound: u64,
 }
 
-/// These two numbers of a program.
-fn round_of(alloc: Global, program: &Typed) -> Result<Round, AllocError>
-    ensures longest { IfOk result (λ round. round.longest ≡ capped (longest (typed_of program.now))) }
+/// Both of a program.
+fn round_of<'p>(alloc: Global, program: &'p Typed) -> Result<Round<'p>, AllocError>
+    ensures way { IfOk result (λ round. IsWay (longest_way (typed_of program.now)) round.way) }
+    ensures longest { IfOk result (λ round. round.way.length ≡ capped (longest (typed_of program.now))) }
     ensures bound { IfOk result (λ round. round.bound ≡ capped (whole_bound (typed_of program.now))) }
 {
-    let longest = longest_of(alloc, program)?;
+    let way = longest_way(alloc, program)?;
     let bound = if reads_target(program.body()) {
         longest_in_halves(alloc, program)?.saturating_mul(2)
     } else {
-        longest
+        way.length
     };
-    Ok(Round { longest, bound })
+    Ok(Round { way, bound })
 }
 
 /// What the rounds of a run come to where each call has a copy, and any round has this bound.
@@ -102,6 +80,44 @@ fn compiled(program: &Program, copied: u64) -> u64
     }
 }
 
+/// Adds where the longest way of a program lies, and its loops.
+fn add_ways(
+    alloc: Global,
+    text: &mut Vec<u8>,
+    plain: &Typed,
+    way: &Way<'_>,
+) -> Result<(), AllocError>
+    requires way { IsWay (longest_way (typed_of plain.now)) way.now }
+    requires longest { way.now.length ≡ capped (longest (typed_of plain.now)) }
+    ensures { OnOk result ((lies : told.Way) × IsLongestIfCounted (typed_of plain.now) lies
+        × (text.new.items ≡ text.old.items ++ way_text lies
+        ++ loops_text (map capped_loop (loops (typed_of plain.now))))) }
+{
+    add_way(text, way)?;
+    let loops = loops_of(alloc, plain)?;
+    add_loops(text, &loops)
+}
+
+/// The lines of a program, of which this is the checked form, with what is known of a round.
+fn pace_text(
+    alloc: Global,
+    program: &Program,
+    plain: &Typed,
+    round: &Round<'_>,
+) -> Result<Vec<u8>, AllocError>
+    requires way { IsWay (longest_way (typed_of plain.now)) round.now.way }
+    requires longest { round.now.way.length ≡ capped (longest (typed_of plain.now)) }
+    requires bound { round.now.bound ≡ capped (whole_bound (typed_of plain.now)) }
+    ensures { IfOk result (λ text.
+        PaceReport (program_tree program.now) (typed_of plain.now) [] (writes Done text.items)) }
+{
+    let mut text = Vec::new(alloc);
+    add_line(&mut text, b"round", round.way.length)?;
+    add_line(&mut text, b"bound", compiled(program, round.bound))?;
+    add_ways(alloc, &mut text, plain, &round.way)?;
+    Ok(text)
+}
+
 /// What is printed of an accepted program, of which this is the checked form.
 pub(crate) fn pace_report(
     alloc: Global,
@@ -112,7 +128,7 @@ pub(crate) fn pace_report(
         PaceReport (program_tree program.now) (typed_of plain.now) [] (told_answer output)) }
 {
     let round = round_of(alloc, plain)?;
-    let text = pace_text(alloc, round.longest, compiled(program, round.bound))?;
+    let text = pace_text(alloc, program, plain, &round)?;
     Ok(Output {
         text,
         end: Ending::Done,
@@ -134,7 +150,7 @@ pub(crate) fn sum_report(
     let round = round_of(alloc, plain)?;
     let run = sum_of_rounds(alloc, plain, script, MOST_OF_ROUNDS)?;
     let sum = whole_sum(plain, &run, round.bound);
-    let mut text = pace_text(alloc, round.longest, compiled(program, round.bound))?;
+    let mut text = pace_text(alloc, program, plain, &round)?;
     add_sum(&mut text, run.rounds, compiled(program, sum))?;
     Ok(Output {
         text,
