@@ -32,8 +32,8 @@ impl Model for NodeIndex {
     ghost invariant = { λ i. IsIndexed i.names.items i.slots.items i.others };
 }
 
-/// The most slots, two for each node of the largest file.
-const MOST_SLOTS: usize = 131_072;
+/// The most slots, four for each node of the largest file.
+const MOST_SLOTS: usize = 262_144;
 
 /// What a free slot has, which is the number of no node.
 const FREE: u32 = u32::MAX;
