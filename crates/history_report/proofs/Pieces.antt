@@ -4,8 +4,8 @@ use Rattle.std.specs.Prelude.{◌==◌}
 use Rattle.std.specs.List.{flat_map}
 use Rattle.std.specs.declared.alloc.Global.{Global}
 use Rattle.std.specs.declared.vec.Vec.{Vec}
-use Rattle.std.proofs.lemmas.Bool.{eq-eqb, ne_eqb, cases_eq}
-use Rattle.std.proofs.lemmas.List.{append-nil, drop_all, drop_more, flat_map_more, get_or-map, get_or-replicate, get_or-set_other, get_or-set_same, length-map, length-replicate, length-set, map-append, same_lists, take_more}
+use Rattle.std.proofs.lemmas.Bool.{eq-eqb, ne_eqb, cases_eq, cases_lt}
+use Rattle.std.proofs.lemmas.List.{append-nil, drop_all, drop_more, flat_map_more, get_or-map, get_or-replicate, get_or-set_other, get_or-set_same, length-map, length-replicate, length-set, map-append, same_lists, set_past, take_more}
 use Rattle.std.proofs.lemmas.List.Elements.{filter-append}
 use Rattle.std.proofs.lemmas.List.FromFn.{get_or-map-range_with_len, length-map-range_with_len}
 use Rattle.prs_core.specs.declared.wires.Wires.{Wires}
@@ -67,8 +67,8 @@ module _ (channels : ℕ) (passed : List (ℕ × ℕ)) (i : ℕ) (within : i < l
   count : (xs : List (ℕ × ℕ)) → length (channel_histories channels xs) ≡ channels
   count xs = length-map-range_with_len (λ c. values_through c xs) 0 channels
 
-  pub noted : chan < channels → set before chan (get_or before chan [] ++ value ∷ []) ≡ after
-  noted inside = same_lists _ after (length-set before chan _ ∙ count (take i passed) ∙ sym (count (take (i + 1) passed))) each
+  noted_inside : chan < channels → set before chan (get_or before chan [] ++ value ∷ []) ≡ after
+  noted_inside inside = same_lists _ after (length-set before chan _ ∙ count (take i passed) ∙ sym (count (take (i + 1) passed))) each
     where
       by_channel : (k : ℕ) (d : List ℕ) → k < channels → (k ≡ chan) ⊎ (k ≡ chan → ⊥) →
           get_or (set before chan (get_or before chan [] ++ value ∷ [])) k d ≡ get_or after k d
@@ -87,7 +87,7 @@ module _ (channels : ℕ) (passed : List (ℕ × ℕ)) (i : ℕ) (within : i < l
           by_channel k d (omega (arith, below, length-set before chan (get_or before chan [] ++ value ∷ []), count (take i passed))) (cases_eq k chan)
 
   -- a channel that isn't one of these
-  pub passed_over : channels ≤ chan → before ≡ after
+  passed_over : channels ≤ chan → before ≡ after
   passed_over outside = same_lists before after (count (take i passed) ∙ sym (count (take (i + 1) passed))) each
     where
       each : (k : ℕ) (d : List ℕ) → k < length before → get_or before k d ≡ get_or after k d
@@ -95,6 +95,14 @@ module _ (channels : ℕ) (passed : List (ℕ × ℕ)) (i : ℕ) (within : i < l
           let inside : k < channels = omega (arith, below, count (take i passed)) in
           at k d (take i passed) inside ∙ sym (no_value_more k passed i within (λ is. absurd (omega (arith, is, inside, outside))))
           ∙ sym (at k d (take (i + 1) passed) inside)
+
+  pub noted : set before chan (get_or before chan [] ++ value ∷ []) ≡ after
+  noted = by_order (cases_lt chan channels)
+    where
+      by_order : (chan < channels) ⊎ (channels ≤ chan) → set before chan (get_or before chan [] ++ value ∷ []) ≡ after
+      by_order (inl inside) = noted_inside inside
+      by_order (inr outside) =
+          set_past before chan (get_or before chan [] ++ value ∷ []) (omega (arith, outside, count (take i passed))) ∙ passed_over outside
 
 pub none_passed : (channels : ℕ) → replicate channels [] ≡ channel_histories channels []
 none_passed channels = same_lists (replicate channels []) (channel_histories channels []) (length-replicate channels [] ∙ sym count) each

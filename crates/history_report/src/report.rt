@@ -122,12 +122,14 @@ fn no_histories(alloc: Global, channels: usize) -> Result<Vec<Vec<u64>>, AllocEr
     Ok(histories)
 }
 
-/// Appends the value to the history of the channel of this number.
+/// Appends the value to the history of the channel of this number, if there is one.
 fn note(histories: &mut [Vec<u64>], chan: usize, value: u64) -> Result<(), AllocError>
-    requires { chan < length histories.old }
     ensures { OnOk result (items_of histories.new ≡ slice_set (items_of histories.old) chan
         (slice_index_or (items_of histories.old) chan [] ++ value ∷ [])) }
 {
+    if chan >= histories.len() {
+        return Ok(());
+    }
     histories[chan].push(value)?;
     Ok(())
 }
@@ -142,14 +144,12 @@ fn histories_of(
 {
     let mut histories = no_histories(alloc, channels)?;
     for (chan, value) in passed {
-        if (*chan as usize) < channels {
-            note(&mut histories, *chan as usize, *value)?;
-        }
+        note(&mut histories, *chan as usize, *value)?;
     }
     Ok(histories)
 }
 
-/// Appends a line for each channel. Its values are sought out of all that passed once, and not once for each channel.
+/// Appends a line for each channel. One pass gives each of them its values, however many channels there are.
 fn history_lines(
     channels: &[Wires],
     passed: &[(u32, u64)],
