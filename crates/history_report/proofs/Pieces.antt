@@ -104,15 +104,19 @@ module _ (channels : ℕ) (passed : List (ℕ × ℕ)) (i : ℕ) (within : i < l
       by_order (inr outside) =
           set_past before chan (get_or before chan [] ++ value ∷ []) (omega (arith, outside, count (take i passed))) ∙ passed_over outside
 
-pub none_passed : (channels : ℕ) → replicate channels [] ≡ channel_histories channels []
-none_passed channels = same_lists (replicate channels []) (channel_histories channels []) (length-replicate channels [] ∙ sym count) each
+abbrev pub empty : ℕ → List (List ℕ)
+empty channels = replicate channels []
+
+pub none_passed : (channels : ℕ) → empty channels ≡ channel_histories channels []
+none_passed channels = same_lists (empty channels) (channel_histories channels []) (length-replicate channels [] ∙ sym count) each
   where
     count : length (channel_histories channels []) ≡ channels
     count = length-map-range_with_len (λ c. values_through c []) 0 channels
 
-    each : (k : ℕ) (d : List ℕ) → k < length (replicate channels []) → get_or (replicate channels []) k d ≡ get_or (channel_histories channels []) k d
+    each : (k : ℕ) (d : List ℕ) → k < length (empty channels) → get_or (empty channels) k d ≡ get_or (channel_histories channels []) k d
     each k d below =
-        let inside : k < channels = omega (arith, below, length-replicate channels []) in
+        let size : length (empty channels) ≡ channels = length-replicate channels [] in
+        let inside : k < channels = omega (arith, below, size) in
         get_or-replicate channels k [] d inside
         ∙ sym (get_or-map-range_with_len (λ c. values_through c []) 0 channels k k d inside (omega arith))
 

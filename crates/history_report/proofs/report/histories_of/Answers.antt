@@ -1,6 +1,7 @@
-use Rattle.std.proofs.Common.{List, ℕ, [], ◌∷◌, ◌++◌, get_or, set, take, ap, ◌∙◌}
+use Rattle.std.proofs.Common.{◌≡◌, List, ℕ, [], ◌∷◌, ◌++◌, length, get_or, set, sym, ap, ◌∙◌}
+use Rattle.chp_meaning.specs.Standing.{items_of}
 use Rattle.event_sim.specs.Passing.{channel_histories}
-use Rattle.std.proofs.lemmas.List.{take_all}
+use Rattle.std.proofs.lemmas.List.{take_all, with_items_is}
 use Rattle.history_report.proofs.Pieces.{none_passed, noted}
 use Rattle.history_report.proofs.report.histories_of.Goals as goal
 
@@ -9,10 +10,13 @@ loop-chan-init c = c.in_ok-histories.ensures ∙ none_passed c.args.channels
 
 pub loop-chan-preserved : goal.loop-chan-preserved
 loop-chan-preserved c =
+    let l = c.loop-chan in
     let passed = c.args.passed.now in
-    let i = c.loop-chan.chan-index in
+    let i = l.chan-index in
     let here = get_or passed i (0, 0) in
-    c.in_ok-note.ensures ∙ ap (λ (hs : List (List ℕ)). set hs here.0 (get_or hs here.0 [] ++ here.1 ∷ [])) c.loop-chan.invariant
+    let kept : length c.note.new.histories ≡ l.histories.len = c.note.auto.histories ∙ ap length c.deref_mut.ensures.value ∙ sym l.histories.ok.0 in
+    ap items_of (with_items_is l.histories c.note.new.histories kept) ∙ c.in_ok-note.ensures
+    ∙ ap (λ (hs : List (List ℕ)). set hs here.0 (get_or hs here.0 [] ++ here.1 ∷ [])) (ap items_of c.deref_mut.ensures.value ∙ l.invariant)
     ∙ noted c.args.channels passed i c.loop-chan-test.true
 
 pub returns : goal.returns
