@@ -1,4 +1,4 @@
-use Rattle.std.proofs.Common.{◌≡◌, ◌++◌, ◌∷◌, [], ◌<◌, ◌≤◌, length, get_or, set, sym, ap, ◌∙◌, subst}
+use Rattle.std.proofs.Common.{◌++◌, ◌∷◌, [], ◌<◌, ◌≤◌, length, get_or, set, sym, ap, ◌∙◌, subst}
 use Rattle.prs_file.specs.Indexes.{slot_in, IsIndexed}
 use Rattle.prs_file.proofs.Names.{noted_in_slot, noted_with_others}
 use Rattle.prs_file.proofs.index.note.Goals as goal
