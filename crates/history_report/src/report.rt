@@ -1,12 +1,14 @@
 //! The report of a run.
 
-ghost use Rattle.std.specs.Prelude.{◌≡◌, ◌++◌, ◌<◌, ◌^◌, ℕ, length, codes, decimal, IfOk, OnOk};
+ghost use Rattle.std.specs.Prelude.{◌≡◌, ◌++◌, ◌∷◌, ◌<◌, [], length, replicate, slice_index_or, slice_set, codes, decimal, IfOk, OnOk};
 ghost use Rattle.std.specs.List.{flat_map};
+ghost use Rattle.chp_meaning.specs.Standing.{items_of};
 ghost use Rattle.prs_core.specs.Nets.{name_at};
-ghost use Rattle.event_sim.specs.Passing.{values_through};
+ghost use Rattle.event_sim.specs.Passing.{channel_histories};
 ghost use Rattle.event_sim.specs.Simulating.{IsEndIn};
-ghost use Rattle.history_report.specs.Reports.{channel_name, hazard_line, ending_line, moves_line, time_line, done_line, value_words, channel_line, history_lines, report_of};
+ghost use Rattle.history_report.specs.Reports.{channel_name, hazard_line, ending_line, moves_line, time_line, done_line, history_lines, report_of};
 
+use crate::rounds::passed_line;
 use event_sim::{End, Ran};
 use itoa::Buffer;
 use prs_core::{Net, Wires};
@@ -109,44 +111,55 @@ pub(crate) fn value_word(value: u64, to: &mut Vec<u8>) -> Result<(), AllocError>
     append(to, &[b" ", number])
 }
 
-/// Appends the values that passed on the channel of this number.
-fn value_words(passed: &[(u32, u64)], chan: u32, to: &mut Vec<u8>) -> Result<(), AllocError>
-    ensures { OnOk result (to.new.items ≡ to.old.items ++ value_words (values_through chan passed.now)) }
+/// So many empty histories.
+fn no_histories(alloc: Global, channels: usize) -> Result<Vec<Vec<u64>>, AllocError>
+    ensures { IfOk result (λ histories. items_of histories.items ≡ replicate channels []) }
 {
-    for (on, value) in passed {
-        if *on == chan {
-            value_word(*value, to)?;
-        }
+    let mut histories = Vec::new(alloc);
+    for _made in 0..channels {
+        histories.push(Vec::new(alloc))?;
     }
+    Ok(histories)
+}
+
+/// Appends the value to the history of the channel of this number, if there is one.
+fn note(histories: &mut [Vec<u64>], chan: usize, value: u64) -> Result<(), AllocError>
+    ensures { OnOk result (items_of histories.new ≡ slice_set (items_of histories.old) chan
+        (slice_index_or (items_of histories.old) chan [] ++ value ∷ [])) }
+{
+    if chan >= histories.len() {
+        return Ok(());
+    }
+    histories[chan].push(value)?;
     Ok(())
 }
 
-/// Appends the line of the channel of this number.
-fn channel_line(
-    wires: &Wires,
+/// The values that passed on each of so many channels.
+fn histories_of(
+    alloc: Global,
+    channels: usize,
     passed: &[(u32, u64)],
-    chan: u32,
-    to: &mut Vec<u8>,
-) -> Result<(), AllocError>
-    ensures { OnOk result (to.new.items ≡ to.old.items
-        ++ channel_line wires.now.channel.name (values_through chan passed.now)) }
+) -> Result<Vec<Vec<u64>>, AllocError>
+    ensures { IfOk result (λ histories. items_of histories.items ≡ channel_histories channels passed.now) }
 {
-    append(to, &[wires.channel.name.bytes(), b":"])
-        .and(value_words(passed, chan, to))
-        .and(append(to, &[b"\n"]))
+    let mut histories = no_histories(alloc, channels)?;
+    for (chan, value) in passed {
+        note(&mut histories, *chan as usize, *value)?;
+    }
+    Ok(histories)
 }
 
-/// Appends a line for each channel.
+/// Appends a line for each channel. One pass gives each of them its values, however many channels there are.
 fn history_lines(
     channels: &[Wires],
     passed: &[(u32, u64)],
     to: &mut Vec<u8>,
 ) -> Result<(), AllocError>
-    requires { length channels.now < 2 ^ 32 }
     ensures { OnOk result (to.new.items ≡ to.old.items ++ history_lines passed.now 0 channels.now) }
 {
-    for chan in 0..channels.len() as u32 {
-        channel_line(&channels[chan as usize], passed, chan, to)?;
+    let histories = histories_of(*to.allocator(), channels.len(), passed)?;
+    for chan in 0..channels.len() {
+        passed_line(&channels[chan].channel.name, &histories[chan], to)?;
     }
     Ok(())
 }

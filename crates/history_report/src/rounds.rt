@@ -45,7 +45,7 @@ fn words_of(values: &[u64], to: &mut Vec<u8>) -> Result<(), AllocError>
 }
 
 /// Appends the line of the channel of this name, on which these values have passed.
-fn passed_line(name: &Name, values: &[u64], to: &mut Vec<u8>) -> Result<(), AllocError>
+pub(crate) fn passed_line(name: &Name, values: &[u64], to: &mut Vec<u8>) -> Result<(), AllocError>
     ensures { OnOk result (to.new.items ≡ to.old.items ++ channel_line name.now values.now) }
 {
     append(to, &[name.bytes(), b":"])

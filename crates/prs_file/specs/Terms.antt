@@ -1,5 +1,5 @@
 -- The terms of a guard, from its literals with their leads, and back.
-use Rattle.std.specs.Prelude.{ℕ, Bool, ◌||◌, is_none, List, [], ◌∷◌, ◌++◌}
+use Rattle.std.specs.Prelude.{ℕ, Bool, true, false, ◌||◌, is_none, List, [], ◌∷◌, ◌++◌}
 use Rattle.std.specs.List.{list_any}
 use Rattle.prs_file.specs.Indexes.{place_in}
 use Rattle.prs_file.specs.declared.forms.Lead.{Lead}
@@ -12,6 +12,12 @@ signed_of l = record { high = l.high; name = l.name }
 
 abbrev pub led_by : Lead → Signed → Led
 led_by lead s = record { lead = lead; high = s.high; name = s.name }
+
+-- a sign of disjunction leads to the first literal of a further term
+abbrev pub begins_term : Lead → Bool
+begins_term Rule = false
+begins_term And = false
+begins_term Or = true
 
 -- a literal prepended to the first term, or as a term of its own, by what leads to the next literal
 abbrev pub in_front : Signed → List (List Signed) → List (List Signed)

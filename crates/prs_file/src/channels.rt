@@ -58,7 +58,7 @@ pub fn read_channels<'a>(
         (text_behind (nodes_told nodes.now.version nodes.now.index nodes.now.first.items) text.now) fault line)) }
 {
     let mut channels: Vec<Wires> = Vec::new(alloc);
-    let mut names = NodeIndex::new(alloc);
+    let mut names = NodeIndex::new(alloc, nodes.index.len() / 2)?;
     let mut rest = text;
     while let Some((channel, behind)) = next_channel(alloc, rest)? {
         let line = (nodes.index.len() + channels.len()) as u32 + 2;

@@ -1,12 +1,12 @@
 //! The guards of rules, by the numbers of nodes.
 
-ghost use Rattle.std.specs.Prelude.{◌≡◌, ◌<◌, ◌++◌, ◌∷◌, [], List, Some, None, true, false, length, is_none, IfOk, IfSome, IfNone, OnOk};
-ghost use Rattle.std.specs.List.{list_any};
+ghost use Rattle.std.specs.Prelude.{◌≡◌, ◌<◌, ◌+◌, ◌++◌, ◌∷◌, [], List, Some, None, true, false, length, is_none, IfOk, IfSome, IfNone, OnOk};
+ghost use Rattle.std.specs.List.{count_by, list_any};
 ghost use Rattle.prs_core.specs.Nets.{IsBelow};
 ghost use Rattle.prs_file.specs.declared.rule.Led.{Led as LedValue};
 ghost use Rattle.prs_file.specs.Indexes.{place_in};
 ghost use Rattle.prs_file.specs.Named.{guard_named, add_by};
-ghost use Rattle.prs_file.specs.Terms.{terms_of};
+ghost use Rattle.prs_file.specs.Terms.{begins_term, terms_of};
 
 use crate::forms::Lead;
 use crate::index::NodeIndex;
@@ -54,6 +54,28 @@ fn add_literal(
     Ok(())
 }
 
+fn begins_term(lead: Lead) -> bool
+    ensures { result ≡ begins_term lead }
+{
+    match lead {
+        Lead::Rule | Lead::And => false,
+        Lead::Or => true,
+    }
+}
+
+/// The number of terms of a first literal and these further ones.
+fn term_count(further: &[Led]) -> usize
+    ensures { result ≡ count_by (λ (l : LedValue). begins_term l.lead) further.now + 1 }
+{
+    let mut count = 1;
+    for led in further {
+        if begins_term(led.lead) {
+            count += 1;
+        }
+    }
+    count
+}
+
 /// The guard of these literals, or None if one of them names no node.
 pub fn guard_of(alloc: Global, index: &NodeIndex, leds: &[Led]) -> Result<Option<Guard>, AllocError>
     ensures named { IfOk result (λ o. IfSome o (λ guard. guard_named index.now guard ≡ terms_of leds.now)) }
@@ -69,7 +91,7 @@ pub fn guard_of(alloc: Global, index: &NodeIndex, leds: &[Led]) -> Result<Option
     let Some(literal) = literal_of(index, first) else {
         return Ok(None);
     };
-    let mut terms = Vec::new(alloc);
+    let mut terms = Vec::with_capacity(alloc, term_count(further))?;
     let mut last = Vec::new(alloc);
     last.push(literal)?;
     for led in further {

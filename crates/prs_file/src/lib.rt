@@ -20,6 +20,7 @@ mod spelled;
 mod table;
 mod turns;
 mod wiring;
+mod word;
 
 pub use fault::{NetFault, NetReadError};
 pub use forms::{Lead, channel_line, head_line, literal_text, node_line, rule_end};

@@ -35,13 +35,13 @@ fn fixed_name(alloc: Global, text: &[u8]) -> Result<Name, AllocError>
     }
 }
 
-/// The nodes that each file begins with.
-fn first_nodes(alloc: Global, version: u8) -> Result<Nodes, AllocError>
+/// The nodes that each file begins with, with slots for so many names.
+fn first_nodes(alloc: Global, version: u8, count: usize) -> Result<Nodes, AllocError>
     ensures version { IfOk result (λ nodes. nodes.version ≡ version) }
     ensures names { IfOk result (λ nodes. nodes.index ≡ codes "go" ∷ codes "done" ∷ []) }
     ensures low { IfOk result (λ nodes. nodes.first.items ≡ false ∷ false ∷ []) }
 {
-    let mut index = NodeIndex::new(alloc);
+    let mut index = NodeIndex::new(alloc, count)?;
     index.add(fixed_name(alloc, b"go")?)?;
     index.add(fixed_name(alloc, b"done")?)?;
     let first = Vec::from_slice(alloc, &[false, false])?;
@@ -58,6 +58,9 @@ fn may_be_last(version: u8, name: &[u8], first: bool) -> bool
 {
     version != 2 || (name == b"reset".as_slice() && first)
 }
+
+/// Ordinary files have two to three times as many bytes for each node.
+const NODE_BYTES: usize = 32;
 
 fn most_nodes(version: u8) -> usize
     ensures { result ≡ node_most version }
@@ -107,7 +110,7 @@ pub fn read_nodes(alloc: Global, version: u8, text: &[u8]) -> Result<(Nodes, &[u
     ensures refused { IfErr result
         (OfRefusal (λ fault line. IsRefused (text_behind (opening version) text.now) fault line)) }
 {
-    let mut nodes = first_nodes(alloc, version)?;
+    let mut nodes = first_nodes(alloc, version, text.len() / NODE_BYTES)?;
     let mut ends = may_be_last(version, b"done", false);
     let mut rest = text;
     while let Some((name, first, behind)) = next_node(alloc, rest)? {

@@ -10,28 +10,28 @@ ghost use Rattle.prs_file.specs.RuleForms.{IsRuleForm, rule_line_of, tells_high,
 use crate::channel::word_len;
 use crate::forms::Lead;
 use crate::spelled::is_spelled;
-use chp_base::{Name, node_name_of};
+use crate::word::{Word, node_word};
 use std::alloc::{AllocError, Global};
 
 /// The name and the direction in the end of a rule's line, or None if the text is no such end.
-pub fn end_form(alloc: Global, text: &[u8]) -> Result<Option<(Name, bool)>, AllocError>
-    ensures some { IfOk result (λ o. IfSome o (λ form. text.now ≡ end_spelling form.0 form.1)) }
-    ensures name { IfOk result (λ o. IfSome o (λ form. IsNodeName form.0)) }
-    ensures none { IfOk result
-        (λ o. IfNone o ((name : List ℕ) (up : Bool) → IsNodeName name → text.now ≢ end_spelling name up)) }
+pub fn end_form(text: &[u8]) -> Option<(Word, bool)>
+    ensures some { IfSome result (λ form. text.now ≡ end_spelling form.0 form.1) }
+    ensures name { IfSome result (λ form. IsNodeName form.0) }
+    ensures none { IfNone result
+        ((name : List ℕ) (up : Bool) → IsNodeName name → text.now ≢ end_spelling name up) }
 {
     if text.len() < 6 {
-        return Ok(None);
+        return None;
     }
     let word = &text[4..text.len() - 2];
     let up = is_spelled(text, &[b" -> ", word, b"+\n"]);
     if !up && !is_spelled(text, &[b" -> ", word, b"-\n"]) {
-        return Ok(None);
+        return None;
     }
-    let Some(name) = node_name_of(alloc, word)? else {
-        return Ok(None);
+    let Some(name) = node_word(word) else {
+        return None;
     };
-    Ok(Some((name, up)))
+    Some((name, up))
 }
 
 /// The sign that leads to a further literal, and the text after it, or None if there is none.
@@ -50,10 +50,10 @@ pub fn lead_form(text: &[u8]) -> Option<(Lead, &[u8])>
 
 /// A literal in a rule's line, with what leads to it.
 #[derive(Drop)]
-pub struct Led {
+pub struct Led<'a> {
     pub lead: Lead,
     pub high: bool,
-    pub name: Name,
+    pub name: Word<'a>,
 }
 
 /// Whether the literal that the text begins with wants its node high, and the text without the sign.
@@ -68,27 +68,27 @@ fn sign_of(text: &[u8]) -> (bool, &[u8])
 }
 
 /// The literal that the text begins with and the text after it, or None if its word can't be a node's name.
-fn led_form(alloc: Global, lead: Lead, text: &[u8]) -> Result<Option<(Led, &[u8])>, AllocError>
-    ensures lead { IfOk result (λ o. IfSome o (λ form. form.0.lead ≡ lead)) }
-    ensures high { IfOk result (λ o. IfSome o (λ form. form.0.high ≡ tells_high text.now)) }
-    ensures word { IfOk result (λ o. IfSome o (λ form. form.0.name ≡ word_in text.now)) }
-    ensures name { IfOk result (λ o. IfSome o (λ form. IsNodeName form.0.name)) }
-    ensures rest { IfOk result (λ o. IfSome o (λ form. form.1.now ≡ behind_word text.now)) }
-    ensures none { IfOk result (λ o. IfNone o (¬ IsNodeName (word_in text.now))) }
+fn led_form(lead: Lead, text: &[u8]) -> Option<(Led, &[u8])>
+    ensures lead { IfSome result (λ form. form.0.lead ≡ lead) }
+    ensures high { IfSome result (λ form. form.0.high ≡ tells_high text.now) }
+    ensures word { IfSome result (λ form. form.0.name ≡ word_in text.now) }
+    ensures name { IfSome result (λ form. IsNodeName form.0.name) }
+    ensures rest { IfSome result (λ form. form.1.now ≡ behind_word text.now) }
+    ensures none { IfNone result (¬ IsNodeName (word_in text.now)) }
 {
     let (high, unsigned) = sign_of(text);
     let (word, rest) = unsigned.split_at(word_len(unsigned));
-    let Some(name) = node_name_of(alloc, word)? else {
-        return Ok(None);
+    let Some(name) = node_word(word) else {
+        return None;
     };
-    Ok(Some((Led { lead, high, name }, rest)))
+    Some((Led { lead, high, name }, rest))
 }
 
 /// A rule's line: its literals, its node, and the direction in which it turns the node.
 #[derive(Drop)]
-pub struct RuleForm {
-    pub leds: Vec<Led>,
-    pub node: Name,
+pub struct RuleForm<'a> {
+    pub leds: Vec<Led<'a>>,
+    pub node: Word<'a>,
     pub up: bool,
 }
 
@@ -117,19 +117,19 @@ pub fn rule_form(alloc: Global, line: &[u8]) -> Result<Option<RuleForm>, AllocEr
     let Some(text) = behind_rule(line) else {
         return Ok(None);
     };
-    let Some((first, mut rest)) = led_form(alloc, Lead::Rule, text)? else {
+    let Some((first, mut rest)) = led_form(Lead::Rule, text) else {
         return Ok(None);
     };
     let mut leds = Vec::new(alloc);
     leds.push(first)?;
     while let Some((next, behind)) = lead_form(rest) {
-        let Some((led, after)) = led_form(alloc, next, behind)? else {
+        let Some((led, after)) = led_form(next, behind) else {
             return Ok(None);
         };
         leds.push(led)?;
         rest = after;
     }
-    let Some((node, up)) = end_form(alloc, rest)? else {
+    let Some((node, up)) = end_form(rest) else {
         return Ok(None);
     };
     Ok(Some(RuleForm { leds, node, up }))

@@ -1,14 +1,8 @@
-use Rattle.std.proofs.Common.{length, sym, ap, subst, arith}
+use Rattle.std.proofs.Common.{sym, subst}
 use Rattle.prs_core.specs.Nets.{NetValue}
 use Rattle.event_sim.specs.declared.ran.End.{End}
 use Rattle.event_sim.specs.Simulating.{IsEndIn}
-use Rattle.history_report.proofs.Few.{channels_fit}
 use Rattle.history_report.proofs.report.report_lines.Goals as goal
-
-pub history_lines-requires : goal.history_lines-requires
-history_lines-requires c =
-    let few = channels_fit c.net-2.result.now c.channels.ensures.net in
-    omega (arith, few, ap length c.channels.ensures.channels)
 
 pub ending_line-requires : goal.ending_line-requires
 ending_line-requires c =

@@ -20,7 +20,7 @@ loop-names-init c =
       read = channels_begin n.version n.index n.first.items c.new-channels.result.items
           (text_behind (nodes_told n.version n.index n.first.items) c.args.text.now) c.args.text.now c.new-channels.ensures.items c.requires.read
           c.requires.over;
-      named = c.new-names.ensures ∙ sym (ap channel_names c.new-channels.ensures.items);
+      named = c.in_ok-names.ensures ∙ sym (ap channel_names c.new-channels.ensures.items);
       room = omega (arith, ap length c.new-channels.ensures.items);
     }
 

@@ -19,8 +19,8 @@ loop-led-init c =
     let high = rw c.in-Some.is at c.literal_of.ensures.high in
     let front : take (0 + 1) leds ≡ first ∷ [] = take_more leds 0 first (omega (arith, c.in-len1-up.len_at_least)) ∙ ap (λ x. x ∷ []) (sym c.first-item.is) in
     let last : c.push.new.self.items ≡ literal ∷ [] = c.in_ok-push.ensures.items ∙ ap (λ xs. xs ++ literal ∷ []) c.new-last.ensures.items in
-    let guard : c.new-terms.result.items ++ c.push.new.self.items ∷ [] ≡ (literal ∷ []) ∷ [] =
-    ap (λ xs. xs ++ c.push.new.self.items ∷ []) c.new-terms.ensures.items ∙ ap (λ x. x ∷ []) last in
+    let guard : c.in_ok-terms.terms.items ++ c.push.new.self.items ∷ [] ≡ (literal ∷ []) ∷ [] =
+    ap (λ xs. xs ++ c.push.new.self.items ∷ []) c.in_ok-terms.ensures.items ∙ ap (λ x. x ∷ []) last in
     record {
       named = ap (guard_named names) guard ∙ named_first names first literal high at ∙ sym (ap terms_of front);
       within = subst (IsBelow (length names)) (sym guard) (below_first names first.name literal at);

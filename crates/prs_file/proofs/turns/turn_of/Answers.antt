@@ -14,13 +14,13 @@ returns-in_default-2-clause-fault c channels are =
 pub bounds-driven-node : goal.bounds-driven-node
 bounds-driven-node c =
     let names = c.args.nodes.now.index in
-    let at : place_in names c.args.form.now.node ≡ Some c.in-Some.node = ap (place_in names) (sym c.bytes.ensures.bytes) ∙ sym c.find.ensures ∙ c.in-Some.is in
+    let at : place_in names c.args.form.now.node ≡ Some c.in-Some.node = ap (place_in names) (sym c.bytes.ensures) ∙ sym c.find.ensures ∙ c.in-Some.is in
     omega (arith, (place_found names c.args.form.now.node c.in-Some.node at).0, c.requires.driven)
 
 pub place_of-place-requires : goal.place_of-place-requires
 place_of-place-requires c =
     let names = c.args.nodes.now.index in
-    let at : place_in names c.args.form.now.node ≡ Some c.in-Some.node = ap (place_in names) (sym c.bytes.ensures.bytes) ∙ sym c.find.ensures ∙ c.in-Some.is in
+    let at : place_in names c.args.form.now.node ≡ Some c.in-Some.node = ap (place_in names) (sym c.bytes.ensures) ∙ sym c.find.ensures ∙ c.in-Some.is in
     omega (arith, (place_found names c.args.form.now.node c.in-Some.node at).0, c.requires.count)
 
 pub returns-in-Some-known_fault-clause-fault : goal.returns-in-Some-known_fault-clause-fault
@@ -29,7 +29,7 @@ returns-in-Some-known_fault-clause-fault c channels are =
     let form = c.args.form.now in
     let so_far = c.args.so_far in
     let reset = c.args.nodes.now.version == 2 in
-    let at : place_in names form.node ≡ Some c.in-Some.node = ap (place_in names) (sym c.bytes.ensures.bytes) ∙ sym c.find.ensures ∙ c.in-Some.is in
+    let at : place_in names form.node ≡ Some c.in-Some.node = ap (place_in names) (sym c.bytes.ensures) ∙ sym c.find.ensures ∙ c.in-Some.is in
     let some = rw c.deref.ensures.value at (rw c.in-Some-2.is at c.in_ok-guard.ensures.some) in
     let b = get_or c.args.driven.now c.in-Some.node false in
     known_is names channels reset c.args.driven.now so_far.place so_far.literals form.leds.items form.node form.up c.in-Some.node b are at some refl
@@ -43,7 +43,7 @@ returns-in-None-clause-sound c channels are =
     let form = c.args.form.now in
     let so_far = c.args.so_far in
     let reset = c.args.nodes.now.version == 2 in
-    let at : place_in names form.node ≡ Some c.in-Some.node = ap (place_in names) (sym c.bytes.ensures.bytes) ∙ sym c.find.ensures ∙ c.in-Some.is in
+    let at : place_in names form.node ≡ Some c.in-Some.node = ap (place_in names) (sym c.bytes.ensures) ∙ sym c.find.ensures ∙ c.in-Some.is in
     let some = rw c.deref.ensures.value at (rw c.in-Some-2.is at c.in_ok-guard.ensures.some) in
     let b = get_or c.args.driven.now c.in-Some.node false in
     known_is names channels reset c.args.driven.now so_far.place so_far.literals form.leds.items form.node form.up c.in-Some.node b are at some refl
