@@ -120,15 +120,16 @@ none_passed channels = same_lists (empty channels) (channel_histories channels [
         get_or-replicate channels k [] d inside
         ∙ sym (get_or-map-range_with_len (λ c. values_through c []) 0 channels k k d inside (omega arith))
 
-pub histories_count : (channels : ℕ) (passed : List (ℕ × ℕ)) (hs : List (Vec ℕ Global)) → items_of hs ≡ channel_histories channels passed → length hs ≡ channels
+pub histories_count : (channels : ℕ) (passed : List (ℕ × ℕ)) (hs : List (Vec ℕ Global)) → items_of hs ≡ channel_histories channels passed
+    → length hs ≡ channels
 histories_count channels passed hs is =
     sym (length-map hs (λ (h : Vec ℕ Global). h.items)) ∙ ap length is ∙ length-map-range_with_len (λ c. values_through c passed) 0 channels
 
 pub history_at : (channels k : ℕ) (passed : List (ℕ × ℕ)) (hs : List (Vec ℕ Global)) (d : Vec ℕ Global) → items_of hs ≡ channel_histories channels passed →
     k < channels → (get_or hs k d).items ≡ values_through k passed
 history_at channels k passed hs d is below =
-    sym (get_or-map (λ (h : Vec ℕ Global). h.items) hs k d d.items (omega (arith, below, histories_count channels passed hs is))) ∙ ap (λ ls. get_or ls k d.items) is
-    ∙ get_or-map-range_with_len (λ c. values_through c passed) 0 channels k k d.items below (omega arith)
+    sym (get_or-map (λ (h : Vec ℕ Global). h.items) hs k d d.items (omega (arith, below, histories_count channels passed hs is)))
+    ∙ ap (λ ls. get_or ls k d.items) is ∙ get_or-map-range_with_len (λ c. values_through c passed) 0 channels k k d.items below (omega arith)
 
 -- ---- lines that are written one after the other
 

@@ -31,8 +31,8 @@ slot_in count name = bit_and (hash_of name) (count - 1)
 abbrev pub guess_for : (slots name : List ℕ) → ℕ
 guess_for slots name = slice_index_or slots (slot_in (length slots) name) 0
 
--- a name has the number in its slot if that is its own, and else the one at which a table of others has it. Where that is the number
--- of no name, the slot is free, and there is no such name
+-- a name has the number in its slot if that is its own, and else the one that others have for it. Where the number in
+-- the slot is no name's, the slot is free, and there is no such name
 abbrev pub found_by : List (List ℕ) → (slots : List ℕ) → (others : Numbers) → List ℕ → Option ℕ
 found_by names slots others name =
     if nat_lt (guess_for slots name) (length names)

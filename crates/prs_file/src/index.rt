@@ -110,7 +110,7 @@ fn note(
 }
 
 impl NodeIndex {
-    /// No names, and at least so many free slots, which aren't too few for as many names.
+    /// No names, with slots for about so many.
     pub fn new(alloc: Global, count: usize) -> Result<NodeIndex, AllocError>
         ensures { IfOk result (λ index. index ≡ []) }
     {

@@ -35,7 +35,7 @@ fn fixed_name(alloc: Global, text: &[u8]) -> Result<Name, AllocError>
     }
 }
 
-/// The nodes that each file begins with, with slots for so many names.
+/// The nodes that each file begins with, with slots for about so many.
 fn first_nodes(alloc: Global, version: u8, count: usize) -> Result<Nodes, AllocError>
     ensures version { IfOk result (λ nodes. nodes.version ≡ version) }
     ensures names { IfOk result (λ nodes. nodes.index ≡ codes "go" ∷ codes "done" ∷ []) }
@@ -59,7 +59,7 @@ fn may_be_last(version: u8, name: &[u8], first: bool) -> bool
     version != 2 || (name == b"reset".as_slice() && first)
 }
 
-/// Ordinary files have two to three times as many bytes for each node.
+/// There is a slot for so many bytes of the text. Ordinary files have two to three times as many for each node.
 const NODE_BYTES: usize = 32;
 
 fn most_nodes(version: u8) -> usize

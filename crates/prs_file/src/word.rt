@@ -6,7 +6,7 @@ ghost use Rattle.chp_base.specs.Names.{IsNodeName, begins_with_letter, letter, n
 
 use std::marker::Model;
 
-/// A node's name in a text, of which contracts see the bytes. It takes no memory of its own, as a `Name` does.
+/// A node's name in a text, of which contracts see the bytes. Unlike a `Name` it takes no memory of its own.
 #[derive(Drop)]
 pub struct Word<'a> {
     bytes: &'a [u8],
