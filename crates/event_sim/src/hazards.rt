@@ -44,8 +44,8 @@ pub(crate) fn pulled_among(
     None
 }
 
-/// The least node with interference after a move, where this was the least before it, and that one is the first of those
-/// that read the moved node.
+/// The least node with interference after a move, where this was the least before it, and that one is the first of the
+/// readers of the moved node.
 pub(crate) fn pulled_behind(
     net: &Net,
     state: &State,

@@ -13,7 +13,8 @@ returns-clause-retested c =
     let x = c.args.indexed.now in
     let v = high c.args.state.now in
     let n = c.args.node in
-    let up : c.says-up.result.0 ≡ guard_holds v (up_of x.net n) = c.says-up.ensures.up ∙ ap (λ (net : NetValue). guard_holds v (up_of net n)) c.net.ensures.net in
+    let up : c.says-up.result.0 ≡ guard_holds v (up_of x.net n) =
+    c.says-up.ensures.up ∙ ap (λ (net : NetValue). guard_holds v (up_of net n)) c.net.ensures.net in
     let down : c.says-up.result.1 ≡ guard_holds v (down_of x.net n) =
     c.says-up.ensures.down ∙ ap (λ (net : NetValue). guard_holds v (down_of net n)) c.net.ensures.net in
     let ready : c.may_move-ready.result ≡ is_ready x c.args.done.now c.args.state.now n =
@@ -30,7 +31,8 @@ returns-clause-pulled c =
     let x = c.args.indexed.now in
     let v = high c.args.state.now in
     let n = c.args.node in
-    let up : c.says-up.result.0 ≡ guard_holds v (up_of x.net n) = c.says-up.ensures.up ∙ ap (λ (net : NetValue). guard_holds v (up_of net n)) c.net.ensures.net in
+    let up : c.says-up.result.0 ≡ guard_holds v (up_of x.net n) =
+    c.says-up.ensures.up ∙ ap (λ (net : NetValue). guard_holds v (up_of net n)) c.net.ensures.net in
     let down : c.says-up.result.1 ≡ guard_holds v (down_of x.net n) =
     c.says-up.ensures.down ∙ ap (λ (net : NetValue). guard_holds v (down_of net n)) c.net.ensures.net in
     c.first_torn.ensures

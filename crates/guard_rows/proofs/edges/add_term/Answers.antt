@@ -18,8 +18,8 @@ add-requires c =
     let old = c.args.edges.now in
     added_room c.args.reader 0 4294967296 _ (λ m. term_names m (take c.loop-literal.literal-index c.literals-literal-items.result.now)) (λ m. 0) old.items
     c.loop-literal.edges.items c.index_mut.result.now c.loop-literal.invariant (λ m within. omega (arith, c.requires.room m (omega (arith, within, old.ok.0))))
-    (inside c.args.term.now c.literals-literal-items.result.now c.loop-literal.literal-index _ _ _ c.literals-literal-items.ensures.value c.loop-literal-test.true
-    c.requires.within (omega (arith, old.ok.0, c.loop-literal.invariant.count))) c.index_mut.ensures.value
+    (inside c.args.term.now c.literals-literal-items.result.now c.loop-literal.literal-index _ _ _ c.literals-literal-items.ensures.value
+    c.loop-literal-test.true c.requires.within (omega (arith, old.ok.0, c.loop-literal.invariant.count))) c.index_mut.ensures.value
 
 pub loop-literal-init : goal.loop-literal-init
 loop-literal-init c = none_added c.args.reader _ (λ m. 0) c.args.edges.now.items (λ m. refl) (λ m. refl)
@@ -29,8 +29,8 @@ loop-literal-preserved c =
     let old = c.args.edges.now in
     term_step c.args.reader c.loop-literal.literal-index c.literals-literal-items.result.now _ old.items c.loop-literal.edges.items c.index_mut.result.now
     c.add.new.self c.loop-literal-test.true
-    (inside c.args.term.now c.literals-literal-items.result.now c.loop-literal.literal-index _ _ _ c.literals-literal-items.ensures.value c.loop-literal-test.true
-    c.requires.within (omega (arith, old.ok.0, c.loop-literal.invariant.count)))
+    (inside c.args.term.now c.literals-literal-items.result.now c.loop-literal.literal-index _ _ _ c.literals-literal-items.ensures.value
+    c.loop-literal-test.true c.requires.within (omega (arith, old.ok.0, c.loop-literal.invariant.count)))
     c.index_mut.ensures.value c.in_ok-add.ensures.total c.in_ok-add.ensures.readers c.loop-literal.invariant
 
 pub returns-clause-added : goal.returns-clause-added
