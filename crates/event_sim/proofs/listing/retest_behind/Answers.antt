@@ -21,8 +21,8 @@ returns-clause-listed c = λ was before move.
     let x = c.args.indexed.now in
     let other : is_reset x.net.reset c.args.node ≡ false =
     ap (λ (net : NetValue). is_reset net.reset c.args.node) (sym c.net.ensures.net) ∙ sym c.is_reset.ensures ∙ c.if-is_reset.false in
-    behind_near x c.args.node was c.args.done.now before c.args.state.now c.args.moves.now c.retest_near.new.moves c.retest_near.result.lost c.net.ensures.is_net
-    c.requires.node other move c.retest_near.ensures.near
+    behind_near x c.args.node was c.args.done.now before c.args.state.now c.args.moves.now c.retest_near.new.moves c.retest_near.result.lost
+    c.net.ensures.is_net c.requires.node other move c.retest_near.ensures.near
 
 pub edges-requires : goal.edges-requires
 edges-requires c = omega (arith, c.requires.node, c.requires.rows.edges)

@@ -61,8 +61,8 @@ returns-in-Some-clause-near c =
     record {
       nodes = readers ++ w.rails ++ w.ack ∷ [];
       near = near_wires x n k w readers (c.edges.ensures x.net c.args.state.now c.requires.rows) c.in-Some.ensures here;
-      retested = retested_more ready (readers ++ w.rails) (w.ack ∷ []) (set c.args.moves.now n (ready n)) c.retest-lost.new.moves c.retest-lost-in-Some.new.moves
-          None c.retest-lost.result c.retest-lost-in-Some.result
+      retested = retested_more ready (readers ++ w.rails) (w.ack ∷ []) (set c.args.moves.now n (ready n)) c.retest-lost.new.moves
+          c.retest-lost-in-Some.new.moves None c.retest-lost.result c.retest-lost-in-Some.result
           (retested_more ready readers w.rails (set c.args.moves.now n (ready n)) c.retest_readers-lost.new.moves c.retest-lost.new.moves None
           lost c.retest-lost.result first second) c.retest-lost-in-Some.ensures;
     }
