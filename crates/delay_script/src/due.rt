@@ -1,6 +1,6 @@
 //! The moves that are due.
 
-ghost use Rattle.std.specs.Prelude.{◌≡◌, ◌<◌, ◌^◌, ℕ, All, List, [], ◌∷◌, length};
+ghost use Rattle.std.specs.Prelude.{◌≡◌, ◌<◌, ◌^◌, ℕ, All, List, [], ◌∷◌, length, map};
 ghost use Rattle.prs_core.specs.Moves.{high};
 ghost use Rattle.event_sim.specs.Stages.{AreConcerned};
 ghost use Rattle.delay_script.specs.DelayTables.{IsDelayTable};
@@ -73,6 +73,19 @@ pub(crate) fn fill(stage: &Stage, delays: &Delays, queue: &mut Queue, nodes: &[u
     }
 }
 
+/// The same for those to which these edges lead.
+fn fill_readers(stage: &Stage, delays: &Delays, queue: &mut Queue, edges: &[(u32, u32)], made: Due)
+    requires readers { All (λ n. n < length stage.now.net.first) (map (λ (e : ℕ × ℕ). e.0) edges.now) }
+    requires queue { length queue.old ≡ length stage.now.net.first }
+    requires delays { IsDelayTable (length stage.now.net.first) delays.now }
+    requires time { made.time < 2 ^ 62 }
+    ensures { AreFilled stage.now delays.now made (map (λ (e : ℕ × ℕ). e.0) edges.now) queue.old queue.new }
+{
+    for (reader, _) in edges {
+        look(stage, delays, queue, *reader, made);
+    }
+}
+
 /// Updates the due moves after the move of the node, of this number and time, once that move is removed.
 pub(crate) fn refill(stage: &Stage, delays: &Delays, queue: &mut Queue, node: u32, made: Due)
     requires node { node < length stage.now.net.first }
@@ -83,7 +96,7 @@ pub(crate) fn refill(stage: &Stage, delays: &Delays, queue: &mut Queue, node: u3
         × AreFilled stage.now delays.now made nodes queue.old queue.new }
 {
     let concerned = stage.concerned(node);
-    fill(stage, delays, queue, concerned.readers, made);
+    fill_readers(stage, delays, queue, concerned.readers, made);
     fill(stage, delays, queue, concerned.rails, made);
     fill(stage, delays, queue, &concerned.others, made);
 }

@@ -1,13 +1,10 @@
 -- Whom a move concerns.
-use Rattle.std.proofs.Common.{◌≡◌, ◌≢◌, ℕ, ◌<◌, Bool, true, false, List, [], ◌∷◌, ◌++◌, length, refl, sym, ap, ◌∙◌}
+use Rattle.std.proofs.Common.{◌≡◌, ◌≢◌, ℕ, Bool, true, false, List, [], ◌∷◌, ◌++◌, length, refl, sym, ap, ◌∙◌}
 use Rattle.std.specs.Prelude.{◌||◌, ◌==◌, Option, Some, None}
-use Rattle.std.specs.List.{list_any}
 use Rattle.std.proofs.lemmas.Bool.{eq-eqb, eqb-false, ne_eqb, or_parts, or_from, or_left, or_right, both_ways}
 use Rattle.std.proofs.lemmas.List.Folds.{list_any-append}
-use Rattle.prs_core.specs.Nets.{NetValue, IsNet}
-use Rattle.env_script.specs.Scripts.{OfferValue}
 use Rattle.env_script.specs.Environment.{is_reset}
-use Rattle.env_script.specs.Runs.{RunState, move_enabled, moved}
+use Rattle.env_script.specs.Runs.{RunState, move_enabled}
 use Rattle.event_sim.specs.Locality.{IndexedValue, is_among, IsNear}
 use Rattle.event_sim.specs.Stages.{StageValue, stage_with, now_of, moves_now, AreConcerned}
 use Rattle.event_sim.proofs.Lists.{among_is}
@@ -70,12 +67,12 @@ concerned_wires x values passed room n ack reset readers rails is other last =
         )
 
 -- of the reset node
-pub concerned_all : (s : StageValue) (n : ℕ) (rails : List ℕ) → AreConcerned s n (moves_now s ++ rails ++ n ∷ n ∷ n ∷ [])
-concerned_all s n rails = record {
-  own = own_among (moves_now s ++ rails) (n ∷ n ∷ []) n;
+pub concerned_all : (s : StageValue) (n : ℕ) (readers : List ℕ) → AreConcerned s n (readers ++ moves_now s ++ n ∷ n ∷ n ∷ [])
+concerned_all s n readers = record {
+  own = own_among (readers ++ moves_now s) (n ∷ n ∷ []) n;
   others = λ before m now whole within unnamed on.
       absurd (both_ways _ (sym (among_is (move_enabled s.net s.script (now_of s)) (length s.net.first) m within)
-      ∙ (parts (moves_now s) rails (n ∷ n ∷ n ∷ []) m unnamed).0) on);
+      ∙ (parts readers (moves_now s) (n ∷ n ∷ n ∷ []) m unnamed).1) on);
 }
 
 -- the reset node is the only one

@@ -20,3 +20,4 @@ pub mod HomesMade
 pub mod Asked
 pub mod Added
 pub mod Concerning
+mod Tested

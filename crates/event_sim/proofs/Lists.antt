@@ -40,7 +40,7 @@ passes_suc p n =
     let same : suc n ≡ n + 1 = omega arith in
     ap (λ k. filter p (range_with_len 0 k)) same ∙ passes_more p n
 
-first_of_both : (q : ℕ → Bool) (xs ys : List ℕ) → find q (xs ++ ys) ≡ or_else (find q xs) (find q ys)
+pub first_of_both : (q : ℕ → Bool) (xs ys : List ℕ) → find q (xs ++ ys) ≡ or_else (find q xs) (find q ys)
 first_of_both q [] ys = refl
 first_of_both q (x ∷ xs) ys = by_test (q x) (first_of_both q xs ys)
   where

@@ -4,7 +4,7 @@ use Rattle.std.specs.List.{list_any, range_with_len}
 use Rattle.prs_core.specs.declared.wires.Wires.{Wires}
 use Rattle.prs_core.specs.Nets.{NetValue, IsNet}
 use Rattle.prs_core.specs.Moves.{high, fired, rule_enabled}
-use Rattle.prs_core.specs.Fans.{fan_value, is_reader}
+use Rattle.prs_core.specs.Fans.{is_reader}
 use Rattle.env_script.specs.Scripts.{OfferValue, gives, takes, nothing, offer_at, IsScript}
 use Rattle.env_script.specs.Environment.{net_channels, in_reset, raises_go, channels_move, env_enabled}
 use Rattle.env_script.specs.Hazards.{least_below}
@@ -42,19 +42,20 @@ pub record IndexedValue : Type 0 where
   pub net : NetValue
   pub script : List OfferValue
 
--- its index: for each node its readers, and its channel
-pub record IsNetIndex (x : IndexedValue) (fan : List (List ℕ)) (homes : List (Option ℕ)) : Type 0 where
+-- its index: for each node its channel
+pub record IsNetIndex (x : IndexedValue) (homes : List (Option ℕ)) : Type 0 where
   pub net : IsNet x.net
   pub script : IsScript (net_channels x.net) x.script
-  pub fan_is : fan ≡ fan_value x.net
   pub homes_are : IsHomes x.net homes
 
--- a rule of the node is enabled, or the environment may move it while no reset is on, where so many values are
--- completed on each channel
+-- the environment may move the node while no reset is on, where so many values are completed on each channel
+abbrev pub is_asked : IndexedValue → List ℕ → List Bool → ℕ → Bool
+is_asked x done values n = not (in_reset x.net.reset (high values)) && (raises_go (high values) n
+    || channels_move (high values) (offer_at x.script) (slice_index done) 0 x.net.channels n)
+
+-- a rule of the node is enabled, or the environment may move it
 abbrev pub is_ready : IndexedValue → List ℕ → List Bool → ℕ → Bool
-is_ready x done values n = rule_enabled x.net (high values) n || (not (in_reset x.net.reset (high values))
-    && (raises_go (high values) n
-    || channels_move (high values) (offer_at x.script) (slice_index done) 0 x.net.channels n))
+is_ready x done values n = rule_enabled x.net (high values) n || is_asked x done values n
 
 -- a rule of the node is enabled, or the environment may move it
 abbrev pub has_move : NetValue → List OfferValue → List ℕ → List Bool → ℕ → Bool

@@ -4,10 +4,10 @@ ghost use Rattle.std.specs.Prelude.{◌≡◌, ℕ, ◌<◌, List, Bool, All, le
 ghost use Rattle.std.specs.List.{find};
 ghost use Rattle.prs_core.specs.Moves.{high, both_ways, fired};
 ghost use Rattle.env_script.specs.Hazards.{least_below};
-ghost use Rattle.guard_rows.specs.Places.{AreRows};
+ghost use Rattle.prs_core.specs.Fans.{readers_below};
+ghost use Rattle.guard_rows.specs.Places.{readers_in, AreRows};
 ghost use Rattle.event_sim.specs.Stages.{worst_cause};
 
-use crate::indexed::IndexedNet;
 use env_script::Hazard;
 use guard_rows::GuardRows;
 use prs_core::{Net, State, pulled_both_ways};
@@ -23,40 +23,45 @@ pub(crate) fn first_pulled(net: &Net, state: &State) -> Option<u32>
     }
 }
 
-/// The first of these nodes that has interference.
-fn pulled_among(net: &Net, rows: &GuardRows, state: &State, nodes: &[u32]) -> Option<u32>
+/// The first reader that has interference of those to which these edges lead.
+pub(crate) fn pulled_among(
+    net: &Net,
+    rows: &GuardRows,
+    state: &State,
+    edges: &[(u32, u32)],
+) -> Option<u32>
     requires rows { AreRows net.now state.now rows.now }
     requires state { length state.now ≡ length net.now.first }
-    requires nodes { All (λ n. n < length net.now.first) nodes.now }
-    ensures { result ≡ find (both_ways net.now (high state.now)) nodes.now }
+    requires readers { All (λ n. n < length net.now.first) (readers_in edges.now) }
+    ensures { result ≡ find (both_ways net.now (high state.now)) (readers_in edges.now) }
 {
-    for node in nodes {
-        if rows.both_ways(net, state, *node) {
-            return Some(*node);
+    for (reader, _) in edges {
+        let (up, down) = rows.says(net, state, *reader);
+        if up && down {
+            return Some(*reader);
         }
     }
     None
 }
 
-/// The least node with interference after a move of the node, where this was the least before it.
+/// The least node with interference after a move, where this was the least before it, and that one is the first of the
+/// readers of the moved node.
 pub(crate) fn pulled_behind(
-    indexed: &IndexedNet,
-    rows: &GuardRows,
+    net: &Net,
     state: &State,
-    node: u32,
     pulled: Option<u32>,
+    found: Option<u32>,
 ) -> Option<u32>
-    requires rows { AreRows indexed.now.net state.now rows.now }
-    requires state { length state.now ≡ length indexed.now.net.first }
-    requires node { node < length indexed.now.net.first }
-    ensures { (before : List Bool)
+    requires { length state.now ≡ length net.now.first }
+    ensures { (before : List Bool) (node : ℕ)
         → state.now ≡ fired before node
-        → pulled ≡ least_below (length indexed.now.net.first) (both_ways indexed.now.net (high before))
-        → result ≡ least_below (length indexed.now.net.first) (both_ways indexed.now.net (high state.now)) }
+        → pulled ≡ least_below (length net.now.first) (both_ways net.now (high before))
+        → found ≡ find (both_ways net.now (high state.now)) (readers_below net.now (length net.now.first) node)
+        → result ≡ least_below (length net.now.first) (both_ways net.now (high state.now)) }
 {
     match pulled {
-        None => pulled_among(indexed.net(), rows, state, indexed.readers(node)),
-        Some(_) => first_pulled(indexed.net(), state),
+        None => found,
+        Some(_) => first_pulled(net, state),
     }
 }
 

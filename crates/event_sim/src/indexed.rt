@@ -1,15 +1,14 @@
 //! A net under a script, with an index of what a move may concern.
 
-ghost use Rattle.std.specs.Prelude.{◌≡◌, ◌<◌, ◌^◌, length, slice_index, IfOk, IfSome, IsSome};
+ghost use Rattle.std.specs.Prelude.{◌≡◌, ◌<◌, ◌^◌, ◌||◌, length, slice_index, IfOk, IfSome, IsSome};
 ghost use Rattle.prs_core.specs.Nets.{IsNet};
 ghost use Rattle.prs_core.specs.Moves.{high};
-ghost use Rattle.prs_core.specs.Fans.{readers_below};
 ghost use Rattle.env_script.specs.Scripts.{IsScript, offer_at};
 ghost use Rattle.env_script.specs.Environment.{net_channels, channels_move};
 ghost use Rattle.env_script.specs.Phases.{phase_fault};
 ghost use Rattle.guard_rows.specs.Places.{AreRows};
 ghost use Rattle.event_sim.specs.Passing.{channel_acknowledged, completion};
-ghost use Rattle.event_sim.specs.Locality.{is_ready, IsHome, IsShared};
+ghost use Rattle.event_sim.specs.Locality.{is_asked, is_ready, IsHome, IsShared};
 ghost use Rattle.event_sim.specs.Standings.{offered_count, is_done, script_and};
 
 use crate::homes::homes_of;
@@ -17,16 +16,15 @@ use crate::moves::{completes, in_reset};
 use crate::offers::Offers;
 use env_script::{Script, phases_keep};
 use guard_rows::GuardRows;
-use prs_core::{Fan, Net, State, fan_of};
+use prs_core::{Net, State};
 use std::alloc::{AllocError, Global};
 use std::marker::Model;
 
-/// A net under a script, with the readers of each node and the channel that it is a wire of.
+/// A net under a script, with the channel that each node is a wire of.
 #[derive(Drop)]
 pub(crate) struct IndexedNet {
     net: Net,
     offers: Offers,
-    fan: Fan,
     homes: Vec<Option<u32>>,
 }
 
@@ -37,7 +35,7 @@ impl Model for IndexedNet {
 
     ghost view = { λ x. record { net = x.net; script = x.offers } };
 
-    ghost invariant = { λ x. IsNetIndex (record { net = x.net; script = x.offers }) x.fan x.homes.items };
+    ghost invariant = { λ x. IsNetIndex (record { net = x.net; script = x.offers }) x.homes.items };
 }
 
 impl IndexedNet {
@@ -49,15 +47,9 @@ impl IndexedNet {
         ensures { IfOk result (λ x. x ≡ record { net = net; script = script }) }
     {
         let _first = net.first();
-        let fan = fan_of(alloc, &net)?;
         let homes = homes_of(alloc, &net)?;
         let offers = Offers::new(alloc, script)?;
-        Ok(IndexedNet {
-            net,
-            offers,
-            fan,
-            homes,
-        })
+        Ok(IndexedNet { net, offers, homes })
     }
 
     /// The net.
@@ -73,14 +65,6 @@ impl IndexedNet {
         ensures { result ≡ self.net }
     {
         self.net
-    }
-
-    /// The nodes with a guard that names the node, in ascending order.
-    pub(crate) fn readers(&self, node: u32) -> &[u32]
-        requires { node < length self.now.net.first }
-        ensures { result.now ≡ readers_below self.now.net (length self.now.net.first) node }
-    {
-        self.fan.readers(node)
     }
 
     /// The channel that the node is a wire of, where there is one.
@@ -122,8 +106,19 @@ impl IndexedNet {
         }
     }
 
-    /// Whether a rule of the node is enabled, or the environment may move it while no reset is on, where so many values
-    /// are completed on each channel.
+    /// Whether a rule of the node is enabled, as this says, or the environment may move it while no reset is on, where
+    /// so many values are completed on each channel.
+    pub(crate) fn may_move(&self, rule: bool, done: &[u64], state: &State, node: u32) -> bool
+        requires done { length done.now ≡ length self.now.net.channels }
+        requires state { length state.now ≡ length self.now.net.first }
+        requires node { node < length self.now.net.first }
+        ensures { result ≡ (rule || is_asked self.now done.now state.now node) }
+    {
+        rule || (!in_reset(&self.net, state)
+            && ((node == 0 && !state.is_high(node)) || self.is_offered(done, state, node)))
+    }
+
+    /// The same, where the rows say whether a rule of it is enabled.
     pub(crate) fn is_ready(&self, rows: &GuardRows, done: &[u64], state: &State, node: u32) -> bool
         requires rows { AreRows self.now.net state.now rows.now }
         requires done { length done.now ≡ length self.now.net.channels }
@@ -131,9 +126,7 @@ impl IndexedNet {
         requires node { node < length self.now.net.first }
         ensures { result ≡ is_ready self.now done.now state.now node }
     {
-        rows.enabled(&self.net, state, node)
-            || (!in_reset(&self.net, state)
-                && ((node == 0 && !state.is_high(node)) || self.is_offered(done, state, node)))
+        self.may_move(rows.enabled(&self.net, state, node), done, state, node)
     }
 
     /// The channel and the value that a move of the node completes.

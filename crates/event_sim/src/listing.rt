@@ -1,10 +1,15 @@
 //! The set of the nodes that have a move, kept from move to move.
 
-ghost use Rattle.std.specs.Prelude.{◌≡◌, ℕ, ◌<◌, not, ◌&&◌, if◌then◌else◌, List, Bool, All, length};
-ghost use Rattle.guard_rows.specs.Places.{AreRows};
+ghost use Rattle.std.specs.Prelude.{◌≡◌, ℕ, ◌<◌, not, ◌&&◌, ◌∷◌, [], if◌then◌else◌, List, Bool, All, Some, None, length};
+ghost use Rattle.std.specs.List.{find};
+ghost use Rattle.prs_core.specs.Moves.{high, both_ways};
+ghost use Rattle.prs_core.specs.Fans.{readers_below};
+ghost use Rattle.env_script.specs.Hazards.{or_else};
+ghost use Rattle.guard_rows.specs.Places.{readers_in, AreRows};
 ghost use Rattle.event_sim.specs.Locality.{has_move, is_ready, lesser, IsPassing, IsRetested, IsRetestedNear, IsCountedMove, IsListedBehind, IsRelisted};
 ghost use Rattle.event_sim.specs.Standings.{IsRetestedOn};
 
+use crate::hazards::pulled_among;
 use crate::indexed::IndexedNet;
 use crate::moves::is_reset;
 use crate::node_set::NodeSet;
@@ -54,8 +59,91 @@ fn retest(
     lost
 }
 
+/// What a move does to the nodes near its own: the least whose move it disabled, and the first of its readers that has
+/// interference (both guards hold).
+#[derive(Clone, Copy)]
+pub(crate) struct Trouble {
+    pub(crate) lost: Option<u32>,
+    pub(crate) pulled: Option<u32>,
+}
+
+/// The first node with interference, once this one is looked at too.
+fn first_torn(pulled: Option<u32>, node: u32, up: bool, down: bool) -> Option<u32>
+    ensures { result ≡ or_else pulled (if up && down then Some node else None) }
+{
+    match pulled {
+        None if up && down => Some(node),
+        _ => pulled,
+    }
+}
+
+/// Tests the node again, and counts it where it is lost or has interference.
+fn retest_reader(
+    indexed: &IndexedNet,
+    rows: &GuardRows,
+    done: &[u64],
+    state: &State,
+    node: u32,
+    moves: &mut NodeSet,
+    before: Trouble,
+) -> Trouble
+    requires rows { AreRows indexed.now.net state.now rows.now }
+    requires done { length done.now ≡ length indexed.now.net.channels }
+    requires state { length state.now ≡ length indexed.now.net.first }
+    requires moves { length moves.old ≡ length indexed.now.net.first }
+    requires node { node < length indexed.now.net.first }
+    ensures retested { IsRetested (is_ready indexed.now done.now state.now) (node ∷ []) moves.old moves.new
+        before.lost result.lost }
+    ensures pulled { result.pulled ≡ or_else before.pulled
+        (if both_ways indexed.now.net (high state.now) node then Some node else None) }
+{
+    let (up, down) = rows.says(indexed.net(), state, node);
+    let was = moves.contains(node);
+    let ready = indexed.may_move(rule_of(state.is_high(node), up, down), done, state, node);
+    moves.set(node, ready);
+    Trouble {
+        lost: least_lost(before.lost, node, was, ready),
+        pulled: first_torn(before.pulled, node, up, down),
+    }
+}
+
+/// What the rule says that turns a node over.
+fn rule_of(high: bool, up: bool, down: bool) -> bool
+    ensures { result ≡ (if high then down else up) }
+{
+    if high { down } else { up }
+}
+
+/// Tests the readers again to which these edges lead. Returns the least that is lost, and the first with interference.
+fn retest_readers(
+    indexed: &IndexedNet,
+    rows: &GuardRows,
+    done: &[u64],
+    state: &State,
+    edges: &[(u32, u32)],
+    moves: &mut NodeSet,
+) -> Trouble
+    requires rows { AreRows indexed.now.net state.now rows.now }
+    requires done { length done.now ≡ length indexed.now.net.channels }
+    requires state { length state.now ≡ length indexed.now.net.first }
+    requires moves { length moves.old ≡ length indexed.now.net.first }
+    requires readers { All (λ n. n < length indexed.now.net.first) (readers_in edges.now) }
+    ensures retested { IsRetested (is_ready indexed.now done.now state.now) (readers_in edges.now) moves.old
+        moves.new None result.lost }
+    ensures pulled { result.pulled ≡ find (both_ways indexed.now.net (high state.now)) (readers_in edges.now) }
+{
+    let mut found = Trouble {
+        lost: None,
+        pulled: None,
+    };
+    for (reader, _) in edges {
+        found = retest_reader(indexed, rows, done, state, *reader, moves, found);
+    }
+    found
+}
+
 /// Tests again what a move of the node concerns: itself, its readers, and the wires of its channel. Returns the least
-/// of the other nodes that is lost.
+/// of the other nodes that is lost, and the first reader with interference.
 fn retest_near(
     indexed: &IndexedNet,
     rows: &GuardRows,
@@ -63,31 +151,33 @@ fn retest_near(
     state: &State,
     node: u32,
     moves: &mut NodeSet,
-) -> Option<u32>
+) -> Trouble
     requires rows { AreRows indexed.now.net state.now rows.now }
     requires done { length done.now ≡ length indexed.now.net.channels }
     requires state { length state.now ≡ length indexed.now.net.first }
     requires moves { length moves.old ≡ length indexed.now.net.first }
     requires node { node < length indexed.now.net.first }
-    ensures { IsRetestedNear indexed.now done.now state.now node moves.old moves.new result }
+    ensures near { IsRetestedNear indexed.now done.now state.now node moves.old moves.new result.lost }
+    ensures pulled { result.pulled ≡ find (both_ways indexed.now.net (high state.now))
+        (readers_below indexed.now.net (length indexed.now.net.first) node) }
 {
     let ready = indexed.is_ready(rows, done, state, node);
     moves.set(node, ready);
-    let lost = retest(
+    let Trouble { lost, pulled } = retest_readers(
         indexed,
         rows,
         done,
         state,
-        indexed.readers(node),
+        rows.edges(node),
         moves,
-        None,
     );
     match indexed.shared_channel(node) {
-        None => lost,
+        None => Trouble { lost, pulled },
         Some(chan) => {
             let wires = &indexed.net().channels()[chan as usize];
             let lost = retest(indexed, rows, done, state, wires.rails.nodes(), moves, lost);
-            retest(indexed, rows, done, state, &[wires.ack], moves, lost)
+            let lost = retest(indexed, rows, done, state, &[wires.ack], moves, lost);
+            Trouble { lost, pulled }
         }
     }
 }
@@ -142,7 +232,7 @@ fn retest_behind(
     state: &State,
     node: u32,
     moves: &mut NodeSet,
-) -> Option<u32>
+) -> Trouble
     requires rows { AreRows indexed.now.net state.now rows.now }
     requires done { length done.now ≡ length indexed.now.net.channels }
     requires state { length state.now ≡ length indexed.now.net.first }
@@ -151,11 +241,14 @@ fn retest_behind(
     ensures count { length moves.new ≡ length moves.old }
     ensures listed { (was : List ℕ) (before : List Bool)
         → IsCountedMove indexed.now node was done.now before state.now moves.old
-        → IsListedBehind indexed.now node was done.now before state.now moves.new result }
+        → IsListedBehind indexed.now node was done.now before state.now moves.new result.lost }
+    ensures pulled { result.pulled ≡ find (both_ways indexed.now.net (high state.now))
+        (readers_below indexed.now.net (length indexed.now.net.first) node) }
 {
     if is_reset(indexed.net(), node) {
         list_ready(indexed, rows, done, state, moves);
-        return None;
+        let pulled = pulled_among(indexed.net(), rows, state, rows.edges(node));
+        return Trouble { lost: None, pulled };
     }
     retest_near(indexed, rows, done, state, node, moves)
 }
@@ -169,19 +262,21 @@ pub(crate) fn relist(
     state: &State,
     node: u32,
     moves: &mut NodeSet,
-) -> Option<u32>
+) -> Trouble
     requires rows { AreRows indexed.now.net state.now rows.now }
     requires done { length done.now ≡ length indexed.now.net.channels }
     requires state { length state.now ≡ length indexed.now.net.first }
     requires moves { length moves.old ≡ length indexed.now.net.first }
     requires node { node < length indexed.now.net.first }
-    ensures { (was : List ℕ) (before : List Bool)
+    ensures relisted { (was : List ℕ) (before : List Bool)
         → IsCountedMove indexed.now node was done.now before state.now moves.old
-        → IsRelisted indexed.now node was done.now before state.now moves.new result }
+        → IsRelisted indexed.now node was done.now before state.now moves.new result.lost }
+    ensures pulled { result.pulled ≡ find (both_ways indexed.now.net (high state.now))
+        (readers_below indexed.now.net (length indexed.now.net.first) node) }
 {
-    let lost = retest_behind(indexed, rows, done, state, node, moves);
+    let found = retest_behind(indexed, rows, done, state, node, moves);
     add_reset(indexed, state, moves);
-    lost
+    found
 }
 
 /// Tests again the wires of the channel.

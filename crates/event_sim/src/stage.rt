@@ -26,9 +26,9 @@ use std::marker::Model;
 /// The nodes that a move of a node concerns, in three parts.
 #[derive(Clone, Copy)]
 pub struct Concerned<'a> {
-    /// Those that read it.
-    pub readers: &'a [u32],
-    /// The rails of its channel.
+    /// Those that read it, each with what a turn of the node adds to its place among the rows of the guards.
+    pub readers: &'a [(u32, u32)],
+    /// The rails of its channel, or for the reset node all nodes that have a move.
     pub rails: &'a [u32],
     /// Itself, the acknowledge of its channel, and the reset node.
     pub others: [u32; 3],
@@ -207,17 +207,18 @@ impl Stage {
     /// the node is the reset node, these are all that have one.
     pub fn concerned(&self, node: u32) -> Concerned<'_>
         requires { node < length self.now.net.first }
-        ensures concerned { AreConcerned self.now node (result.readers.now ++ result.rails.now ++ result.others) }
-        ensures readers { All (λ n. n < length self.now.net.first) result.readers.now }
+        ensures concerned { AreConcerned self.now node
+            (map (λ (e : ℕ × ℕ). e.0) result.readers.now ++ result.rails.now ++ result.others) }
+        ensures readers { All (λ n. n < length self.now.net.first) (map (λ (e : ℕ × ℕ). e.0) result.readers.now) }
         ensures rails { All (λ n. n < length self.now.net.first) result.rails.now }
         ensures others { All (λ n. n < length self.now.net.first) result.others }
     {
         let net = self.indexed.net();
-        let readers = self.indexed.readers(node);
+        let readers = self.rows.edges(node);
         if is_reset(net, node) {
             return Concerned {
-                readers: self.moves.nodes(),
-                rails: &readers[..0],
+                readers: &readers[..0],
+                rails: self.moves.nodes(),
                 others: [node, node, node],
             };
         }
@@ -225,7 +226,7 @@ impl Stage {
         match self.indexed.shared_channel(node) {
             None => Concerned {
                 readers,
-                rails: &readers[..0],
+                rails: &self.moves.nodes()[..0],
                 others: [node, node, reset],
             },
             Some(chan) => {
@@ -266,7 +267,7 @@ impl Stage {
         note(&mut self.done, &mut self.passed, completed);
         self.rows.turn(self.indexed.net(), &self.state, node);
         fire(&mut self.state, node);
-        let lost = relist(
+        let found = relist(
             &self.indexed,
             &self.rows,
             &self.done,
@@ -274,8 +275,8 @@ impl Stage {
             node,
             &mut self.moves,
         );
-        self.pulled = pulled_behind(&self.indexed, &self.rows, &self.state, node, self.pulled);
-        worst_cause(self.pulled, lost, broken)
+        self.pulled = pulled_behind(self.indexed.net(), &self.state, self.pulled, found.pulled);
+        worst_cause(self.pulled, found.lost, broken)
     }
 
     /// The channel whose acknowledge the node is.

@@ -1,14 +1,14 @@
 -- How many of some nodes are high: one node more, a turn of one node, and guards that ask for no more.
 use Rattle.std.proofs.Common.{◌≡◌, ℕ, ◌+◌, ◌-◌, ◌*◌, ◌<◌, ◌≤◌, Bool, true, false, cond, not, List, [], ◌∷◌, ◌++◌, length, get_or, take, drop, refl, sym, ap, subst, ◌∙◌, arith}
-use Rattle.std.specs.Prelude.{◌==◌, ◌&&◌, ◌||◌, nat_lt, nat_le, All, Option, Some, None}
+use Rattle.std.specs.Prelude.{◌==◌, ◌&&◌, ◌||◌, nat_lt, nat_le, Option, Some, None}
 use Rattle.std.proofs.Math.Bool.{and-true, and-false, or-true, or-false}
 use Rattle.std.proofs.lemmas.Bool.{eqb-true, eqb-false, eq-eqb, ne_eqb, leb-true, leb-false, le-leb, lt-leb, lt-ltb, le-ltb}
 use Rattle.std.proofs.lemmas.List.{take_more, take_all, length-take-le, length-drop, take-append-drop}
 use Rattle.std.proofs.lemmas.List.Folds.{list_any_more, list_all_more, list_all-append}
 use Rattle.prs_core.specs.declared.rule.Literal.{Literal}
-use Rattle.prs_core.specs.Nets.{GuardValue, IsBelow}
+use Rattle.prs_core.specs.Nets.{GuardValue}
 use Rattle.prs_core.specs.Moves.{high, fired, literal_holds, term_holds, guard_holds}
-use Rattle.guard_rows.specs.Places.{as_bit, count_of, times_in, overrides, override_step}
+use Rattle.guard_rows.specs.Places.{as_bit, count_of, times_in, overrides, override_step, AllPass, GuardPasses}
 use Rattle.guard_rows.proofs.Indexes.{bit_small, bit_raised, bit_lowered}
 
 pub count_push : (v : ℕ → Bool) (ns : List ℕ) (n : ℕ) → count_of v (ns ++ n ∷ []) ≡ count_of v ns + as_bit (v n)
@@ -25,6 +25,10 @@ count_few v (n ∷ ns) = omega (arith, count_few v ns, bit_small (v n))
 
 pub count_part : (v : ℕ → Bool) (ns : List ℕ) (i : ℕ) → i ≤ length ns → count_of v (take i ns) ≤ i
 count_part v ns i within = omega (arith, count_few v (take i ns), length-take-le i ns within)
+
+pub times_few : (m : ℕ) (ns : List ℕ) → times_in m ns ≤ length ns
+times_few m [] = omega arith
+times_few m (n ∷ ns) = omega (arith, times_few m ns, bit_small (n == m))
 
 times_push : (m : ℕ) (ns : List ℕ) (n : ℕ) → times_in m (ns ++ n ∷ []) ≡ times_in m ns + as_bit (n == m)
 times_push m [] n = omega arith
@@ -143,8 +147,8 @@ two_alone (a ∷ []) x y two is also = absurd (omega arith)
 two_alone (a ∷ b ∷ []) x y two is also = ap (λ z. z ∷ b ∷ []) (sym is) ∙ ap (λ z. x ∷ z ∷ []) (sym also)
 two_alone (a ∷ b ∷ z ∷ zs) x y two is also = absurd (omega arith)
 
-pub second_below : (count : ℕ) (g : GuardValue) (t u : List Literal) → g ≡ t ∷ u ∷ [] → IsBelow count g → All (λ (l : Literal). l.node < count) u
-second_below count g t u is below = subst (λ (h : GuardValue). IsBelow count h) is below 1 [] (omega arith)
+pub second_passes : (passes : ℕ → Bool) (g : GuardValue) (t u : List Literal) → g ≡ t ∷ u ∷ [] → GuardPasses passes g → AllPass passes u
+second_passes passes g t u is all = subst (λ (h : GuardValue). GuardPasses passes h) is all 1 [] (omega arith)
 
 -- the number that a place stands for
 

@@ -18,7 +18,7 @@ pub index_lt : (v : ℕ → Bool) (ns : List ℕ) → index_of v ns < 2 ^ length
 index_lt v [] = omega arith
 index_lt v (n ∷ ns) = omega (arith, index_lt v ns, bit_small (v n), pow-succ' 2 (length ns))
 
-power_small : (k : ℕ) → k ≤ 6 → 2 ^ k ≤ 64
+pub power_small : (k : ℕ) → k ≤ 6 → 2 ^ k ≤ 64
 power_small zero h = omega arith
 power_small (suc zero) h = omega arith
 power_small (suc (suc zero)) h = omega arith

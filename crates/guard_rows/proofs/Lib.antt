@@ -4,3 +4,5 @@ mod Totals
 mod Counting
 mod Turns
 mod Made
+mod Added
+mod Parts

@@ -4,9 +4,9 @@ use Rattle.std.specs.Prelude.{◌==◌}
 use Rattle.std.proofs.Math.Nat.{pow-succ', pow-suc}
 use Rattle.std.proofs.lemmas.List.{take_more, get_or-set_same, get_or-set_other, length-take-le}
 use Rattle.std.proofs.lemmas.Bool.{eqb-true, eqb-false, eq-eqb}
-use Rattle.std.proofs.lemmas.List.Elements.{All-push, All-get_or}
+use Rattle.std.proofs.lemmas.List.Elements.{All-get_or}
 use Rattle.std.specs.Prelude.{All}
-use Rattle.guard_rows.specs.Places.{as_bit, weight_of, total_to}
+use Rattle.guard_rows.specs.Places.{as_bit, index_of, weight_of, total_to}
 
 pub total_push : (r : ℕ) (es : List (ℕ × ℕ)) (e : ℕ × ℕ) → total_to r (es ++ e ∷ []) ≡ total_to r es + cond (e.0 == r) e.1 0
 total_push r [] e = omega arith
@@ -34,45 +34,27 @@ pub weight_more : (m : ℕ) (ns : List ℕ) (i : ℕ) → i < length ns →
 weight_more m ns i within = ap (weight_of m) (take_more ns i 0 within) ∙ weight_push m (take i ns) (get_or ns i 0)
     ∙ ap (λ k. weight_of m (take i ns) + 2 ^ k * as_bit (get_or ns i 0 == m)) (length-take-le i ns (omega arith))
 
--- an edge more to the row from one node
-pub edge_more : (edges : List (List (ℕ × ℕ))) (n m r row weight : ℕ) → n < length edges →
-    total_to r (get_or (set edges n (get_or edges n [] ++ (row, weight) ∷ [])) m []) ≡
-    total_to r (get_or edges m []) + cond (row == r) (weight * as_bit (n == m)) 0
-edge_more edges n m r row weight within = by_test (n == m) refl
+-- more weight to one edge
+pub total_set : (r : ℕ) (es : List (ℕ × ℕ)) (i weight : ℕ) → i < length es →
+    total_to r (set es i ((get_or es i (0, 0)).0, (get_or es i (0, 0)).1 + weight)) ≡ total_to r es + cond ((get_or es i (0, 0)).0 == r) weight 0
+total_set r [] i weight within = absurd (omega arith)
+total_set r (e ∷ es) zero weight within = by_test (e.0 == r)
   where
-    here : total_to r (get_or edges n [] ++ (row, weight) ∷ []) ≡ total_to r (get_or edges n []) + cond (row == r) weight 0
-    here = total_push r (get_or edges n []) (row, weight)
+    by_test : (b : Bool) → cond b (e.1 + weight) 0 + total_to r es ≡ cond b e.1 0 + total_to r es + cond b weight 0
+    by_test true = omega arith
+    by_test false = omega arith
+total_set r (e ∷ es) (suc i) weight within = omega (arith, total_set r es i weight (omega arith))
 
-    times : (b : Bool) → cond b weight 0 ≡ cond b (weight * 1) 0
-    times true = omega arith
-    times false = refl
+-- one edge weighs no more than all
+pub one_weight : (r : ℕ) (es : List (ℕ × ℕ)) (i : ℕ) → i < length es → (get_or es i (0, 0)).0 ≡ r → (get_or es i (0, 0)).1 ≤ total_to r es
+one_weight r [] i within here = absurd (omega arith)
+one_weight r (e ∷ es) zero within here = omega (arith, ap (λ b. cond b e.1 0) (eq-eqb e.0 r here))
+one_weight r (e ∷ es) (suc i) within here = omega (arith, one_weight r es i (omega arith) here)
 
-    none : (b : Bool) → cond b (weight * 0) 0 ≡ 0
-    none true = omega arith
-    none false = refl
-
-    by_test : (b : Bool) → (n == m) ≡ b → total_to r (get_or (set edges n (get_or edges n [] ++ (row, weight) ∷ [])) m []) ≡
-        total_to r (get_or edges m []) + cond (row == r) (weight * as_bit b) 0
-    by_test true is = rw (← eqb-true n m is) (ap (total_to r) (get_or-set_same edges n _ [] within) ∙ here
-        ∙ ap (λ k. total_to r (get_or edges n []) + k) (times (row == r)))
-    by_test false is = ap (total_to r) (get_or-set_other edges n m _ [] (λ e. eqb-false n m is (sym e)))
-        ∙ omega (arith, none (row == r))
-
-pub sum_more : (b : Bool) (z u t w s p : ℕ) → u ≡ t + cond b w 0 → s ≡ w + p → z ≡ u + cond b p 0 → z ≡ t + cond b s 0
-sum_more true z u t w s p is more now = omega arith
-sum_more false z u t w s p is more now = omega arith
-
-pub within_more : (edges : List (List (ℕ × ℕ))) (n m row weight count : ℕ) → n < length edges → row < count →
-    All (λ (e : ℕ × ℕ). e.0 < count) (get_or edges m []) →
-    All (λ (e : ℕ × ℕ). e.0 < count) (get_or (set edges n (get_or edges n [] ++ (row, weight) ∷ [])) m [])
-within_more edges n m row weight count within small before = by_test (n == m) refl
-  where
-    by_test : (b : Bool) → (n == m) ≡ b →
-        All (λ (e : ℕ × ℕ). e.0 < count) (get_or (set edges n (get_or edges n [] ++ (row, weight) ∷ [])) m [])
-    by_test true is = rw (← eqb-true n m is, get_or-set_same edges n (get_or edges n [] ++ (row, weight) ∷ []) [] within)
-        (All-push (λ (e : ℕ × ℕ). e.0 < count) (get_or edges n []) (row, weight)
-        (subst (λ k. All (λ (e : ℕ × ℕ). e.0 < count) (get_or edges k [])) (sym (eqb-true n m is)) before) small)
-    by_test false is = subst (All (λ (e : ℕ × ℕ). e.0 < count)) (sym (get_or-set_other edges n m _ [] (λ e. eqb-false n m is (sym e)))) before
+-- no place weighs more than its inputs allow
+pub weight_small : (m : ℕ) (ns : List ℕ) → weight_of m ns ≡ index_of (λ n. n == m) ns
+weight_small m [] = refl
+weight_small m (n ∷ ns) = ap (λ k. as_bit (n == m) + 2 * k) (weight_small m ns)
 
 pub power_more : (i : ℕ) → 2 ^ i * 2 ≡ 2 ^ (i + 1)
 power_more i = sym (pow-suc 2 i) ∙ ap (λ k. 2 ^ k) (omega arith)

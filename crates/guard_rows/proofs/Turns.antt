@@ -6,10 +6,11 @@ use Rattle.std.proofs.lemmas.List.{get_or_read}
 use Rattle.prs_core.specs.Nets.{NetValue, up_of, down_of}
 use Rattle.std.specs.Int.{bit_at}
 use Rattle.prs_core.specs.Moves.{high, fired, guard_holds}
-use Rattle.guard_rows.specs.Places.{GuardForm, walked, looked_up, by_count, count_of, overrides, row_place, step_of, total_to, guard_rows_of, says_up, says_down, IsRow, AreRows}
+use Rattle.guard_rows.specs.Places.{GuardForm, walked, looked_up, by_count, count_of, overrides, row_place, step_of, total_to, readers_in, guard_rows_of, says_up, says_down, IsRow, AreRows}
 use Rattle.guard_rows.proofs.Indexes.{bit_small, index_raised, index_lowered, index_small}
 use Rattle.guard_rows.proofs.Counting.{count_raised, count_lowered, over_raised, over_lowered, count_few, up_at, down_at}
 use Rattle.guard_rows.proofs.Masks.{tested}
+use Rattle.guard_rows.proofs.Added.{edges_less}
 
 place_raised : (values : List Bool) (m : ℕ) (inputs : GuardForm) → m < length values → high values m ≡ false →
     row_place (high (fired values m)) inputs ≡ row_place (high values) inputs + step_of m inputs
@@ -71,7 +72,7 @@ raised net values rows places new edges m are within inside low count moved = re
     steps = kept.steps;
   };
   later = are.later;
-  within = are.within;
+  readers = are.readers;
 }
 
 pub lowered : (net : NetValue) (values : List Bool) (rows : List (ℕ × ℕ)) (places new : List ℕ) (edges : List (List (ℕ × ℕ))) (m : ℕ) →
@@ -90,7 +91,7 @@ lowered net values rows places new edges m are within inside up count moved = re
     steps = kept.steps;
   };
   later = are.later;
-  within = are.within;
+  readers = are.readers;
 }
 
 -- what the row of a node says at its place
@@ -158,15 +159,10 @@ read net values rows places edges n are within row place row_is place_is narrow 
     subst (λ (r : ℕ × ℕ). IsSaid raises lowers r place) (sym here)
     (subst (λ k. IsSaid raises lowers (get_or rows n (0, 0)) k) (sym at) holds)
 
--- the same edges and places, by other names
-pub within_there : (es there : List (ℕ × ℕ)) (ps places : List ℕ) (count : ℕ) → All (λ (e : ℕ × ℕ). e.0 < count) there → es ≡ there → ps ≡ places →
-    length places ≡ count → All (λ (e : ℕ × ℕ). e.0 < length ps) es
-within_there es there ps places count within same at is =
-    subst (λ (xs : List (ℕ × ℕ)). All (λ (e : ℕ × ℕ). e.0 < length ps) xs) (sym same)
-    (subst (λ k. All (λ (e : ℕ × ℕ). e.0 < k) there) (sym (ap length at ∙ is)) within)
-
--- the rows that a node's turn moves
-pub followed : (net : NetValue) (values : List Bool) (rows : List (ℕ × ℕ)) (places : List ℕ) (edges : List (List (ℕ × ℕ))) (n : ℕ) →
-    AreRows net values (guard_rows_of rows places edges) → n < length net.first → (here es : List (ℕ × ℕ)) → here ≡ get_or edges n here → es ≡ here →
-    es ≡ get_or edges n []
-followed net values rows places edges n are within here es is same = same ∙ get_or_read edges n here (omega (arith, within, are.edges)) is []
+-- the edges of a node lead to rows
+pub edges_within : (net : NetValue) (values : List Bool) (rows : List (ℕ × ℕ)) (places : List ℕ) (edges : List (List (ℕ × ℕ))) (n : ℕ) →
+    AreRows net values (guard_rows_of rows places edges) → n < length net.first → (es : List (ℕ × ℕ)) (ps : List ℕ) → es ≡ get_or edges n [] → ps ≡ places →
+    All (λ (e : ℕ × ℕ). e.0 < length ps) es
+edges_within net values rows places edges n are within es ps same at =
+    subst (λ k. All (λ (e : ℕ × ℕ). e.0 < k) es) (sym (ap length at ∙ are.places))
+    (edges_less net (length net.first) n es (ap readers_in same ∙ are.readers n within))

@@ -1,9 +1,12 @@
 -- What the two guards of a node say for each choice of the values that they read, or for how many of these are high,
 -- and where the values stand now.
-use Rattle.std.specs.Prelude.{◌≡◌, ℕ, ◌+◌, ◌-◌, ◌*◌, ◌^◌, ◌<◌, ◌≤◌, Bool, true, false, not, ◌&&◌, ◌||◌, ◌==◌, nat_lt, nat_le, if◌then◌else◌, List, [], ◌∷◌, length, slice_index, slice_index_or, All, Option, Some, None}
+use Rattle.std.specs.Prelude.{◌≡◌, ℕ, ◌+◌, ◌-◌, ◌*◌, ◌^◌, ◌<◌, ◌≤◌, Bool, true, false, not, ◌&&◌, ◌||◌, ◌==◌, nat_lt, nat_le, if◌then◌else◌, List, [], ◌∷◌, ◌++◌, length, map, take, drop, slice_index, slice_index_or, All, Option, Some, None}
 use Rattle.std.specs.Int.{bit_at}
+use Rattle.std.specs.List.{list_any, range_with_len}
+use Rattle.prs_core.specs.declared.rule.Literal.{Literal}
 use Rattle.prs_core.specs.Nets.{GuardValue, NetValue, up_of, down_of}
 use Rattle.prs_core.specs.Moves.{high, guard_holds}
+use Rattle.prs_core.specs.Fans.{readers_below}
 
 abbrev pub as_bit : Bool → ℕ
 as_bit true = 1
@@ -34,9 +37,19 @@ abbrev pub overrides : (ℕ → Bool) → Option ℕ → Bool
 overrides v None = false
 overrides v (Some n) = v n
 
+abbrev pub is_over : ℕ → Option ℕ → Bool
+is_over n None = false
+is_over n (Some m) = m == n
+
 abbrev pub override_step : ℕ → Option ℕ → ℕ
-override_step n None = 0
-override_step n (Some m) = as_bit (m == n)
+override_step n over = as_bit (is_over n over)
+
+-- each node that the term names passes, or that the guard names
+abbrev pub AllPass : (ℕ → Bool) → List Literal → Type 0
+AllPass passes t = All (λ (l : Literal). passes l.node ≡ true) t
+
+abbrev pub GuardPasses : (ℕ → Bool) → GuardValue → Type 0
+GuardPasses passes g = All (AllPass passes) g
 
 -- how a node's guards are evaluated: gone through; looked up at the index of the values of these nodes; by how many of
 -- these are high, unless a node that overrides them is
@@ -49,8 +62,8 @@ pub data GuardForm : Type 0 where
 abbrev pub IsWord : List ℕ → GuardValue → ℕ → Type 0
 IsWord inputs g word = (v : ℕ → Bool) → bit_at word (index_of v inputs) ≡ as_bit (guard_holds v g)
 
--- for each node two words, or how many of its inputs have to be high, and a place; and for each node the rows that
--- read it, each with a weight
+-- for each node two words, or how many of its inputs have to be high, and a place; and for each node its edges: the
+-- nodes that read it, each with a weight
 pub record RowsValue : Type 0 where
   pub rows : List (ℕ × ℕ)
   pub places : List ℕ
@@ -113,15 +126,54 @@ pub record IsRowKept (net : NetValue) (values : List Bool) (r : RowsValue) (n : 
   pub place : slice_index r.places n ≡ row_place (high values) inputs
   pub steps : (m : ℕ) → m < length net.first → total_to n (slice_index_or r.edges m []) ≡ step_of m inputs
 
--- those of the nodes below this one are, and no later row is followed yet
-pub record AreRowsBelow (net : NetValue) (values : List Bool) (count : ℕ) (r : RowsValue) : Type 0 where
+abbrev pub readers_in : List (ℕ × ℕ) → List ℕ
+readers_in es = map (λ (e : ℕ × ℕ). e.0) es
+
+-- the last edge leads to the reader
+abbrev pub ends_at : ℕ → List (ℕ × ℕ) → Bool
+ends_at reader es = nat_lt 0 (length es) && (slice_index_or es (length es - 1) (0, 0)).0 == reader
+
+-- those of the nodes below the one number are, and no later row is followed yet; the edges lead to the readers below
+-- the other, in ascending order
+pub record AreRowsBelow (net : NetValue) (values : List Bool) (count most : ℕ) (r : RowsValue) : Type 0 where
   pub rows : length r.rows ≡ count
   pub places : length r.places ≡ count
   pub edges : length r.edges ≡ length net.first
   pub each : (n : ℕ) → n < count → IsRowKept net values r n
   pub later : (m n : ℕ) → m < length net.first → count ≤ n → total_to n (slice_index_or r.edges m []) ≡ 0
-  pub within : (m : ℕ) → m < length net.first → All (λ (e : ℕ × ℕ). e.0 < count) (slice_index_or r.edges m [])
+  pub readers : (m : ℕ) → m < length net.first →
+      readers_in (slice_index_or r.edges m []) ≡ readers_below net most m
 
 -- those of all nodes are
 abbrev pub AreRows : NetValue → List Bool → RowsValue → Type 0
-AreRows net values r = AreRowsBelow net values (length net.first) r
+AreRows net values r = AreRowsBelow net values (length net.first) (length net.first) r
+
+-- While a reader is added: its node is the last reader of each node that passes, behind those below it.
+abbrev pub HaveReaders : NetValue → ℕ → (ℕ → Bool) → List (List (ℕ × ℕ)) → Type 0
+HaveReaders net reader passes edges = (m : ℕ) → m < length edges →
+    readers_in (slice_index_or edges m []) ≡ readers_below net reader m ++ (if passes m then reader ∷ [] else [])
+
+-- it was added to the edges of these nodes, with such weights
+pub record AreAdded (reader : ℕ) (names : ℕ → Bool) (weights : ℕ → ℕ) (old new : List (List (ℕ × ℕ))) :
+    Type 0 where
+  pub count : length new ≡ length old
+  pub total : (m r : ℕ) → m < length old → total_to r (slice_index_or new m []) ≡
+      total_to r (slice_index_or old m []) + (if reader == r then weights m else 0)
+  pub readers : (net : NetValue) (passes : ℕ → Bool) → HaveReaders net reader passes old →
+      HaveReaders net reader (λ m. passes m || names m) new
+
+abbrev pub is_one_of : List ℕ → ℕ → Bool
+is_one_of nodes m = list_any (λ n. n == m) nodes
+
+-- Lists as parts of one list: each begins at one of these places, and ends where the next one begins.
+abbrev pub part_at : List ℕ → List (ℕ × ℕ) → ℕ → List (ℕ × ℕ)
+part_at starts all m = take (slice_index starts (m + 1) - slice_index starts m) (drop (slice_index starts m) all)
+
+abbrev pub parts_by : List ℕ → List (ℕ × ℕ) → List (List (ℕ × ℕ))
+parts_by starts all = map (part_at starts all) (range_with_len 0 (length starts - 1))
+
+pub record AreStarts (starts : List ℕ) (end : ℕ) : Type 0 where
+  pub some : 0 < length starts
+  pub ascend : (m : ℕ) → m + 1 < length starts → slice_index starts m ≤ slice_index starts (m + 1)
+  pub within : (m : ℕ) → m < length starts → slice_index starts m ≤ end
+  pub last : slice_index starts (length starts - 1) ≡ end

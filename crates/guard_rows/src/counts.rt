@@ -2,10 +2,8 @@
 
 ghost use Rattle.std.specs.Prelude.{◌≡◌, ℕ, ◌<◌, ◌^◌, Bool, true, not, ◌&&◌, ◌||◌, nat_le, ◌==◌, [], ◌∷◌, length, All, IfOk, IfSome, OnOk};
 ghost use Rattle.std.specs.List.{list_all};
-ghost use Rattle.prs_core.specs.declared.rule.Literal.{Literal};
-ghost use Rattle.prs_core.specs.Nets.{IsBelow};
 ghost use Rattle.prs_core.specs.Moves.{high, literal_holds, term_holds, guard_holds};
-ghost use Rattle.guard_rows.specs.Places.{by_count, count_of, overrides, row_place, AreCounted};
+ghost use Rattle.guard_rows.specs.Places.{by_count, count_of, overrides, row_place, AllPass, AreCounted, GuardPasses};
 
 use crate::edges::OVER;
 use prs_core::{Guard, Literal, State, Term};
@@ -40,7 +38,7 @@ fn only_term(guard: &Guard) -> Option<&Term>
 /// The node that the term's one literal wants high.
 fn just_high(term: &Term) -> Option<u32>
     ensures holds { IfSome result (λ n. (v : ℕ → Bool) → term_holds v term.now ≡ v n) }
-    ensures within { IfSome result (λ n. (count : ℕ) → All (λ (l : Literal). l.node < count) term.now → n < count) }
+    ensures passes { IfSome result (λ n. (passes : ℕ → Bool) → AllPass passes term.now → passes n ≡ true) }
 {
     let literals = term.literals();
     let first = literals[0];
@@ -55,9 +53,10 @@ fn just_high(term: &Term) -> Option<u32>
 fn parts_of(guard: &Guard) -> Option<(&Term, Option<u32>)>
     ensures holds { IfSome result (λ parts. (v : ℕ → Bool) →
         guard_holds v guard.now ≡ (term_holds v parts.0.now || overrides v parts.1)) }
-    ensures first { IfSome result (λ parts. (count : ℕ) → IsBelow count guard.now
-        → All (λ (l : Literal). l.node < count) parts.0.now) }
-    ensures over { IfSome result (λ parts. (count : ℕ) → IsBelow count guard.now → IfSome parts.1 (λ n. n < count)) }
+    ensures first { IfSome result (λ parts. (passes : ℕ → Bool) → GuardPasses passes guard.now
+        → AllPass passes parts.0.now) }
+    ensures over { IfSome result (λ parts. (passes : ℕ → Bool) → GuardPasses passes guard.now
+        → IfSome parts.1 (λ n. passes n ≡ true)) }
 {
     let terms = guard.terms();
     if terms.len() == 1 {
@@ -75,8 +74,8 @@ fn list_low(nodes: &mut Vec<u32>, term: &Term) -> Result<bool, AllocError>
     requires { nodes.old.items ≡ [] }
     ensures holds { IfOk result (λ low. low ≡ true → (v : ℕ → Bool) →
         term_holds v term.now ≡ (count_of v nodes.new.items == 0)) }
-    ensures within { OnOk result ((count : ℕ) → All (λ (l : Literal). l.node < count) term.now
-        → All (λ n. n < count) nodes.new.items) }
+    ensures pass { OnOk result ((passes : ℕ → Bool) → AllPass passes term.now
+        → All (λ n. passes n ≡ true) nodes.new.items) }
 {
     for literal in term.literals() {
         if literal.high {
@@ -182,9 +181,10 @@ pub(crate) fn counted_row(
     down: &Guard,
 ) -> Result<Option<Counts>, AllocError>
     ensures row { IfOk result (λ row. IfSome row (λ c. AreCounted up.now down.now nodes.new.items c.over c.least)) }
-    ensures within { OnOk result ((count : ℕ) → IsBelow count down.now → All (λ n. n < count) nodes.new.items) }
-    ensures over { IfOk result (λ row. IfSome row (λ c. (count : ℕ) → IsBelow count down.now
-        → IfSome c.over (λ n. n < count))) }
+    ensures pass { OnOk result ((passes : ℕ → Bool) → GuardPasses passes down.now
+        → All (λ n. passes n ≡ true) nodes.new.items) }
+    ensures over { IfOk result (λ row. IfSome row (λ c. (passes : ℕ → Bool) → GuardPasses passes down.now
+        → IfSome c.over (λ n. passes n ≡ true))) }
 {
     nodes.clear();
     let Some((term, over)) = parts_of(down) else {

@@ -1,14 +1,14 @@
 //! The rows of a net, and the place of each in them.
 
-ghost use Rattle.std.specs.Prelude.{◌≡◌, ℕ, ◌+◌, ◌^◌, ◌<◌, ◌≤◌, ◌==◌, length, slice_index, All, IfOk, IfSome, OnOk};
+ghost use Rattle.std.specs.Prelude.{◌≡◌, ℕ, ◌+◌, ◌^◌, ◌<◌, ◌≤◌, ◌==◌, Bool, true, List, [], length, slice_index, All, replicate, IfOk, IfSome, OnOk};
 ghost use Rattle.std.specs.Int.{bit_at};
-ghost use Rattle.prs_core.specs.declared.rule.Literal.{Literal};
-ghost use Rattle.prs_core.specs.Nets.{IsBelow};
-ghost use Rattle.prs_core.specs.Moves.{high, rule_enabled, both_ways, fired};
-ghost use Rattle.guard_rows.specs.Places.{AreRows, AreRowsBelow, AreWords, says_up, says_down, total_to};
+ghost use Rattle.prs_core.specs.Nets.{NetValue, up_of, down_of};
+ghost use Rattle.prs_core.specs.Moves.{high, guard_holds, rule_enabled, fired};
+ghost use Rattle.prs_core.specs.Fans.{is_reader, readers_below};
+ghost use Rattle.guard_rows.specs.Places.{readers_in, says_up, says_down, total_to, AllPass, AreRows, AreRowsBelow, AreWords, GuardPasses};
 
 use crate::counts::{COUNTED, counted_row, place_now};
-use crate::edges::{Edges, OVER, add_counts, add_edges, add_over, no_edges};
+use crate::edges::{Edges, NodeEdges, OVER, add_bits, add_counts, add_over, add_reader, no_edges};
 use crate::words::{MOST, guard_word, index_now};
 use prs_core::{Guard, Net, State, Term, enabled, holds};
 use std::alloc::{AllocError, Global};
@@ -32,10 +32,26 @@ const WIDE: u32 = 64;
 pub struct GuardRows {
     rows: Vec<(u64, u64)>,
     places: Vec<u32>,
-    edges: Vec<Edges>,
+    edges: Edges,
+}
+
+/// The rows of the first nodes, while those of a net are made.
+#[derive(Drop)]
+struct Making {
+    rows: Vec<(u64, u64)>,
+    places: Vec<u32>,
+    edges: Vec<NodeEdges>,
 }
 
 impl Model for GuardRows {
+    ghost use Rattle.guard_rows.specs.Places.{RowsValue, guard_rows_of};
+
+    ghost Value = { RowsValue };
+
+    ghost view = { λ r. guard_rows_of r.rows.items r.places.items r.edges };
+}
+
+impl Model for Making {
     ghost use Rattle.guard_rows.specs.Places.{RowsValue, guard_rows_of};
 
     ghost Value = { RowsValue };
@@ -47,8 +63,8 @@ impl Model for GuardRows {
 fn note_input(inputs: &mut Vec<u32>, node: u32) -> Result<(), AllocError>
     requires few { length inputs.old.items ≤ 6 }
     ensures few { OnOk result (length inputs.new.items ≤ 6) }
-    ensures within { OnOk result ((count : ℕ) → node < count
-        → All (λ n. n < count) inputs.old.items → All (λ n. n < count) inputs.new.items) }
+    ensures pass { OnOk result ((passes : ℕ → Bool) → passes node ≡ true
+        → All (λ n. passes n ≡ true) inputs.old.items → All (λ n. passes n ≡ true) inputs.new.items) }
 {
     if inputs.len() < MOST && !inputs.contains(&node) {
         inputs.push(node)?;
@@ -60,8 +76,8 @@ fn note_input(inputs: &mut Vec<u32>, node: u32) -> Result<(), AllocError>
 fn note_term(inputs: &mut Vec<u32>, term: &Term) -> Result<(), AllocError>
     requires few { length inputs.old.items ≤ 6 }
     ensures few { OnOk result (length inputs.new.items ≤ 6) }
-    ensures within { OnOk result ((count : ℕ) → All (λ (l : Literal). l.node < count) term.now
-        → All (λ n. n < count) inputs.old.items → All (λ n. n < count) inputs.new.items) }
+    ensures pass { OnOk result ((passes : ℕ → Bool) → AllPass passes term.now
+        → All (λ n. passes n ≡ true) inputs.old.items → All (λ n. passes n ≡ true) inputs.new.items) }
 {
     for literal in term.literals() {
         note_input(inputs, literal.node)?;
@@ -73,8 +89,8 @@ fn note_term(inputs: &mut Vec<u32>, term: &Term) -> Result<(), AllocError>
 fn note_guard(inputs: &mut Vec<u32>, guard: &Guard) -> Result<(), AllocError>
     requires few { length inputs.old.items ≤ 6 }
     ensures few { OnOk result (length inputs.new.items ≤ 6) }
-    ensures within { OnOk result ((count : ℕ) → IsBelow count guard.now
-        → All (λ n. n < count) inputs.old.items → All (λ n. n < count) inputs.new.items) }
+    ensures pass { OnOk result ((passes : ℕ → Bool) → GuardPasses passes guard.now
+        → All (λ n. passes n ≡ true) inputs.old.items → All (λ n. passes n ≡ true) inputs.new.items) }
 {
     for term in guard.terms() {
         note_term(inputs, term)?;
@@ -140,7 +156,23 @@ fn lower(places: &mut [u32], edges: &[(u32, u32)])
     }
 }
 
-impl GuardRows {
+impl Making {
+    ghost use Rattle.guard_rows.specs.Places.{RowsValue, guard_rows_of};
+
+    /// No rows yet, and no edges.
+    fn new(alloc: Global, nodes: usize) -> Result<Making, AllocError>
+        ensures { IfOk result (λ rows. rows ≡ guard_rows_of [] [] (replicate nodes [])) }
+    {
+        let rows = Vec::with_capacity(alloc, nodes)?;
+        let places = Vec::with_capacity(alloc, nodes)?;
+        let edges = no_edges(alloc, nodes)?;
+        Ok(Making {
+            rows,
+            places,
+            edges,
+        })
+    }
+
     /// Adds the node with a counted row, or with none where its guards ask for more than how many of some nodes are
     /// high. The list is made anew.
     fn add_counted(
@@ -152,8 +184,8 @@ impl GuardRows {
     ) -> Result<(), AllocError>
         requires state { length state.now ≡ length net.now.first }
         requires node { node < length net.now.first }
-        requires below { AreRowsBelow net.now state.now node self.old }
-        ensures { OnOk result (AreRowsBelow net.now state.now (node + 1) self.new) }
+        requires below { AreRowsBelow net.now state.now node (node + 1) self.old }
+        ensures { OnOk result (AreRowsBelow net.now state.now (node + 1) (node + 1) self.new) }
     {
         let _net = net.first();
         match counted_row(inputs, net.up(node), net.down(node))? {
@@ -171,7 +203,7 @@ impl GuardRows {
         }
     }
 
-    /// Adds the node with a row of words, if its guards name no other nodes than these.
+    /// Adds the node, with a row of words if its guards name no other nodes than these.
     fn add(
         &mut self,
         net: &Net,
@@ -182,39 +214,64 @@ impl GuardRows {
         requires state { length state.now ≡ length net.now.first }
         requires node { node < length net.now.first }
         requires few { length inputs.old.items ≤ 6 }
-        requires inputs { All (λ n. n < length net.now.first) inputs.old.items }
-        requires below { AreRowsBelow net.now state.now node self.old }
-        ensures { OnOk result (AreRowsBelow net.now state.now (node + 1) self.new) }
+        requires inputs { All (λ n. is_reader net.now n node ≡ true) inputs.old.items }
+        requires below { AreRowsBelow net.now state.now node node self.old }
+        ensures { OnOk result (AreRowsBelow net.now state.now (node + 1) (node + 1) self.new) }
     {
+        let _net = net.first();
+        add_reader(&mut self.edges, net, node)?;
         match row_of(inputs, net.up(node), net.down(node)) {
             None => self.add_counted(net, state, node, inputs),
             Some(row) => {
                 self.rows.push(row)?;
                 self.places.push(index_now(inputs, state))?;
-                add_edges(&mut self.edges, inputs, node)
+                add_bits(&mut self.edges, inputs, node)
             }
         }
     }
+}
 
+/// The rows of the net in this state.
+fn made_rows(alloc: Global, net: &Net, state: &State) -> Result<Making, AllocError>
+    requires { length state.now ≡ length net.now.first }
+    ensures rows { IfOk result (λ rows. AreRows net.now state.now rows) }
+    ensures few { length net.now.first < 2 ^ 32 }
+{
+    let nodes = net.first().len();
+    let mut rows = Making::new(alloc, nodes)?;
+    let mut inputs = Vec::new(alloc);
+    for node in 0..nodes as u32 {
+        inputs.clear();
+        note_guard(&mut inputs, net.up(node))?;
+        note_guard(&mut inputs, net.down(node))?;
+        rows.add(net, state, node, &mut inputs)?;
+    }
+    Ok(rows)
+}
+
+impl GuardRows {
     /// The rows of the net in this state.
     pub fn new(alloc: Global, net: &Net, state: &State) -> Result<GuardRows, AllocError>
         requires { length state.now ≡ length net.now.first }
         ensures { IfOk result (λ rows. AreRows net.now state.now rows) }
     {
-        let nodes = net.first().len();
-        let mut rows = GuardRows {
-            rows: Vec::with_capacity(alloc, nodes)?,
-            places: Vec::with_capacity(alloc, nodes)?,
-            edges: no_edges(alloc, nodes)?,
-        };
-        let mut inputs = Vec::new(alloc);
-        for node in 0..nodes as u32 {
-            inputs.clear();
-            note_guard(&mut inputs, net.up(node))?;
-            note_guard(&mut inputs, net.down(node))?;
-            rows.add(net, state, node, &mut inputs)?;
-        }
-        Ok(rows)
+        let made = made_rows(alloc, net, state)?;
+        let edges = Edges::of(alloc, &made.edges)?;
+        Ok(GuardRows {
+            rows: made.rows,
+            places: made.places,
+            edges,
+        })
+    }
+
+    /// The edges of the node: the nodes with a guard that names it, in ascending order, each with what a turn of the node
+    /// from low to high adds to its place.
+    pub fn edges(&self, node: u32) -> &[(u32, u32)]
+        requires { node < length self.now.edges }
+        ensures { (net : NetValue) (values : List Bool) → AreRows net values self.now
+            → readers_in result.now ≡ readers_below net (length net.first) node }
+    {
+        self.edges.node(node)
     }
 
     /// Follows a turn of the node from this state.
@@ -225,7 +282,7 @@ impl GuardRows {
         ensures { AreRows net.now (fired state.now node) self.new }
     {
         let _net = net.first();
-        let edges = self.edges[node as usize].list();
+        let edges = self.edges.node(node);
         if state.is_high(node) {
             lower(&mut self.places, edges);
         } else {
@@ -249,19 +306,19 @@ impl GuardRows {
         if state.is_high(node) { down } else { up }
     }
 
-    /// Whether both guards of the node hold.
-    pub fn both_ways(&self, net: &Net, state: &State, node: u32) -> bool
+    /// What the up guard of the node says, and what its down guard does.
+    pub fn says(&self, net: &Net, state: &State, node: u32) -> (bool, bool)
         requires state { length state.now ≡ length net.now.first }
         requires node { node < length net.now.first }
         requires rows { AreRows net.now state.now self.now }
-        ensures { result ≡ both_ways net.now (high state.now) node }
+        ensures up { result.0 ≡ guard_holds (high state.now) (up_of net.now node) }
+        ensures down { result.1 ≡ guard_holds (high state.now) (down_of net.now node) }
     {
         let _net = net.first();
         let place = self.places[node as usize];
         if place == WIDE {
-            return holds(net.up(node), state) && holds(net.down(node), state);
+            return (holds(net.up(node), state), holds(net.down(node), state));
         }
-        let (up, down) = says(self.rows[node as usize], place);
-        up && down
+        says(self.rows[node as usize], place)
     }
 }

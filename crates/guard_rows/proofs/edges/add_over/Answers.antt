@@ -1,32 +1,24 @@
-use Rattle.std.proofs.Common.{◌≡◌, ℕ, ◌+◌, ◌*◌, ◌<◌, ◌∙◌, ◌++◌, ◌∷◌, [], List, cond, length, get_or, set, vec_len, sym, ap, subst, arith}
-use Rattle.std.specs.Prelude.{All, IfSome, Option, ◌==◌}
-use Rattle.std.proofs.lemmas.List.{get_or_read}
-use Rattle.guard_rows.specs.Places.{total_to, override_step}
-use Rattle.guard_rows.proofs.Totals.{edge_more, within_more}
+use Rattle.std.proofs.Common.{ℕ, ◌*◌, ◌^◌, ◌<◌, false, vec_len, sym, ap, subst, refl, arith}
+use Rattle.std.specs.Prelude.{IfSome, Option, ◌==◌}
+use Rattle.guard_rows.specs.Places.{as_bit, is_over, override_step}
+use Rattle.guard_rows.proofs.Added.{none_added, added_as, added_room, step_added}
 use Rattle.guard_rows.proofs.edges.add_over.Goals as goal
 
-pub returns-in_ok-push-clause-total : goal.returns-in_ok-push-clause-total
-returns-in_ok-push-clause-total c = λ m r within.
-    let n = c.in-Some.node in
-    let edges = c.args.edges.now.items in
-    let row = c.args.row in
-    let listed : n < vec_len c.args.edges.now = subst (λ (o : Option ℕ). IfSome o (λ k. k < vec_len c.args.edges.now)) c.in-Some.is c.requires.within in
-    let inside : n < length edges = omega (arith, listed, c.args.edges.now.ok.0) in
-    let pushed : c.push.new.self ≡ get_or edges n [] ++ (row, 536870912) ∷ [] =
-    c.in_ok-push.ensures ∙ ap (λ (es : List (ℕ × ℕ)). es ++ (row, 536870912) ∷ [])
-    (get_or_read edges n c.index_mut.result.now inside c.index_mut.ensures.value []) in
-    ap (λ (es : List (ℕ × ℕ)). total_to r (get_or (set edges n es) m [])) pushed ∙ edge_more edges n m r row 536870912 inside
-    ∙ ap (λ (o : Option ℕ). total_to r (get_or edges m []) + cond (row == r) (536870912 * override_step m o) 0) (sym c.in-Some.is)
+pub add-requires : goal.add-requires
+add-requires c =
+    let old = c.args.edges.now in
+    let listed : c.in-Some.node < vec_len old = subst (λ (o : Option ℕ). IfSome o (λ k. k < vec_len old)) c.in-Some.is c.requires.within in
+    added_room c.args.row 536870912 4294967296 c.in-Some.node (λ m. false) (λ m. 0) old.items old.items c.index_mut.result.now
+    (none_added c.args.row (λ m. false) (λ m. 0) old.items (λ m. refl) (λ m. refl))
+    (λ m within. omega (arith, c.requires.room m (omega (arith, within, old.ok.0))))
+    (omega (arith, listed, old.ok.0)) c.index_mut.ensures.value
 
-pub returns-in_ok-push-clause-within : goal.returns-in_ok-push-clause-within
-returns-in_ok-push-clause-within c = λ count m small within before.
+pub returns-in_ok-add-clause-added : goal.returns-in_ok-add-clause-added
+returns-in_ok-add-clause-added c =
+    let old = c.args.edges.now in
     let n = c.in-Some.node in
-    let edges = c.args.edges.now.items in
-    let row = c.args.row in
-    let listed : n < vec_len c.args.edges.now = subst (λ (o : Option ℕ). IfSome o (λ k. k < vec_len c.args.edges.now)) c.in-Some.is c.requires.within in
-    let inside : n < length edges = omega (arith, listed, c.args.edges.now.ok.0) in
-    let pushed : c.push.new.self ≡ get_or edges n [] ++ (row, 536870912) ∷ [] =
-    c.in_ok-push.ensures ∙ ap (λ (es : List (ℕ × ℕ)). es ++ (row, 536870912) ∷ [])
-    (get_or_read edges n c.index_mut.result.now inside c.index_mut.ensures.value []) in
-    subst (λ (es : List (ℕ × ℕ)). All (λ (e : ℕ × ℕ). e.0 < count) (get_or (set edges n es) m [])) (sym pushed)
-    (within_more edges n m row 536870912 count inside small before)
+    let listed : n < vec_len old = subst (λ (o : Option ℕ). IfSome o (λ k. k < vec_len old)) c.in-Some.is c.requires.within in
+    added_as c.args.row (λ m. n == m) (λ m. is_over m c.args.over) (λ m. 536870912 * as_bit (n == m)) (λ m. 2 ^ 29 * override_step m c.args.over) old.items _
+    (λ m. ap (is_over m) (sym c.in-Some.is)) (λ m. ap (λ (o : Option ℕ). 536870912 * override_step m o) (sym c.in-Some.is))
+    (step_added c.args.row 536870912 n old.items c.index_mut.result.now c.add.new.self (omega (arith, listed, old.ok.0)) c.index_mut.ensures.value
+    c.in_ok-add.ensures.total c.in_ok-add.ensures.readers)

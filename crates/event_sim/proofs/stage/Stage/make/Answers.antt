@@ -2,7 +2,9 @@ use Rattle.std.proofs.Common.{◌≡◌, ◌∙◌, ◌++◌, refl, sym, ap, sub
 use Rattle.std.specs.Prelude.{Option, option_to_list}
 use Rattle.std.proofs.lemmas.List.{length-set}
 use Rattle.std.proofs.lemmas.List.FromFn.{length-map-range_with_len}
+use Rattle.std.specs.List.{find}
 use Rattle.prs_core.specs.Nets.{NetValue}
+use Rattle.prs_core.specs.Fans.{readers_below}
 use Rattle.prs_core.specs.Moves.{high, both_ways, fired}
 use Rattle.guard_rows.specs.Places.{AreRows}
 use Rattle.env_script.specs.Runs.{RunState, move_enabled, histories_after}
@@ -25,8 +27,8 @@ note-requires-clause-chan c =
     completion_within s.indexed.net (high s.state) c.args.node c.completion-completed.result (length s.done.items) c.completion-completed.ensures.completion
     (counts_whole (length s.indexed.net.channels) s.passed.items s.done.items c.self.invariant.counts_are)
 
-pub relist-lost-requires-clause-done : goal.relist-lost-requires-clause-done
-relist-lost-requires-clause-done c =
+pub relist-found-requires-clause-done : goal.relist-found-requires-clause-done
+relist-found-requires-clause-done c =
     let s = c.self.inside in
     ap length c.deref.ensures.value ∙ counts_whole (length s.done.items) c.note.new.passed.items c.note.new.done.items c.note.ensures.counts
     ∙ counts_whole (length s.indexed.net.channels) s.passed.items s.done.items c.self.invariant.counts_are
@@ -36,14 +38,8 @@ turn-requires-clause-rows c =
     let s = c.self.inside in
     subst (λ (net : NetValue). AreRows net s.state s.rows) (sym c.net.ensures.net) c.self.invariant.rows_are
 
-pub relist-lost-requires-clause-rows : goal.relist-lost-requires-clause-rows
-relist-lost-requires-clause-rows c =
-    let s = c.self.inside in
-    subst (λ (vs : List Bool). AreRows s.indexed.net vs c.turn.new.self) (sym c.fire.ensures)
-    (subst (λ (net : NetValue). AreRows net (fired s.state c.args.node) c.turn.new.self) c.net.ensures.net c.turn.ensures)
-
-pub pulled_behind-self-inside-requires-clause-rows : goal.pulled_behind-self-inside-requires-clause-rows
-pulled_behind-self-inside-requires-clause-rows c =
+pub relist-found-requires-clause-rows : goal.relist-found-requires-clause-rows
+relist-found-requires-clause-rows c =
     let s = c.self.inside in
     subst (λ (vs : List Bool). AreRows s.indexed.net vs c.turn.new.self) (sym c.fire.ensures)
     (subst (λ (net : NetValue). AreRows net (fired s.state c.args.node) c.turn.new.self) c.net.ensures.net c.turn.ensures)
@@ -68,9 +64,16 @@ invariant_of-self c =
     (c.deref.ensures.value ∙ counts ∙ ap (map (λ (h : List ℕ). length h)) later)
     (length-map-range_with_len (λ k. values_through k s.passed.items) 0 channels)
     c.self.invariant.values c.self.invariant.moves_are enabled in
-    let relisted = c.relist-lost.ensures s.done.items s.state
+    let relisted = c.relist-found.ensures.relisted s.done.items s.state
     (subst (λ (vs : List Bool). IsCountedMove x n s.done.items c.deref.result.now s.state vs s.moves) (sym c.fire.ensures) move) in
     let now : RunState = record { values = c.fire.new.state; histories = channel_histories channels c.note.new.passed.items } in
+    let pulled : c.pulled_behind-self-inside.result ≡ least_below (length x.net.first) (both_ways x.net (high c.fire.new.state)) =
+    subst (λ (net : NetValue). c.pulled_behind-self-inside.result ≡ least_below (length net.first) (both_ways net (high c.fire.new.state)))
+    c.net-2.ensures.net
+    (c.pulled_behind-self-inside.ensures s.state n c.fire.ensures
+    (subst (λ (net : NetValue). s.pulled ≡ least_below (length net.first) (both_ways net (high s.state))) (sym c.net-2.ensures.net) c.self.invariant.pulled_is)
+    (subst (λ (net : NetValue). c.relist-found.result.pulled ≡ find (both_ways net (high c.fire.new.state)) (readers_below net (length net.first) n))
+    (sym c.net-2.ensures.net) c.relist-found.ensures.pulled)) in
     record {
       net = c.self.invariant.net;
       script = c.self.invariant.script;
@@ -81,8 +84,8 @@ invariant_of-self c =
           c.note.ensures.passed;
       rows_are = subst (λ (vs : List Bool). AreRows x.net vs c.turn.new.self) (sym c.fire.ensures)
           (subst (λ (net : NetValue). AreRows net (fired s.state n) c.turn.new.self) c.net.ensures.net c.turn.ensures);
-      moves_are = passing_same x.net x.script now c.deref.result.now c.relist-lost.new.moves (c.deref.ensures.value ∙ counts) relisted.set_is;
-      pulled_is = c.pulled_behind-self-inside.ensures s.state c.fire.ensures c.self.invariant.pulled_is;
+      moves_are = passing_same x.net x.script now c.deref.result.now c.relist-found.new.moves (c.deref.ensures.value ∙ counts) relisted.set_is;
+      pulled_is = pulled;
     }
 
 pub returns-clause-moved : goal.returns-clause-moved
@@ -112,14 +115,19 @@ returns-clause-hazard c =
     c.deref.ensures.value ∙ counts ∙ ap (map (λ (h : List ℕ). length h)) later in
     let move = move_is x st n s.done.items c.deref.result.now s.moves c.self.invariant.counts_are counted_then
     (length-map-range_with_len (λ k. values_through k s.passed.items) 0 channels) c.self.invariant.values c.self.invariant.moves_are enabled in
-    let relisted = c.relist-lost.ensures s.done.items s.state
+    let relisted = c.relist-found.ensures.relisted s.done.items s.state
     (subst (λ (vs : List Bool). IsCountedMove x n s.done.items c.deref.result.now s.state vs s.moves) (sym c.fire.ensures) move) in
-    let there : IsRelisted x n s.done.items c.deref.result.now s.state (fired s.state n) c.relist-lost.new.moves c.relist-lost.result =
-    subst (λ (vs : List Bool). IsRelisted x n s.done.items c.deref.result.now s.state vs c.relist-lost.new.moves c.relist-lost.result)
+    let there : IsRelisted x n s.done.items c.deref.result.now s.state (fired s.state n) c.relist-found.new.moves c.relist-found.result.lost =
+    subst (λ (vs : List Bool). IsRelisted x n s.done.items c.deref.result.now s.state vs c.relist-found.new.moves c.relist-found.result.lost)
     c.fire.ensures relisted in
     let pulled : c.pulled_behind-self-inside.result ≡ least_below (length x.net.first) (both_ways x.net (high (fired s.state n))) =
-    c.pulled_behind-self-inside.ensures s.state c.fire.ensures c.self.invariant.pulled_is
+    subst (λ (net : NetValue). c.pulled_behind-self-inside.result ≡ least_below (length net.first) (both_ways net (high c.fire.new.state)))
+    c.net-2.ensures.net
+    (c.pulled_behind-self-inside.ensures s.state n c.fire.ensures
+    (subst (λ (net : NetValue). s.pulled ≡ least_below (length net.first) (both_ways net (high s.state))) (sym c.net-2.ensures.net) c.self.invariant.pulled_is)
+    (subst (λ (net : NetValue). c.relist-found.result.pulled ≡ find (both_ways net (high c.fire.new.state)) (readers_below net (length net.first) n))
+    (sym c.net-2.ensures.net) c.relist-found.ensures.pulled))
     ∙ ap (λ (vs : List Bool). least_below (length x.net.first) (both_ways x.net (high vs))) c.fire.ensures in
-    rw (← c.self.view_is) (c.worst_cause.ensures ∙ hazard_is x.net x.script st n c.pulled_behind-self-inside.result c.relist-lost.result
+    rw (← c.self.view_is) (c.worst_cause.ensures ∙ hazard_is x.net x.script st n c.pulled_behind-self-inside.result c.relist-found.result.lost
     c.broken_phases-broken.result pulled
     (there.lost_is ∙ lost_is x st n s.done.items c.deref.result.now c.self.invariant.counts_are counted_then) c.broken_phases-broken.ensures)

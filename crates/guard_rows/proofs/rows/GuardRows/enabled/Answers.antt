@@ -11,7 +11,7 @@ says-up-requires c =
     let net = c.args.net.now in
     let values = c.args.state.now in
     let are = subst (λ (r : RowsValue). AreRows net values r) (sym c.self.view_is) c.requires.rows in
-    (read net values s.rows.items s.places.items s.edges.items c.args.node are c.requires.node c.index.result.now c.index-place.result.now c.index.ensures
+    (read net values s.rows.items s.places.items s.edges c.args.node are c.requires.node c.index.result.now c.index-place.result.now c.index.ensures
     c.index-place.ensures c.if-place-eq-WIDE.false).small
 
 pub returns-then-is_high : goal.returns-then-is_high
@@ -21,7 +21,7 @@ returns-then-is_high c =
     let values = c.args.state.now in
     let n = c.args.node in
     let are = subst (λ (r : RowsValue). AreRows net values r) (sym c.self.view_is) c.requires.rows in
-    let said = read net values s.rows.items s.places.items s.edges.items n are c.requires.node c.index.result.now c.index-place.result.now c.index.ensures
+    let said = read net values s.rows.items s.places.items s.edges n are c.requires.node c.index.result.now c.index-place.result.now c.index.ensures
     c.index-place.ensures c.if-place-eq-WIDE.false in
     c.says-up.ensures.down ∙ said.says.1
     ∙ sym (ap (λ b. cond b (guard_holds (high values) (down_of net n)) (guard_holds (high values) (up_of net n)))
@@ -34,7 +34,7 @@ returns-else-is_high c =
     let values = c.args.state.now in
     let n = c.args.node in
     let are = subst (λ (r : RowsValue). AreRows net values r) (sym c.self.view_is) c.requires.rows in
-    let said = read net values s.rows.items s.places.items s.edges.items n are c.requires.node c.index.result.now c.index-place.result.now c.index.ensures
+    let said = read net values s.rows.items s.places.items s.edges n are c.requires.node c.index.result.now c.index-place.result.now c.index.ensures
     c.index-place.ensures c.if-place-eq-WIDE.false in
     c.says-up.ensures.up ∙ said.says.0
     ∙ sym (ap (λ b. cond b (guard_holds (high values) (down_of net n)) (guard_holds (high values) (up_of net n)))

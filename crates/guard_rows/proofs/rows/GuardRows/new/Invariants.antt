@@ -1,5 +1,0 @@
-use Rattle.guard_rows.specs.Places.{AreRowsBelow}
-use Rattle.guard_rows.proofs.rows.GuardRows.new.Given as goal
-
-abbrev pub invariant-loop-node : goal.invariant-loop-node
-invariant-loop-node l = AreRowsBelow l.net l.state l.node l.rows
