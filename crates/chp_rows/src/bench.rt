@@ -25,22 +25,32 @@ impl Plan {
     }
 
     /// The sink of these numbers: what it takes in a call, its room, and the calls that fail.
-    pub fn set(&mut self, alloc: Global, numbers: &[u64]) -> Result<bool, AllocError> {
+    pub fn set(&mut self, alloc: Global, numbers: &[u64]) -> bool {
         let [most, room, failing @ ..] = numbers else {
-            return Ok(false);
+            return false;
         };
         let (Ok(most), Ok(room)) = (usize::try_from(*most), usize::try_from(*room)) else {
-            return Ok(false);
+            return false;
         };
         self.most = most;
         self.room = room;
-        self.failing = Vec::from_slice(alloc, failing)?;
-        Ok(true)
+        match Vec::from_slice(alloc, failing) {
+            Ok(failing) => {
+                self.failing = failing;
+                true
+            }
+            Err(_) => false,
+        }
     }
 
     pub fn sink(&self, alloc: Global) -> Result<MemSink, AllocError> {
         MemSink::new(alloc, self.most.max(1), self.room, self.failing.clone()?)
     }
+}
+
+fn copied(alloc: Global, file: &(String, Vec<u8>)) -> Result<(String, Vec<u8>), AllocError> {
+    let text = Vec::from_slice(alloc, &file.1)?;
+    Ok((file.0.clone()?, text))
 }
 
 /// What a case has set out so far.
@@ -63,27 +73,32 @@ impl Bench {
     }
 
     /// The calls of the shelf that fail, and whether these words are numbers.
-    pub fn fail(&mut self, alloc: Global, line: &str) -> Result<bool, AllocError> {
-        match numbers_of(alloc, line)? {
-            Some(failing) => {
+    pub fn fail(&mut self, alloc: Global, line: &str) -> bool {
+        match numbers_of(alloc, line) {
+            Ok(Some(failing)) => {
                 self.failing = failing;
-                Ok(true)
+                true
             }
-            None => Ok(false),
+            _ => false,
         }
     }
 
-    /// These calls of the shelf fail.
-    pub fn fail_at(&mut self, failing: Vec<u64>) {
-        self.failing = failing;
+    /// This call of the shelf fails. Says whether memory has sufficed.
+    pub fn fail_at(&mut self, alloc: Global, call: u64) -> bool {
+        match Vec::from_slice(alloc, &[call]) {
+            Ok(failing) => {
+                self.failing = failing;
+                true
+            }
+            Err(_) => false,
+        }
     }
 
     /// A shelf of the files.
     pub fn shelf(&self, alloc: Global) -> Result<MemShelf, AllocError> {
         let mut files = Vec::new(alloc);
         for file in self.files.list() {
-            let text = Vec::from_slice(alloc, &file.1)?;
-            files.push((file.0.clone()?, text))?;
+            files.push(copied(alloc, file)?)?;
         }
         Ok(MemShelf::new(files, self.failing.clone()?))
     }

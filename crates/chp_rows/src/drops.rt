@@ -1,52 +1,68 @@
 //! How often the devices of a bench are dropped.
 
 use crate::bench::Bench;
+use crate::page::Page;
 use crate::peers::Dropped;
+use crate::run::{Ran, unrun};
 use case_text::words_of;
-use chp_cli::{Players, Status, chp_main};
+use chp_cli::{Players, chp_main};
 use event_sim::{Lowest, Picker};
 use peer_bench::{Bench as PeerBench, Peer};
 use prs_file::read_net;
 use std::alloc::{AllocError, Global};
 use std::cell::Cell;
-use std::fmt::Write;
 use std::rc::Rc;
 
 /// The most bytes of a rule file.
 const MOST_OF_NET: usize = 268_435_456;
 
 /// Drops a bench of these devices and the text's net without a run. Whether the text is a rule file.
-fn give_up(alloc: Global, text: &[u8], peers: Vec<Box<dyn Peer>>) -> Result<bool, AllocError> {
+fn give_up(alloc: Global, text: &[u8], peers: Vec<Box<dyn Peer>>) -> bool {
     // a bench has a device at least
     if peers.is_empty() || text.len() > MOST_OF_NET {
-        return Ok(false);
+        return false;
     }
-    let Ok(net) = read_net(alloc, text) else {
-        return Ok(false);
-    };
-    match PeerBench::new(alloc, net, peers, 0, 0) {
-        Ok(_given_up) => Ok(true),
-        Err((error, _given_back)) => Err(error),
+    match read_net(alloc, text) {
+        Ok(net) => PeerBench::new(alloc, net, peers, 0, 0).is_ok(),
+        Err(_) => false,
     }
 }
 
-/// Runs the words with these orders and devices: the status, and how often a device was dropped when the call gave them
-/// back.
-fn play(
+/// Runs the words with these orders and devices, and tells the status, and how often a device was dropped when the call
+/// gave them back.
+fn put_played(
     alloc: Global,
     bench: &Bench,
     line: &str,
     players: Players,
     drops: &Rc<Cell<u32>>,
-) -> Result<(Status, u32), AllocError> {
+    page: &mut Page,
+) {
     let mut players = players;
-    let words = words_of(alloc, line)?;
-    let mut shelf = bench.shelf(alloc)?;
-    let mut out = bench.out.sink(alloc)?;
-    let mut say = bench.say.sink(alloc)?;
+    let Some(mut ran) = unrun(alloc, bench) else {
+        return page.give_up();
+    };
+    let Ok(mut shelf) = bench.shelf(alloc) else {
+        return page.give_up();
+    };
+    let Ok(words) = words_of(alloc, line) else {
+        return page.give_up();
+    };
+    let left: &mut Ran = &mut ran;
     drops.set(0);
-    let status = chp_main(alloc, &words, &mut shelf, &mut out, &mut say, &mut players);
-    Ok((status, drops.get()))
+    let status = chp_main(
+        alloc,
+        &words,
+        &mut shelf,
+        &mut left.out,
+        &mut left.say,
+        &mut players,
+    );
+    page.put("status ");
+    page.number(u64::from(status.number()));
+    page.put(", given back: ");
+    page.number(u64::from(drops.get()));
+    page.put("\n");
 }
 
 /// How often a device is dropped by a call that runs it and gives it back.
@@ -55,29 +71,33 @@ fn put_given_back(
     bench: &Bench,
     line: &str,
     drops: &Rc<Cell<u32>>,
-    page: &mut String,
+    page: &mut Page,
 ) -> Result<(), AllocError> {
     let mut orders: Vec<Box<dyn Picker>> = Vec::new(alloc);
     orders.push(Box::new(alloc, Lowest::new(alloc))?)?;
     let mut peers: Vec<Box<dyn Peer>> = Vec::new(alloc);
     peers.push(Box::new(alloc, Dropped::new(alloc, drops.clone()?))?)?;
-    let (status, count) = play(alloc, bench, line, Players { orders, peers }, drops)?;
-    writeln!(page, "status {}, given back: {count}", status.number())
+    put_played(alloc, bench, line, Players { orders, peers }, drops, page);
+    Ok(())
 }
 
 /// How often a device is dropped with a bench that is given up, and how often by a call that runs it and gives it back.
-pub fn count_drops(
-    alloc: Global,
-    bench: &Bench,
-    line: &str,
-    page: &mut String,
-) -> Result<(), AllocError> {
+fn put_drops(alloc: Global, bench: &Bench, line: &str, page: &mut Page) -> Result<(), AllocError> {
     let drops = Rc::new(alloc, Cell::new(0))?;
     let mut peers: Vec<Box<dyn Peer>> = Vec::new(alloc);
     peers.push(Box::new(alloc, Dropped::new(alloc, drops.clone()?))?)?;
-    if !give_up(alloc, bench.files.last(), peers)? {
-        return writeln!(page, "? no rule file");
+    if !give_up(alloc, bench.files.last(), peers) {
+        page.put("? no rule file\n");
+        return Ok(());
     }
-    writeln!(page, "given up: {}", drops.get())?;
+    page.put("given up: ");
+    page.number(u64::from(drops.get()));
+    page.put("\n");
     put_given_back(alloc, bench, line, &drops, page)
+}
+
+/// The same, noted on the page where memory runs out.
+pub fn count_drops(alloc: Global, bench: &Bench, line: &str, page: &mut Page) {
+    let done = put_drops(alloc, bench, line, page);
+    page.note(done);
 }

@@ -6,24 +6,27 @@ mod bench;
 mod cases;
 mod drops;
 mod edge;
+mod page;
 mod peers;
 mod pickers;
 mod run;
 
 use bench::Bench;
 use cases::obey;
+use page::Page;
 use std::{fs, io};
 
 const TOPICS: [&str; 5] = ["edge", "shelves", "sinks", "picks", "devices"];
 
 fn main(rt: HostRuntime) -> io::Result<()> {
-    let mut page = String::new(rt.alloc());
+    let mut page = Page::new(rt.alloc());
     for topic in TOPICS {
         let cases = fs::read_to_string(&rt, topic)?;
         let mut bench = Bench::new(rt.alloc());
         for line in cases.lines() {
-            obey(&rt, &mut bench, line, &mut page)?;
+            obey(&rt, &mut bench, line, &mut page);
         }
     }
-    rt.print(page)
+    page.kept?;
+    rt.print(page.text)
 }

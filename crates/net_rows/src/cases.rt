@@ -5,6 +5,7 @@ use crate::cells::{emit, put_again, put_expression, put_rules, put_select};
 use crate::names::{bits, name, symbols};
 use crate::nets::tell_net;
 use crate::orders::orders;
+use crate::page::Page;
 use crate::reading::{show, show_tokens};
 use crate::rounds::rounds_within;
 use crate::runs::moved;
@@ -13,62 +14,55 @@ use crate::streamed::{circuit, stream};
 use crate::waves::unwave;
 use case_text::is_spelled;
 use prs_core::Rules;
-use std::alloc::{AllocError, Global};
-use std::fmt::Write;
+use std::alloc::Global;
 
 /// Begins the rules of so many nodes.
-fn set_rules(alloc: Global, bench: &mut NetBench, count: &str) -> Result<bool, AllocError> {
+fn set_rules(alloc: Global, bench: &mut NetBench, count: &str) -> bool {
     let Ok(count) = count.parse::<u32>() else {
-        return Ok(false);
+        return false;
     };
-    bench.rules = Rules::new(alloc, count)?;
-    Ok(true)
+    match Rules::new(alloc, count) {
+        Ok(rules) => {
+            bench.rules = rules;
+            true
+        }
+        Err(_) => false,
+    }
 }
 
 /// Does what a line sets out, and says whether it is such a line.
-fn set_out(
-    alloc: Global,
-    bench: &mut NetBench,
-    word: &str,
-    rest: &str,
-) -> Result<bool, AllocError> {
+fn set_out(alloc: Global, bench: &mut NetBench, word: &str, rest: &str) -> bool {
     match word {
-        "net" => bench.take_net(alloc).and(Ok(true)),
-        "script" => bench.take_script(alloc).and(Ok(true)),
+        "net" => {
+            bench.take_net();
+            true
+        }
+        "script" => {
+            bench.take_script();
+            true
+        }
         "rules" => set_rules(alloc, bench, rest),
         "circuit" => circuit(alloc, &mut bench.files),
-        _ => bench.files.obey(alloc, word, rest),
+        _ => matches!(bench.files.obey(alloc, word, rest), Ok(true)),
     }
 }
 
 /// Tells what a line asks for of the last file, and says whether it is such a line.
-fn tell(
-    alloc: Global,
-    text: &[u8],
-    word: &str,
-    rest: &str,
-    page: &mut String,
-) -> Result<bool, AllocError> {
-    let told = match word {
+fn tell(alloc: Global, text: &[u8], word: &str, rest: &str, page: &mut Page) -> bool {
+    match word {
         "show" => show(alloc, text, page),
         "tokens" => show_tokens(alloc, text, page),
         "stream" => stream(alloc, text, page),
         "unwave" => unwave(alloc, text, page),
         "rounds-within" => return rounds_within(alloc, text, rest, page),
-        _ => return Ok(false),
-    };
-    told.and(Ok(true))
+        _ => return false,
+    }
+    true
 }
 
 /// Tells what a line asks for of names, scripts, cells and nets, and says whether it is such a line.
-fn tell_below(
-    alloc: Global,
-    bench: &NetBench,
-    word: &str,
-    rest: &str,
-    page: &mut String,
-) -> Result<bool, AllocError> {
-    let told = match word {
+fn tell_below(alloc: Global, bench: &NetBench, word: &str, rest: &str, page: &mut Page) -> bool {
+    match word {
         "name" => name(alloc, rest, false, page),
         "node-name" => name(alloc, rest, true, page),
         "symbols" => symbols(alloc, rest, page),
@@ -81,61 +75,53 @@ fn tell_below(
         "show-net" | "readers" | "first" => tell_net(alloc, bench, word, page),
         "moves" => return moved(alloc, bench, rest, page),
         "orders" => return orders(alloc, bench, rest, page),
-        _ => return Ok(false),
-    };
-    told.and(Ok(true))
+        _ => return false,
+    }
+    true
+}
+
+/// The nodes of the line, or None where a word is no number.
+fn nodes_of(alloc: Global, line: &str) -> Option<Vec<u32>> {
+    let mut nodes = Vec::new(alloc);
+    for word in line.split_whitespace() {
+        nodes.push(word.parse::<u32>().ok()?).ok()?;
+    }
+    Some(nodes)
 }
 
 /// Lets the cell write its rules at the nodes of the line, and says whether it can.
-fn write_cell(
-    alloc: Global,
-    rules: &mut Rules,
-    cell: &str,
-    line: &str,
-) -> Result<bool, AllocError> {
-    let mut nodes = Vec::new(alloc);
-    for word in line.split_whitespace() {
-        match word.parse::<u32>() {
-            Ok(node) => nodes.push(node)?,
-            Err(_) => return Ok(false),
-        }
+fn write_cell(alloc: Global, rules: &mut Rules, cell: &str, line: &str) -> bool {
+    match nodes_of(alloc, line) {
+        Some(nodes) => emit(alloc, rules, cell, &nodes),
+        None => false,
     }
-    emit(alloc, rules, cell, &nodes)
 }
 
 /// Does what a line says, and says whether it is understood.
-fn act(
-    alloc: Global,
-    bench: &mut NetBench,
-    word: &str,
-    rest: &str,
-    page: &mut String,
-) -> Result<bool, AllocError> {
-    Ok(
-        set_out(alloc, bench, word, rest)?
-            || tell(alloc, bench.files.last(), word, rest, page)?
-            || tell_below(alloc, bench, word, rest, page)?
-            || write_cell(alloc, &mut bench.rules, word, rest)?,
-    )
+fn act(alloc: Global, bench: &mut NetBench, word: &str, rest: &str, page: &mut Page) -> bool {
+    set_out(alloc, bench, word, rest)
+        || tell(alloc, bench.files.last(), word, rest, page)
+        || tell_below(alloc, bench, word, rest, page)
+        || write_cell(alloc, &mut bench.rules, word, rest)
 }
 
 /// Does what the line says. A line that can't be understood is printed after a question mark.
-pub fn obey(
-    alloc: Global,
-    bench: &mut NetBench,
-    line: &str,
-    page: &mut String,
-) -> Result<(), AllocError> {
+pub fn obey(alloc: Global, bench: &mut NetBench, line: &str, page: &mut Page) {
     let (word, rest) = line.split_once(' ').unwrap_or((line, ""));
     if word.is_empty() || word == "#" {
-        return Ok(());
+        return;
     }
     if word == "case" {
-        *bench = NetBench::new(alloc)?;
-        return writeln!(page, "{line}");
+        match NetBench::new(alloc) {
+            Ok(begun) => *bench = begun,
+            Err(error) => page.note(Err(error)),
+        }
+        page.put(line);
+        return page.put("\n");
     }
-    if is_spelled(line) && act(alloc, bench, word, rest, page)? {
-        return Ok(());
+    if !is_spelled(line) || !act(alloc, bench, word, rest, page) {
+        page.put("? ");
+        page.put(line);
+        page.put("\n");
     }
-    writeln!(page, "? {line}")
 }

@@ -9,6 +9,7 @@ mod cells;
 mod names;
 mod nets;
 mod orders;
+mod page;
 mod printer;
 mod reading;
 mod rounds;
@@ -19,6 +20,7 @@ mod waves;
 
 use bench::NetBench;
 use cases::obey;
+use page::Page;
 use std::{fs, io};
 
 const TOPICS: [&str; 9] = [
@@ -26,13 +28,14 @@ const TOPICS: [&str; 9] = [
 ];
 
 fn main(rt: HostRuntime) -> io::Result<()> {
-    let mut page = String::new(rt.alloc());
+    let mut page = Page::new(rt.alloc());
     for topic in TOPICS {
         let cases = fs::read_to_string(&rt, topic)?;
         let mut bench = NetBench::new(rt.alloc())?;
         for line in cases.lines() {
-            obey(rt.alloc(), &mut bench, line, &mut page)?;
+            obey(rt.alloc(), &mut bench, line, &mut page);
         }
     }
-    rt.print(page)
+    page.kept?;
+    rt.print(page.text)
 }
