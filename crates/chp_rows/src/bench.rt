@@ -1,8 +1,8 @@
 //! What a case sets out: files, and devices with their planned faults.
 
-use case_text::{CaseFiles, numbers_of};
+use case_text::{CaseFiles, Page, numbers_of};
 use chp_edge::{MemShelf, MemSink};
-use std::alloc::{AllocError, Global};
+use std::alloc::Global;
 
 /// A sink to be made: what it takes in a call, what it has room for, and the numbers of the calls that fail.
 #[derive(Drop)]
@@ -25,7 +25,7 @@ impl Plan {
     }
 
     /// The sink of these numbers: what it takes in a call, its room, and the calls that fail.
-    pub fn set(&mut self, alloc: Global, numbers: &[u64]) -> bool {
+    pub fn set(&mut self, alloc: Global, numbers: &[u64], page: &mut Page) -> bool {
         let [most, room, failing @ ..] = numbers else {
             return false;
         };
@@ -34,23 +34,14 @@ impl Plan {
         };
         self.most = most;
         self.room = room;
-        match Vec::from_slice(alloc, failing) {
-            Ok(failing) => {
-                self.failing = failing;
-                true
-            }
-            Err(_) => false,
-        }
+        self.failing = page.copied(alloc, failing);
+        true
     }
 
-    pub fn sink(&self, alloc: Global) -> Result<MemSink, AllocError> {
-        MemSink::new(alloc, self.most.max(1), self.room, self.failing.clone()?)
+    pub fn sink(&self, alloc: Global, page: &mut Page) -> Option<MemSink> {
+        let failing = page.copied(alloc, &self.failing);
+        page.taken(MemSink::new(alloc, self.most.max(1), self.room, failing))
     }
-}
-
-fn copied(alloc: Global, file: &(String, Vec<u8>)) -> Result<(String, Vec<u8>), AllocError> {
-    let text = Vec::from_slice(alloc, &file.1)?;
-    Ok((file.0.clone()?, text))
 }
 
 /// What a case has set out so far.
@@ -73,33 +64,26 @@ impl Bench {
     }
 
     /// The calls of the shelf that fail, and whether these words are numbers.
-    pub fn fail(&mut self, alloc: Global, line: &str) -> bool {
-        match numbers_of(alloc, line) {
-            Ok(Some(failing)) => {
+    pub fn fail(&mut self, alloc: Global, line: &str, page: &mut Page) -> bool {
+        match numbers_of(alloc, line, page) {
+            Some(failing) => {
                 self.failing = failing;
                 true
             }
-            _ => false,
+            None => false,
         }
     }
 
-    /// This call of the shelf fails. Says whether memory has sufficed.
-    pub fn fail_at(&mut self, alloc: Global, call: u64) -> bool {
-        match Vec::from_slice(alloc, &[call]) {
-            Ok(failing) => {
-                self.failing = failing;
-                true
-            }
-            Err(_) => false,
-        }
+    /// This call of the shelf fails.
+    pub fn fail_at(&mut self, alloc: Global, call: u64, page: &mut Page) {
+        self.failing = page.copied(alloc, &[call]);
     }
 
     /// A shelf of the files.
-    pub fn shelf(&self, alloc: Global) -> Result<MemShelf, AllocError> {
-        let mut files = Vec::new(alloc);
-        for file in self.files.list() {
-            files.push(copied(alloc, file)?)?;
-        }
-        Ok(MemShelf::new(files, self.failing.clone()?))
+    pub fn shelf(&self, alloc: Global, page: &mut Page) -> MemShelf {
+        MemShelf::new(
+            self.files.copied(alloc, page),
+            page.copied(alloc, &self.failing),
+        )
     }
 }

@@ -3,29 +3,28 @@
 use crate::bench::{Bench, Plan};
 use crate::drops::count_drops;
 use crate::edge::{read, read_disk, read_surely, write, write_narrowly};
-use crate::page::Page;
 use crate::run::{
     keep, run, run_count, run_orders, run_passed, run_shelf_faults, run_sink_faults, run_surely,
 };
-use case_text::{is_spelled, numbers_of};
+use case_text::{Page, is_spelled, numbers_of};
 use std::alloc::Global;
 use std::rt::Files;
 
 /// Plans a sink by the numbers of the line, and says whether it is such a line.
-fn plan(alloc: Global, sink: &mut Plan, line: &str) -> bool {
-    match numbers_of(alloc, line) {
-        Ok(Some(numbers)) => sink.set(alloc, &numbers),
-        _ => false,
+fn plan(alloc: Global, sink: &mut Plan, line: &str, page: &mut Page) -> bool {
+    match numbers_of(alloc, line, page) {
+        Some(numbers) => sink.set(alloc, &numbers, page),
+        None => false,
     }
 }
 
 /// Does what a line sets out, and says whether it is such a line.
-fn set_out(alloc: Global, bench: &mut Bench, word: &str, rest: &str) -> bool {
+fn set_out(alloc: Global, bench: &mut Bench, word: &str, rest: &str, page: &mut Page) -> bool {
     match word {
-        "shelf" => bench.fail(alloc, rest),
-        "out" => plan(alloc, &mut bench.out, rest),
-        "say" => plan(alloc, &mut bench.say, rest),
-        _ => matches!(bench.files.obey(alloc, word, rest), Ok(true)),
+        "shelf" => bench.fail(alloc, rest, page),
+        "out" => plan(alloc, &mut bench.out, rest, page),
+        "say" => plan(alloc, &mut bench.say, rest, page),
+        _ => bench.files.obey(alloc, word, rest, page),
     }
 }
 
@@ -80,7 +79,7 @@ fn act<R: Files + AllocGlobal>(
     page: &mut Page,
 ) -> bool {
     let alloc = rt.alloc();
-    set_out(alloc, bench, word, rest)
+    set_out(alloc, bench, word, rest, page)
         || command(alloc, bench, word, rest, page)
         || read_or_write(rt, bench, word, rest, page)
 }

@@ -1,15 +1,14 @@
 //! How often the devices of a bench are dropped.
 
 use crate::bench::Bench;
-use crate::page::Page;
 use crate::peers::Dropped;
-use crate::run::{Ran, unrun};
-use case_text::words_of;
-use chp_cli::{Players, chp_main};
+use crate::run::{call, unrun};
+use case_text::Page;
+use chp_cli::Players;
 use event_sim::{Lowest, Picker};
 use peer_bench::{Bench as PeerBench, Peer};
-use prs_file::read_net;
-use std::alloc::{AllocError, Global};
+use prs_file::{NetReadError, read_net};
+use std::alloc::Global;
 use std::cell::Cell;
 use std::rc::Rc;
 
@@ -17,14 +16,24 @@ use std::rc::Rc;
 const MOST_OF_NET: usize = 268_435_456;
 
 /// Drops a bench of these devices and the text's net without a run. Whether the text is a rule file.
-fn give_up(alloc: Global, text: &[u8], peers: Vec<Box<dyn Peer>>) -> bool {
+fn give_up(alloc: Global, text: &[u8], peers: Vec<Box<dyn Peer>>, page: &mut Page) -> bool {
     // a bench has a device at least
     if peers.is_empty() || text.len() > MOST_OF_NET {
         return false;
     }
     match read_net(alloc, text) {
-        Ok(net) => PeerBench::new(alloc, net, peers, 0, 0).is_ok(),
-        Err(_) => false,
+        Ok(net) => {
+            if PeerBench::new(alloc, net, peers, 0, 0).is_err() {
+                page.give_up();
+            }
+            true
+        }
+        Err(error) => {
+            if matches!(error, NetReadError::NoMemory(_)) {
+                page.give_up();
+            }
+            false
+        }
     }
 }
 
@@ -34,35 +43,27 @@ fn put_played(
     alloc: Global,
     bench: &Bench,
     line: &str,
-    players: Players,
-    drops: &Rc<Cell<u32>>,
+    players: &mut Players,
+    drops: &Cell<u32>,
     page: &mut Page,
 ) {
-    let mut players = players;
-    let Some(mut ran) = unrun(alloc, bench) else {
-        return page.give_up();
+    let Some(mut ran) = unrun(alloc, bench, page) else {
+        return;
     };
-    let Ok(mut shelf) = bench.shelf(alloc) else {
-        return page.give_up();
-    };
-    let Ok(words) = words_of(alloc, line) else {
-        return page.give_up();
-    };
-    let left: &mut Ran = &mut ran;
+    let mut shelf = bench.shelf(alloc, page);
     drops.set(0);
-    let status = chp_main(
-        alloc,
-        &words,
-        &mut shelf,
-        &mut left.out,
-        &mut left.say,
-        &mut players,
-    );
+    call(alloc, line, &mut shelf, players, &mut ran, page);
     page.put("status ");
-    page.number(u64::from(status.number()));
+    page.number(u64::from(ran.status.number()));
     page.put(", given back: ");
     page.number(u64::from(drops.get()));
     page.put("\n");
+}
+
+/// A device that counts its drops here.
+fn dropped(alloc: Global, drops: &Rc<Cell<u32>>, page: &mut Page) -> Option<Box<Dropped>> {
+    let drops = page.taken(drops.clone())?;
+    page.taken(Box::new(alloc, Dropped::new(alloc, drops)))
 }
 
 /// How often a device is dropped by a call that runs it and gives it back.
@@ -72,32 +73,37 @@ fn put_given_back(
     line: &str,
     drops: &Rc<Cell<u32>>,
     page: &mut Page,
-) -> Result<(), AllocError> {
+) {
     let mut orders: Vec<Box<dyn Picker>> = Vec::new(alloc);
-    orders.push(Box::new(alloc, Lowest::new(alloc))?)?;
+    if let Some(order) = page.taken(Box::new(alloc, Lowest::new(alloc))) {
+        page.note(orders.push(order));
+    }
     let mut peers: Vec<Box<dyn Peer>> = Vec::new(alloc);
-    peers.push(Box::new(alloc, Dropped::new(alloc, drops.clone()?))?)?;
-    put_played(alloc, bench, line, Players { orders, peers }, drops, page);
-    Ok(())
+    if let Some(peer) = dropped(alloc, drops, page) {
+        page.note(peers.push(peer));
+    }
+    let mut players = Players { orders, peers };
+    put_played(alloc, bench, line, &mut players, drops, page);
 }
 
-/// How often a device is dropped with a bench that is given up, and how often by a call that runs it and gives it back.
-fn put_drops(alloc: Global, bench: &Bench, line: &str, page: &mut Page) -> Result<(), AllocError> {
-    let drops = Rc::new(alloc, Cell::new(0))?;
+/// How often a device is dropped with a bench that is given up.
+fn put_given_up(alloc: Global, text: &[u8], drops: &Rc<Cell<u32>>, page: &mut Page) {
     let mut peers: Vec<Box<dyn Peer>> = Vec::new(alloc);
-    peers.push(Box::new(alloc, Dropped::new(alloc, drops.clone()?))?)?;
-    if !give_up(alloc, bench.files.last(), peers) {
-        page.put("? no rule file\n");
-        return Ok(());
+    if let Some(peer) = dropped(alloc, drops, page) {
+        page.note(peers.push(peer));
+    }
+    if !give_up(alloc, text, peers, page) {
+        return page.put("? no rule file\n");
     }
     page.put("given up: ");
     page.number(u64::from(drops.get()));
     page.put("\n");
-    put_given_back(alloc, bench, line, &drops, page)
 }
 
-/// The same, noted on the page where memory runs out.
+/// How often a device is dropped with a bench that is given up, and how often by a call that runs it and gives it back.
 pub fn count_drops(alloc: Global, bench: &Bench, line: &str, page: &mut Page) {
-    let done = put_drops(alloc, bench, line, page);
-    page.note(done);
+    if let Some(drops) = page.taken(Rc::new(alloc, Cell::new(0))) {
+        put_given_up(alloc, bench.files.last(), &drops, page);
+        put_given_back(alloc, bench, line, &drops, page);
+    }
 }

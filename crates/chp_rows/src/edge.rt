@@ -1,8 +1,7 @@
 //! Reading and writing whole, under faults, and the adapters over real files and writers.
 
 use crate::bench::Bench;
-use crate::page::Page;
-use case_text::bytes_of;
+use case_text::{Page, bytes_of};
 use chp_edge::{
     ErrSink, Failed, FileShelf, OutSink, ReadEnd, Shelf, Sink, SureShelf, read_all, write_all,
 };
@@ -23,15 +22,13 @@ fn put_read<S: Shelf>(alloc: Global, shelf: &mut S, name: &str, limit: usize, pa
         }
         Err(ReadEnd::Failed) => page.put("failed\n"),
         Err(ReadEnd::TooLong) => page.put("too long\n"),
-        Err(ReadEnd::NoMemory) => page.put("no memory\n"),
+        Err(ReadEnd::NoMemory) => page.give_up(),
     }
 }
 
 /// Reads the named files one after the other from one shelf.
 pub fn read(alloc: Global, bench: &Bench, limit: usize, names: &str, page: &mut Page) {
-    let Ok(mut shelf) = bench.shelf(alloc) else {
-        return page.give_up();
-    };
+    let mut shelf = bench.shelf(alloc, page);
     for name in names.split_whitespace() {
         put_read(alloc, &mut shelf, name, limit, page);
     }
@@ -39,10 +36,8 @@ pub fn read(alloc: Global, bench: &Bench, limit: usize, names: &str, page: &mut 
 
 /// Reads the last file from a shelf that never fails.
 pub fn read_surely(alloc: Global, bench: &Bench, limit: usize, page: &mut Page) {
-    match Vec::from_slice(alloc, bench.files.last()) {
-        Ok(text) => put_read(alloc, &mut SureShelf::new(text), "any", limit, page),
-        Err(error) => page.note(Err(error)),
-    }
+    let text = page.copied(alloc, bench.files.last());
+    put_read(alloc, &mut SureShelf::new(text), "any", limit, page);
 }
 
 /// Reads a real file of data/.
@@ -60,28 +55,26 @@ fn put_write<K: Sink>(sink: &mut K, text: &[u8], page: &mut Page) {
 
 fn put_writes<K: Sink>(alloc: Global, sink: &mut K, texts: &str, page: &mut Page) {
     for text in texts.split(' ') {
-        match bytes_of(alloc, text) {
-            Ok(bytes) => put_write(sink, &bytes, page),
-            Err(error) => page.note(Err(error)),
-        }
+        let text = bytes_of(alloc, text, page);
+        put_write(sink, &text, page);
     }
 }
 
 /// Writes the texts one after the other to the sink of the case.
 pub fn write(alloc: Global, bench: &Bench, texts: &str, page: &mut Page) {
-    let Ok(mut sink) = bench.out.sink(alloc) else {
-        return page.give_up();
+    let Some(mut sink) = bench.out.sink(alloc, page) else {
+        return;
     };
     put_writes(alloc, &mut sink, texts, page);
     page.bytes(sink.written());
     page.put("\n");
 }
 
-/// A writer that takes two bytes a call, so many calls long, and then nothing.
+/// A writer that takes two bytes a call, so many calls long, and then nothing. It prints what it takes.
 #[derive(Drop)]
 struct Narrow<'a> {
     calls: u64,
-    taken: &'a mut Vec<u8>,
+    taken: &'a mut Page,
 }
 
 impl IoWrite for Narrow<'_> {
@@ -91,7 +84,7 @@ impl IoWrite for Narrow<'_> {
         }
         self.calls -= 1;
         let n = piece.len().min(2);
-        self.taken.extend_from_slice(&piece[..n])?;
+        self.taken.bytes(&piece[..n]);
         Ok(n)
     }
 
@@ -104,7 +97,7 @@ impl IoWrite for Narrow<'_> {
 /// standard error.
 pub fn write_narrowly(alloc: Global, calls: u64, texts: &str, page: &mut Page) {
     for is_out in [true, false] {
-        let mut taken = Vec::new(alloc);
+        let mut taken = Page::new(alloc);
         let writer = Narrow {
             calls,
             taken: &mut taken,
@@ -114,7 +107,9 @@ pub fn write_narrowly(alloc: Global, calls: u64, texts: &str, page: &mut Page) {
         } else {
             put_writes(alloc, &mut ErrSink::new(writer), texts, page);
         }
-        page.bytes(&taken);
+        if let Some(taken) = page.taken(taken.whole()) {
+            page.put(&taken);
+        }
         page.put("\n");
     }
 }

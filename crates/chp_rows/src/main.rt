@@ -6,14 +6,13 @@ mod bench;
 mod cases;
 mod drops;
 mod edge;
-mod page;
 mod peers;
 mod pickers;
 mod run;
 
 use bench::Bench;
+use case_text::Page;
 use cases::obey;
-use page::Page;
 use std::{fs, io};
 
 const TOPICS: [&str; 5] = ["edge", "shelves", "sinks", "picks", "devices"];
@@ -27,6 +26,5 @@ fn main(rt: HostRuntime) -> io::Result<()> {
             obey(&rt, &mut bench, line, &mut page);
         }
     }
-    page.kept?;
-    rt.print(page.text)
+    rt.print(page.whole()?)
 }

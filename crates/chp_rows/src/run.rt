@@ -3,10 +3,9 @@
 ghost use Rattle.std.specs.Prelude.{◌<◌, length, IfOk};
 
 use crate::bench::Bench;
-use crate::page::Page;
 use crate::peers::{Mood, Moody};
 use crate::pickers::{Adversary, Way};
-use case_text::{bytes_of, words_of};
+use case_text::{Page, bytes_of, words_of};
 use chp_cli::{Players, Status, chp_main};
 use chp_edge::{MemSink, Shelf, SureShelf};
 use event_sim::{Lowest, Newest, Oldest, Picker, Random};
@@ -26,16 +25,16 @@ pub struct Ran {
 
 /// What a command leaves that hasn't run yet, in sinks as the case wants them. Functions that own one drop it by one call,
 /// since it is in a box.
-pub fn unrun(alloc: Global, bench: &Bench) -> Option<Box<Ran>> {
-    let out = bench.out.sink(alloc).ok()?;
-    let say = bench.say.sink(alloc).ok()?;
+pub fn unrun(alloc: Global, bench: &Bench, page: &mut Page) -> Option<Box<Ran>> {
+    let out = bench.out.sink(alloc, page)?;
+    let say = bench.say.sink(alloc, page)?;
     let ran = Ran {
         status: Status::Done,
         out,
         say,
         picks: Vec::new(alloc),
     };
-    Box::new(alloc, ran).ok()
+    page.taken(Box::new(alloc, ran))
 }
 
 /// The text by which an order chooses: the last file, or some byte where it has none.
@@ -50,14 +49,26 @@ fn text_to_go_by(alloc: Global, bench: &Bench) -> Result<Vec<u8>, AllocError>
     }
 }
 
-/// Appends what all orders have chosen.
-fn note_picks(picks: &mut Vec<usize>, orders: &[Box<dyn Picker>]) -> bool {
-    for order in orders {
-        if picks.extend_from_slice(order.log()).is_err() {
-            return false;
-        }
+/// An order that means ill.
+fn adversary(alloc: Global, bench: &Bench, way: Way, page: &mut Page) -> Option<Box<Adversary>> {
+    let text = page.taken(text_to_go_by(alloc, bench))?;
+    page.taken(Box::new(alloc, Adversary::new(alloc, way, text)))
+}
+
+/// Runs the words of the line with these orders and devices. It is noted where memory runs out in the command.
+pub fn call<S: Shelf>(
+    alloc: Global,
+    line: &str,
+    shelf: &mut S,
+    players: &mut Players,
+    ran: &mut Ran,
+    page: &mut Page,
+) {
+    let words = words_of(alloc, line, page);
+    ran.status = chp_main(alloc, &words, shelf, &mut ran.out, &mut ran.say, players);
+    if ran.status == Status::NoMemory {
+        page.give_up();
     }
-    true
 }
 
 /// What the words of the line leave, run with these orders and devices.
@@ -66,25 +77,15 @@ fn play<S: Shelf>(
     bench: &Bench,
     line: &str,
     shelf: &mut S,
-    players: Players,
+    players: &mut Players,
+    page: &mut Page,
 ) -> Option<Box<Ran>> {
-    let mut players = players;
-    let mut ran = unrun(alloc, bench)?;
-    let words = words_of(alloc, line).ok()?;
-    let left: &mut Ran = &mut ran;
-    left.status = chp_main(
-        alloc,
-        &words,
-        shelf,
-        &mut left.out,
-        &mut left.say,
-        &mut players,
-    );
-    if note_picks(&mut left.picks, &players.orders) {
-        Some(ran)
-    } else {
-        None
+    let mut ran = unrun(alloc, bench, page)?;
+    call(alloc, line, shelf, players, &mut ran, page);
+    for order in &players.orders {
+        page.note(ran.picks.extend_from_slice(order.log()));
     }
+    Some(ran)
 }
 
 /// Runs the words of the line with these orders, and the devices that a case may name.
@@ -94,37 +95,35 @@ fn play_with<S: Shelf>(
     line: &str,
     shelf: &mut S,
     orders: Vec<Box<dyn Picker>>,
-) -> Result<Option<Box<Ran>>, AllocError> {
+    page: &mut Page,
+) -> Option<Box<Ran>> {
     let mut peers: Vec<Box<dyn Peer>> = Vec::new(alloc);
-    peers.push(Box::new(alloc, Ramp::new(alloc))?)?;
-    peers.push(Box::new(alloc, Echo::new(alloc))?)?;
-    peers.push(Box::new(alloc, Square::new(alloc))?)?;
+    if let Some(ramp) = page.taken(Box::new(alloc, Ramp::new(alloc))) {
+        page.note(peers.push(ramp));
+    }
+    if let Some(echo) = page.taken(Box::new(alloc, Echo::new(alloc))) {
+        page.note(peers.push(echo));
+    }
+    if let Some(square) = page.taken(Box::new(alloc, Square::new(alloc))) {
+        page.note(peers.push(square));
+    }
     for mood in [Mood::Mute, Mood::Deaf, Mood::Greedy, Mood::Fickle] {
-        peers.push(Box::new(alloc, Moody::new(alloc, mood))?)?;
+        if let Some(moody) = page.taken(Box::new(alloc, Moody::new(alloc, mood))) {
+            page.note(peers.push(moody));
+        }
     }
-    Ok(play(alloc, bench, line, shelf, Players { orders, peers }))
+    play(
+        alloc,
+        bench,
+        line,
+        shelf,
+        &mut Players { orders, peers },
+        page,
+    )
 }
 
-/// Runs the words of the line, with the orders and devices that a case may name.
-fn command<S: Shelf>(
-    alloc: Global,
-    bench: &Bench,
-    line: &str,
-    shelf: &mut S,
-) -> Result<Option<Box<Ran>>, AllocError> {
-    let mut orders: Vec<Box<dyn Picker>> = Vec::new(alloc);
-    orders.push(Box::new(alloc, Lowest::new(alloc))?)?;
-    orders.push(Box::new(alloc, Oldest::new(alloc))?)?;
-    orders.push(Box::new(alloc, Newest::new(alloc))?)?;
-    orders.push(Box::new(alloc, Random::new(alloc))?)?;
-    for way in [Way::Swing, Way::Starve, Way::ByText] {
-        let text = text_to_go_by(alloc, bench)?;
-        orders.push(Box::new(alloc, Adversary::new(alloc, way, text))?)?;
-    }
-    play_with(alloc, bench, line, shelf, orders)
-}
-
-/// What the command leaves over this shelf, or `None`, noted on the page, where memory runs out.
+/// What the words of the line leave over this shelf, run with the orders and devices that a case may name. None where
+/// memory runs out.
 fn over<S: Shelf>(
     alloc: Global,
     bench: &Bench,
@@ -132,24 +131,38 @@ fn over<S: Shelf>(
     shelf: &mut S,
     page: &mut Page,
 ) -> Option<Box<Ran>> {
-    match command(alloc, bench, line, shelf) {
-        Ok(Some(ran)) => Some(ran),
-        _ => {
-            page.give_up();
-            None
+    let mut orders: Vec<Box<dyn Picker>> = Vec::new(alloc);
+    if let Some(lowest) = page.taken(Box::new(alloc, Lowest::new(alloc))) {
+        page.note(orders.push(lowest));
+    }
+    if let Some(oldest) = page.taken(Box::new(alloc, Oldest::new(alloc))) {
+        page.note(orders.push(oldest));
+    }
+    if let Some(newest) = page.taken(Box::new(alloc, Newest::new(alloc))) {
+        page.note(orders.push(newest));
+    }
+    if let Some(random) = page.taken(Box::new(alloc, Random::new(alloc))) {
+        page.note(orders.push(random));
+    }
+    for way in [Way::Swing, Way::Starve, Way::ByText] {
+        if let Some(order) = adversary(alloc, bench, way, page) {
+            page.note(orders.push(order));
         }
     }
+    play_with(alloc, bench, line, shelf, orders, page)
 }
 
 /// What the command leaves over the files of the case.
 fn over_files(alloc: Global, bench: &Bench, line: &str, page: &mut Page) -> Option<Box<Ran>> {
-    match bench.shelf(alloc) {
-        Ok(mut shelf) => over(alloc, bench, line, &mut shelf, page),
-        Err(error) => {
-            page.note(Err(error));
-            None
-        }
-    }
+    let mut shelf = bench.shelf(alloc, page);
+    over(alloc, bench, line, &mut shelf, page)
+}
+
+/// The words of a command.
+fn put_command(page: &mut Page, line: &str) {
+    page.put("> ");
+    page.put(line);
+    page.put("\n");
 }
 
 /// The status, and what was said.
@@ -163,7 +176,7 @@ fn put_end(page: &mut Page, ran: &Ran) {
 }
 
 fn put_all(page: &mut Page, line: &str, ran: &Ran) {
-    page.command(line);
+    put_command(page, line);
     put_end(page, ran);
     page.lines(ran.out.written());
 }
@@ -183,14 +196,12 @@ fn count_of(lines: &[u8], begins: &[u8]) -> u64 {
 
 /// Runs the words, and reports how many of the written lines begin with the prefix.
 pub fn run_count(alloc: Global, bench: &Bench, front: &str, line: &str, page: &mut Page) {
-    page.command(line);
+    put_command(page, line);
     let Some(ran) = over_files(alloc, bench, line, page) else {
         return;
     };
     put_end(page, &ran);
-    let Ok(begins) = bytes_of(alloc, front) else {
-        return page.give_up();
-    };
+    let begins = bytes_of(alloc, front, page);
     page.put(front);
     page.put(": ");
     page.number(count_of(ran.out.written(), &begins));
@@ -216,9 +227,7 @@ pub fn run_passed(alloc: Global, bench: &Bench, line: &str, page: &mut Page) {
 
 /// Runs the words over a shelf that has the last file under every name, and never fails.
 pub fn run_surely(alloc: Global, bench: &Bench, line: &str, page: &mut Page) {
-    let Ok(text) = Vec::from_slice(alloc, bench.files.last()) else {
-        return page.give_up();
-    };
+    let text = page.copied(alloc, bench.files.last());
     if let Some(ran) = over(alloc, bench, line, &mut SureShelf::new(text), page) {
         put_all(page, line, &ran);
     }
@@ -232,11 +241,8 @@ pub fn keep(alloc: Global, bench: &mut Bench, name: &str, line: &str, page: &mut
     if ran.status != Status::Done {
         put_all(page, line, &ran);
     }
-    let kept = bench
-        .files
-        .begin(alloc, name)
-        .and(bench.files.append(ran.out.written()));
-    page.note(kept);
+    let text = page.copied(alloc, ran.out.written());
+    bench.files.add(alloc, name, text, page);
 }
 
 /// Whether none of these chose as this one.
@@ -273,8 +279,8 @@ fn run_order(
     earlier: &mut Vec<Box<Ran>>,
     page: &mut Page,
 ) {
-    let Ok(words) = format!(in alloc; "{line} --order {order} --seed 7") else {
-        return page.give_up();
+    let Some(words) = page.taken(format!(in alloc; "{line} --order {order} --seed 7")) else {
+        return;
     };
     let Some(ran) = over_files(alloc, bench, &words, page) else {
         return;
@@ -283,9 +289,7 @@ fn run_order(
         None => put_all(page, &words, &ran),
         Some(first) => put_order(page, order, &ran, first, is_new(earlier, &ran)),
     }
-    if earlier.push(ran).is_err() {
-        page.give_up();
-    }
+    page.note(earlier.push(ran));
 }
 
 /// Runs the words by each of the four orders, with the seed 7: the report by the first one, and then of each further
@@ -319,9 +323,10 @@ const MOST_OF_CALLS: u64 = 100;
 
 /// Runs the words, and each call of the shelf fails in turn, up to the first run without a fault.
 pub fn run_shelf_faults(alloc: Global, bench: &mut Bench, line: &str, page: &mut Page) {
-    page.command(line);
+    put_command(page, line);
     for call in 1..=MOST_OF_CALLS {
-        if !bench.fail_at(alloc, call) || ends_well(alloc, bench, line, call, page) {
+        bench.fail_at(alloc, call, page);
+        if ends_well(alloc, bench, line, call, page) {
             break;
         }
     }
@@ -330,9 +335,11 @@ pub fn run_shelf_faults(alloc: Global, bench: &mut Bench, line: &str, page: &mut
 /// Runs the words, and each call of a sink that takes one byte a call fails in turn, up to the first run without a
 /// fault.
 pub fn run_sink_faults(alloc: Global, bench: &mut Bench, line: &str, page: &mut Page) {
-    page.command(line);
+    put_command(page, line);
     for call in 1..=MOST_OF_CALLS {
-        if !bench.out.set(alloc, &[1, 4096, call]) || ends_well(alloc, bench, line, call, page) {
+        if !bench.out.set(alloc, &[1, 4096, call], page)
+            || ends_well(alloc, bench, line, call, page)
+        {
             break;
         }
     }

@@ -5,33 +5,29 @@ use crate::cells::{emit, put_again, put_expression, put_rules, put_select};
 use crate::names::{bits, name, symbols};
 use crate::nets::tell_net;
 use crate::orders::orders;
-use crate::page::Page;
 use crate::reading::{show, show_tokens};
 use crate::rounds::rounds_within;
 use crate::runs::moved;
 use crate::scripts::offers;
 use crate::streamed::{circuit, stream};
 use crate::waves::unwave;
-use case_text::is_spelled;
+use case_text::{Page, is_spelled};
 use prs_core::Rules;
 use std::alloc::Global;
 
-/// Begins the rules of so many nodes.
-fn set_rules(alloc: Global, bench: &mut NetBench, count: &str) -> bool {
+/// Begins the rules of so many nodes, and says whether the word is a number.
+fn set_rules(alloc: Global, bench: &mut NetBench, count: &str, page: &mut Page) -> bool {
     let Ok(count) = count.parse::<u32>() else {
         return false;
     };
-    match Rules::new(alloc, count) {
-        Ok(rules) => {
-            bench.rules = rules;
-            true
-        }
-        Err(_) => false,
+    if let Some(rules) = page.taken(Rules::new(alloc, count)) {
+        bench.rules = rules;
     }
+    true
 }
 
 /// Does what a line sets out, and says whether it is such a line.
-fn set_out(alloc: Global, bench: &mut NetBench, word: &str, rest: &str) -> bool {
+fn set_out(alloc: Global, bench: &mut NetBench, word: &str, rest: &str, page: &mut Page) -> bool {
     match word {
         "net" => {
             bench.take_net();
@@ -41,9 +37,9 @@ fn set_out(alloc: Global, bench: &mut NetBench, word: &str, rest: &str) -> bool 
             bench.take_script();
             true
         }
-        "rules" => set_rules(alloc, bench, rest),
-        "circuit" => circuit(alloc, &mut bench.files),
-        _ => matches!(bench.files.obey(alloc, word, rest), Ok(true)),
+        "rules" => set_rules(alloc, bench, rest, page),
+        "circuit" => circuit(alloc, &mut bench.files, page),
+        _ => bench.files.obey(alloc, word, rest, page),
     }
 }
 
@@ -81,28 +77,31 @@ fn tell_below(alloc: Global, bench: &NetBench, word: &str, rest: &str, page: &mu
 }
 
 /// The nodes of the line, or None where a word is no number.
-fn nodes_of(alloc: Global, line: &str) -> Option<Vec<u32>> {
+fn nodes_of(alloc: Global, line: &str, page: &mut Page) -> Option<Vec<u32>> {
     let mut nodes = Vec::new(alloc);
     for word in line.split_whitespace() {
-        nodes.push(word.parse::<u32>().ok()?).ok()?;
+        match word.parse::<u32>() {
+            Ok(node) => page.note(nodes.push(node)),
+            Err(_) => return None,
+        }
     }
     Some(nodes)
 }
 
 /// Lets the cell write its rules at the nodes of the line, and says whether it can.
-fn write_cell(alloc: Global, rules: &mut Rules, cell: &str, line: &str) -> bool {
-    match nodes_of(alloc, line) {
-        Some(nodes) => emit(alloc, rules, cell, &nodes),
+fn write_cell(alloc: Global, rules: &mut Rules, cell: &str, line: &str, page: &mut Page) -> bool {
+    match nodes_of(alloc, line, page) {
+        Some(nodes) => emit(alloc, rules, cell, &nodes, page),
         None => false,
     }
 }
 
 /// Does what a line says, and says whether it is understood.
 fn act(alloc: Global, bench: &mut NetBench, word: &str, rest: &str, page: &mut Page) -> bool {
-    set_out(alloc, bench, word, rest)
+    set_out(alloc, bench, word, rest, page)
         || tell(alloc, bench.files.last(), word, rest, page)
         || tell_below(alloc, bench, word, rest, page)
-        || write_cell(alloc, &mut bench.rules, word, rest)
+        || write_cell(alloc, &mut bench.rules, word, rest, page)
 }
 
 /// Does what the line says. A line that can't be understood is printed after a question mark.
@@ -112,9 +111,8 @@ pub fn obey(alloc: Global, bench: &mut NetBench, line: &str, page: &mut Page) {
         return;
     }
     if word == "case" {
-        match NetBench::new(alloc) {
-            Ok(begun) => *bench = begun,
-            Err(error) => page.note(Err(error)),
+        if let Some(begun) = page.taken(NetBench::new(alloc)) {
+            *bench = begun;
         }
         page.put(line);
         return page.put("\n");

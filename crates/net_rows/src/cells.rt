@@ -4,7 +4,8 @@ ghost use Rattle.std.specs.Prelude.{◌≡◌, ◌≢◌, ◌<◌, ◌==◌, not
 ghost use Rattle.std.specs.List.{list_all};
 ghost use Rattle.cell_select.specs.PortNodes.{IsSelect, IsAgain};
 
-use crate::page::Page;
+use crate::parts::put_node;
+use case_text::Page;
 use cell_channel::{emit_end, emit_receive_port};
 use cell_parallel::emit_tree;
 use cell_select::{AgainPorts, SelectPorts, emit_again, emit_select};
@@ -47,7 +48,7 @@ fn are_other(nodes: &[u32], node: u32) -> bool
 /// The cells with three nodes: the end of a channel (its request, the acknowledge, and its answer), a loop (its request,
 /// and its body's request and answer), and a write (its request, the node that says that all bits are written, and its
 /// answer).
-fn three(alloc: Global, rules: &mut Rules, cell: &str, nodes: &[u32]) -> bool {
+fn three(alloc: Global, rules: &mut Rules, cell: &str, nodes: &[u32], page: &mut Page) -> bool {
     let count = rules.nodes();
     match nodes {
         [one, two, three]
@@ -57,44 +58,53 @@ fn three(alloc: Global, rules: &mut Rules, cell: &str, nodes: &[u32]) -> bool {
                 && one != two
                 && one != three
                 && two != three => {
-            match cell {
-                "end" => emit_end(alloc, *one, *two, *three, rules).is_ok(),
-                "loop" => emit_loop(alloc, *one, *two, *three, rules).is_ok(),
-                _ => emit_write_site(alloc, *one, *two, *three, rules).is_ok(),
-            }
+            page.note(match cell {
+                "end" => emit_end(alloc, *one, *two, *three, rules),
+                "loop" => emit_loop(alloc, *one, *two, *three, rules),
+                _ => emit_write_site(alloc, *one, *two, *three, rules),
+            });
+            true
         }
         _ => false,
     }
 }
 
 /// The port of a receive: its request, its first node, and the rails that it takes.
-fn port(alloc: Global, rules: &mut Rules, nodes: &[u32]) -> bool {
+fn port(alloc: Global, rules: &mut Rules, nodes: &[u32], page: &mut Page) -> bool {
     let count = rules.nodes();
     let [request, from, rails @ ..] = nodes else {
         return false;
     };
-    *request < count
+    if *request < count
         && are_below(rails, count)
         && rails.len() <= count as usize
         && *from as usize + rails.len() <= count as usize
-        && emit_receive_port(alloc, *request, rails, *from, rules).is_ok()
+    {
+        page.note(emit_receive_port(alloc, *request, rails, *from, rules));
+        return true;
+    }
+    false
 }
 
 /// A completion tree: its first node, and the leaves.
-fn tree(alloc: Global, rules: &mut Rules, nodes: &[u32]) -> bool {
+fn tree(alloc: Global, rules: &mut Rules, nodes: &[u32], page: &mut Page) -> bool {
     let count = rules.nodes();
     let [from, leaves @ ..] = nodes else {
         return false;
     };
-    !leaves.is_empty()
+    if !leaves.is_empty()
         && are_below(leaves, count)
         && leaves.len() <= count as usize
         && *from as usize + leaves.len() <= count as usize + 1
-        && emit_tree(alloc, leaves, *from, rules).is_ok()
+    {
+        page.note(emit_tree(alloc, leaves, *from, rules));
+        return true;
+    }
+    false
 }
 
 /// A Q-element: its request, its child's request and answer, its latch, and the next request.
-fn q(alloc: Global, rules: &mut Rules, nodes: &[u32]) -> bool {
+fn q(alloc: Global, rules: &mut Rules, nodes: &[u32], page: &mut Page) -> bool {
     let count = rules.nodes();
     match nodes {
         [request, child_request, child_answer, latch, next]
@@ -119,37 +129,40 @@ fn q(alloc: Global, rules: &mut Rules, nodes: &[u32]) -> bool {
                 latch: *latch,
                 next: *next,
             };
-            emit_q(alloc, &ports, rules).is_ok()
+            page.note(emit_q(alloc, &ports, rules));
+            true
         }
         _ => false,
     }
 }
 
 /// A skip: its request and its answer.
-fn skip(alloc: Global, rules: &mut Rules, nodes: &[u32]) -> bool {
+fn skip(alloc: Global, rules: &mut Rules, nodes: &[u32], page: &mut Page) -> bool {
     let count = rules.nodes();
     match nodes {
         [request, answer] if *request < count && *answer < count && request != answer => {
-            emit_skip(alloc, *request, *answer, rules).is_ok()
+            page.note(emit_skip(alloc, *request, *answer, rules));
+            true
         }
         _ => false,
     }
 }
 
 /// A merge: its node, and its inputs.
-fn merge(alloc: Global, rules: &mut Rules, nodes: &[u32]) -> bool {
+fn merge(alloc: Global, rules: &mut Rules, nodes: &[u32], page: &mut Page) -> bool {
     let count = rules.nodes();
     let [node, inputs @ ..] = nodes else {
         return false;
     };
-    *node < count
-        && are_below(inputs, count)
-        && are_other(inputs, *node)
-        && emit_or(alloc, inputs, *node, rules).is_ok()
+    if *node < count && are_below(inputs, count) && are_other(inputs, *node) {
+        page.note(emit_or(alloc, inputs, *node, rules));
+        return true;
+    }
+    false
 }
 
 /// A variable: its first node, and its width.
-fn variable(alloc: Global, rules: &mut Rules, nodes: &[u32]) -> bool {
+fn variable(alloc: Global, rules: &mut Rules, nodes: &[u32], page: &mut Page) -> bool {
     let count = rules.nodes();
     let [from, width] = nodes else {
         return false;
@@ -160,8 +173,11 @@ fn variable(alloc: Global, rules: &mut Rules, nodes: &[u32]) -> bool {
     if width < 1 || width > 64 || *from > count {
         return false;
     }
-    u64::from(*from) + 6 * u64::from(width) <= u64::from(count) + 1
-        && emit_variable(alloc, *from, width, rules).is_ok()
+    if u64::from(*from) + 6 * u64::from(width) <= u64::from(count) + 1 {
+        page.note(emit_variable(alloc, *from, width, rules));
+        return true;
+    }
+    false
 }
 
 /// The selection of `out A : 1; out B : 1; var x : 2; begin [x = 0 -> A!1 [] x < 2 -> B!1] end`.
@@ -201,29 +217,31 @@ fn repetition(alloc: Global) -> Result<AgainPorts, AllocError>
 
 /// The rules of the selection alone.
 pub fn put_select(alloc: Global, page: &mut Page) {
-    let (Ok(ports), Ok(mut rules)) = (selection(alloc), Rules::new(alloc, 60)) else {
-        return page.put("no memory\n");
+    let Some(ports) = page.taken(selection(alloc)) else {
+        return;
     };
-    let written = emit_select(alloc, &ports, &mut rules);
-    page.note(written);
-    put_rules(page, &rules);
+    if let Some(mut rules) = page.taken(Rules::new(alloc, 60)) {
+        page.note(emit_select(alloc, &ports, &mut rules));
+        put_rules(page, &rules);
+    }
 }
 
 /// The rules of the guarded repetition alone.
 pub fn put_again(alloc: Global, page: &mut Page) {
-    let (Ok(ports), Ok(mut rules)) = (repetition(alloc), Rules::new(alloc, 24)) else {
-        return page.put("no memory\n");
+    let Some(ports) = page.taken(repetition(alloc)) else {
+        return;
     };
-    let written = emit_again(alloc, &ports, &mut rules);
-    page.note(written);
-    put_rules(page, &rules);
+    if let Some(mut rules) = page.taken(Rules::new(alloc, 24)) {
+        page.note(emit_again(alloc, &ports, &mut rules));
+        put_rules(page, &rules);
+    }
 }
 
 /// Puts the rails.
 fn put_rails(page: &mut Page, rails: &[u32]) {
     for rail in rails {
         page.put("rail");
-        page.node(*rail);
+        put_node(page, *rail);
         page.put("\n");
     }
 }
@@ -231,8 +249,8 @@ fn put_rails(page: &mut Page, rails: &[u32]) {
 /// The rails and the rules of the expression that reads a variable of one bit, whose block begins at node 3, under the
 /// request 2, with its own nodes from 8 on.
 pub fn put_expression(alloc: Global, page: &mut Page) {
-    let Ok(mut rules) = Rules::new(alloc, 10) else {
-        return page.put("no memory\n");
+    let Some(mut rules) = page.taken(Rules::new(alloc, 10)) else {
+        return;
     };
     let read = TExpr::Read {
         var: 0,
@@ -240,24 +258,23 @@ pub fn put_expression(alloc: Global, page: &mut Page) {
         low: 0,
         at: Span { from: 0, to: 1 },
     };
-    match emit_expr(alloc, &read, 2, 8, &[3], &mut rules) {
-        Ok(rails) => put_rails(page, &rails),
-        Err(error) => page.note(Err(error)),
+    if let Some(rails) = page.taken(emit_expr(alloc, &read, 2, 8, &[3], &mut rules)) {
+        put_rails(page, &rails);
     }
     put_rules(page, &rules);
 }
 
 /// Lets the named cell write its rules at these nodes. It says whether there is such a cell, and whether the nodes are
 /// some that it may be given.
-pub fn emit(alloc: Global, rules: &mut Rules, cell: &str, nodes: &[u32]) -> bool {
+pub fn emit(alloc: Global, rules: &mut Rules, cell: &str, nodes: &[u32], page: &mut Page) -> bool {
     match cell {
-        "port" => port(alloc, rules, nodes),
-        "tree" => tree(alloc, rules, nodes),
-        "q" => q(alloc, rules, nodes),
-        "skip" => skip(alloc, rules, nodes),
-        "or" => merge(alloc, rules, nodes),
-        "variable" => variable(alloc, rules, nodes),
-        "end" | "loop" | "write-site" => three(alloc, rules, cell, nodes),
+        "port" => port(alloc, rules, nodes, page),
+        "tree" => tree(alloc, rules, nodes, page),
+        "q" => q(alloc, rules, nodes, page),
+        "skip" => skip(alloc, rules, nodes, page),
+        "or" => merge(alloc, rules, nodes, page),
+        "variable" => variable(alloc, rules, nodes, page),
+        "end" | "loop" | "write-site" => three(alloc, rules, cell, nodes, page),
         _ => false,
     }
 }

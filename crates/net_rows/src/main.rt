@@ -9,7 +9,7 @@ mod cells;
 mod names;
 mod nets;
 mod orders;
-mod page;
+mod parts;
 mod printer;
 mod reading;
 mod rounds;
@@ -19,8 +19,8 @@ mod streamed;
 mod waves;
 
 use bench::NetBench;
+use case_text::Page;
 use cases::obey;
-use page::Page;
 use std::{fs, io};
 
 const TOPICS: [&str; 9] = [
@@ -36,6 +36,5 @@ fn main(rt: HostRuntime) -> io::Result<()> {
             obey(rt.alloc(), &mut bench, line, &mut page);
         }
     }
-    page.kept?;
-    rt.print(page.text)
+    rt.print(page.whole()?)
 }

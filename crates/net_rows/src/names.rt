@@ -2,22 +2,18 @@
 
 ghost use Rattle.std.specs.Prelude.{◌<◌, ◌≤◌, ◌+◌, ◌-◌, ◌^◌, length};
 
-use crate::page::Page;
-use case_text::bytes_of;
-use chp_base::{Added, Bits, Symbols, name_of, node_name_of};
+use case_text::{Page, bytes_of};
+use chp_base::{Added, Bits, Name, Symbols, name_of, node_name_of};
 use std::alloc::Global;
 
 /// Whether the text is a name of the language, or a name of a node.
-fn is_name(alloc: Global, text: &[u8], of_node: bool) -> bool {
+fn is_name(alloc: Global, text: &[u8], of_node: bool, page: &mut Page) -> bool {
     let found = if of_node {
         node_name_of(alloc, text)
     } else {
         name_of(alloc, text)
     };
-    match found {
-        Ok(name) => name.is_some(),
-        Err(_) => false,
-    }
+    matches!(page.taken(found), Some(Some(_)))
 }
 
 fn put_answer(page: &mut Page, is_so: bool) {
@@ -26,10 +22,9 @@ fn put_answer(page: &mut Page, is_so: bool) {
 
 /// Whether the text is a name of the language, or a name of a node.
 pub fn name(alloc: Global, text: &str, of_node: bool, page: &mut Page) {
-    match bytes_of(alloc, text) {
-        Ok(text) => put_answer(page, is_name(alloc, &text, of_node)),
-        Err(error) => page.note(Err(error)),
-    }
+    let text = bytes_of(alloc, text, page);
+    let is_so = is_name(alloc, &text, of_node, page);
+    put_answer(page, is_so);
 }
 
 /// Whether there is a number of this width and this value.
@@ -47,25 +42,40 @@ fn put_place(page: &mut Page, word: &str, place: u32) {
     page.put("\n");
 }
 
+/// The name that the word is, or None, behind a question mark, where it is none.
+fn named(alloc: Global, word: &str, page: &mut Page) -> Option<Name> {
+    match name_of(alloc, word.as_bytes()) {
+        Ok(Some(name)) => Some(name),
+        Ok(None) => {
+            page.put("?\n");
+            None
+        }
+        Err(_) => {
+            page.give_up();
+            None
+        }
+    }
+}
+
 /// Adds the name that the word is to a table.
 fn add(alloc: Global, symbols: &mut Symbols, word: &str, page: &mut Page)
     requires { length symbols.old < 2 ^ 32 - 1 }
     ensures { length symbols.new ≤ length symbols.old + 1 }
 {
-    let Ok(Some(name)) = name_of(alloc, word.as_bytes()) else {
-        return page.put("?\n");
+    let Some(name) = named(alloc, word, page) else {
+        return;
     };
     match symbols.add(name) {
         Ok(Added::Fresh(place)) => put_place(page, "fresh ", place),
         Ok(Added::Known(place)) => put_place(page, "known ", place),
-        Err(error) => page.note(Err(error)),
+        Err(_) => page.give_up(),
     }
 }
 
 /// Looks for the name that the word is in a table.
 fn find(alloc: Global, symbols: &Symbols, word: &str, page: &mut Page) {
-    let Ok(Some(name)) = name_of(alloc, word.as_bytes()) else {
-        return page.put("?\n");
+    let Some(name) = named(alloc, word, page) else {
+        return;
     };
     match symbols.find(&name) {
         Some(place) => put_place(page, "at ", place),

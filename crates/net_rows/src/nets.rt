@@ -4,30 +4,34 @@ ghost use Rattle.std.specs.Prelude.{◌≡◌, ◌<◌, length};
 
 use crate::bench::NetBench;
 use crate::cells::put_guards;
-use crate::page::Page;
+use crate::parts::{put_node, put_nodes};
+use case_text::Page;
 use prs_core::{Fan, Net, State, Wires, enabled, fan_of, first_state};
-use prs_file::read_net;
+use prs_file::{NetReadError, read_net};
 use std::alloc::Global;
-use std::fmt::Write;
 
 /// The most bytes of a rule file.
 const MOST: usize = 268_435_456;
 
 /// The net of the rule file, or None where it is refused. Functions that own one drop it by one call, since it is in a
 /// box.
-pub fn net_of(alloc: Global, bench: &NetBench) -> Option<Box<Net>> {
+pub fn net_of(alloc: Global, bench: &NetBench, page: &mut Page) -> Option<Box<Net>> {
     let text = bench.net();
     if text.len() > MOST {
         return None;
     }
     match read_net(alloc, text) {
-        Ok(net) => Box::new(alloc, net).ok(),
-        Err(_) => None,
+        Ok(net) => page.taken(Box::new(alloc, net)),
+        Err(NetReadError::Refused { .. }) => None,
+        Err(NetReadError::NoMemory(_)) => {
+            page.give_up();
+            None
+        }
     }
 }
 
 /// A line for the node, with its name, its first value and its guards.
-fn put_node(page: &mut Page, net: &Net, node: u32)
+fn put_line(page: &mut Page, net: &Net, node: u32)
     requires { node < length net.now.first }
 {
     let place = node as usize;
@@ -41,15 +45,15 @@ fn put_node(page: &mut Page, net: &Net, node: u32)
 /// A line for the channel.
 fn put_wires(page: &mut Page, wires: &Wires) {
     let channel = &wires.channel;
-    let written = write!(page.text, "{:?} ", channel.kind);
-    page.note(written);
+    page.debug(&channel.kind);
+    page.put(" ");
     page.bytes(channel.name.bytes());
     page.put(" ");
     page.number(u64::from(channel.width));
     page.put(" rails");
-    page.nodes(wires.rails.nodes());
+    put_nodes(page, wires.rails.nodes());
     page.put(" acknowledge");
-    page.node(wires.ack);
+    put_node(page, wires.ack);
     page.put("\n");
 }
 
@@ -57,7 +61,7 @@ fn put_readers(page: &mut Page, node: u32, readers: &[u32]) {
     if !readers.is_empty() {
         page.number(u64::from(node));
         page.put(" is read by");
-        page.nodes(readers);
+        put_nodes(page, readers);
         page.put("\n");
     }
 }
@@ -77,16 +81,16 @@ fn put_asked(page: &mut Page, net: &Net, fan: &Fan, state: &State, asked: &Asked
     requires state { length state.now ≡ length net.now.first }
 {
     match asked {
-        Asked::Line => put_node(page, net, node),
+        Asked::Line => put_line(page, net, node),
         Asked::Readers => put_readers(page, node, fan.readers(node)),
         Asked::High => {
             if state.is_high(node) {
-                page.node(node);
+                put_node(page, node);
             }
         }
         Asked::Enabled => {
             if enabled(net, state, node) {
-                page.node(node);
+                put_node(page, node);
             }
         }
     }
@@ -129,19 +133,17 @@ fn put_net(page: &mut Page, net: &Net, fan: &Fan, state: &State, word: &str)
 fn tell_with(alloc: Global, net: &Net, fan: &Fan, word: &str, page: &mut Page)
     requires { length fan.now ≡ length net.now.first }
 {
-    match first_state(alloc, net) {
-        Ok(state) => put_net(page, net, fan, &state, word),
-        Err(error) => page.note(Err(error)),
+    if let Some(state) = page.taken(first_state(alloc, net)) {
+        put_net(page, net, fan, &state, word);
     }
 }
 
 /// What the word asks of the net: to show it, its readers, or what is high and enabled at first.
 pub fn tell_net(alloc: Global, bench: &NetBench, word: &str, page: &mut Page) {
-    let Some(net) = net_of(alloc, bench) else {
+    let Some(net) = net_of(alloc, bench, page) else {
         return page.put("no net\n");
     };
-    match fan_of(alloc, &net) {
-        Ok(fan) => tell_with(alloc, &net, &fan, word, page),
-        Err(error) => page.note(Err(error)),
+    if let Some(fan) = page.taken(fan_of(alloc, &net)) {
+        tell_with(alloc, &net, &fan, word, page);
     }
 }

@@ -5,11 +5,11 @@ ghost use Rattle.env_script.specs.Environment.{net_channels};
 ghost use Rattle.env_script.specs.Scripts.{IsScript};
 
 use crate::bench::NetBench;
-use crate::page::Page;
 use crate::runs::{Given, begun, read};
+use case_text::Page;
 use event_sim::{Lowest, Newest, Oldest, Picker, Ran, Random, Sim};
 use plain_runs::Run;
-use std::alloc::{AllocError, Global};
+use std::alloc::Global;
 
 /// Since when a node has been enabled that isn't.
 const NEVER: usize = usize::MAX;
@@ -23,17 +23,19 @@ struct Simulated {
 }
 
 /// What passed, channel by channel.
-fn by_channel(alloc: Global, ran: &Ran) -> Option<Vec<(u32, u64)>> {
-    let mut passed = Vec::from_slice(alloc, ran.passed()).ok()?;
-    passed.sort_by_key(|value| value.0).ok()?;
-    Some(passed)
+fn by_channel(alloc: Global, ran: &Ran, page: &mut Page) -> Vec<(u32, u64)> {
+    let mut passed = page.copied(alloc, ran.passed());
+    page.note(passed.sort_by_key(|value| value.0));
+    passed
 }
 
 /// The simulation that so ended, by these choices.
-fn ended(alloc: Global, ran: Box<Ran>, picks: &[usize]) -> Option<Simulated> {
-    let passed = by_channel(alloc, &ran)?;
-    let picks = Vec::from_slice(alloc, picks).ok()?;
-    Some(Simulated { ran, passed, picks })
+fn ended(alloc: Global, ran: Box<Ran>, picks: &[usize], page: &mut Page) -> Simulated {
+    Simulated {
+        passed: by_channel(alloc, &ran, page),
+        picks: page.copied(alloc, picks),
+        ran,
+    }
 }
 
 /// The run of the net under the script by the scheduler.
@@ -43,6 +45,7 @@ fn go(
     seed: u64,
     steps: u32,
     picker: &mut Box<dyn Picker>,
+    page: &mut Page,
 ) -> Option<Box<Ran>>
     requires script { IsScript (net_channels given.value.net) given.value.script }
     requires steps { steps ≤ 1000000 }
@@ -50,13 +53,12 @@ fn go(
     let nodes = given.net.first().len() as u32;
     picker.seed(seed);
     if picker.make_room(steps, nodes).is_err() {
+        page.give_up();
         return None;
     }
     let Given { net, script } = Box::into_inner(given);
-    match Sim::new(alloc, net, script, steps) {
-        Ok(sim) => Box::new(alloc, sim.run(picker)).ok(),
-        Err(_) => None,
-    }
+    let sim = page.taken(Sim::new(alloc, net, script, steps))?;
+    page.taken(Box::new(alloc, sim.run(picker)))
 }
 
 /// The simulation by the scheduler, or None where a text is refused, or memory runs out.
@@ -66,10 +68,14 @@ fn simulate(
     seed: u64,
     steps: u32,
     picker: &mut Box<dyn Picker>,
+    page: &mut Page,
 ) -> Option<Box<Ran>>
     requires { steps ≤ 1000000 }
 {
-    go(alloc, read(alloc, bench)?, seed, steps, picker)
+    match read(alloc, bench, page) {
+        Some(given) => go(alloc, given, seed, steps, picker, page),
+        None => None,
+    }
 }
 
 /// Notes of each node since which list of enabled nodes it has been in all of them. The last one is of this number.
@@ -123,8 +129,9 @@ fn step(
     number: usize,
     place: usize,
     longest: bool,
+    page: &mut Page,
 ) -> bool {
-    let Ok(enabled) = run.enabled_nodes(alloc) else {
+    let Some(enabled) = page.taken(run.enabled_nodes(alloc)) else {
         return false;
     };
     note_list(since, &enabled, number);
@@ -132,19 +139,29 @@ fn step(
         return false;
     };
     match u32::try_from(node) {
-        Ok(moved) => is_first(since, node, longest) && matches!(run.make(alloc, moved), Ok(None)),
+        Ok(moved) => {
+            is_first(since, node, longest)
+                && matches!(page.taken(run.make(alloc, moved)), Some(None))
+        }
         Err(_) => false,
     }
 }
 
 /// Whether each of these choices is the first node of those that have waited longest, or shortest, in a run without a
 /// hazard of a net of so many nodes.
-fn follows(alloc: Global, run: &mut Run, nodes: usize, picks: &[usize], longest: bool) -> bool {
-    let Ok(mut since) = vec![in alloc; NEVER; nodes] else {
+fn follows(
+    alloc: Global,
+    run: &mut Run,
+    nodes: usize,
+    picks: &[usize],
+    longest: bool,
+    page: &mut Page,
+) -> bool {
+    let Some(mut since) = page.taken(vec![in alloc; NEVER; nodes]) else {
         return false;
     };
     for (number, place) in picks.iter().enumerate() {
-        if !step(alloc, run, &mut since, number, *place, longest) {
+        if !step(alloc, run, &mut since, number, *place, longest, page) {
             return false;
         }
     }
@@ -152,13 +169,19 @@ fn follows(alloc: Global, run: &mut Run, nodes: usize, picks: &[usize], longest:
 }
 
 /// The same of a run of the case's net under its script.
-fn go_by_age(alloc: Global, bench: &NetBench, picks: &[usize], longest: bool) -> bool {
-    let Some(given) = read(alloc, bench) else {
+fn go_by_age(
+    alloc: Global,
+    bench: &NetBench,
+    picks: &[usize],
+    longest: bool,
+    page: &mut Page,
+) -> bool {
+    let Some(given) = read(alloc, bench, page) else {
         return false;
     };
     let nodes = given.net.first().len();
-    match begun(alloc, given) {
-        Some(mut run) => follows(alloc, &mut run, nodes, picks, longest),
+    match begun(alloc, given, page) {
+        Some(mut run) => follows(alloc, &mut run, nodes, picks, longest, page),
         None => false,
     }
 }
@@ -181,12 +204,10 @@ fn put_picks(
     page.put(order);
     page.put(":");
     page.numbers(&[picks.len() as u64]);
-    put_so(
-        page,
-        " picks, oldest ",
-        go_by_age(alloc, bench, picks, true),
-    );
-    put_so(page, ", newest ", go_by_age(alloc, bench, picks, false));
+    let is_oldest = go_by_age(alloc, bench, picks, true, page);
+    put_so(page, " picks, oldest ", is_oldest);
+    let is_newest = go_by_age(alloc, bench, picks, false, page);
+    put_so(page, ", newest ", is_newest);
     put_so(page, ", the same again ", picks == again);
     page.put("\n");
 }
@@ -204,15 +225,15 @@ fn simulate_twice(
     requires { steps ≤ 1000000 }
 {
     let begin = picker.log().len();
-    let ran = simulate(alloc, bench, seed, steps, picker)?;
+    let ran = simulate(alloc, bench, seed, steps, picker, page)?;
     let end = picker.log().len();
-    if simulate(alloc, bench, seed, steps, picker).is_none() {
+    if simulate(alloc, bench, seed, steps, picker, page).is_none() {
         return None;
     }
     let picks = picker.log().get(begin..end).unwrap_or(&[]);
     let again = picker.log().get(end..).unwrap_or(&[]);
     put_picks(alloc, bench, picker.name(), picks, again, page);
-    ended(alloc, ran, picks)
+    Some(ended(alloc, ran, picks, page))
 }
 
 /// Whether each of these has the same result as this one, and whether none of them was by the same choices.
@@ -250,9 +271,7 @@ fn compare(
         let (agrees, differs) = compared(&earlier, &run);
         agree = agree && agrees;
         differ = differ && differs;
-        if earlier.push(run).is_err() {
-            return false;
-        }
+        page.note(earlier.push(run));
     }
     put_so(page, "all agree ", agree);
     put_so(page, ", all picks differ ", differ);
@@ -261,21 +280,23 @@ fn compare(
 }
 
 /// The same of the four schedulers.
-fn compare_four(
-    alloc: Global,
-    bench: &NetBench,
-    seed: u64,
-    steps: u32,
-    page: &mut Page,
-) -> Result<bool, AllocError>
+fn compare_four(alloc: Global, bench: &NetBench, seed: u64, steps: u32, page: &mut Page) -> bool
     requires { steps ≤ 1000000 }
 {
     let mut pickers: Vec<Box<dyn Picker>> = Vec::new(alloc);
-    pickers.push(Box::new(alloc, Lowest::new(alloc))?)?;
-    pickers.push(Box::new(alloc, Oldest::new(alloc))?)?;
-    pickers.push(Box::new(alloc, Newest::new(alloc))?)?;
-    pickers.push(Box::new(alloc, Random::new(alloc))?)?;
-    Ok(compare(alloc, bench, seed, steps, &mut pickers, page))
+    if let Some(lowest) = page.taken(Box::new(alloc, Lowest::new(alloc))) {
+        page.note(pickers.push(lowest));
+    }
+    if let Some(oldest) = page.taken(Box::new(alloc, Oldest::new(alloc))) {
+        page.note(pickers.push(oldest));
+    }
+    if let Some(newest) = page.taken(Box::new(alloc, Newest::new(alloc))) {
+        page.note(pickers.push(newest));
+    }
+    if let Some(random) = page.taken(Box::new(alloc, Random::new(alloc))) {
+        page.note(pickers.push(random));
+    }
+    compare(alloc, bench, seed, steps, &mut pickers, page)
 }
 
 /// Compares the four schedulers, where the line gives a seed and the most moves.
@@ -283,7 +304,7 @@ pub fn orders(alloc: Global, bench: &NetBench, line: &str, page: &mut Page) -> b
     let (seed, steps) = line.split_once(' ').unwrap_or((line, ""));
     match (seed.parse::<u64>(), steps.parse::<u32>()) {
         (Ok(seed), Ok(steps)) if steps <= 1_000_000 => {
-            matches!(compare_four(alloc, bench, seed, steps, page), Ok(true))
+            compare_four(alloc, bench, seed, steps, page)
         }
         _ => false,
     }

@@ -1,6 +1,6 @@
 //! A plain printer of programs, with brackets wherever a group is in a group.
 
-use crate::page::Page;
+use case_text::Page;
 use chp_syntax::{Decl, DeclKind, Expr, Ident, Op, Program, Stmt};
 
 fn sign(op: Op) -> &'static str {

@@ -1,6 +1,7 @@
 //! What a text is read as.
 
 ghost use Rattle.std.specs.Prelude.{◌≡◌, ◌≤◌, length, IfOk, IfSome};
+ghost use Rattle.std.specs.Result.{result_ok};
 ghost use Rattle.chp_syntax.specs.Shape.{IsShaped};
 ghost use Rattle.chp_syntax.specs.View.{program_tree};
 ghost use Rattle.width_check.specs.Accepted.{IsAccepted};
@@ -10,18 +11,31 @@ ghost use Rattle.call_merge.specs.CallFaults.{MeetsCalling};
 ghost use Rattle.call_merge.specs.Inlining.{IsInlined};
 ghost use Rattle.call_compose.specs.Inlined.{AreInlined};
 
-use crate::page::Page;
 use crate::printer::put_program;
-use call_merge::inline;
+use call_merge::{CallError, inline};
+use case_text::Page;
 use chp_base::TextError;
 use chp_syntax::{Program, Token, TokenKind, parse, tokens};
 use sharing_check::{Disjoint, share};
 use std::alloc::Global;
-use std::fmt::Write;
 use width_check::{is_call_free, resolve};
 
 /// The most bytes of a program text.
 const MOST: usize = 262_144;
+
+/// What was made of a text, or None where that is refused.
+fn made<T>(made: Result<T, TextError>, page: &mut Page) -> Option<T>
+    ensures { result ≡ result_ok made }
+{
+    match made {
+        Ok(made) => Some(made),
+        Err(TextError::Refused(_)) => None,
+        Err(TextError::NoMemory(_)) => {
+            page.give_up();
+            None
+        }
+    }
+}
 
 /// The program that the text is. Functions that own one drop it by one call, since it is in a box.
 fn parsed(alloc: Global, text: &[u8]) -> Result<Box<Program>, TextError>
@@ -32,21 +46,18 @@ fn parsed(alloc: Global, text: &[u8]) -> Result<Box<Program>, TextError>
 }
 
 /// The program that the text is. `None` where the text is too long or refused, or memory runs out.
-pub fn program_of_text(alloc: Global, text: &[u8]) -> Option<Box<Program>>
+pub fn program_of_text(alloc: Global, text: &[u8], page: &mut Page) -> Option<Box<Program>>
     ensures { IfSome result (λ program. IsShaped (program_tree program.value)) }
 {
     if text.len() > MOST {
         return None;
     }
-    match parsed(alloc, text) {
-        Ok(program) => Some(program),
-        Err(_) => None,
-    }
+    made(parsed(alloc, text), page)
 }
 
 /// The program with its names resolved, where it is accepted and has neither procedures nor calls. Functions that own one
 /// drop it by one call, since it is in a box.
-pub fn checked(alloc: Global, program: &Program) -> Option<Box<Disjoint>>
+pub fn checked(alloc: Global, program: &Program, page: &mut Page) -> Option<Box<Disjoint>>
     requires { IsShaped (program_tree program.now) }
     ensures accepted { IfSome result (λ _. IsAccepted (program_tree program.now)) }
     ensures form { IfSome result (λ disjoint. program_of disjoint.value ≡ typed_form (program_tree program.now)) }
@@ -54,24 +65,20 @@ pub fn checked(alloc: Global, program: &Program) -> Option<Box<Disjoint>>
     if program.decls.len() > MOST || !is_call_free(program) {
         return None;
     }
-    let Ok(typed) = resolve(alloc, program) else {
-        return None;
-    };
-    match share(alloc, typed) {
-        Ok(disjoint) => Box::new(alloc, disjoint).ok(),
-        Err(_) => None,
-    }
+    let typed = made(resolve(alloc, program), page)?;
+    let disjoint = made(share(alloc, typed), page)?;
+    page.taken(Box::new(alloc, disjoint))
 }
 
 /// The accepted program that the text is. `None` where the text is too long or refused, has procedures or calls, or
 /// memory runs out.
-pub fn accepted(alloc: Global, text: &[u8]) -> Option<Box<Disjoint>> {
-    let program = program_of_text(alloc, text)?;
-    checked(alloc, &program)
+pub fn accepted(alloc: Global, text: &[u8], page: &mut Page) -> Option<Box<Disjoint>> {
+    let program = program_of_text(alloc, text, page)?;
+    checked(alloc, &program, page)
 }
 
 /// The program in which each call is its procedure's body.
-fn merged(alloc: Global, program: &Program) -> Option<Box<Program>>
+fn merged(alloc: Global, program: &Program, page: &mut Page) -> Option<Box<Program>>
     requires few { length program.now.procs.items ≤ 300000 }
     requires shaped { IsShaped (program_tree program.now) }
     ensures inlined { IfSome result (λ plain. IsInlined (program_tree program.now) (program_tree plain.value)) }
@@ -79,19 +86,24 @@ fn merged(alloc: Global, program: &Program) -> Option<Box<Program>>
     ensures shaped { IfSome result (λ plain. IsShaped (program_tree plain.value)) }
 {
     match inline(alloc, program) {
-        Ok(plain) => Box::new(alloc, plain).ok(),
-        Err(_) => None,
+        Ok(plain) => page.taken(Box::new(alloc, plain)),
+        Err(error) => {
+            if matches!(error, CallError::NoMemory(_)) {
+                page.give_up();
+            }
+            None
+        }
     }
 }
 
 /// The same with its names resolved, where it is accepted. `None` where something is refused, or memory runs out.
-pub fn inlined(alloc: Global, program: &Program) -> Option<Box<Disjoint>>
+pub fn inlined(alloc: Global, program: &Program, page: &mut Page) -> Option<Box<Disjoint>>
     requires few { length program.now.procs.items ≤ 300000 }
     requires shaped { IsShaped (program_tree program.now) }
     ensures { IfSome result (λ disjoint. AreInlined (program_tree program.now) (program_of disjoint.value)) }
 {
-    let plain = merged(alloc, program)?;
-    checked(alloc, &plain)
+    let plain = merged(alloc, program, page)?;
+    checked(alloc, &plain, page)
 }
 
 fn put_refusal(page: &mut Page, error: &TextError) {
@@ -104,34 +116,43 @@ fn put_refusal(page: &mut Page, error: &TextError) {
             page.number(u64::from(fault.at.to));
             page.put("\n");
         }
-        TextError::NoMemory(_) => page.put("no memory\n"),
+        TextError::NoMemory(_) => page.give_up(),
     }
 }
 
-/// Puts the program that the text is, printed with brackets round each group in a group, also into a text of its own. Where
-/// it is refused, the number of the cause and the place are put.
-fn put_text(alloc: Global, text: &[u8], printed: &mut Page, page: &mut Page) {
+/// The program as it is printed, with brackets round each group in a group.
+fn printed(alloc: Global, program: &Program, page: &mut Page) -> Option<String> {
+    let mut own = Page::new(alloc);
+    put_program(&mut own, program);
+    page.taken(own.whole())
+}
+
+/// Puts the program that the text is, and gives what is printed of it. Where it is refused, the number of the cause and
+/// the place are put.
+fn put_text(alloc: Global, text: &[u8], page: &mut Page) -> Option<String> {
     if text.len() > MOST {
-        return page.put("too long\n");
+        page.put("too long\n");
+        return None;
     }
     match parsed(alloc, text) {
         Ok(program) => {
-            put_program(printed, &program);
+            let printed = printed(alloc, &program, page)?;
             page.put("= ");
-            page.bytes(printed.text.as_bytes());
+            page.bytes(printed.as_bytes());
             page.put("\n");
+            Some(printed)
         }
-        Err(error) => put_refusal(page, &error),
+        Err(error) => {
+            put_refusal(page, &error);
+            None
+        }
     }
 }
 
 /// What the text is read as, and the same of what was printed.
 pub fn show(alloc: Global, text: &[u8], page: &mut Page) {
-    let mut printed = Page::new(alloc);
-    put_text(alloc, text, &mut printed, page);
-    if !printed.text.is_empty() {
-        let mut again = Page::new(alloc);
-        put_text(alloc, printed.text.as_bytes(), &mut again, page);
+    if let Some(printed) = put_text(alloc, text, page) {
+        let _again = put_text(alloc, printed.as_bytes(), page);
     }
 }
 
@@ -141,15 +162,9 @@ fn put_token(page: &mut Page, token: &Token) {
     page.number(u64::from(token.at.to));
     page.put(" ");
     match &token.kind {
-        TokenKind::Word(key) => {
-            let written = write!(page.text, "{key:?}");
-            page.note(written);
-        }
+        TokenKind::Word(key) => page.debug(key),
         TokenKind::Number(value) => page.number(*value),
-        TokenKind::Sign(mark) => {
-            let written = write!(page.text, "{mark:?}");
-            page.note(written);
-        }
+        TokenKind::Sign(mark) => page.debug(mark),
         TokenKind::Ident(name) => page.bytes(name.bytes()),
     }
     page.put("\n");

@@ -5,9 +5,9 @@ ghost use Rattle.env_script.specs.Scripts.{IsScript};
 ghost use Rattle.width_check.specs.Sharing.{MeetsSharing};
 ghost use Rattle.width_check.specs.View.{process_of};
 
-use crate::page::Page;
+use crate::parts::put_cause;
 use crate::reading::accepted;
-use case_text::bytes_of;
+use case_text::{Page, bytes_of};
 use chp_meaning::{Config, RunEnd, run_rounds, start};
 use env_script::{Script, ScriptError, read_script};
 use std::alloc::Global;
@@ -42,12 +42,12 @@ fn make_rounds(alloc: Global, program: &Typed, script: &Script, n: u32, most: u3
     requires sharing { MeetsSharing (process_of program.now.body) }
     requires script { IsScript program.now.channels script.now }
 {
-    let Ok(mut config) = start(alloc, program, script) else {
-        return page.put("no memory\n");
+    let Some(mut config) = page.taken(start(alloc, program, script)) else {
+        return;
     };
-    match run_rounds(alloc, &mut config, program, n, most) {
-        Ok(end) => put_end(page, program, &config, end),
-        Err(error) => page.note(Err(error)),
+    let made = run_rounds(alloc, &mut config, program, n, most);
+    if let Some(end) = page.taken(made) {
+        put_end(page, program, &config, end);
     }
 }
 
@@ -62,8 +62,8 @@ fn make_by(alloc: Global, program: &Typed, script: &[u8], n: u32, most: u32, pag
     let _kept = program.body();
     match read_script(alloc, script, program.channels()) {
         Ok(script) => make_rounds(alloc, program, &script, n, most, page),
-        Err(ScriptError::Refused { fault, line }) => page.cause(fault.number(), line),
-        Err(ScriptError::NoMemory(error)) => page.note(Err(error)),
+        Err(ScriptError::Refused { fault, line }) => put_cause(page, fault.number(), line),
+        Err(ScriptError::NoMemory(_)) => page.give_up(),
     }
 }
 
@@ -75,10 +75,8 @@ pub fn rounds_within(alloc: Global, text: &[u8], words: &str, page: &mut Page) -
     let (Ok(most), Ok(n)) = (most.parse::<u32>(), n.parse::<u32>()) else {
         return false;
     };
-    let Ok(script) = bytes_of(alloc, script) else {
-        return false;
-    };
-    match accepted(alloc, text) {
+    let script = bytes_of(alloc, script, page);
+    match accepted(alloc, text, page) {
         Some(program) => make_by(alloc, program.typed(), &script, n, most, page),
         None => page.put("no program\n"),
     }

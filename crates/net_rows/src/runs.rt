@@ -6,13 +6,13 @@ ghost use Rattle.env_script.specs.Scripts.{IsScript};
 
 use crate::bench::NetBench;
 use crate::nets::net_of;
-use crate::page::Page;
+use crate::parts::put_node;
+use case_text::Page;
 use chp_base::Channel;
 use env_script::{Script, ScriptError, read_script};
 use plain_runs::Run;
 use prs_core::Net;
 use std::alloc::{AllocError, Global};
-use std::fmt::Write;
 
 /// The most bytes of a script.
 pub const MOST_OF_SCRIPT: usize = 2_097_152;
@@ -51,32 +51,34 @@ pub struct Given {
 
 /// The net and the script of the case, or None where a text is refused, or memory runs out. Functions that own them drop
 /// them by one call, since they are in a box.
-pub fn read(alloc: Global, bench: &NetBench) -> Option<Box<Given>>
+pub fn read(alloc: Global, bench: &NetBench, page: &mut Page) -> Option<Box<Given>>
     ensures { IfSome result (λ r. IsScript (net_channels r.value.net) r.value.script) }
 {
     let text = bench.script();
     if text.len() > MOST_OF_SCRIPT {
         return None;
     }
-    let net = net_of(alloc, bench)?;
+    let net = net_of(alloc, bench, page)?;
     match script_of(alloc, &net, text) {
         Ok(script) => {
             let net = Box::into_inner(net);
-            Box::new(alloc, Given { net, script }).ok()
+            page.taken(Box::new(alloc, Given { net, script }))
         }
-        Err(_) => None,
+        Err(ScriptError::Refused { .. }) => None,
+        Err(ScriptError::NoMemory(_)) => {
+            page.give_up();
+            None
+        }
     }
 }
 
 /// The run of the net under the script.
-pub fn begun(alloc: Global, given: Box<Given>) -> Option<Box<Run>>
+pub fn begun(alloc: Global, given: Box<Given>, page: &mut Page) -> Option<Box<Run>>
     requires { IsScript (net_channels given.value.net) given.value.script }
 {
     let Given { net, script } = Box::into_inner(given);
-    match Run::new(alloc, net, script) {
-        Ok(run) => Box::new(alloc, run).ok(),
-        Err(_) => None,
-    }
+    let run = page.taken(Run::new(alloc, net, script))?;
+    page.taken(Box::new(alloc, run))
 }
 
 fn first_true(tests: &[bool]) -> Option<usize>
@@ -92,10 +94,10 @@ fn first_true(tests: &[bool]) -> Option<usize>
 
 /// The least node with an enabled move.
 #[tactic(auto, using(crate::proofs::ScriptChannels::counted))]
-fn least(alloc: Global, run: &Run) -> Option<u32>
+fn least(alloc: Global, run: &Run, page: &mut Page) -> Option<u32>
     ensures { IfSome result (λ node. node < length run.now.net.first) }
 {
-    let Ok(moves) = run.enabled_nodes(alloc) else {
+    let Some(moves) = page.taken(run.enabled_nodes(alloc)) else {
         return None;
     };
     match u32::try_from(first_true(&moves)?) {
@@ -111,19 +113,19 @@ fn put_moves(alloc: Global, run: &mut Run, most: u32, page: &mut Page) -> bool
 {
     page.put("moved");
     for _move in 0..most {
-        let Some(node) = least(alloc, run) else {
+        let Some(node) = least(alloc, run, page) else {
             break;
         };
-        page.node(node);
+        put_node(page, node);
         match run.make(alloc, node) {
             Ok(None) => {}
             Ok(Some(hazard)) => {
-                let written = write!(page.text, "; {hazard:?}");
-                page.note(written);
+                page.put("; ");
+                page.debug(&hazard);
                 break;
             }
-            Err(error) => {
-                page.note(Err(error));
+            Err(_) => {
+                page.give_up();
                 return false;
             }
         }
@@ -159,8 +161,8 @@ fn put_run(alloc: Global, given: Box<Given>, most: u32, page: &mut Page)
 {
     let Given { net, script } = Box::into_inner(given);
     let channels = net.channels().len();
-    let Ok(mut run) = Run::new(alloc, net, script) else {
-        return page.put("no run\n");
+    let Some(mut run) = page.taken(Run::new(alloc, net, script)) else {
+        return;
     };
     if put_moves(alloc, &mut run, most, page) {
         page.put(if run.is_high(1) {
@@ -177,7 +179,7 @@ pub fn moved(alloc: Global, bench: &NetBench, line: &str, page: &mut Page) -> bo
     let Ok(most) = line.parse::<u32>() else {
         return false;
     };
-    match read(alloc, bench) {
+    match read(alloc, bench, page) {
         Some(given) => put_run(alloc, given, most, page),
         None => page.put("no run\n"),
     }

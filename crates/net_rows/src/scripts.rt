@@ -5,8 +5,9 @@ ghost use Rattle.env_script.specs.Scripts.{IsScript};
 
 use crate::bench::NetBench;
 use crate::nets::net_of;
-use crate::page::Page;
+use crate::parts::put_cause;
 use crate::runs::{MOST_OF_SCRIPT, script_of};
+use case_text::Page;
 use env_script::{Count, Offer, Script, ScriptError};
 use prs_core::Net;
 use std::alloc::Global;
@@ -50,7 +51,7 @@ fn put_offers(page: &mut Page, net: &Net, script: &Script)
 
 /// What the script says of each channel of the net, or the number and the line of the cause for which it is refused.
 pub fn offers(alloc: Global, bench: &NetBench, page: &mut Page) {
-    let Some(net) = net_of(alloc, bench) else {
+    let Some(net) = net_of(alloc, bench, page) else {
         return page.put("no net\n");
     };
     let text = bench.script();
@@ -59,7 +60,7 @@ pub fn offers(alloc: Global, bench: &NetBench, page: &mut Page) {
     }
     match script_of(alloc, &net, text) {
         Ok(script) => put_offers(page, &net, &script),
-        Err(ScriptError::Refused { fault, line }) => page.cause(fault.number(), line),
-        Err(ScriptError::NoMemory(error)) => page.note(Err(error)),
+        Err(ScriptError::Refused { fault, line }) => put_cause(page, fault.number(), line),
+        Err(ScriptError::NoMemory(_)) => page.give_up(),
     }
 }

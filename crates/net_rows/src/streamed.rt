@@ -6,10 +6,9 @@ ghost use Rattle.chp_syntax.specs.View.{program_tree};
 ghost use Rattle.width_check.specs.Typed.{program_of};
 ghost use Rattle.call_compose.specs.Inlined.{AreInlined};
 
-use crate::page::Page;
 use crate::reading::{accepted, checked, inlined, program_of_text};
 use call_compose::{call_circuit_of, translate_calls};
-use case_text::CaseFiles;
+use case_text::{CaseFiles, Page};
 use chp_syntax::Program;
 use net_compose::{NetError, translate};
 use net_stream::Streamer;
@@ -29,57 +28,84 @@ const MOST_PIECES: usize = 1 << 24;
 /// The most procedures of a program.
 const MOST_PROCEDURES: usize = 262_144;
 
-/// All that is left of the streamer's file, in pieces of this size.
-fn pieces(alloc: Global, left: &mut Streamer, size: usize) -> Option<Vec<u8>> {
-    let mut piece = vec![in alloc; 0_u8; size].ok()?;
+/// All that is left of the streamer's file, as it comes into such a piece.
+fn pieces(alloc: Global, left: &mut Streamer, piece: &mut [u8], page: &mut Page) -> Vec<u8> {
     let mut text = Vec::new(alloc);
     for _ in 0..MOST_PIECES {
         if piece.is_empty() {
             break;
         }
-        let count = left.next(&mut piece);
+        let count = left.next(piece);
         if count == 0 {
             break;
         }
-        text.extend_from_slice(piece.get(..count).unwrap_or(&[]))
-            .ok()?;
+        page.note(text.extend_from_slice(piece.get(..count).unwrap_or(&[])));
     }
-    Some(text)
+    text
+}
+
+/// Notes it where there is no net since memory has run out.
+fn note_no_net(error: &NetError, page: &mut Page) {
+    if matches!(error, NetError::NoMemory(_)) {
+        page.give_up();
+    }
 }
 
 /// The net that was made, with a reset node where one is asked for. Functions that own one drop it by one call, since it is
 /// in a box.
-fn boxed(alloc: Global, made: Result<Net, NetError>, reset: bool) -> Option<Box<Net>>
+fn boxed(
+    alloc: Global,
+    made: Result<Net, NetError>,
+    reset: bool,
+    page: &mut Page,
+) -> Option<Box<Net>>
     requires plain { IfOk made (λ net. net.reset ≡ None) }
     requires free { IfOk made (λ net. All (λ name. name ≢ codes "reset") net.names) }
 {
-    let Ok(net) = made else {
-        return None;
-    };
-    if !reset {
-        return Box::new(alloc, net).ok();
-    }
-    match with_reset(alloc, net) {
-        Ok(net) => Box::new(alloc, net).ok(),
-        Err(_) => None,
+    match made {
+        Ok(net) if reset => {
+            let net = page.taken(with_reset(alloc, net))?;
+            page.taken(Box::new(alloc, net))
+        }
+        Ok(net) => page.taken(Box::new(alloc, net)),
+        Err(error) => {
+            note_no_net(&error, page);
+            None
+        }
     }
 }
 
 /// The rule file of the net that was made, printed at once, with a reset node where one is asked for. None means too many
 /// nodes, or that memory has run out.
-fn printed(alloc: Global, made: Result<Net, NetError>, reset: bool) -> Option<Vec<u8>>
+fn printed(
+    alloc: Global,
+    made: Result<Net, NetError>,
+    reset: bool,
+    page: &mut Page,
+) -> Option<Vec<u8>>
     requires plain { IfOk made (λ net. net.reset ≡ None) }
     requires free { IfOk made (λ net. All (λ name. name ≢ codes "reset") net.names) }
 {
-    let net = boxed(alloc, made, reset)?;
-    print_net(alloc, &net).ok()
+    let net = boxed(alloc, made, reset, page)?;
+    page.taken(print_net(alloc, &net))
 }
 
 /// The same as it comes in pieces of this size from the streamer that was made.
-fn streamed(alloc: Global, made: Result<Streamer, NetError>, size: usize) -> Option<Vec<u8>> {
+fn streamed(
+    alloc: Global,
+    made: Result<Streamer, NetError>,
+    size: usize,
+    page: &mut Page,
+) -> Option<Vec<u8>> {
     match made {
-        Ok(mut streamer) => pieces(alloc, &mut streamer, size),
-        Err(_) => None,
+        Ok(mut streamer) => {
+            let mut piece = page.taken(vec![in alloc; 0_u8; size])?;
+            Some(pieces(alloc, &mut streamer, &mut piece, page))
+        }
+        Err(error) => {
+            note_no_net(&error, page);
+            None
+        }
     }
 }
 
@@ -98,16 +124,11 @@ fn put_pieces(
         "version 1 by"
     });
     page.numbers(&[size as u64]);
-    page.put(match streamed(alloc, made, size) {
-        Some(text) => {
-            if text.as_slice() == whole {
-                ": the same\n"
-            } else {
-                ": another text\n"
-            }
-        }
-        None => ": no text\n",
-    });
+    match streamed(alloc, made, size, page) {
+        Some(text) if text.as_slice() == whole => page.put(": the same\n"),
+        Some(_) => page.put(": another text\n"),
+        None => page.put(": no text\n"),
+    }
 }
 
 /// The streamer of the rule file of a program without procedures.
@@ -121,7 +142,7 @@ fn streamer_of(alloc: Global, program: &Disjoint, reset: bool) -> Result<Streame
 
 /// Of each size of pieces whether the rule file of the program comes out in them as it is printed.
 fn compare(alloc: Global, program: &Disjoint, reset: bool, page: &mut Page) {
-    let Some(whole) = printed(alloc, translate(alloc, program), reset) else {
+    let Some(whole) = printed(alloc, translate(alloc, program), reset, page) else {
         return page.put("too many nodes\n");
     };
     for size in SIZES {
@@ -159,7 +180,7 @@ fn compare_shared(
     requires inlined { AreInlined (program_tree program.now) (program_of inlined.now) }
 {
     let made = translate_calls(alloc, program, inlined);
-    let Some(whole) = printed(alloc, made, reset) else {
+    let Some(whole) = printed(alloc, made, reset, page) else {
         return page.put("too many nodes\n");
     };
     for size in SIZES {
@@ -175,7 +196,7 @@ fn stream_shared(alloc: Global, program: &Program, page: &mut Page)
     if program.procs.len() > MOST_PROCEDURES {
         return page.put("no program\n");
     }
-    match inlined(alloc, program) {
+    match inlined(alloc, program, page) {
         Some(plain) => {
             compare_shared(alloc, program, &plain, false, page);
             compare_shared(alloc, program, &plain, true, page);
@@ -188,7 +209,7 @@ fn stream_shared(alloc: Global, program: &Program, page: &mut Page)
 fn stream_plain(alloc: Global, program: &Program, page: &mut Page)
     requires { IsShaped (program_tree program.now) }
 {
-    match checked(alloc, program) {
+    match checked(alloc, program, page) {
         Some(plain) => {
             compare(alloc, &plain, false, page);
             compare(alloc, &plain, true, page);
@@ -199,7 +220,7 @@ fn stream_plain(alloc: Global, program: &Program, page: &mut Page)
 
 /// The rule files of the program that the text is, without a reset node and with one, as they come in pieces.
 pub fn stream(alloc: Global, text: &[u8], page: &mut Page) {
-    match program_of_text(alloc, text) {
+    match program_of_text(alloc, text, page) {
         Some(program) => {
             if is_call_free(&program) {
                 stream_plain(alloc, &program, page);
@@ -213,17 +234,18 @@ pub fn stream(alloc: Global, text: &[u8], page: &mut Page) {
 
 /// The rule file of the program that the text is. None where it is refused, has procedures or calls, or too many nodes,
 /// or where memory runs out.
-fn rule_file(alloc: Global, text: &[u8]) -> Option<Vec<u8>> {
-    match accepted(alloc, text) {
-        Some(program) => printed(alloc, translate(alloc, &program), false),
-        None => None,
-    }
+fn rule_file(alloc: Global, text: &[u8], page: &mut Page) -> Option<Vec<u8>> {
+    let program = accepted(alloc, text, page)?;
+    printed(alloc, translate(alloc, &program), false, page)
 }
 
 /// Adds the rule file of the program that the last file is, as a file without a name. Whether there is such a program.
-pub fn circuit(alloc: Global, files: &mut CaseFiles) -> bool {
-    match rule_file(alloc, files.last()) {
-        Some(text) => files.begin(alloc, "").and(files.append(&text)).is_ok(),
+pub fn circuit(alloc: Global, files: &mut CaseFiles, page: &mut Page) -> bool {
+    match rule_file(alloc, files.last(), page) {
+        Some(text) => {
+            files.add(alloc, "", text, page);
+            true
+        }
         None => false,
     }
 }

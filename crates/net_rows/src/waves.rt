@@ -1,6 +1,7 @@
 //! The changes of a wave.
 
-use crate::page::Page;
+use crate::parts::put_cause;
+use case_text::Page;
 use std::alloc::Global;
 use wave_file::{WaveError, read_wave, unwave_text};
 
@@ -13,11 +14,12 @@ pub fn unwave(alloc: Global, text: &[u8], page: &mut Page) {
         return page.put("too long\n");
     }
     match read_wave(alloc, text) {
-        Ok(wave) => match unwave_text(alloc, &wave) {
-            Ok(text) => page.lines(&text),
-            Err(error) => page.note(Err(error)),
-        },
-        Err(WaveError::Refused { fault, line }) => page.cause(fault.number(), line),
-        Err(WaveError::NoMemory(error)) => page.note(Err(error)),
+        Ok(wave) => {
+            if let Some(text) = page.taken(unwave_text(alloc, &wave)) {
+                page.lines(&text);
+            }
+        }
+        Err(WaveError::Refused { fault, line }) => put_cause(page, fault.number(), line),
+        Err(WaveError::NoMemory(_)) => page.give_up(),
     }
 }
