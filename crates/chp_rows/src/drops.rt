@@ -2,9 +2,9 @@
 
 use crate::bench::Bench;
 use crate::peers::Dropped;
-use crate::run::{call, unrun};
-use case_text::Page;
-use chp_cli::Players;
+use crate::run::{Ran, unrun};
+use case_text::{Page, words_of};
+use chp_cli::{Players, chp_main};
 use event_sim::{Lowest, Picker};
 use peer_bench::{Bench as PeerBench, Peer};
 use prs_file::{NetReadError, read_net};
@@ -43,18 +43,29 @@ fn put_played(
     alloc: Global,
     bench: &Bench,
     line: &str,
-    players: &mut Players,
+    players: Players,
     drops: &Cell<u32>,
     page: &mut Page,
 ) {
+    let mut players = players;
     let Some(mut ran) = unrun(alloc, bench, page) else {
         return;
     };
     let mut shelf = bench.shelf(alloc, page);
+    let words = words_of(alloc, line, page);
+    let left: &mut Ran = &mut ran;
     drops.set(0);
-    call(alloc, line, &mut shelf, players, &mut ran, page);
+    left.status = chp_main(
+        alloc,
+        &words,
+        &mut shelf,
+        &mut left.out,
+        &mut left.say,
+        &mut players,
+    );
+    left.note(page);
     page.put("status ");
-    page.number(u64::from(ran.status.number()));
+    page.number(u64::from(left.status.number()));
     page.put(", given back: ");
     page.number(u64::from(drops.get()));
     page.put("\n");
@@ -82,8 +93,7 @@ fn put_given_back(
     if let Some(peer) = dropped(alloc, drops, page) {
         page.note(peers.push(peer));
     }
-    let mut players = Players { orders, peers };
-    put_played(alloc, bench, line, &mut players, drops, page);
+    put_played(alloc, bench, line, Players { orders, peers }, drops, page);
 }
 
 /// How often a device is dropped with a bench that is given up.

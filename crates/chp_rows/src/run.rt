@@ -23,6 +23,22 @@ pub struct Ran {
     picks: Vec<usize>,
 }
 
+impl Ran {
+    /// Notes it where memory ran out in the command.
+    pub fn note(&self, page: &mut Page) {
+        if self.status == Status::NoMemory {
+            page.give_up();
+        }
+    }
+
+    /// Appends what all orders have chosen.
+    fn note_picks(&mut self, orders: &[Box<dyn Picker>], page: &mut Page) {
+        for order in orders {
+            page.note(self.picks.extend_from_slice(order.log()));
+        }
+    }
+}
+
 /// What a command leaves that hasn't run yet, in sinks as the case wants them. Functions that own one drop it by one call,
 /// since it is in a box.
 pub fn unrun(alloc: Global, bench: &Bench, page: &mut Page) -> Option<Box<Ran>> {
@@ -55,36 +71,29 @@ fn adversary(alloc: Global, bench: &Bench, way: Way, page: &mut Page) -> Option<
     page.taken(Box::new(alloc, Adversary::new(alloc, way, text)))
 }
 
-/// Runs the words of the line with these orders and devices. It is noted where memory runs out in the command.
-pub fn call<S: Shelf>(
-    alloc: Global,
-    line: &str,
-    shelf: &mut S,
-    players: &mut Players,
-    ran: &mut Ran,
-    page: &mut Page,
-) {
-    let words = words_of(alloc, line, page);
-    ran.status = chp_main(alloc, &words, shelf, &mut ran.out, &mut ran.say, players);
-    if ran.status == Status::NoMemory {
-        page.give_up();
-    }
-}
-
 /// What the words of the line leave, run with these orders and devices.
 fn play<S: Shelf>(
     alloc: Global,
     bench: &Bench,
     line: &str,
     shelf: &mut S,
-    players: &mut Players,
+    players: Players,
     page: &mut Page,
 ) -> Option<Box<Ran>> {
+    let mut players = players;
     let mut ran = unrun(alloc, bench, page)?;
-    call(alloc, line, shelf, players, &mut ran, page);
-    for order in &players.orders {
-        page.note(ran.picks.extend_from_slice(order.log()));
-    }
+    let words = words_of(alloc, line, page);
+    let left: &mut Ran = &mut ran;
+    left.status = chp_main(
+        alloc,
+        &words,
+        shelf,
+        &mut left.out,
+        &mut left.say,
+        &mut players,
+    );
+    left.note(page);
+    left.note_picks(&players.orders, page);
     Some(ran)
 }
 
@@ -112,14 +121,7 @@ fn play_with<S: Shelf>(
             page.note(peers.push(moody));
         }
     }
-    play(
-        alloc,
-        bench,
-        line,
-        shelf,
-        &mut Players { orders, peers },
-        page,
-    )
+    play(alloc, bench, line, shelf, Players { orders, peers }, page)
 }
 
 /// What the words of the line leave over this shelf, run with the orders and devices that a case may name. None where

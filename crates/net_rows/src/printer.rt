@@ -36,12 +36,19 @@ fn put_places(out: &mut Page, name: &Ident, first: u64, last: Option<u64>) {
     out.put("]");
 }
 
-fn put_expr(out: &mut Page, e: &Expr, nested: bool) {
+/// A number, or a variable or places of one.
+fn put_operand(out: &mut Page, e: &Expr) {
     match e {
         Expr::Number { value, .. } => out.number(*value),
         Expr::Whole { of } => put_name(out, of, ""),
         Expr::Slice { of, high, low, .. } => put_places(out, of, *high, Some(*low)),
         Expr::Bit { of, place, .. } => put_places(out, of, *place, None),
+        _ => {}
+    }
+}
+
+fn put_expr(out: &mut Page, e: &Expr, nested: bool) {
+    match e {
         Expr::Join { parts, .. } => {
             let mut before = "{";
             for part in parts {
@@ -64,12 +71,13 @@ fn put_expr(out: &mut Page, e: &Expr, nested: bool) {
             }
             out.put(if nested { ")" } else { "" });
         }
+        _ => put_operand(out, e),
     }
 }
 
-fn put_stmt(out: &mut Page, s: &Stmt, nested: bool) {
+/// A statement without statements in it.
+fn put_step(out: &mut Page, s: &Stmt) {
     match s {
-        Stmt::Skip { .. } => out.put("skip"),
         Stmt::Assign { target, value } => {
             put_name(out, target, " := ");
             put_expr(out, value, false);
@@ -86,6 +94,12 @@ fn put_stmt(out: &mut Page, s: &Stmt, nested: bool) {
             out.put("call ");
             put_name(out, of, "");
         }
+        _ => out.put("skip"),
+    }
+}
+
+fn put_stmt(out: &mut Page, s: &Stmt, nested: bool) {
+    match s {
         Stmt::Then { parts } | Stmt::Beside { parts } => {
             let is_sequence = matches!(s, Stmt::Then { .. });
             let between = if is_sequence { "; " } else { " || " };
@@ -113,6 +127,7 @@ fn put_stmt(out: &mut Page, s: &Stmt, nested: bool) {
             put_stmt(out, body, false);
             out.put("]");
         }
+        _ => put_step(out, s),
     }
 }
 

@@ -120,33 +120,26 @@ fn put_refusal(page: &mut Page, error: &TextError) {
     }
 }
 
-/// The program as it is printed, with brackets round each group in a group.
-fn printed(alloc: Global, program: &Program, page: &mut Page) -> Option<String> {
-    let mut own = Page::new(alloc);
-    put_program(&mut own, program);
-    page.taken(own.whole())
-}
-
-/// Puts the program that the text is, and gives what is printed of it. Where it is refused, the number of the cause and
-/// the place are put.
+/// Puts the program that the text is, printed with brackets round each group in a group, and gives what was printed.
+/// Where it is refused, the number of the cause and the place are put.
 fn put_text(alloc: Global, text: &[u8], page: &mut Page) -> Option<String> {
     if text.len() > MOST {
         page.put("too long\n");
         return None;
     }
+    let mut own = Page::new(alloc);
     match parsed(alloc, text) {
-        Ok(program) => {
-            let printed = printed(alloc, &program, page)?;
-            page.put("= ");
-            page.bytes(printed.as_bytes());
-            page.put("\n");
-            Some(printed)
-        }
+        Ok(program) => put_program(&mut own, &program),
         Err(error) => {
             put_refusal(page, &error);
-            None
+            return None;
         }
     }
+    let printed = page.taken(own.whole())?;
+    page.put("= ");
+    page.bytes(printed.as_bytes());
+    page.put("\n");
+    Some(printed)
 }
 
 /// What the text is read as, and the same of what was printed.
