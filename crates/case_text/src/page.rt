@@ -46,8 +46,8 @@ impl Page {
         self.kept = Err(AllocError);
     }
 
-    /// Notes whether memory has sufficed for something.
-    pub fn note<E: Drop>(&mut self, done: Result<(), E>) {
+    /// Notes whether memory has sufficed for something, and lets go of what was made.
+    pub fn note<T: Drop, E: Drop>(&mut self, done: Result<T, E>) {
         if done.is_err() {
             self.give_up();
         }

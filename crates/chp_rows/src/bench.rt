@@ -63,6 +63,11 @@ impl Bench {
         }
     }
 
+    /// Forgets all that was set out.
+    pub fn begin(&mut self, alloc: Global) {
+        *self = Bench::new(alloc);
+    }
+
     /// The calls of the shelf that fail, and whether these words are numbers.
     pub fn fail(&mut self, alloc: Global, line: &str, page: &mut Page) -> bool {
         match numbers_of(alloc, line, page) {

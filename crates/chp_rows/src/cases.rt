@@ -91,7 +91,7 @@ pub fn obey<R: Files + AllocGlobal>(rt: &R, bench: &mut Bench, line: &str, page:
         return;
     }
     if word == "case" {
-        *bench = Bench::new(rt.alloc());
+        bench.begin(rt.alloc());
         page.put(line);
         return page.put("\n");
     }

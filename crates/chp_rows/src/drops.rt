@@ -23,9 +23,7 @@ fn give_up(alloc: Global, text: &[u8], peers: Vec<Box<dyn Peer>>, page: &mut Pag
     }
     match read_net(alloc, text) {
         Ok(net) => {
-            if PeerBench::new(alloc, net, peers, 0, 0).is_err() {
-                page.give_up();
-            }
+            page.note(PeerBench::new(alloc, net, peers, 0, 0));
             true
         }
         Err(error) => {

@@ -1,6 +1,6 @@
 //! What a case sets out.
 
-use case_text::CaseFiles;
+use case_text::{CaseFiles, Page};
 use prs_core::Rules;
 use std::alloc::{AllocError, Global};
 
@@ -23,6 +23,13 @@ impl NetBench {
             script: 0,
             rules,
         })
+    }
+
+    /// Forgets all that was set out.
+    pub fn begin(&mut self, alloc: Global, page: &mut Page) {
+        if let Some(begun) = page.taken(NetBench::new(alloc)) {
+            *self = begun;
+        }
     }
 
     /// The last file is the rule file.

@@ -111,9 +111,7 @@ pub fn obey(alloc: Global, bench: &mut NetBench, line: &str, page: &mut Page) {
         return;
     }
     if word == "case" {
-        if let Some(begun) = page.taken(NetBench::new(alloc)) {
-            *bench = begun;
-        }
+        bench.begin(alloc, page);
         page.put(line);
         return page.put("\n");
     }

@@ -75,7 +75,6 @@ pub fn read(alloc: Global, bench: &NetBench, page: &mut Page) -> Option<Box<Give
 /// The run of the net under the script.
 pub fn begun(alloc: Global, given: Box<Given>, page: &mut Page) -> Option<Box<Run>>
     requires { IsScript (net_channels given.value.net) given.value.script }
-    ensures { IfSome result (λ run. run.value.net ≡ given.value.net) }
 {
     let Given { net, script } = Box::into_inner(given);
     let run = page.taken(Run::new(alloc, net, script))?;
@@ -160,8 +159,9 @@ fn put_passed(page: &mut Page, run: &Run, channels: usize)
 fn put_run(alloc: Global, given: Box<Given>, most: u32, page: &mut Page)
     requires { IsScript (net_channels given.value.net) given.value.script }
 {
-    let channels = given.net.channels().len();
-    let Some(mut run) = begun(alloc, given, page) else {
+    let Given { net, script } = Box::into_inner(given);
+    let channels = net.channels().len();
+    let Some(mut run) = page.taken(Run::new(alloc, net, script)) else {
         return;
     };
     if put_moves(alloc, &mut run, most, page) {
