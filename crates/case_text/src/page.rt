@@ -13,9 +13,9 @@ const MOST_LINES: usize = 80;
 const SHOWN: usize = 3;
 
 /// A text, and whether memory has run out for it or for anything that it tells of. Whatever wants memory notes on the
-/// page where there was none, and goes on; what comes then may look like an answer, so the text is given out only where
-/// memory has sufficed. The prover goes through each place at which a function may be left early, and so whatever prints
-/// has none.
+/// page where there was none, and goes on; what comes then may look like an answer, so the text is given out only
+/// where memory has sufficed. The prover goes through each place at which a function may be left early, and so
+/// whatever prints has none.
 #[derive(Drop)]
 pub struct Page {
     text: String,

@@ -23,7 +23,9 @@ fn give_up(alloc: Global, text: &[u8], peers: Vec<Box<dyn Peer>>, page: &mut Pag
     }
     match read_net(alloc, text) {
         Ok(net) => {
-            page.note(PeerBench::new(alloc, net, peers, 0, 0));
+            if PeerBench::new(alloc, net, peers, 0, 0).is_err() {
+                page.give_up();
+            }
             true
         }
         Err(error) => {

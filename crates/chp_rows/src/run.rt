@@ -39,8 +39,8 @@ impl Ran {
     }
 }
 
-/// What a command leaves that hasn't run yet, in sinks as the case wants them. Functions that own one drop it by one call,
-/// since it is in a box.
+/// What a command leaves that hasn't run yet, in sinks as the case wants them. Functions that own one drop it by one
+/// call, since it is in a box.
 pub fn unrun(alloc: Global, bench: &Bench, page: &mut Page) -> Option<Box<Ran>> {
     let out = bench.out.sink(alloc, page)?;
     let say = bench.say.sink(alloc, page)?;

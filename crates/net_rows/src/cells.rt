@@ -45,9 +45,9 @@ fn are_other(nodes: &[u32], node: u32) -> bool
     pass_other(nodes, node)
 }
 
-/// The cells with three nodes: the end of a channel (its request, the acknowledge, and its answer), a loop (its request,
-/// and its body's request and answer), and a write (its request, the node that says that all bits are written, and its
-/// answer).
+/// The cells with three nodes: the end of a channel (its request, the acknowledge, and its answer), a loop (its
+/// request, and its body's request and answer), and a write (its request, the node that says that all bits are
+/// written, and its answer).
 fn three(alloc: Global, rules: &mut Rules, cell: &str, nodes: &[u32], page: &mut Page) -> bool {
     let count = rules.nodes();
     match nodes {

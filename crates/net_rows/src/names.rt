@@ -83,7 +83,8 @@ fn find(alloc: Global, symbols: &Symbols, word: &str, page: &mut Page) {
     }
 }
 
-/// Adds the first two names of the line to a table, looks for the first and for the third one, and adds the first again.
+/// Adds the first two names of the line to a table, looks for the first and for the third one, and adds the first
+/// again.
 pub fn symbols(alloc: Global, line: &str, page: &mut Page) {
     let (first, line) = line.split_once(' ').unwrap_or((line, ""));
     let (second, third) = line.split_once(' ').unwrap_or((line, ""));

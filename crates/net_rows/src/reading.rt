@@ -55,8 +55,8 @@ pub fn program_of_text(alloc: Global, text: &[u8], page: &mut Page) -> Option<Bo
     made(parsed(alloc, text), page)
 }
 
-/// The program with its names resolved, where it is accepted and has neither procedures nor calls. Functions that own one
-/// drop it by one call, since it is in a box.
+/// The program with its names resolved, where it is accepted and has neither procedures nor calls. Functions that own
+/// one drop it by one call, since it is in a box.
 pub fn checked(alloc: Global, program: &Program, page: &mut Page) -> Option<Box<Disjoint>>
     requires { IsShaped (program_tree program.now) }
     ensures accepted { IfSome result (λ _. IsAccepted (program_tree program.now)) }

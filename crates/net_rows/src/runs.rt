@@ -49,8 +49,8 @@ pub struct Given {
     pub script: Script,
 }
 
-/// The net and the script of the case, or None where a text is refused, or memory runs out. Functions that own them drop
-/// them by one call, since they are in a box.
+/// The net and the script of the case, or None where a text is refused, or memory runs out. Functions that own them
+/// drop them by one call, since they are in a box.
 pub fn read(alloc: Global, bench: &NetBench, page: &mut Page) -> Option<Box<Given>>
     ensures { IfSome result (λ r. IsScript (net_channels r.value.net) r.value.script) }
 {
@@ -154,8 +154,8 @@ fn put_passed(page: &mut Page, run: &Run, channels: usize)
     }
 }
 
-/// Makes so many moves at most in a run of the net under the script: which nodes moved, the hazard at which the run ended,
-/// if it did, whether `done` is high, and what has passed on each channel.
+/// Makes so many moves at most in a run of the net under the script: which nodes moved, the hazard at which the run
+/// ended, if it did, whether `done` is high, and what has passed on each channel.
 fn put_run(alloc: Global, given: Box<Given>, most: u32, page: &mut Page)
     requires { IsScript (net_channels given.value.net) given.value.script }
 {

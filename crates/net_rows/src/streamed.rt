@@ -51,8 +51,8 @@ fn note_no_net(error: &NetError, page: &mut Page) {
     }
 }
 
-/// The net that was made, with a reset node where one is asked for. Functions that own one drop it by one call, since it is
-/// in a box.
+/// The net that was made, with a reset node where one is asked for. Functions that own one drop it by one call, since
+/// it is in a box.
 fn boxed(
     alloc: Global,
     made: Result<Net, NetError>,
@@ -75,8 +75,8 @@ fn boxed(
     }
 }
 
-/// The rule file of the net that was made, printed at once, with a reset node where one is asked for. None means too many
-/// nodes, or that memory has run out.
+/// The rule file of the net that was made, printed at once, with a reset node where one is asked for. None means too
+/// many nodes, or that memory has run out.
 fn printed(
     alloc: Global,
     made: Result<Net, NetError>,
