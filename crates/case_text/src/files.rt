@@ -1,7 +1,8 @@
 //! The files that a case sets out.
 
+use crate::page::Page;
 use crate::words::bytes_of;
-use std::alloc::{AllocError, Global};
+use std::alloc::Global;
 
 /// Whether two digits follow each `\x` of the line, and something each other backslash.
 pub fn is_spelled(line: &str) -> bool {
@@ -36,53 +37,57 @@ impl CaseFiles {
         }
     }
 
+    /// Adds a file of this name and this text after the others.
+    pub fn add(&mut self, alloc: Global, name: &str, text: Vec<u8>, page: &mut Page) {
+        if let Some(name) = page.taken(name.to_string(alloc)) {
+            page.note(self.files.push((name, text)));
+        }
+    }
+
     /// Adds a file of this name after the others, with the text that may follow the name.
-    pub fn begin(&mut self, alloc: Global, line: &str) -> Result<(), AllocError> {
+    fn begin(&mut self, alloc: Global, line: &str, page: &mut Page) {
         let (name, text) = line.split_once(' ').unwrap_or((line, ""));
-        let file = (name.to_string(alloc)?, bytes_of(alloc, text)?);
-        self.files.push(file)?;
-        Ok(())
+        let text = bytes_of(alloc, text, page);
+        self.add(alloc, name, text, page);
     }
 
     /// Appends to the last file.
-    pub fn append(&mut self, bytes: &[u8]) -> Result<(), AllocError> {
-        match self.files.last_mut() {
-            Some(file) => file.1.extend_from_slice(bytes),
-            None => Ok(()),
+    fn append(&mut self, bytes: &[u8], page: &mut Page) {
+        if let Some(file) = self.files.last_mut() {
+            page.note(file.1.extend_from_slice(bytes));
         }
     }
 
     /// Appends the text, and what comes after it, to the last file.
-    fn append_text(&mut self, alloc: Global, text: &str, end: &[u8]) -> Result<(), AllocError> {
-        let text = bytes_of(alloc, text)?;
-        self.append(&text).and(self.append(end))
+    fn append_text(&mut self, alloc: Global, text: &str, end: &[u8], page: &mut Page) {
+        let text = bytes_of(alloc, text, page);
+        self.append(&text, page);
+        self.append(end, page);
     }
 
     /// Appends a text so many times to the last file, and says whether the line gives these.
-    fn repeat(&mut self, alloc: Global, line: &str) -> Result<bool, AllocError> {
-        let Some((count, text)) = line.split_once(' ') else {
-            return Ok(false);
-        };
+    fn repeat(&mut self, alloc: Global, line: &str, page: &mut Page) -> bool {
+        let (count, text) = line.split_once(' ').unwrap_or(("", ""));
         let Ok(count) = count.parse::<u32>() else {
-            return Ok(false);
+            return false;
         };
-        let text = bytes_of(alloc, text)?;
+        let text = bytes_of(alloc, text, page);
         for _ in 0..count {
-            self.append(&text)?;
+            self.append(&text, page);
         }
-        Ok(true)
+        true
     }
 
     /// Begins the last file or appends to it, where the word of the line says so, and says whether it is such a line.
-    pub fn obey(&mut self, alloc: Global, word: &str, rest: &str) -> Result<bool, AllocError> {
-        let done = match word {
-            "file" => self.begin(alloc, rest),
-            "+" => self.append_text(alloc, rest, b""),
-            "|" => self.append_text(alloc, rest, b"\n"),
-            "repeat" => return self.repeat(alloc, rest),
-            _ => return Ok(false),
-        };
-        done.and(Ok(true))
+    pub fn obey(&mut self, alloc: Global, word: &str, rest: &str, page: &mut Page) -> bool {
+        match word {
+            "file" => self.begin(alloc, rest, page),
+            "+" => self.append_text(alloc, rest, b"", page),
+            "|" => self.append_text(alloc, rest, b"\n", page),
+            "repeat" => return self.repeat(alloc, rest, page),
+            _ => return false,
+        }
+        true
     }
 
     /// The bytes of the last file, none where there is no file.
@@ -91,6 +96,16 @@ impl CaseFiles {
             Some(file) => &file.1,
             None => &[],
         }
+    }
+
+    /// A copy of the list.
+    pub fn copied(&self, alloc: Global, page: &mut Page) -> Vec<(String, Vec<u8>)> {
+        let mut copy = CaseFiles::new(alloc);
+        for file in &self.files {
+            let text = page.copied(alloc, &file.1);
+            copy.add(alloc, &file.0, text, page);
+        }
+        copy.files
     }
 
     /// Each file's name and bytes, in order.

@@ -1,4 +1,4 @@
-//! How the cases of test programs are spelled, the files that they set out, and how bytes are printed.
+//! How the cases of test programs are spelled, the files that they set out, and the page on which they print.
 #![tactic(auto)]
 
 mod files;
@@ -6,5 +6,5 @@ mod page;
 mod words;
 
 pub use files::{CaseFiles, is_spelled};
-pub use page::{put_bytes, put_lines, put_numbers};
+pub use page::Page;
 pub use words::{bytes_of, numbers_of, words_of};

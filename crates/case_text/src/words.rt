@@ -1,6 +1,7 @@
 //! The words, the numbers and the texts of a case.
 
-use std::alloc::{AllocError, Global};
+use crate::page::Page;
+use std::alloc::Global;
 
 /// How far an escape has been read.
 #[derive(Clone, Copy)]
@@ -40,43 +41,49 @@ fn after(escape: Escape, byte: u8) -> (Escape, Option<u8>) {
 
 /// The bytes for which a text stands: `\n`, `\r`, `\t`, `\s` for a blank, `\e` for nothing, `\xHH` for any byte, and
 /// itself for every other character, also behind a backslash.
-pub fn bytes_of(alloc: Global, text: &str) -> Result<Vec<u8>, AllocError> {
+pub fn bytes_of(alloc: Global, text: &str, page: &mut Page) -> Vec<u8> {
     let mut bytes = Vec::new(alloc);
     let mut escape = Escape::Outside;
     for byte in text.as_bytes() {
         let (next, made) = after(escape, *byte);
         escape = next;
         if let Some(made) = made {
-            bytes.push(made)?;
+            page.note(bytes.push(made));
         }
     }
-    Ok(bytes)
+    bytes
+}
+
+/// The word that a spelled text is.
+fn word_of(alloc: Global, spelled: &str, page: &mut Page) -> String {
+    let mut word = String::new(alloc);
+    for byte in &bytes_of(alloc, spelled, page) {
+        page.note(word.push(char::from(*byte)));
+    }
+    word
 }
 
 /// The words of a line, which single blanks part.
-pub fn words_of(alloc: Global, line: &str) -> Result<Vec<String>, AllocError> {
+pub fn words_of(alloc: Global, line: &str, page: &mut Page) -> Vec<String> {
     let mut words = Vec::new(alloc);
     if line.is_empty() {
-        return Ok(words);
+        return words;
     }
     for spelled in line.split(' ') {
-        let mut word = String::new(alloc);
-        for byte in bytes_of(alloc, spelled)? {
-            word.push(char::from(byte))?;
-        }
-        words.push(word)?;
+        let word = word_of(alloc, spelled, page);
+        page.note(words.push(word));
     }
-    Ok(words)
+    words
 }
 
 /// The numbers of a line, or None where a word is none.
-pub fn numbers_of(alloc: Global, line: &str) -> Result<Option<Vec<u64>>, AllocError> {
+pub fn numbers_of(alloc: Global, line: &str, page: &mut Page) -> Option<Vec<u64>> {
     let mut numbers = Vec::new(alloc);
     for word in line.split_whitespace() {
         match word.parse::<u64>() {
-            Ok(number) => numbers.push(number)?,
-            Err(_) => return Ok(None),
+            Ok(number) => page.note(numbers.push(number)),
+            Err(_) => return None,
         }
     }
-    Ok(Some(numbers))
+    Some(numbers)
 }

@@ -1,8 +1,8 @@
 //! What a case sets out: files, and devices with their planned faults.
 
-use case_text::{CaseFiles, numbers_of};
+use case_text::{CaseFiles, Page, numbers_of};
 use chp_edge::{MemShelf, MemSink};
-use std::alloc::{AllocError, Global};
+use std::alloc::Global;
 
 /// A sink to be made: what it takes in a call, what it has room for, and the numbers of the calls that fail.
 #[derive(Drop)]
@@ -25,21 +25,22 @@ impl Plan {
     }
 
     /// The sink of these numbers: what it takes in a call, its room, and the calls that fail.
-    pub fn set(&mut self, alloc: Global, numbers: &[u64]) -> Result<bool, AllocError> {
+    pub fn set(&mut self, alloc: Global, numbers: &[u64], page: &mut Page) -> bool {
         let [most, room, failing @ ..] = numbers else {
-            return Ok(false);
+            return false;
         };
         let (Ok(most), Ok(room)) = (usize::try_from(*most), usize::try_from(*room)) else {
-            return Ok(false);
+            return false;
         };
         self.most = most;
         self.room = room;
-        self.failing = Vec::from_slice(alloc, failing)?;
-        Ok(true)
+        self.failing = page.copied(alloc, failing);
+        true
     }
 
-    pub fn sink(&self, alloc: Global) -> Result<MemSink, AllocError> {
-        MemSink::new(alloc, self.most.max(1), self.room, self.failing.clone()?)
+    pub fn sink(&self, alloc: Global, page: &mut Page) -> Option<MemSink> {
+        let failing = page.copied(alloc, &self.failing);
+        page.taken(MemSink::new(alloc, self.most.max(1), self.room, failing))
     }
 }
 
@@ -62,29 +63,32 @@ impl Bench {
         }
     }
 
+    /// Forgets all that was set out.
+    pub fn begin(&mut self, alloc: Global) {
+        *self = Bench::new(alloc);
+    }
+
     /// The calls of the shelf that fail, and whether these words are numbers.
-    pub fn fail(&mut self, alloc: Global, line: &str) -> Result<bool, AllocError> {
-        match numbers_of(alloc, line)? {
+    pub fn fail(&mut self, alloc: Global, line: &str, page: &mut Page) -> bool {
+        match numbers_of(alloc, line, page) {
             Some(failing) => {
                 self.failing = failing;
-                Ok(true)
+                true
             }
-            None => Ok(false),
+            None => false,
         }
     }
 
-    /// These calls of the shelf fail.
-    pub fn fail_at(&mut self, failing: Vec<u64>) {
-        self.failing = failing;
+    /// This call of the shelf fails.
+    pub fn fail_at(&mut self, alloc: Global, call: u64, page: &mut Page) {
+        self.failing = page.copied(alloc, &[call]);
     }
 
     /// A shelf of the files.
-    pub fn shelf(&self, alloc: Global) -> Result<MemShelf, AllocError> {
-        let mut files = Vec::new(alloc);
-        for file in self.files.list() {
-            let text = Vec::from_slice(alloc, &file.1)?;
-            files.push((file.0.clone()?, text))?;
-        }
-        Ok(MemShelf::new(files, self.failing.clone()?))
+    pub fn shelf(&self, alloc: Global, page: &mut Page) -> MemShelf {
+        MemShelf::new(
+            self.files.copied(alloc, page),
+            page.copied(alloc, &self.failing),
+        )
     }
 }

@@ -6,39 +6,32 @@ use crate::edge::{read, read_disk, read_surely, write, write_narrowly};
 use crate::run::{
     keep, run, run_count, run_orders, run_passed, run_shelf_faults, run_sink_faults, run_surely,
 };
-use case_text::{is_spelled, numbers_of};
-use std::alloc::{AllocError, Global};
-use std::fmt::Write;
+use case_text::{Page, is_spelled, numbers_of};
+use std::alloc::Global;
 use std::rt::Files;
 
 /// Plans a sink by the numbers of the line, and says whether it is such a line.
-fn plan(alloc: Global, sink: &mut Plan, line: &str) -> Result<bool, AllocError> {
-    match numbers_of(alloc, line)? {
-        Some(numbers) => sink.set(alloc, &numbers),
-        None => Ok(false),
+fn plan(alloc: Global, sink: &mut Plan, line: &str, page: &mut Page) -> bool {
+    match numbers_of(alloc, line, page) {
+        Some(numbers) => sink.set(alloc, &numbers, page),
+        None => false,
     }
 }
 
 /// Does what a line sets out, and says whether it is such a line.
-fn set_out(alloc: Global, bench: &mut Bench, word: &str, rest: &str) -> Result<bool, AllocError> {
+fn set_out(alloc: Global, bench: &mut Bench, word: &str, rest: &str, page: &mut Page) -> bool {
     match word {
-        "shelf" => bench.fail(alloc, rest),
-        "out" => plan(alloc, &mut bench.out, rest),
-        "say" => plan(alloc, &mut bench.say, rest),
-        _ => bench.files.obey(alloc, word, rest),
+        "shelf" => bench.fail(alloc, rest, page),
+        "out" => plan(alloc, &mut bench.out, rest, page),
+        "say" => plan(alloc, &mut bench.say, rest, page),
+        _ => bench.files.obey(alloc, word, rest, page),
     }
 }
 
 /// Runs a command or writes texts as a line asks for, and says whether it is such a line.
-fn command(
-    alloc: Global,
-    bench: &mut Bench,
-    word: &str,
-    rest: &str,
-    page: &mut String,
-) -> Result<bool, AllocError> {
+fn command(alloc: Global, bench: &mut Bench, word: &str, rest: &str, page: &mut Page) -> bool {
     let (first, more) = rest.split_once(' ').unwrap_or((rest, ""));
-    let told = match word {
+    match word {
         "run" => run(alloc, bench, rest, page),
         "run-count" => run_count(alloc, bench, first, more, page),
         "run-passed" => run_passed(alloc, bench, rest, page),
@@ -49,9 +42,9 @@ fn command(
         "drops" => count_drops(alloc, bench, rest, page),
         "keep" => keep(alloc, bench, first, more, page),
         "write" => write(alloc, bench, rest, page),
-        _ => return Ok(false),
-    };
-    told.and(Ok(true))
+        _ => return false,
+    }
+    true
 }
 
 /// Reads or writes as a line that begins with a number asks for, and says whether it is such a line.
@@ -60,21 +53,21 @@ fn read_or_write<R: Files + AllocGlobal>(
     bench: &Bench,
     word: &str,
     rest: &str,
-    page: &mut String,
-) -> Result<bool, AllocError> {
+    page: &mut Page,
+) -> bool {
     let (number, more) = rest.split_once(' ').unwrap_or((rest, ""));
     let Ok(number) = number.parse::<u32>() else {
-        return Ok(false);
+        return false;
     };
     let limit = number as usize;
-    let told = match word {
+    match word {
         "read" => read(rt.alloc(), bench, limit, more, page),
         "read-surely" => read_surely(rt.alloc(), bench, limit, page),
         "read-disk" => read_disk(rt, limit, more, page),
         "write-narrowly" => write_narrowly(rt.alloc(), u64::from(number), more, page),
-        _ => return Ok(false),
-    };
-    told.and(Ok(true))
+        _ => return false,
+    }
+    true
 }
 
 /// Does what a line says, and says whether it is understood.
@@ -83,33 +76,28 @@ fn act<R: Files + AllocGlobal>(
     bench: &mut Bench,
     word: &str,
     rest: &str,
-    page: &mut String,
-) -> Result<bool, AllocError> {
+    page: &mut Page,
+) -> bool {
     let alloc = rt.alloc();
-    Ok(
-        set_out(alloc, bench, word, rest)?
-            || command(alloc, bench, word, rest, page)?
-            || read_or_write(rt, bench, word, rest, page)?,
-    )
+    set_out(alloc, bench, word, rest, page)
+        || command(alloc, bench, word, rest, page)
+        || read_or_write(rt, bench, word, rest, page)
 }
 
 /// Does what the line says. A line that can't be understood is printed after a question mark.
-pub fn obey<R: Files + AllocGlobal>(
-    rt: &R,
-    bench: &mut Bench,
-    line: &str,
-    page: &mut String,
-) -> Result<(), AllocError> {
+pub fn obey<R: Files + AllocGlobal>(rt: &R, bench: &mut Bench, line: &str, page: &mut Page) {
     let (word, rest) = line.split_once(' ').unwrap_or((line, ""));
     if word.is_empty() || word == "#" {
-        return Ok(());
+        return;
     }
     if word == "case" {
-        *bench = Bench::new(rt.alloc());
-        return writeln!(page, "{line}");
+        bench.begin(rt.alloc());
+        page.put(line);
+        return page.put("\n");
     }
-    if is_spelled(line) && act(rt, bench, word, rest, page)? {
-        return Ok(());
+    if !is_spelled(line) || !act(rt, bench, word, rest, page) {
+        page.put("? ");
+        page.put(line);
+        page.put("\n");
     }
-    writeln!(page, "? {line}")
 }

@@ -11,19 +11,25 @@ mod pickers;
 mod run;
 
 use bench::Bench;
+use case_text::Page;
 use cases::obey;
+use std::rt::Files;
 use std::{fs, io};
 
 const TOPICS: [&str; 5] = ["edge", "shelves", "sinks", "picks", "devices"];
 
+fn tell<R: Files + AllocGlobal>(rt: &R, cases: &str, page: &mut Page) {
+    let mut bench = Bench::new(rt.alloc());
+    for line in cases.lines() {
+        obey(rt, &mut bench, line, page);
+    }
+}
+
 fn main(rt: HostRuntime) -> io::Result<()> {
-    let mut page = String::new(rt.alloc());
+    let mut page = Page::new(rt.alloc());
     for topic in TOPICS {
         let cases = fs::read_to_string(&rt, topic)?;
-        let mut bench = Bench::new(rt.alloc());
-        for line in cases.lines() {
-            obey(&rt, &mut bench, line, &mut page)?;
-        }
+        tell(&rt, &cases, &mut page);
     }
-    rt.print(page)
+    rt.print(page.whole()?)
 }

@@ -4,6 +4,8 @@ ghost use Rattle.std.specs.Prelude.{◌≡◌, ◌≢◌, ◌<◌, ◌==◌, not
 ghost use Rattle.std.specs.List.{list_all};
 ghost use Rattle.cell_select.specs.PortNodes.{IsSelect, IsAgain};
 
+use crate::parts::put_node;
+use case_text::Page;
 use cell_channel::{emit_end, emit_receive_port};
 use cell_parallel::emit_tree;
 use cell_select::{AgainPorts, SelectPorts, emit_again, emit_select};
@@ -13,7 +15,6 @@ use chp_base::Span;
 use function_blocks::emit_expr;
 use prs_core::{Guard, Rules, Term};
 use std::alloc::{AllocError, Global};
-use std::fmt::Write;
 use width_check::TExpr;
 
 fn pass_below(nodes: &[u32], count: u32) -> bool
@@ -44,57 +45,66 @@ fn are_other(nodes: &[u32], node: u32) -> bool
     pass_other(nodes, node)
 }
 
-/// The end of a channel: its request, the acknowledge, and its answer.
-fn end(alloc: Global, rules: &mut Rules, nodes: &[u32]) -> Result<bool, AllocError> {
+/// The cells with three nodes: the end of a channel (its request, the acknowledge, and its answer), a loop (its
+/// request, and its body's request and answer), and a write (its request, the node that says that all bits are
+/// written, and its answer).
+fn three(alloc: Global, rules: &mut Rules, cell: &str, nodes: &[u32], page: &mut Page) -> bool {
     let count = rules.nodes();
     match nodes {
-        [request, ack, answer]
-            if *request < count
-                && *ack < count
-                && *answer < count
-                && request != answer
-                && ack != answer => {
-            emit_end(alloc, *request, *ack, *answer, rules)?;
-            Ok(true)
+        [one, two, three]
+            if *one < count
+                && *two < count
+                && *three < count
+                && one != two
+                && one != three
+                && two != three => {
+            page.note(match cell {
+                "end" => emit_end(alloc, *one, *two, *three, rules),
+                "loop" => emit_loop(alloc, *one, *two, *three, rules),
+                _ => emit_write_site(alloc, *one, *two, *three, rules),
+            });
+            true
         }
-        _ => Ok(false),
+        _ => false,
     }
 }
 
 /// The port of a receive: its request, its first node, and the rails that it takes.
-fn port(alloc: Global, rules: &mut Rules, nodes: &[u32]) -> Result<bool, AllocError> {
+fn port(alloc: Global, rules: &mut Rules, nodes: &[u32], page: &mut Page) -> bool {
     let count = rules.nodes();
     let [request, from, rails @ ..] = nodes else {
-        return Ok(false);
+        return false;
     };
-    if *request >= count || !are_below(rails, count) {
-        return Ok(false);
+    if *request < count
+        && are_below(rails, count)
+        && rails.len() <= count as usize
+        && *from as usize + rails.len() <= count as usize
+    {
+        page.note(emit_receive_port(alloc, *request, rails, *from, rules));
+        return true;
     }
-    if rails.len() > count as usize || *from as usize + rails.len() > count as usize {
-        return Ok(false);
-    }
-    emit_receive_port(alloc, *request, rails, *from, rules)?;
-    Ok(true)
+    false
 }
 
 /// A completion tree: its first node, and the leaves.
-fn tree(alloc: Global, rules: &mut Rules, nodes: &[u32]) -> Result<bool, AllocError> {
+fn tree(alloc: Global, rules: &mut Rules, nodes: &[u32], page: &mut Page) -> bool {
     let count = rules.nodes();
     let [from, leaves @ ..] = nodes else {
-        return Ok(false);
+        return false;
     };
-    if leaves.is_empty() || !are_below(leaves, count) || leaves.len() > count as usize {
-        return Ok(false);
+    if !leaves.is_empty()
+        && are_below(leaves, count)
+        && leaves.len() <= count as usize
+        && *from as usize + leaves.len() <= count as usize + 1
+    {
+        page.note(emit_tree(alloc, leaves, *from, rules));
+        return true;
     }
-    if *from as usize + leaves.len() > count as usize + 1 {
-        return Ok(false);
-    }
-    emit_tree(alloc, leaves, *from, rules)?;
-    Ok(true)
+    false
 }
 
 /// A Q-element: its request, its child's request and answer, its latch, and the next request.
-fn q(alloc: Global, rules: &mut Rules, nodes: &[u32]) -> Result<bool, AllocError> {
+fn q(alloc: Global, rules: &mut Rules, nodes: &[u32], page: &mut Page) -> bool {
     let count = rules.nodes();
     match nodes {
         [request, child_request, child_answer, latch, next]
@@ -119,89 +129,55 @@ fn q(alloc: Global, rules: &mut Rules, nodes: &[u32]) -> Result<bool, AllocError
                 latch: *latch,
                 next: *next,
             };
-            emit_q(alloc, &ports, rules)?;
-            Ok(true)
+            page.note(emit_q(alloc, &ports, rules));
+            true
         }
-        _ => Ok(false),
+        _ => false,
     }
 }
 
 /// A skip: its request and its answer.
-fn skip(alloc: Global, rules: &mut Rules, nodes: &[u32]) -> Result<bool, AllocError> {
+fn skip(alloc: Global, rules: &mut Rules, nodes: &[u32], page: &mut Page) -> bool {
     let count = rules.nodes();
     match nodes {
         [request, answer] if *request < count && *answer < count && request != answer => {
-            emit_skip(alloc, *request, *answer, rules)?;
-            Ok(true)
+            page.note(emit_skip(alloc, *request, *answer, rules));
+            true
         }
-        _ => Ok(false),
-    }
-}
-
-/// A loop: its request, and its body's request and answer.
-fn repeat(alloc: Global, rules: &mut Rules, nodes: &[u32]) -> Result<bool, AllocError> {
-    let count = rules.nodes();
-    match nodes {
-        [request, body_request, body_answer]
-            if *request < count
-                && *body_request < count
-                && *body_answer < count
-                && request != body_request
-                && body_answer != body_request => {
-            emit_loop(alloc, *request, *body_request, *body_answer, rules)?;
-            Ok(true)
-        }
-        _ => Ok(false),
+        _ => false,
     }
 }
 
 /// A merge: its node, and its inputs.
-fn merge(alloc: Global, rules: &mut Rules, nodes: &[u32]) -> Result<bool, AllocError> {
+fn merge(alloc: Global, rules: &mut Rules, nodes: &[u32], page: &mut Page) -> bool {
     let count = rules.nodes();
     let [node, inputs @ ..] = nodes else {
-        return Ok(false);
+        return false;
     };
-    if *node >= count || !are_below(inputs, count) || !are_other(inputs, *node) {
-        return Ok(false);
+    if *node < count && are_below(inputs, count) && are_other(inputs, *node) {
+        page.note(emit_or(alloc, inputs, *node, rules));
+        return true;
     }
-    emit_or(alloc, inputs, *node, rules)?;
-    Ok(true)
+    false
 }
 
 /// A variable: its first node, and its width.
-fn variable(alloc: Global, rules: &mut Rules, nodes: &[u32]) -> Result<bool, AllocError> {
+fn variable(alloc: Global, rules: &mut Rules, nodes: &[u32], page: &mut Page) -> bool {
     let count = rules.nodes();
     let [from, width] = nodes else {
-        return Ok(false);
+        return false;
     };
     let Ok(width) = u8::try_from(*width) else {
-        return Ok(false);
+        return false;
     };
     if width < 1 || width > 64 || *from > count {
-        return Ok(false);
+        return false;
     }
-    if u64::from(*from) + 6 * u64::from(width) > u64::from(count) + 1 {
-        return Ok(false);
+    if u64::from(*from) + 6 * u64::from(width) <= u64::from(count) + 1 {
+        page.note(emit_variable(alloc, *from, width, rules));
+        return true;
     }
-    emit_variable(alloc, *from, width, rules)?;
-    Ok(true)
-}
-
-/// A write: its request, the node that says that all bits are written, and its answer.
-fn write_site(alloc: Global, rules: &mut Rules, nodes: &[u32]) -> Result<bool, AllocError> {
-    let count = rules.nodes();
-    match nodes {
-        [request, all_written, answer]
-            if *request < count
-                && *all_written < count
-                && *answer < count
-                && request != answer
-                && all_written != answer => {
-            emit_write_site(alloc, *request, *all_written, *answer, rules)?;
-            Ok(true)
-        }
-        _ => Ok(false),
-    }
+    false
 }
 
 /// The selection of `out A : 1; out B : 1; var x : 2; begin [x = 0 -> A!1 [] x < 2 -> B!1] end`.
@@ -240,100 +216,106 @@ fn repetition(alloc: Global) -> Result<AgainPorts, AllocError>
 }
 
 /// The rules of the selection alone.
-pub fn put_select(alloc: Global, page: &mut String) -> Result<(), AllocError> {
-    let ports = selection(alloc)?;
-    let mut rules = Rules::new(alloc, 60)?;
-    emit_select(alloc, &ports, &mut rules)?;
-    put_rules(page, &rules)
+pub fn put_select(alloc: Global, page: &mut Page) {
+    let Some(ports) = page.taken(selection(alloc)) else {
+        return;
+    };
+    if let Some(mut rules) = page.taken(Rules::new(alloc, 60)) {
+        page.note(emit_select(alloc, &ports, &mut rules));
+        put_rules(page, &rules);
+    }
 }
 
 /// The rules of the guarded repetition alone.
-pub fn put_again(alloc: Global, page: &mut String) -> Result<(), AllocError> {
-    let ports = repetition(alloc)?;
-    let mut rules = Rules::new(alloc, 24)?;
-    emit_again(alloc, &ports, &mut rules)?;
-    put_rules(page, &rules)
+pub fn put_again(alloc: Global, page: &mut Page) {
+    let Some(ports) = page.taken(repetition(alloc)) else {
+        return;
+    };
+    if let Some(mut rules) = page.taken(Rules::new(alloc, 24)) {
+        page.note(emit_again(alloc, &ports, &mut rules));
+        put_rules(page, &rules);
+    }
+}
+
+/// Puts the rails.
+fn put_rails(page: &mut Page, rails: &[u32]) {
+    for rail in rails {
+        page.put("rail");
+        put_node(page, *rail);
+        page.put("\n");
+    }
 }
 
 /// The rails and the rules of the expression that reads a variable of one bit, whose block begins at node 3, under the
 /// request 2, with its own nodes from 8 on.
-pub fn put_expression(alloc: Global, page: &mut String) -> Result<(), AllocError> {
+pub fn put_expression(alloc: Global, page: &mut Page) {
+    let Some(mut rules) = page.taken(Rules::new(alloc, 10)) else {
+        return;
+    };
     let read = TExpr::Read {
         var: 0,
         high: 0,
         low: 0,
         at: Span { from: 0, to: 1 },
     };
-    let mut rules = Rules::new(alloc, 10)?;
-    let rails = emit_expr(alloc, &read, 2, 8, &[3], &mut rules)?;
-    for rail in &rails {
-        writeln!(page, "rail {rail}")?;
+    if let Some(rails) = page.taken(emit_expr(alloc, &read, 2, 8, &[3], &mut rules)) {
+        put_rails(page, &rails);
     }
-    put_rules(page, &rules)
+    put_rules(page, &rules);
 }
 
 /// Lets the named cell write its rules at these nodes. It says whether there is such a cell, and whether the nodes are
 /// some that it may be given.
-pub fn emit(
-    alloc: Global,
-    rules: &mut Rules,
-    cell: &str,
-    nodes: &[u32],
-) -> Result<bool, AllocError> {
+pub fn emit(alloc: Global, rules: &mut Rules, cell: &str, nodes: &[u32], page: &mut Page) -> bool {
     match cell {
-        "end" => end(alloc, rules, nodes),
-        "port" => port(alloc, rules, nodes),
-        "tree" => tree(alloc, rules, nodes),
-        "q" => q(alloc, rules, nodes),
-        "skip" => skip(alloc, rules, nodes),
-        "loop" => repeat(alloc, rules, nodes),
-        "or" => merge(alloc, rules, nodes),
-        "variable" => variable(alloc, rules, nodes),
-        "write-site" => write_site(alloc, rules, nodes),
-        _ => Ok(false),
+        "port" => port(alloc, rules, nodes, page),
+        "tree" => tree(alloc, rules, nodes, page),
+        "q" => q(alloc, rules, nodes, page),
+        "skip" => skip(alloc, rules, nodes, page),
+        "or" => merge(alloc, rules, nodes, page),
+        "variable" => variable(alloc, rules, nodes, page),
+        "end" | "loop" | "write-site" => three(alloc, rules, cell, nodes, page),
+        _ => false,
     }
 }
 
 /// The literals of a term, as `1 & ~2`.
-fn put_term(page: &mut String, term: &Term) -> Result<(), AllocError> {
-    for (at, literal) in term.literals().iter().enumerate() {
-        page.push_str(match (at > 0, literal.high) {
-            (false, true) => "",
-            (false, false) => "~",
-            (true, true) => " & ",
-            (true, false) => " & ~",
-        })?;
-        write!(page, "{}", literal.node)?;
+fn put_term(page: &mut Page, term: &Term) {
+    let mut before = "";
+    for literal in term.literals() {
+        page.put(before);
+        page.put(if literal.high { "" } else { "~" });
+        page.number(u64::from(literal.node));
+        before = " & ";
     }
-    Ok(())
 }
 
 /// The guard with its literals, as ` 1 & ~2 | 3`.
-fn put_guard(page: &mut String, guard: &Guard) -> Result<(), AllocError> {
-    for (place, term) in guard.terms().iter().enumerate() {
-        page.push_str(if place > 0 { " | " } else { " " })?;
-        put_term(page, term)?;
+fn put_guard(page: &mut Page, guard: &Guard) {
+    let mut before = " ";
+    for term in guard.terms() {
+        page.put(before);
+        put_term(page, term);
+        before = " | ";
     }
-    Ok(())
 }
 
 /// The guards of a node: where it rises, and where it falls.
-pub fn put_guards(page: &mut String, up: &Guard, down: &Guard) -> Result<(), AllocError> {
-    page.push_str(" up")?;
-    put_guard(page, up)?;
-    page.push_str(" down")?;
-    put_guard(page, down)?;
-    page.push('\n')
+pub fn put_guards(page: &mut Page, up: &Guard, down: &Guard) {
+    page.put(" up");
+    put_guard(page, up);
+    page.put(" down");
+    put_guard(page, down);
+    page.put("\n");
 }
 
 /// The guards of each node that has any.
-pub fn put_rules(page: &mut String, rules: &Rules) -> Result<(), AllocError> {
+pub fn put_rules(page: &mut Page, rules: &Rules) {
     for node in 0..rules.nodes() {
         let (up, down) = (rules.up(node), rules.down(node));
         if !up.terms().is_empty() || !down.terms().is_empty() {
-            write!(page, "{node}")?;
-            put_guards(page, up, down)?;
+            page.number(u64::from(node));
+            put_guards(page, up, down);
         }
     }
-    Ok(())
 }

@@ -9,6 +9,7 @@ mod cells;
 mod names;
 mod nets;
 mod orders;
+mod parts;
 mod printer;
 mod reading;
 mod rounds;
@@ -18,21 +19,28 @@ mod streamed;
 mod waves;
 
 use bench::NetBench;
+use case_text::Page;
 use cases::obey;
+use std::alloc::Global;
 use std::{fs, io};
 
 const TOPICS: [&str; 9] = [
     "texts", "stream", "rounds", "names", "scripts", "cells", "nets", "ages", "waves",
 ];
 
-fn main(rt: HostRuntime) -> io::Result<()> {
-    let mut page = String::new(rt.alloc());
-    for topic in TOPICS {
-        let cases = fs::read_to_string(&rt, topic)?;
-        let mut bench = NetBench::new(rt.alloc())?;
+fn tell(alloc: Global, cases: &str, page: &mut Page) {
+    if let Some(mut bench) = page.taken(NetBench::new(alloc)) {
         for line in cases.lines() {
-            obey(rt.alloc(), &mut bench, line, &mut page)?;
+            obey(alloc, &mut bench, line, page);
         }
     }
-    rt.print(page)
+}
+
+fn main(rt: HostRuntime) -> io::Result<()> {
+    let mut page = Page::new(rt.alloc());
+    for topic in TOPICS {
+        let cases = fs::read_to_string(&rt, topic)?;
+        tell(rt.alloc(), &cases, &mut page);
+    }
+    rt.print(page.whole()?)
 }

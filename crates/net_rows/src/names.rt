@@ -1,104 +1,97 @@
 //! Names, numbers of a width, and tables of names.
 
-ghost use Rattle.std.specs.Prelude.{◌≡◌, ◌<◌, ◌≤◌, ◌+◌, ◌-◌, ◌^◌, length, OnOk};
+ghost use Rattle.std.specs.Prelude.{◌<◌, ◌≤◌, ◌+◌, ◌-◌, ◌^◌, length};
 
-use case_text::bytes_of;
+use case_text::{Page, bytes_of};
 use chp_base::{Added, Bits, Name, Symbols, name_of, node_name_of};
-use std::alloc::{AllocError, Global};
-use std::fmt::Write;
-
-fn put_answer(page: &mut String, is_so: bool) -> Result<(), AllocError> {
-    page.push_str(if is_so { "yes\n" } else { "no\n" })
-}
+use std::alloc::Global;
 
 /// Whether the text is a name of the language, or a name of a node.
-fn is_name(alloc: Global, text: &[u8], of_node: bool) -> Result<bool, AllocError> {
+fn is_name(alloc: Global, text: &[u8], of_node: bool, page: &mut Page) -> bool {
     let found = if of_node {
         node_name_of(alloc, text)
     } else {
         name_of(alloc, text)
     };
-    Ok(found?.is_some())
+    matches!(page.taken(found), Some(Some(_)))
+}
+
+fn put_answer(page: &mut Page, is_so: bool) {
+    page.put(if is_so { "yes\n" } else { "no\n" });
 }
 
 /// Whether the text is a name of the language, or a name of a node.
-pub fn name(alloc: Global, text: &str, of_node: bool, page: &mut String) -> Result<(), AllocError> {
-    let text = bytes_of(alloc, text)?;
-    put_answer(page, is_name(alloc, &text, of_node)?)
+pub fn name(alloc: Global, text: &str, of_node: bool, page: &mut Page) {
+    let text = bytes_of(alloc, text, page);
+    let is_so = is_name(alloc, &text, of_node, page);
+    put_answer(page, is_so);
 }
 
 /// Whether there is a number of this width and this value.
-pub fn bits(line: &str, page: &mut String) -> Result<(), AllocError> {
-    let Some((width, value)) = line.split_once(' ') else {
-        return page.push_str("?\n");
-    };
+pub fn bits(line: &str, page: &mut Page) {
+    let (width, value) = line.split_once(' ').unwrap_or((line, ""));
     match (width.parse::<u8>(), value.parse::<u64>()) {
         (Ok(width), Ok(value)) => put_answer(page, Bits::new(width, value).is_some()),
-        _ => page.push_str("?\n"),
+        _ => page.put("?\n"),
     }
 }
 
-fn put_found(page: &mut String, found: Option<u32>) -> Result<(), AllocError> {
-    match found {
-        Some(place) => writeln!(page, "at {place}"),
-        None => page.push_str("none\n"),
-    }
+fn put_place(page: &mut Page, word: &str, place: u32) {
+    page.put(word);
+    page.number(u64::from(place));
+    page.put("\n");
 }
 
-/// Adds a name to a table.
-fn put_added(symbols: &mut Symbols, name: &Name, page: &mut String) -> Result<(), AllocError>
-    requires { length symbols.old < 2 ^ 32 - 1 }
-    ensures { OnOk result (length symbols.new ≤ length symbols.old + 1) }
-{
-    let (word, place) = match symbols.add(name.copy()?)? {
-        Added::Fresh(place) => ("fresh", place),
-        Added::Known(place) => ("known", place),
-    };
-    writeln!(page, "{word} {place}")
-}
-
-/// Adds two names to a table, looks for the first and for a third one, and adds the first again.
-fn fill(
-    symbols: &mut Symbols,
-    first: &Name,
-    second: &Name,
-    third: &Name,
-    page: &mut String,
-) -> Result<(), AllocError>
-    requires { length symbols.old ≡ 0 }
-{
-    put_added(symbols, first, page)?;
-    put_added(symbols, second, page)?;
-    put_found(page, symbols.find(first))?;
-    put_found(page, symbols.find(third))?;
-    put_added(symbols, first, page)
-}
-
-/// The names that the words of the line are, or None where one is no name.
-fn names_of(alloc: Global, line: &str) -> Result<Option<Vec<Name>>, AllocError> {
-    let mut names = Vec::new(alloc);
-    for word in line.split(' ') {
-        match name_of(alloc, word.as_bytes())? {
-            Some(name) => names.push(name)?,
-            None => return Ok(None),
+/// The name that the word is, or None, behind a question mark, where it is none.
+fn named(alloc: Global, word: &str, page: &mut Page) -> Option<Name> {
+    match name_of(alloc, word.as_bytes()) {
+        Ok(Some(name)) => Some(name),
+        Ok(None) => {
+            page.put("?\n");
+            None
+        }
+        Err(_) => {
+            page.give_up();
+            None
         }
     }
-    Ok(Some(names))
 }
 
-/// The table of three names.
-fn table(alloc: Global, names: &[Name], page: &mut String) -> Result<(), AllocError> {
-    let [first, second, third] = names else {
-        return page.push_str("?\n");
+/// Adds the name that the word is to a table.
+fn add(alloc: Global, symbols: &mut Symbols, word: &str, page: &mut Page)
+    requires { length symbols.old < 2 ^ 32 - 1 }
+    ensures { length symbols.new ≤ length symbols.old + 1 }
+{
+    let Some(name) = named(alloc, word, page) else {
+        return;
     };
-    let mut symbols = Symbols::new(alloc);
-    fill(&mut symbols, first, second, third, page)
+    match symbols.add(name) {
+        Ok(Added::Fresh(place)) => put_place(page, "fresh ", place),
+        Ok(Added::Known(place)) => put_place(page, "known ", place),
+        Err(_) => page.give_up(),
+    }
 }
 
-/// The table of the three names of the line.
-pub fn symbols(alloc: Global, line: &str, page: &mut String) -> Result<(), AllocError> {
-    match names_of(alloc, line)? {
-        Some(names) => table(alloc, &names, page),
-        None => page.push_str("?\n"),
+/// Looks for the name that the word is in a table.
+fn find(alloc: Global, symbols: &Symbols, word: &str, page: &mut Page) {
+    let Some(name) = named(alloc, word, page) else {
+        return;
+    };
+    match symbols.find(&name) {
+        Some(place) => put_place(page, "at ", place),
+        None => page.put("none\n"),
     }
+}
+
+/// Adds the first two names of the line to a table, looks for the first and for the third one, and adds the first
+/// again.
+pub fn symbols(alloc: Global, line: &str, page: &mut Page) {
+    let (first, line) = line.split_once(' ').unwrap_or((line, ""));
+    let (second, third) = line.split_once(' ').unwrap_or((line, ""));
+    let mut symbols = Symbols::new(alloc);
+    add(alloc, &mut symbols, first, page);
+    add(alloc, &mut symbols, second, page);
+    find(alloc, &symbols, first, page);
+    find(alloc, &symbols, third, page);
+    add(alloc, &mut symbols, first, page);
 }

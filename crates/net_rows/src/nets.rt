@@ -4,128 +4,146 @@ ghost use Rattle.std.specs.Prelude.{◌≡◌, ◌<◌, length};
 
 use crate::bench::NetBench;
 use crate::cells::put_guards;
-use case_text::put_bytes;
-use prs_core::{Net, State, Wires, enabled, fan_of, first_state};
-use prs_file::read_net;
-use std::alloc::{AllocError, Global};
-use std::fmt::Write;
+use crate::parts::{put_node, put_nodes};
+use case_text::Page;
+use prs_core::{Fan, Net, State, Wires, enabled, fan_of, first_state};
+use prs_file::{NetReadError, read_net};
+use std::alloc::Global;
 
 /// The most bytes of a rule file.
 const MOST: usize = 268_435_456;
 
-/// The net of the rule file, or None where it is refused.
-pub fn net_of(alloc: Global, bench: &NetBench) -> Option<Net> {
-    if bench.net.len() > MOST {
+/// The net of the rule file, or None where it is refused. Functions that own one drop it by one call, since it is in a
+/// box.
+pub fn net_of(alloc: Global, bench: &NetBench, page: &mut Page) -> Option<Box<Net>> {
+    let text = bench.net();
+    if text.len() > MOST {
         return None;
     }
-    read_net(alloc, &bench.net).ok()
-}
-
-/// The nodes, each behind a blank.
-fn put_nodes(page: &mut String, nodes: &[u32]) -> Result<(), AllocError> {
-    for node in nodes {
-        write!(page, " {}", *node)?;
+    match read_net(alloc, text) {
+        Ok(net) => page.taken(Box::new(alloc, net)),
+        Err(NetReadError::Refused { .. }) => None,
+        Err(NetReadError::NoMemory(_)) => {
+            page.give_up();
+            None
+        }
     }
-    Ok(())
 }
 
 /// A line for the node, with its name, its first value and its guards.
-fn put_node(page: &mut String, net: &Net, node: u32) -> Result<(), AllocError>
+fn put_line(page: &mut Page, net: &Net, node: u32)
     requires { node < length net.now.first }
 {
     let place = node as usize;
-    write!(page, "{node} ")?;
-    put_bytes(page, net.names()[place].bytes())?;
-    page.push_str(if net.first()[place] { " 1" } else { " 0" })?;
-    put_guards(page, net.up(node), net.down(node))
+    page.number(u64::from(node));
+    page.put(" ");
+    page.bytes(net.names()[place].bytes());
+    page.put(if net.first()[place] { " 1" } else { " 0" });
+    put_guards(page, net.up(node), net.down(node));
 }
 
 /// A line for the channel.
-fn put_wires(page: &mut String, wires: &Wires) -> Result<(), AllocError> {
+fn put_wires(page: &mut Page, wires: &Wires) {
     let channel = &wires.channel;
-    write!(page, "{:?} ", channel.kind)?;
-    put_bytes(page, channel.name.bytes())?;
-    write!(page, " {} rails", channel.width)?;
-    put_nodes(page, wires.rails.nodes())?;
-    writeln!(page, " acknowledge {}", wires.ack)
+    page.debug(&channel.kind);
+    page.put(" ");
+    page.bytes(channel.name.bytes());
+    page.put(" ");
+    page.number(u64::from(channel.width));
+    page.put(" rails");
+    put_nodes(page, wires.rails.nodes());
+    page.put(" acknowledge");
+    put_node(page, wires.ack);
+    page.put("\n");
 }
 
-/// What the rule file is read as, by the numbers of the nodes.
-fn put_net(page: &mut String, net: &Net) -> Result<(), AllocError> {
-    for node in 0..net.first().len() as u32 {
-        put_node(page, net, node)?;
+fn put_readers(page: &mut Page, node: u32, readers: &[u32]) {
+    if !readers.is_empty() {
+        page.number(u64::from(node));
+        page.put(" is read by");
+        put_nodes(page, readers);
+        page.put("\n");
     }
-    for wires in net.channels() {
-        put_wires(page, wires)?;
-    }
-    Ok(())
 }
 
-fn put_readers(page: &mut String, node: u32, readers: &[u32]) -> Result<(), AllocError> {
-    if readers.is_empty() {
-        return Ok(());
-    }
-    write!(page, "{node} is read by")?;
-    put_nodes(page, readers)?;
-    page.push('\n')
+/// What is asked of each node of a net.
+enum Asked {
+    Line,
+    Readers,
+    High,
+    Enabled,
 }
 
-/// For each node those that read it, where there are any.
-fn put_fan(alloc: Global, net: &Net, page: &mut String) -> Result<(), AllocError> {
-    let fan = fan_of(alloc, net)?;
-    for node in 0..net.first().len() as u32 {
-        put_readers(page, node, fan.readers(node))?;
-    }
-    Ok(())
-}
-
-/// The nodes of the net that are high.
-fn put_high(page: &mut String, net: &Net, state: &State) -> Result<(), AllocError>
-    requires { length state.now ≡ length net.now.first }
+/// Puts what is asked of the node.
+fn put_asked(page: &mut Page, net: &Net, fan: &Fan, state: &State, asked: &Asked, node: u32)
+    requires node { node < length net.now.first }
+    requires fan { length fan.now ≡ length net.now.first }
+    requires state { length state.now ≡ length net.now.first }
 {
-    for node in 0..net.first().len() as u32 {
-        if state.is_high(node) {
-            write!(page, " {node}")?;
+    match asked {
+        Asked::Line => put_line(page, net, node),
+        Asked::Readers => put_readers(page, node, fan.readers(node)),
+        Asked::High => {
+            if state.is_high(node) {
+                put_node(page, node);
+            }
+        }
+        Asked::Enabled => {
+            if enabled(net, state, node) {
+                put_node(page, node);
+            }
         }
     }
-    Ok(())
 }
 
-/// The nodes of the net that have a rule which is enabled.
-fn put_enabled(page: &mut String, net: &Net, state: &State) -> Result<(), AllocError>
-    requires { length state.now ≡ length net.now.first }
+/// Puts what is asked of each node.
+fn put_each(page: &mut Page, net: &Net, fan: &Fan, state: &State, asked: &Asked)
+    requires fan { length fan.now ≡ length net.now.first }
+    requires state { length state.now ≡ length net.now.first }
 {
     for node in 0..net.first().len() as u32 {
-        if enabled(net, state, node) {
-            write!(page, " {node}")?;
-        }
+        put_asked(page, net, fan, state, asked, node);
     }
-    Ok(())
 }
 
-/// Which nodes are high at first, and which have a rule that is enabled.
-fn put_first(alloc: Global, net: &Net, page: &mut String) -> Result<(), AllocError> {
-    let state = first_state(alloc, net)?;
-    page.push_str("high")?;
-    put_high(page, net, &state)?;
-    page.push_str("; enabled")?;
-    put_enabled(page, net, &state)?;
-    page.push('\n')
+/// What the word asks of the net, whose readers and first values these are.
+fn put_net(page: &mut Page, net: &Net, fan: &Fan, state: &State, word: &str)
+    requires fan { length fan.now ≡ length net.now.first }
+    requires state { length state.now ≡ length net.now.first }
+{
+    match word {
+        "show-net" => {
+            put_each(page, net, fan, state, &Asked::Line);
+            for wires in net.channels() {
+                put_wires(page, wires);
+            }
+        }
+        "readers" => put_each(page, net, fan, state, &Asked::Readers),
+        _ => {
+            page.put("high");
+            put_each(page, net, fan, state, &Asked::High);
+            page.put("; enabled");
+            put_each(page, net, fan, state, &Asked::Enabled);
+            page.put("\n");
+        }
+    }
+}
+
+/// The same of the net, with its readers.
+fn tell_with(alloc: Global, net: &Net, fan: &Fan, word: &str, page: &mut Page)
+    requires { length fan.now ≡ length net.now.first }
+{
+    if let Some(state) = page.taken(first_state(alloc, net)) {
+        put_net(page, net, fan, &state, word);
+    }
 }
 
 /// What the word asks of the net: to show it, its readers, or what is high and enabled at first.
-pub fn tell_net(
-    alloc: Global,
-    bench: &NetBench,
-    word: &str,
-    page: &mut String,
-) -> Result<(), AllocError> {
-    match net_of(alloc, bench) {
-        Some(net) => match word {
-            "show-net" => put_net(page, &net),
-            "readers" => put_fan(alloc, &net, page),
-            _ => put_first(alloc, &net, page),
-        },
-        None => page.push_str("no net\n"),
+pub fn tell_net(alloc: Global, bench: &NetBench, word: &str, page: &mut Page) {
+    let Some(net) = net_of(alloc, bench, page) else {
+        return page.put("no net\n");
+    };
+    if let Some(fan) = page.taken(fan_of(alloc, &net)) {
+        tell_with(alloc, &net, &fan, word, page);
     }
 }

@@ -1,166 +1,171 @@
 //! Simulations by each scheduler, and plain runs by the choices of those that go by age.
 
-ghost use Rattle.std.specs.Prelude.{◌≤◌, IfSome};
+ghost use Rattle.std.specs.Prelude.{◌≤◌, ◌<◌, length, IfSome};
 ghost use Rattle.env_script.specs.Environment.{net_channels};
 ghost use Rattle.env_script.specs.Scripts.{IsScript};
 
 use crate::bench::NetBench;
-use crate::runs::read;
-use env_script::Script;
+use crate::runs::{Given, begun, read};
+use case_text::Page;
 use event_sim::{Lowest, Newest, Oldest, Picker, Ran, Random, Sim};
 use plain_runs::Run;
-use prs_core::Net;
-use std::alloc::{AllocError, Global};
-use std::fmt::Write;
+use std::alloc::Global;
+
+/// Since when a node has been enabled that isn't.
+const NEVER: usize = usize::MAX;
 
 /// A simulation that has ended, with what passed channel by channel, and the indices that its scheduler chose.
 #[derive(Drop)]
 struct Simulated {
-    ran: Ran,
+    ran: Box<Ran>,
     passed: Vec<(u32, u64)>,
     picks: Vec<usize>,
 }
 
 /// What passed, channel by channel.
-fn by_channel(alloc: Global, ran: &Ran) -> Result<Vec<(u32, u64)>, AllocError> {
-    let mut passed = Vec::from_slice(alloc, ran.passed())?;
-    passed.sort_by_key(|value| value.0)?;
-    Ok(passed)
+fn by_channel(alloc: Global, ran: &Ran, page: &mut Page) -> Vec<(u32, u64)> {
+    let mut passed = page.copied(alloc, ran.passed());
+    page.note(passed.sort_by_key(|value| value.0));
+    passed
 }
 
-impl Simulated {
-    /// The simulation that so ended, by these choices.
-    fn new(alloc: Global, ran: Ran, picks: &[usize]) -> Result<Simulated, AllocError> {
-        let passed = by_channel(alloc, &ran)?;
-        let picks = Vec::from_slice(alloc, picks)?;
-        Ok(Simulated { ran, passed, picks })
-    }
-
-    /// Whether both have the same result.
-    fn agrees(&self, other: &Simulated) -> bool {
-        self.ran.end() == other.ran.end()
-            && self.ran.moves() == other.ran.moves()
-            && self.ran.done_high() == other.ran.done_high()
-            && self.passed == other.passed
+/// The simulation that so ended, by these choices.
+fn ended(alloc: Global, ran: Box<Ran>, picks: &[usize], page: &mut Page) -> Simulated {
+    Simulated {
+        passed: by_channel(alloc, &ran, page),
+        picks: page.copied(alloc, picks),
+        ran,
     }
 }
 
 /// The run of the net under the script by the scheduler.
 fn go(
     alloc: Global,
-    net: Net,
-    script: Script,
+    given: Box<Given>,
     seed: u64,
     steps: u32,
     picker: &mut Box<dyn Picker>,
-) -> Result<Ran, AllocError>
-    requires script { IsScript (net_channels net) script }
+    page: &mut Page,
+) -> Option<Box<Ran>>
+    requires script { IsScript (net_channels given.value.net) given.value.script }
     requires steps { steps ≤ 1000000 }
 {
-    let nodes = net.first().len() as u32;
+    let nodes = given.net.first().len() as u32;
     picker.seed(seed);
-    picker.make_room(steps, nodes)?;
-    Ok(Sim::new(alloc, net, script, steps)?.run(picker))
+    if picker.make_room(steps, nodes).is_err() {
+        page.give_up();
+        return None;
+    }
+    let Given { net, script } = Box::into_inner(given);
+    let sim = page.taken(Sim::new(alloc, net, script, steps))?;
+    page.taken(Box::new(alloc, sim.run(picker)))
 }
 
-/// The simulation by the scheduler, or None where a text is refused.
+/// The simulation by the scheduler, or None where a text is refused, or memory runs out.
 fn simulate(
     alloc: Global,
     bench: &NetBench,
     seed: u64,
     steps: u32,
     picker: &mut Box<dyn Picker>,
-) -> Result<Option<Simulated>, AllocError>
+    page: &mut Page,
+) -> Option<Box<Ran>>
     requires { steps ≤ 1000000 }
 {
-    let Some((net, script)) = read(alloc, bench)? else {
-        return Ok(None);
-    };
-    let earlier = picker.log().len();
-    let ran = go(alloc, net, script, seed, steps, picker)?;
-    match picker.log().get(earlier..) {
-        Some(picks) => Ok(Some(Simulated::new(alloc, ran, picks)?)),
-        None => Ok(None),
+    match read(alloc, bench, page) {
+        Some(given) => go(alloc, given, seed, steps, picker, page),
+        None => None,
     }
 }
 
-/// A node with an enabled move, and the number of the list since which it has been enabled without a break.
-#[derive(Clone, Copy)]
-struct Waiting {
-    node: usize,
-    since: usize,
-}
-
-/// The list of this number, of the nodes that have an enabled move, the least first, where the list before it was this
-/// one.
-fn listed(
-    alloc: Global,
-    enabled: &[bool],
-    before: &[Waiting],
-    number: usize,
-) -> Result<Vec<Waiting>, AllocError> {
-    let mut list = Vec::new(alloc);
-    for (node, is_enabled) in enabled.iter().enumerate() {
-        if *is_enabled {
-            let known = before.iter().find(|other| other.node == node);
-            let since = known.map_or(number, |other| other.since);
-            list.push(Waiting { node, since })?;
+/// Notes of each node since which list of enabled nodes it has been in all of them. The last one is of this number.
+fn note_list(since: &mut [usize], enabled: &[bool], number: usize) {
+    for (since, is_enabled) in since.iter_mut().zip(enabled) {
+        if !*is_enabled {
+            *since = NEVER;
+        } else if *since == NEVER {
+            *since = number;
         }
     }
-    Ok(list)
 }
 
-/// The first index of a node that has waited longest, or shortest.
-fn by_age(list: &[Waiting], longest: bool) -> Option<usize> {
-    let times = list.iter().map(|waiting| waiting.since);
-    let since = if longest { times.min() } else { times.max() }?;
-    list.iter().position(|waiting| waiting.since == since)
+/// The enabled node at this index of the list of these, the least first.
+fn listed(enabled: &[bool], place: usize) -> Option<usize>
+    ensures { IfSome result (λ node. node < length enabled.now) }
+{
+    let mut left = place;
+    for (node, is_enabled) in enabled.iter().enumerate() {
+        if *is_enabled {
+            if left == 0 {
+                return Some(node);
+            }
+            left -= 1;
+        }
+    }
+    None
 }
 
-/// Makes the move of the node at this index of the list of this number. Returns the list, where that was the first node
-/// of those that have waited longest, or shortest, and the move brought no hazard; else None.
+/// Whether the node is the least one of those that have waited longest, or shortest.
+fn is_first(since: &[usize], node: usize, longest: bool) -> bool {
+    let Some(own) = since.get(node) else {
+        return false;
+    };
+    for (other, time) in since.iter().enumerate() {
+        let is_before = if longest { time < own } else { time > own };
+        if *time != NEVER && (is_before || (time == own && other < node)) {
+            return false;
+        }
+    }
+    true
+}
+
+/// Makes the move of the node at this index of the list of this number. Says whether that was the first node of those
+/// that have waited longest, or shortest, and the move brought no hazard.
 #[tactic(auto, using(crate::proofs::ScriptChannels::counted))]
 fn step(
     alloc: Global,
     run: &mut Run,
-    before: &[Waiting],
+    since: &mut [usize],
     number: usize,
     place: usize,
     longest: bool,
-) -> Result<Option<Vec<Waiting>>, AllocError> {
-    let enabled = run.enabled_nodes(alloc)?;
-    let list = listed(alloc, &enabled, before, number)?;
-    let Some(waiting) = list.get(place) else {
-        return Ok(None);
+    page: &mut Page,
+) -> bool {
+    let Some(enabled) = page.taken(run.enabled_nodes(alloc)) else {
+        return false;
     };
-    let Ok(node) = u32::try_from(waiting.node) else {
-        return Ok(None);
+    note_list(since, &enabled, number);
+    let Some(node) = listed(&enabled, place) else {
+        return false;
     };
-    if by_age(&list, longest) != Some(place) || node as usize >= enabled.len() {
-        return Ok(None);
-    }
-    match run.make(alloc, node)? {
-        None => Ok(Some(list)),
-        Some(_) => Ok(None),
+    match u32::try_from(node) {
+        Ok(moved) => {
+            is_first(since, node, longest)
+                && matches!(page.taken(run.make(alloc, moved)), Some(None))
+        }
+        Err(_) => false,
     }
 }
 
 /// Whether each of these choices is the first node of those that have waited longest, or shortest, in a run without a
-/// hazard.
+/// hazard of a net of so many nodes.
 fn follows(
     alloc: Global,
     run: &mut Run,
+    nodes: usize,
     picks: &[usize],
     longest: bool,
-) -> Result<bool, AllocError> {
-    let mut list = Vec::new(alloc);
+    page: &mut Page,
+) -> bool {
+    let Some(mut since) = page.taken(vec![in alloc; NEVER; nodes]) else {
+        return false;
+    };
     for (number, place) in picks.iter().enumerate() {
-        match step(alloc, run, &list, number, *place, longest)? {
-            Some(next) => list = next,
-            None => return Ok(false),
+        if !step(alloc, run, &mut since, number, *place, longest, page) {
+            return false;
         }
     }
-    Ok(true)
+    true
 }
 
 /// The same of a run of the case's net under its script.
@@ -169,61 +174,80 @@ fn go_by_age(
     bench: &NetBench,
     picks: &[usize],
     longest: bool,
-) -> Result<bool, AllocError> {
-    match read(alloc, bench)? {
-        Some((net, script)) => {
-            follows(alloc, &mut Run::new(alloc, net, script)?, picks, longest)
-        }
-        None => Ok(false),
+    page: &mut Page,
+) -> bool {
+    let Some(given) = read(alloc, bench, page) else {
+        return false;
+    };
+    let nodes = given.net.first().len();
+    match begun(alloc, given, page) {
+        Some(mut run) => follows(alloc, &mut run, nodes, picks, longest, page),
+        None => false,
     }
+}
+
+fn put_so(page: &mut Page, text: &str, is_so: bool) {
+    page.put(text);
+    page.put(if is_so { "true" } else { "false" });
 }
 
 /// Prints how many choices this order made, whether each was the oldest node and whether each was the newest one, and
 /// whether it chooses the same again.
-fn tell_picks(
+fn put_picks(
     alloc: Global,
     bench: &NetBench,
     order: &str,
     picks: &[usize],
     again: &[usize],
-    page: &mut String,
-) -> Result<(), AllocError> {
-    let oldest = go_by_age(alloc, bench, picks, true)?;
-    let newest = go_by_age(alloc, bench, picks, false)?;
-    write!(page, "{order}: {} picks, oldest {oldest}", picks.len())?;
-    writeln!(page, ", newest {newest}, the same again {}", picks == again)
+    page: &mut Page,
+) {
+    page.put(order);
+    page.put(":");
+    page.numbers(&[picks.len() as u64]);
+    let is_oldest = go_by_age(alloc, bench, picks, true, page);
+    put_so(page, " picks, oldest ", is_oldest);
+    let is_newest = go_by_age(alloc, bench, picks, false, page);
+    put_so(page, ", newest ", is_newest);
+    put_so(page, ", the same again ", picks == again);
+    page.put("\n");
 }
 
 /// Simulates by this order, with a seed and for so many moves at most, and then once more, and tells what it chose. The
-/// first simulation, or None where a text is refused.
+/// first simulation, or None where a text is refused, or memory runs out.
 fn simulate_twice(
     alloc: Global,
     bench: &NetBench,
     seed: u64,
     steps: u32,
     picker: &mut Box<dyn Picker>,
-    page: &mut String,
-) -> Result<Option<Simulated>, AllocError>
+    page: &mut Page,
+) -> Option<Simulated>
     requires { steps ≤ 1000000 }
 {
-    let Some(run) = simulate(alloc, bench, seed, steps, picker)? else {
-        return Ok(None);
-    };
-    let Some(again) = simulate(alloc, bench, seed, steps, picker)? else {
-        return Ok(None);
-    };
-    tell_picks(alloc, bench, picker.name(), &run.picks, &again.picks, page)?;
-    Ok(Some(run))
+    let begin = picker.log().len();
+    let ran = simulate(alloc, bench, seed, steps, picker, page)?;
+    let end = picker.log().len();
+    if simulate(alloc, bench, seed, steps, picker, page).is_none() {
+        return None;
+    }
+    let picks = picker.log().get(begin..end).unwrap_or(&[]);
+    let again = picker.log().get(end..).unwrap_or(&[]);
+    put_picks(alloc, bench, picker.name(), picks, again, page);
+    Some(ended(alloc, ran, picks, page))
 }
 
-/// Whether each of these has the same result as this one.
-fn all_agree(earlier: &[Simulated], run: &Simulated) -> bool {
-    earlier.iter().all(|other| other.agrees(run))
-}
-
-/// Whether none of these was by the same choices as this one.
-fn all_differ(earlier: &[Simulated], run: &Simulated) -> bool {
-    earlier.iter().all(|other| other.picks != run.picks)
+/// Whether each of these has the same result as this one, and whether none of them was by the same choices.
+fn compared(earlier: &[Simulated], run: &Simulated) -> (bool, bool) {
+    let (mut agree, mut differ) = (true, true);
+    for other in earlier {
+        agree = agree
+            && other.ran.end() == run.ran.end()
+            && other.ran.moves() == run.ran.moves()
+            && other.ran.done_high() == run.ran.done_high()
+            && other.passed == run.passed;
+        differ = differ && other.picks != run.picks;
+    }
+    (agree, differ)
 }
 
 /// Simulates by each of these orders, with a seed and for so many moves at most, and tells of each what it chose; then
@@ -234,52 +258,54 @@ fn compare(
     seed: u64,
     steps: u32,
     pickers: &mut Vec<Box<dyn Picker>>,
-    page: &mut String,
-) -> Result<bool, AllocError>
+    page: &mut Page,
+) -> bool
     requires { steps ≤ 1000000 }
 {
     let mut earlier: Vec<Simulated> = Vec::new(alloc);
     let (mut agree, mut differ) = (true, true);
     for picker in pickers.iter_mut() {
-        let Some(run) = simulate_twice(alloc, bench, seed, steps, picker, page)? else {
-            return Ok(false);
+        let Some(run) = simulate_twice(alloc, bench, seed, steps, picker, page) else {
+            return false;
         };
-        agree = agree && all_agree(&earlier, &run);
-        differ = differ && all_differ(&earlier, &run);
-        earlier.push(run)?;
+        let (agrees, differs) = compared(&earlier, &run);
+        agree = agree && agrees;
+        differ = differ && differs;
+        page.note(earlier.push(run));
     }
-    writeln!(page, "all agree {agree}, all picks differ {differ}")?;
-    Ok(true)
+    put_so(page, "all agree ", agree);
+    put_so(page, ", all picks differ ", differ);
+    page.put("\n");
+    true
 }
 
-/// The seed and the most moves that the line gives, where these aren't too many.
-fn limits_of(line: &str) -> Option<(u64, u32)>
-    ensures { IfSome result (λ limits. limits.1 ≤ 1000000) }
+/// The same of the four schedulers.
+fn compare_four(alloc: Global, bench: &NetBench, seed: u64, steps: u32, page: &mut Page) -> bool
+    requires { steps ≤ 1000000 }
 {
-    let (seed, steps) = line.split_once(' ')?;
-    let Ok(seed) = seed.parse::<u64>() else {
-        return None;
-    };
-    match steps.parse::<u32>() {
-        Ok(steps) if steps <= 1_000_000 => Some((seed, steps)),
-        _ => None,
+    let mut pickers: Vec<Box<dyn Picker>> = Vec::new(alloc);
+    if let Some(lowest) = page.taken(Box::new(alloc, Lowest::new(alloc))) {
+        page.note(pickers.push(lowest));
     }
+    if let Some(oldest) = page.taken(Box::new(alloc, Oldest::new(alloc))) {
+        page.note(pickers.push(oldest));
+    }
+    if let Some(newest) = page.taken(Box::new(alloc, Newest::new(alloc))) {
+        page.note(pickers.push(newest));
+    }
+    if let Some(random) = page.taken(Box::new(alloc, Random::new(alloc))) {
+        page.note(pickers.push(random));
+    }
+    compare(alloc, bench, seed, steps, &mut pickers, page)
 }
 
 /// Compares the four schedulers, where the line gives a seed and the most moves.
-pub fn orders(
-    alloc: Global,
-    bench: &NetBench,
-    line: &str,
-    page: &mut String,
-) -> Result<bool, AllocError> {
-    let Some((seed, steps)) = limits_of(line) else {
-        return Ok(false);
-    };
-    let mut pickers: Vec<Box<dyn Picker>> = Vec::new(alloc);
-    pickers.push(Box::new(alloc, Lowest::new(alloc))?)?;
-    pickers.push(Box::new(alloc, Oldest::new(alloc))?)?;
-    pickers.push(Box::new(alloc, Newest::new(alloc))?)?;
-    pickers.push(Box::new(alloc, Random::new(alloc))?)?;
-    compare(alloc, bench, seed, steps, &mut pickers, page)
+pub fn orders(alloc: Global, bench: &NetBench, line: &str, page: &mut Page) -> bool {
+    let (seed, steps) = line.split_once(' ').unwrap_or((line, ""));
+    match (seed.parse::<u64>(), steps.parse::<u32>()) {
+        (Ok(seed), Ok(steps)) if steps <= 1_000_000 => {
+            compare_four(alloc, bench, seed, steps, page)
+        }
+        _ => false,
+    }
 }

@@ -1,6 +1,7 @@
 //! What a text is read as.
 
-ghost use Rattle.std.specs.Prelude.{◌≡◌, ◌≤◌, length, IfOk, IfSome, OnOk};
+ghost use Rattle.std.specs.Prelude.{◌≡◌, ◌≤◌, length, IfOk, IfSome};
+ghost use Rattle.std.specs.Result.{result_ok};
 ghost use Rattle.chp_syntax.specs.Shape.{IsShaped};
 ghost use Rattle.chp_syntax.specs.View.{program_tree};
 ghost use Rattle.width_check.specs.Accepted.{IsAccepted};
@@ -12,16 +13,29 @@ ghost use Rattle.call_compose.specs.Inlined.{AreInlined};
 
 use crate::printer::put_program;
 use call_merge::{CallError, inline};
-use case_text::put_bytes;
+use case_text::Page;
 use chp_base::TextError;
 use chp_syntax::{Program, Token, TokenKind, parse, tokens};
 use sharing_check::{Disjoint, share};
-use std::alloc::{AllocError, Global};
-use std::fmt::Write;
+use std::alloc::Global;
 use width_check::{is_call_free, resolve};
 
 /// The most bytes of a program text.
 const MOST: usize = 262_144;
+
+/// What was made of a text, or None where that is refused.
+fn made<T>(made: Result<T, TextError>, page: &mut Page) -> Option<T>
+    ensures { result ≡ result_ok made }
+{
+    match made {
+        Ok(made) => Some(made),
+        Err(TextError::Refused(_)) => None,
+        Err(TextError::NoMemory(_)) => {
+            page.give_up();
+            None
+        }
+    }
+}
 
 /// The program that the text is. Functions that own one drop it by one call, since it is in a box.
 fn parsed(alloc: Global, text: &[u8]) -> Result<Box<Program>, TextError>
@@ -32,133 +46,133 @@ fn parsed(alloc: Global, text: &[u8]) -> Result<Box<Program>, TextError>
 }
 
 /// The program that the text is. `None` where the text is too long or refused, or memory runs out.
-pub fn program_of_text(alloc: Global, text: &[u8]) -> Option<Box<Program>>
+pub fn program_of_text(alloc: Global, text: &[u8], page: &mut Page) -> Option<Box<Program>>
     ensures { IfSome result (λ program. IsShaped (program_tree program.value)) }
 {
     if text.len() > MOST {
         return None;
     }
-    match parsed(alloc, text) {
-        Ok(program) => Some(program),
-        Err(_) => None,
-    }
+    made(parsed(alloc, text), page)
 }
 
-/// The program with its names resolved, where it is accepted and has neither procedures nor calls.
-pub fn checked(alloc: Global, program: &Program) -> Option<Disjoint>
+/// The program with its names resolved, where it is accepted and has neither procedures nor calls. Functions that own
+/// one drop it by one call, since it is in a box.
+pub fn checked(alloc: Global, program: &Program, page: &mut Page) -> Option<Box<Disjoint>>
     requires { IsShaped (program_tree program.now) }
     ensures accepted { IfSome result (λ _. IsAccepted (program_tree program.now)) }
-    ensures form { IfSome result (λ disjoint. program_of disjoint ≡ typed_form (program_tree program.now)) }
+    ensures form { IfSome result (λ disjoint. program_of disjoint.value ≡ typed_form (program_tree program.now)) }
 {
     if program.decls.len() > MOST || !is_call_free(program) {
         return None;
     }
-    let Ok(typed) = resolve(alloc, program) else {
-        return None;
-    };
-    match share(alloc, typed) {
-        Ok(disjoint) => Some(disjoint),
-        Err(_) => None,
-    }
+    let typed = made(resolve(alloc, program), page)?;
+    let disjoint = made(share(alloc, typed), page)?;
+    page.taken(Box::new(alloc, disjoint))
 }
 
 /// The accepted program that the text is. `None` where the text is too long or refused, has procedures or calls, or
 /// memory runs out.
-pub fn accepted(alloc: Global, text: &[u8]) -> Option<Disjoint> {
-    let program = program_of_text(alloc, text)?;
-    checked(alloc, &program)
+pub fn accepted(alloc: Global, text: &[u8], page: &mut Page) -> Option<Box<Disjoint>> {
+    let program = program_of_text(alloc, text, page)?;
+    checked(alloc, &program, page)
 }
 
 /// The program in which each call is its procedure's body.
-fn merged(alloc: Global, program: &Program) -> Result<Box<Program>, CallError>
+fn merged(alloc: Global, program: &Program, page: &mut Page) -> Option<Box<Program>>
     requires few { length program.now.procs.items ≤ 300000 }
     requires shaped { IsShaped (program_tree program.now) }
-    ensures inlined { IfOk result (λ plain. IsInlined (program_tree program.now) (program_tree plain.value)) }
-    ensures meets { OnOk result (MeetsCalling (program_tree program.now)) }
-    ensures shaped { IfOk result (λ plain. IsShaped (program_tree plain.value)) }
+    ensures inlined { IfSome result (λ plain. IsInlined (program_tree program.now) (program_tree plain.value)) }
+    ensures meets { IfSome result (λ _. MeetsCalling (program_tree program.now)) }
+    ensures shaped { IfSome result (λ plain. IsShaped (program_tree plain.value)) }
 {
-    Ok(Box::new(alloc, inline(alloc, program)?)?)
+    match inline(alloc, program) {
+        Ok(plain) => page.taken(Box::new(alloc, plain)),
+        Err(error) => {
+            if matches!(error, CallError::NoMemory(_)) {
+                page.give_up();
+            }
+            None
+        }
+    }
 }
 
 /// The same with its names resolved, where it is accepted. `None` where something is refused, or memory runs out.
-pub fn inlined(alloc: Global, program: &Program) -> Option<Disjoint>
+pub fn inlined(alloc: Global, program: &Program, page: &mut Page) -> Option<Box<Disjoint>>
     requires few { length program.now.procs.items ≤ 300000 }
     requires shaped { IsShaped (program_tree program.now) }
-    ensures { IfSome result (λ disjoint. AreInlined (program_tree program.now) (program_of disjoint)) }
+    ensures { IfSome result (λ disjoint. AreInlined (program_tree program.now) (program_of disjoint.value)) }
 {
-    match merged(alloc, program) {
-        Ok(plain) => checked(alloc, &plain),
-        Err(_) => None,
-    }
+    let plain = merged(alloc, program, page)?;
+    checked(alloc, &plain, page)
 }
 
-fn put_refusal(page: &mut String, error: &TextError) -> Result<(), AllocError> {
+fn put_refusal(page: &mut Page, error: &TextError) {
     match error {
         TextError::Refused(fault) => {
-            let number = fault.code.number();
-            writeln!(page, "{number} at {}..{}", fault.at.from, fault.at.to)
+            page.number(u64::from(fault.code.number()));
+            page.put(" at ");
+            page.number(u64::from(fault.at.from));
+            page.put("..");
+            page.number(u64::from(fault.at.to));
+            page.put("\n");
         }
-        TextError::NoMemory(_) => page.push_str("no memory\n"),
+        TextError::NoMemory(_) => page.give_up(),
     }
 }
 
-fn put_tree(
-    alloc: Global,
-    page: &mut String,
-    program: &Program,
-) -> Result<Option<Vec<u8>>, AllocError> {
-    let mut printed = Vec::new(alloc);
-    put_program(&mut printed, program)?;
-    page.push_str("= ")?;
-    put_bytes(page, &printed)?;
-    page.push('\n')?;
-    Ok(Some(printed))
-}
-
-/// The program that the text is, printed with brackets round each group in a group; `None` where it is refused, and
-/// then the number of the cause and the place are put.
-fn put_text(alloc: Global, text: &[u8], page: &mut String) -> Result<Option<Vec<u8>>, AllocError> {
+/// Puts the program that the text is, printed with brackets round each group in a group, and gives what was printed.
+/// Where it is refused, the number of the cause and the place are put.
+fn put_text(alloc: Global, text: &[u8], page: &mut Page) -> Option<String> {
     if text.len() > MOST {
-        return page.push_str("too long\n").and(Ok(None));
+        page.put("too long\n");
+        return None;
     }
+    let mut own = Page::new(alloc);
     match parsed(alloc, text) {
-        Ok(program) => put_tree(alloc, page, &program),
-        Err(error) => put_refusal(page, &error).and(Ok(None)),
+        Ok(program) => put_program(&mut own, &program),
+        Err(error) => {
+            put_refusal(page, &error);
+            return None;
+        }
     }
+    let printed = page.taken(own.whole())?;
+    page.put("= ");
+    page.bytes(printed.as_bytes());
+    page.put("\n");
+    Some(printed)
 }
 
 /// What the text is read as, and the same of what was printed.
-pub fn show(alloc: Global, text: &[u8], page: &mut String) -> Result<(), AllocError> {
-    if let Some(printed) = put_text(alloc, text, page)? {
-        put_text(alloc, &printed, page)?;
+pub fn show(alloc: Global, text: &[u8], page: &mut Page) {
+    if let Some(printed) = put_text(alloc, text, page) {
+        let _again = put_text(alloc, printed.as_bytes(), page);
     }
-    Ok(())
 }
 
-fn put_token(page: &mut String, token: &Token) -> Result<(), AllocError> {
-    write!(page, "{}..{} ", token.at.from, token.at.to)?;
+fn put_token(page: &mut Page, token: &Token) {
+    page.number(u64::from(token.at.from));
+    page.put("..");
+    page.number(u64::from(token.at.to));
+    page.put(" ");
     match &token.kind {
-        TokenKind::Word(key) => writeln!(page, "{key:?}"),
-        TokenKind::Number(value) => writeln!(page, "{value}"),
-        TokenKind::Sign(mark) => writeln!(page, "{mark:?}"),
-        TokenKind::Ident(name) => {
-            put_bytes(page, name.bytes())?;
-            page.push('\n')
-        }
+        TokenKind::Word(key) => page.debug(key),
+        TokenKind::Number(value) => page.number(*value),
+        TokenKind::Sign(mark) => page.debug(mark),
+        TokenKind::Ident(name) => page.bytes(name.bytes()),
     }
+    page.put("\n");
 }
 
 /// The tokens of the text with their places, or the place of the first bytes that are none.
-pub fn show_tokens(alloc: Global, text: &[u8], page: &mut String) -> Result<(), AllocError> {
+pub fn show_tokens(alloc: Global, text: &[u8], page: &mut Page) {
     if text.len() > MOST {
-        return page.push_str("too long\n");
+        return page.put("too long\n");
     }
     match tokens(alloc, text) {
         Ok(tokens) => {
             for token in &tokens {
-                put_token(page, token)?;
+                put_token(page, token);
             }
-            Ok(())
         }
         Err(error) => put_refusal(page, &error),
     }

@@ -1,18 +1,18 @@
 //! Runs of small nets, move by move, where the least node moves first.
 
-ghost use Rattle.std.specs.Prelude.{◌≡◌, ◌<◌, ◌≤◌, length, IfOk, IfSome, OnOk};
+ghost use Rattle.std.specs.Prelude.{◌≡◌, ◌<◌, ◌≤◌, length, IfOk, IfSome, IsTrue};
 ghost use Rattle.env_script.specs.Environment.{net_channels};
 ghost use Rattle.env_script.specs.Scripts.{IsScript};
 
 use crate::bench::NetBench;
 use crate::nets::net_of;
-use case_text::put_numbers;
+use crate::parts::put_node;
+use case_text::Page;
 use chp_base::Channel;
-use env_script::{Hazard, Script, ScriptError, read_script};
+use env_script::{Script, ScriptError, read_script};
 use plain_runs::Run;
 use prs_core::Net;
 use std::alloc::{AllocError, Global};
-use std::fmt::Write;
 
 /// The most bytes of a script.
 pub const MOST_OF_SCRIPT: usize = 2_097_152;
@@ -42,6 +42,45 @@ pub fn script_of(alloc: Global, net: &Net, text: &[u8]) -> Result<Script, Script
     read_script(alloc, text, &channels)
 }
 
+/// A net, and a script of its channels.
+#[derive(Drop)]
+pub struct Given {
+    pub net: Net,
+    pub script: Script,
+}
+
+/// The net and the script of the case, or None where a text is refused, or memory runs out. Functions that own them
+/// drop them by one call, since they are in a box.
+pub fn read(alloc: Global, bench: &NetBench, page: &mut Page) -> Option<Box<Given>>
+    ensures { IfSome result (λ r. IsScript (net_channels r.value.net) r.value.script) }
+{
+    let text = bench.script();
+    if text.len() > MOST_OF_SCRIPT {
+        return None;
+    }
+    let net = net_of(alloc, bench, page)?;
+    match script_of(alloc, &net, text) {
+        Ok(script) => {
+            let net = Box::into_inner(net);
+            page.taken(Box::new(alloc, Given { net, script }))
+        }
+        Err(ScriptError::Refused { .. }) => None,
+        Err(ScriptError::NoMemory(_)) => {
+            page.give_up();
+            None
+        }
+    }
+}
+
+/// The run of the net under the script.
+pub fn begun(alloc: Global, given: Box<Given>, page: &mut Page) -> Option<Box<Run>>
+    requires { IsScript (net_channels given.value.net) given.value.script }
+{
+    let Given { net, script } = Box::into_inner(given);
+    let run = page.taken(Run::new(alloc, net, script))?;
+    page.taken(Box::new(alloc, run))
+}
+
 fn first_true(tests: &[bool]) -> Option<usize>
     ensures { IfSome result (λ place. place < length tests.now) }
 {
@@ -55,126 +94,94 @@ fn first_true(tests: &[bool]) -> Option<usize>
 
 /// The least node with an enabled move.
 #[tactic(auto, using(crate::proofs::ScriptChannels::counted))]
-fn least(alloc: Global, run: &Run) -> Result<Option<u32>, AllocError>
-    ensures { IfOk result (λ node. IfSome node (λ n. n < length run.now.net.first)) }
+fn least(alloc: Global, run: &Run, page: &mut Page) -> Option<u32>
+    ensures { IfSome result (λ node. node < length run.now.net.first) }
 {
-    let moves = run.enabled_nodes(alloc)?;
-    let Some(place) = first_true(&moves) else {
-        return Ok(None);
+    let Some(moves) = page.taken(run.enabled_nodes(alloc)) else {
+        return None;
     };
-    match u32::try_from(place) {
-        Ok(node) => Ok(Some(node)),
-        Err(_) => Ok(None),
+    match u32::try_from(first_true(&moves)?) {
+        Ok(node) => Some(node),
+        Err(_) => None,
     }
 }
 
 /// Moves the least node with an enabled move, until there is none, a hazard comes or so many moves are made. It prints
-/// which nodes moved, and returns the hazard.
-fn moves(
-    alloc: Global,
-    run: &mut Run,
-    most: u32,
-    page: &mut String,
-) -> Result<Option<Hazard>, AllocError>
-    ensures { OnOk result (run.new.net ≡ run.old.net) }
+/// which nodes moved, and the hazard, and says whether memory has sufficed.
+fn put_moves(alloc: Global, run: &mut Run, most: u32, page: &mut Page) -> bool
+    ensures { IsTrue result → run.new.net ≡ run.old.net }
 {
+    page.put("moved");
     for _move in 0..most {
-        let Some(node) = least(alloc, run)? else {
+        let Some(node) = least(alloc, run, page) else {
             break;
         };
-        write!(page, " {node}")?;
-        if let Some(hazard) = run.make(alloc, node)? {
-            return Ok(Some(hazard));
+        put_node(page, node);
+        match run.make(alloc, node) {
+            Ok(None) => {}
+            Ok(Some(hazard)) => {
+                page.put("; ");
+                page.debug(&hazard);
+                break;
+            }
+            Err(_) => {
+                page.give_up();
+                return false;
+            }
         }
     }
-    Ok(None)
+    page.put("\n");
+    true
 }
 
-/// The net and the script of the case, or None where a text is refused.
-pub fn read(alloc: Global, bench: &NetBench) -> Result<Option<(Net, Script)>, AllocError>
-    ensures { IfOk result (λ read. IfSome read (λ r. IsScript (net_channels r.0) r.1)) }
-{
-    let Some(net) = net_of(alloc, bench) else {
-        return Ok(None);
-    };
-    if bench.script.len() > MOST_OF_SCRIPT {
-        return Ok(None);
-    }
-    match script_of(alloc, &net, &bench.script) {
-        Ok(script) => Ok(Some((net, script))),
-        Err(_) => Ok(None),
-    }
-}
-
-fn put_hazard(page: &mut String, hazard: Option<Hazard>) -> Result<(), AllocError> {
-    match hazard {
-        Some(hazard) => writeln!(page, "; {hazard:?}"),
-        None => page.push('\n'),
-    }
-}
-
-fn put_history(page: &mut String, chan: u32, values: &[u64]) -> Result<(), AllocError> {
-    write!(page, "channel {chan}:")?;
-    put_numbers(page, values)?;
-    page.push('\n')
-}
-
-/// Makes so many moves at most, and tells which nodes moved, and the hazard at which the run ended, if it did.
-fn put_moves(alloc: Global, run: &mut Run, most: u32, page: &mut String) -> Result<(), AllocError>
-    ensures { OnOk result (run.new.net ≡ run.old.net) }
-{
-    page.push_str("moved")?;
-    let hazard = moves(alloc, run, most, page)?;
-    put_hazard(page, hazard)
+fn put_history(page: &mut Page, chan: u32, values: &[u64]) {
+    page.put("channel ");
+    page.number(u64::from(chan));
+    page.put(":");
+    page.numbers(values);
+    page.put("\n");
 }
 
 /// What has passed on each of so many channels.
-fn put_passed(page: &mut String, run: &Run, channels: u32) -> Result<(), AllocError>
+fn put_passed(page: &mut Page, run: &Run, channels: usize)
     requires { channels ≤ length run.now.now.histories }
 {
+    let Ok(channels) = u32::try_from(channels) else {
+        return page.put("too many channels\n");
+    };
     for chan in 0..channels {
-        put_history(page, chan, run.history(chan))?;
+        put_history(page, chan, run.history(chan));
     }
-    Ok(())
 }
 
-/// The run of so many moves at most of the net under the script: which nodes moved, the hazard at which the run ended,
-/// if it did, whether `done` is high, and what has passed on each channel.
-fn put_run(
-    alloc: Global,
-    net: Net,
-    script: Script,
-    most: u32,
-    page: &mut String,
-) -> Result<(), AllocError>
-    requires { IsScript (net_channels net) script }
+/// Makes so many moves at most in a run of the net under the script: which nodes moved, the hazard at which the run
+/// ended, if it did, whether `done` is high, and what has passed on each channel.
+fn put_run(alloc: Global, given: Box<Given>, most: u32, page: &mut Page)
+    requires { IsScript (net_channels given.value.net) given.value.script }
 {
-    let Ok(channels) = u32::try_from(net.channels().len()) else {
-        return page.push_str("no run\n");
+    let Given { net, script } = Box::into_inner(given);
+    let channels = net.channels().len();
+    let Some(mut run) = page.taken(Run::new(alloc, net, script)) else {
+        return;
     };
-    let mut run = Run::new(alloc, net, script)?;
-    put_moves(alloc, &mut run, most, page)?;
-    page.push_str(if run.is_high(1) {
-        "done high\n"
-    } else {
-        "done low\n"
-    })?;
-    put_passed(page, &run, channels)
+    if put_moves(alloc, &mut run, most, page) {
+        page.put(if run.is_high(1) {
+            "done high\n"
+        } else {
+            "done low\n"
+        });
+        put_passed(page, &run, channels);
+    }
 }
 
 /// The run of so many moves at most, which the line gives, where it gives a number.
-pub fn moved(
-    alloc: Global,
-    bench: &NetBench,
-    line: &str,
-    page: &mut String,
-) -> Result<bool, AllocError> {
+pub fn moved(alloc: Global, bench: &NetBench, line: &str, page: &mut Page) -> bool {
     let Ok(most) = line.parse::<u32>() else {
-        return Ok(false);
+        return false;
     };
-    match read(alloc, bench)? {
-        Some((net, script)) => put_run(alloc, net, script, most, page)?,
-        None => page.push_str("no run\n")?,
+    match read(alloc, bench, page) {
+        Some(given) => put_run(alloc, given, most, page),
+        None => page.put("no run\n"),
     }
-    Ok(true)
+    true
 }

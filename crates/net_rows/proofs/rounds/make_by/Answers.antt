@@ -1,6 +1,6 @@
 use Rattle.width_check.specs.View.{process_of}
 use Rattle.net_rows.proofs.ProgramChannels.{typed_distinct, typed_wide}
-use Rattle.net_rows.proofs.rounds.make_rounds.Goals as goal
+use Rattle.net_rows.proofs.rounds.make_by.Goals as goal
 
 pub read_script-requires-clause-distinct : goal.read_script-requires-clause-distinct
 read_script-requires-clause-distinct c =
