@@ -264,8 +264,8 @@ impl GuardRows {
         })
     }
 
-    /// The edges of the node: the nodes with a guard that names it, in ascending order, each with what a turn of the node
-    /// from low to high adds to its place.
+    /// The edges of the node: the nodes with a guard that names it, in ascending order, each with what a turn of the
+    /// node from low to high adds to its place.
     pub fn edges(&self, node: u32) -> &[(u32, u32)]
         requires { node < length self.now.edges }
         ensures { (net : NetValue) (values : List Bool) → AreRows net values self.now

@@ -16,5 +16,6 @@ returns c =
       map (λ (e : ℕ × ℕ). e.0) near.readers.now ++ near.rails.now ++ near.others,
       c.concerned-concerned.ensures.concerned,
       filled_append s d c.args.made (map (λ (e : ℕ × ℕ). e.0) near.readers.now ++ near.rails.now) near.others _ _ _
-          (filled_append s d c.args.made (map (λ (e : ℕ × ℕ). e.0) near.readers.now) near.rails.now _ _ _ c.fill_readers.ensures c.fill.ensures) c.fill-2.ensures,
+          (filled_append s d c.args.made (map (λ (e : ℕ × ℕ). e.0) near.readers.now) near.rails.now _ _ _ c.fill_readers.ensures c.fill.ensures)
+          c.fill-2.ensures,
     )
