@@ -20,21 +20,18 @@ left_none now rest whole p q = omega arith
 pub left_least : (now rest whole : ℕ) → max now (capped rest) ≡ capped whole → rest ≤ now → now ≡ capped whole
 left_least now rest whole p q = omega arith
 
-pub branches_sum : (now whole held tree doubled one two three : ℕ) → now ≡ capped whole → doubled ≡ min (tree * 2) (2 ^ 64 - 1) → one ≡ capped (now + held)
-    → two ≡ capped (one + doubled) → three ≡ capped (two + 3) → three ≡ capped (whole + 3 + held + 2 * tree)
+pub branches_sum : (now whole held tree doubled one two three : ℕ) → now ≡ capped whole → doubled ≡ min (tree * 2) (2 ^ 64 - 1) → one ≡ capped (doubled + held)
+    → two ≡ capped (one + 3) → three ≡ capped (now + two) → three ≡ capped (whole + 3 + held + 2 * tree)
 branches_sum now whole held tree doubled one two three p q r s t =
-    let a : one ≡ capped (whole + held) = first now whole one p r in
-    let b : two ≡ capped (whole + held + 2 * tree) = second one (whole + held) doubled two a q s in
-    third two (whole + held + 2 * tree) three (whole + 3 + held + 2 * tree) b t (omega arith)
+    let a : two ≡ capped (2 * tree + held + 3) = before doubled one two q r s in last now whole two (2 * tree + held + 3) three p a t (omega arith)
   where
-    first : (now whole one : ℕ) → now ≡ capped whole → one ≡ capped (now + held) → one ≡ capped (whole + held)
-    first now whole one p r = omega arith
+    before : (doubled one two : ℕ) → doubled ≡ min (tree * 2) (2 ^ 64 - 1) → one ≡ capped (doubled + held) → two ≡ capped (one + 3)
+        → two ≡ capped (2 * tree + held + 3)
+    before doubled one two q r s = omega arith
 
-    second : (one sum doubled two : ℕ) → one ≡ capped sum → doubled ≡ min (tree * 2) (2 ^ 64 - 1) → two ≡ capped (one + doubled) → two ≡ capped (sum + 2 * tree)
-    second one sum doubled two p q r = omega arith
-
-    third : (two sum three all : ℕ) → two ≡ capped sum → three ≡ capped (two + 3) → all ≡ sum + 3 → three ≡ capped all
-    third two sum three all p q r = omega arith
+    last : (now whole two sum three : ℕ) → now ≡ capped whole → two ≡ capped sum → three ≡ capped (now + two) → whole + sum ≡ whole + 3 + held + 2 * tree
+        → three ≡ capped (whole + 3 + held + 2 * tree)
+    last now whole two sum three p q r e = omega arith
 
 pub again_sum : (guards whole held one two : ℕ) → guards ≡ capped whole → one ≡ capped (held + guards) → two ≡ capped (one + 7)
     → two ≡ capped (held + 7 + whole)

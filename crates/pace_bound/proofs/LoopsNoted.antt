@@ -1,49 +1,61 @@
 -- The loops of a statement, one after the other.
-use Rattle.std.proofs.Common.{◌≡◌, ℕ, false, List, [], ◌∷◌, ◌++◌, map, ◌⊎◌, inl, inr, Vec, Global, sym, ap, subst, ◌∙◌, append_assoc}
-use Rattle.std.proofs.lemmas.List.{append-nil, map-append}
-use Rattle.chp_base.specs.declared.channel.Channel.{Channel}
-use Rattle.width_check.specs.declared.typed.Var.{Var}
-use Rattle.width_check.specs.declared.typed.TStmt.{TStmt, Then, Beside}
-use Rattle.width_check.specs.Processes.{Process, repeating, TypedProgram}
-use Rattle.width_check.specs.Typing.{IsProcess, AreProcesses}
-use Rattle.width_check.specs.View.{process_of, members_in}
+use Rattle.std.proofs.Common.{◌≡◌, ℕ, ◌-◌, false, List, [], ◌∷◌, ◌++◌, map, set, length, refl, sym, ap, ◌∙◌, append_assoc, arith}
+use Rattle.std.specs.Prelude.{slice_set}
+use Rattle.std.proofs.lemmas.List.{append-nil, map-append, map-set, set-append_right}
+use Rattle.width_check.specs.Processes.{Process, skipping, assigning, sending, receiving, in_turn, side_by_side, choosing, repeating, Processes, no_members, and_member, Choices, no_choices, and_choice, TypedProgram}
 use Rattle.handshake_expand.specs.Layout.{capped}
-use Rattle.handshake_expand.proofs.Rows.{then_is, beside_is}
-use Rattle.round_time.specs.Longest.{within}
-use Rattle.round_time.specs.Ways.{Loop, loops_within, each_loops}
-use Rattle.pace_bound.specs.Halving.{within_by}
-use Rattle.pace_bound.specs.Whereabouts.{capped_loop}
+use Rattle.round_time.specs.Ways.{Loop, looping, loops_within, each_loops, choice_loops}
+use Rattle.pace_bound.specs.declared.within.Loop.{Loop as Held}
+use Rattle.pace_bound.specs.Whereabouts.{loop_of, capped_loop, measured}
 use Rattle.pace_bound.proofs.Whole.{within_whole}
 
-pub group_loops : (P : TypedProgram) (s : TStmt) (v : Vec TStmt Global) → (s ≡ Then v) ⊎ (s ≡ Beside v)
-    → loops_within P (process_of s) ≡ each_loops P (members_in v.items)
-group_loops P s v (inl is) = ap (loops_within P) (then_is s v is)
-group_loops P s v (inr is) = ap (loops_within P) (beside_is s v is)
-
-pub group_typed : (channels : List Channel) (vars : List Var) (s : TStmt) (v : Vec TStmt Global) → (s ≡ Then v) ⊎ (s ≡ Beside v)
-    → IsProcess channels vars (process_of s) → AreProcesses channels vars (members_in v.items)
-group_typed channels vars s v (inl is) h = (subst (IsProcess channels vars) (then_is s v is) h).1
-group_typed channels vars s v (inr is) h = (subst (IsProcess channels vars) (beside_is s v is) h).1
-
 -- one more statement's are noted, and then those of what is left
-pub noted_more : (now next all : List Loop) (before here left : List Loop) → now ++ map capped_loop before ≡ all → before ≡ here ++ left
-    → next ≡ now ++ map capped_loop here → next ++ map capped_loop left ≡ all
-noted_more now next all before here left h parts is =
-    ap (λ l. l ++ map capped_loop left) is
-    ∙ (append_assoc now (map capped_loop here) (map capped_loop left)
-    ∙ (ap (λ l. now ++ l) (sym (map-append capped_loop here left)) ∙ (ap (λ l. now ++ map capped_loop l) (sym parts) ∙ h)))
+pub noted_more : (f : Loop → Loop) (now next all : List Loop) (before here left : List Loop) → now ++ map f before ≡ all → before ≡ here ++ left
+    → next ≡ now ++ map f here → next ++ map f left ≡ all
+noted_more f now next all before here left h parts is =
+    ap (λ l. l ++ map f left) is
+    ∙ (append_assoc now (map f here) (map f left)
+    ∙ (ap (λ l. now ++ l) (sym (map-append f here left)) ∙ (ap (λ l. now ++ map f l) (sym parts) ∙ h)))
 
-pub noted_all : (now all left : List Loop) → now ++ map capped_loop left ≡ all → left ≡ [] → now ≡ all
-noted_all now all left h none = sym (append-nil now) ∙ (ap (λ l. now ++ map capped_loop l) (sym none) ∙ h)
+pub noted_all : (f : Loop → Loop) (now all left : List Loop) → now ++ map f left ≡ all → left ≡ [] → now ≡ all
+noted_all f now all left h none = sym (append-nil now) ∙ (ap (λ l. now ++ map f l) (sym none) ∙ h)
 
--- a loop is noted, and then those within its body
-pub loop_noted : (P : TypedProgram) (p q : Process) (old new : List Loop) (n : ℕ) → p ≡ repeating q → n ≡ capped (within_by false P p)
-    → new ≡ (old ++ record { statement = p; length = n } ∷ []) ++ map capped_loop (loops_within P q)
-    → new ≡ old ++ map capped_loop (loops_within P p)
-loop_noted P p q old new n is number new_is =
-    let rest = map capped_loop (loops_within P q) in
-    new_is
-    ∙ (append_assoc old (record { statement = p; length = n } ∷ []) rest
-    ∙ (ap (λ k. old ++ record { statement = p; length = k } ∷ rest) (number ∙ ap capped (within_whole P p ∙ ap (within P) is))
-    ∙ (ap (λ r. old ++ record { statement = r; length = capped (within P (repeating q)) } ∷ rest) is
-    ∙ ap (λ r. old ++ map capped_loop (loops_within P r)) (sym is))))
+-- A loop stands behind those before, and those within its body behind it, when its number takes the place of the one that
+-- it had so far.
+pub number_put : (place : ℕ) (before rest : List Loop) (all : List Held) (x : Held) (y : Loop) → length before ≡ place
+    → map loop_of all ≡ (before ++ y ∷ []) ++ rest → map loop_of (slice_set all place x) ≡ before ++ loop_of x ∷ rest
+number_put place before rest all x y there h =
+    let none : place - place ≡ 0 = omega arith in
+    map-set loop_of all place x
+    ∙ (ap (λ l. set l place (loop_of x)) (h ∙ append_assoc before (y ∷ []) rest)
+    ∙ (set-append_right before (y ∷ rest) place place (loop_of x) there (omega arith)
+    ∙ ap (λ k. before ++ set (y ∷ rest) k (loop_of x)) none))
+
+-- of the program as it is, a loop is measured by the longest way inside of it
+module _ (P : TypedProgram) where
+  own : (ls ms : List Loop) → map (measured false P) ls ≡ map capped_loop ls → map (measured false P) ms ≡ map capped_loop ms
+      → map (measured false P) (ls ++ ms) ≡ map capped_loop (ls ++ ms)
+  own ls ms g h =
+      map-append (measured false P) ls ms ∙ (ap (λ l. l ++ map (measured false P) ms) g
+      ∙ (ap (λ l. map capped_loop ls ++ l) h ∙ sym (map-append capped_loop ls ms)))
+
+  mutual
+    pub loops_exact : (p : Process) → map (measured false P) (loops_within P p) ≡ map capped_loop (loops_within P p)
+    loops_exact skipping = refl
+    loops_exact (assigning x at e) = refl
+    loops_exact (sending c at e) = refl
+    loops_exact (receiving c at x to) = refl
+    loops_exact (in_turn ms) = each_exact ms
+    loops_exact (side_by_side ms) = each_exact ms
+    loops_exact (choosing again cs) = choices_exact cs
+    loops_exact (repeating p) =
+        ap (λ n. record { statement = repeating p; length = capped n } ∷ map (measured false P) (loops_within P p)) (within_whole P (repeating p))
+        ∙ ap (λ l. capped_loop (looping P p) ∷ l) (loops_exact p)
+
+    each_exact : (ms : Processes) → map (measured false P) (each_loops P ms) ≡ map capped_loop (each_loops P ms)
+    each_exact no_members = refl
+    each_exact (and_member p more) = own (loops_within P p) (each_loops P more) (loops_exact p) (each_exact more)
+
+    choices_exact : (cs : Choices) → map (measured false P) (choice_loops P cs) ≡ map capped_loop (choice_loops P cs)
+    choices_exact no_choices = refl
+    choices_exact (and_choice g p more) = own (loops_within P p) (choice_loops P more) (loops_exact p) (choices_exact more)

@@ -13,7 +13,7 @@ use Rattle.width_check.specs.View.{process_of, members_in}
 use Rattle.handshake_expand.specs.Layout.{capped}
 use Rattle.handshake_expand.specs.PartTree.{HasFormedGuards}
 use Rattle.handshake_expand.proofs.Rows.{member_at}
-use Rattle.round_time.specs.Longest.{depth, guards_depth, tree_height, var_height, assign_first, send_first, receive_first, first, low, turn_low, choice_low}
+use Rattle.round_time.specs.Longest.{depth, guards_depth, tree_height, var_height, assign_first, send_first, receive_first, first, low, turn_low}
 use Rattle.pace_bound.specs.Clearing.{turned_again}
 use Rattle.pace_bound.specs.Halving.{first_by, turn_first_by, onward, within_by, turn_within_by, choice_within_by}
 
@@ -36,10 +36,6 @@ turn_low_is P held zero (a ∷ b ∷ ss) s all is = absurd (omega arith)
 turn_low_is P held (suc i) (a ∷ []) s all is = absurd (omega arith)
 turn_low_is P held (suc i) (a ∷ b ∷ ss) s all is =
     turn_low_is P (held + 2) i (b ∷ ss) s (omega arith) is ∙ ap (λ h. low P h (process_of s)) (omega arith)
-
-pub held_least : (P : TypedProgram) (held : ℕ) (cs : Choices) → held ≤ choice_low P held cs
-held_least P held no_choices = omega arith
-held_least P held (and_choice g p more) = let h = held_least P held more in omega arith
 
 -- from a member of a sequence on: inside of it, on to the next one, and what is behind
 pub turn_within_at : (halved : Bool) (P : TypedProgram) (ss : List TStmt) (i : ℕ) (s : TStmt) → i < length ss → s ≡ get_or ss i s

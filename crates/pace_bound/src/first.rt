@@ -1,16 +1,18 @@
 //! From the request of a statement to its first step.
 
-ghost use Rattle.std.specs.Prelude.{◌≡◌, ℕ, ◌≤◌, true, length};
+ghost use Rattle.std.specs.Prelude.{◌≡◌, ℕ, ◌≤◌, ◌<◌, ◌-◌, ◌^◌, true, false, length};
 ghost use Rattle.width_check.specs.Typed.{program_of};
 ghost use Rattle.width_check.specs.Typing.{IsProcess, AreProcesses, AreChoices, channel_width, kind_at};
 ghost use Rattle.width_check.specs.View.{formula_of, process_of, members_in, choices_in};
 ghost use Rattle.width_check.specs.Values.{IsWellFormed};
 ghost use Rattle.width_check.specs.Reads.{reads};
 ghost use Rattle.handshake_expand.specs.Layout.{capped};
-ghost use Rattle.round_time.specs.Longest.{depth, tree_height, var_height, send_first, receive_first};
+ghost use Rattle.round_time.specs.Longest.{depth, tree_height, var_height, send_first, receive_first, first};
 ghost use Rattle.round_time.specs.Phases.{choices_first};
+ghost use Rattle.round_time.specs.Ways.{first_step};
 ghost use Rattle.pace_bound.specs.Halving.{assign_first_by, first_by, turn_first_by};
 
+use crate::away::{StepAway, after, farther, own_step};
 use crate::depth::{expr_depth, guards_depth};
 use crate::width::{channel_height, kind_of, var_height};
 use chp_base::Kind;
@@ -74,29 +76,40 @@ fn receive_first(program: &Typed, chan: u32, var: u32) -> u64
     }
 }
 
+/// The statement whose step is the first one of a statement, if the way there isn't too long for a number, and how many
+/// moves lead from the request to it, of the program as it is or in halves; they saturate at 2^64 - 1.
+pub(crate) fn first_step<'p>(program: &Typed, halved: bool, s: &'p TStmt) -> StepAway<'p>
+    requires { IsProcess program.now.channels program.now.vars (process_of s.now) }
+    ensures moves { result.moves ≡ capped (first_by halved (program_of program.now) (process_of s.now)) }
+    ensures step { halved ≡ false → first (program_of program.now) (process_of s.now) < 2 ^ 64 - 1
+        → process_of result.statement.now ≡ first_step (program_of program.now) (process_of s.now) }
+{
+    match s {
+        TStmt::Skip | TStmt::Repeat { .. } => own_step(s, 1),
+        TStmt::Assign { var, value, .. } => own_step(s, assign_first(program, halved, *var, value)),
+        TStmt::Send { chan, value, .. } => own_step(s, send_first(program, *chan, value)),
+        TStmt::Receive { chan, var, .. } => own_step(s, receive_first(program, *chan, *var)),
+        TStmt::Then { parts } => after(first_step(program, halved, &parts[0]), 1),
+        TStmt::Beside { parts } => {
+            let mut last = first_step(program, halved, &parts[0]);
+            for place in 1..parts.len() {
+                last = farther(last, first_step(program, halved, &parts[place]));
+            }
+            after(last, 1)
+        }
+        TStmt::Select { again, arms } => {
+            let before = if *again { 3 } else { 2 };
+            own_step(s, guards_depth(arms).saturating_add(before))
+        }
+    }
+}
+
 /// From the request of a statement to its first step, of the program as it is or in halves; saturates at 2^64 - 1.
 pub(crate) fn first(program: &Typed, halved: bool, s: &TStmt) -> u64
     requires { IsProcess program.now.channels program.now.vars (process_of s.now) }
     ensures { result ≡ capped (first_by halved (program_of program.now) (process_of s.now)) }
 {
-    match s {
-        TStmt::Skip | TStmt::Repeat { .. } => 1,
-        TStmt::Assign { var, value, .. } => assign_first(program, halved, *var, value),
-        TStmt::Send { chan, value, .. } => send_first(program, *chan, value),
-        TStmt::Receive { chan, var, .. } => receive_first(program, *chan, *var),
-        TStmt::Then { parts } => first(program, halved, &parts[0]).saturating_add(1),
-        TStmt::Beside { parts } => {
-            let mut most: u64 = 0;
-            for part in parts {
-                most = most.max(first(program, halved, part));
-            }
-            most.saturating_add(1)
-        }
-        TStmt::Select { again, arms } => {
-            let before = if *again { 3 } else { 2 };
-            guards_depth(arms).saturating_add(before)
-        }
-    }
+    first_step(program, halved, s).moves
 }
 
 /// The same of statements that follow one the other.

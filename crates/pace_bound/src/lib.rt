@@ -2,6 +2,7 @@
 //! of a run do.
 #![tactic(auto)]
 
+mod away;
 mod behind;
 mod context;
 mod depth;
@@ -20,4 +21,5 @@ mod within;
 
 pub use longest::{longest_in_halves, longest_of};
 pub use rounds::{RunSum, sum_of_rounds};
-pub use ways::{Loop, Point, Way, longest_way, loops_of};
+pub use ways::{Point, Way, longest_way, loops_of};
+pub use within::Loop;

@@ -18,27 +18,34 @@ use std::alloc::{AllocError, Global};
 use width_check::Typed;
 
 /// The same, where the falls of lines are known, of the program as it is or in halves.
-fn longest_by(program: &Typed, falls: &Falls, halved: bool) -> u64
+fn longest_by(
+    alloc: Global,
+    program: &Typed,
+    falls: &Falls,
+    halved: bool,
+) -> Result<u64, AllocError>
     requires { AreFalls (program_of program.now) falls.now.channels.items falls.now.writes.items }
-    ensures bound { result ≡ capped (longest_by halved (program_of program.now)) }
+    ensures bound { IfOk result (λ n. n ≡ capped (longest_by halved (program_of program.now))) }
     ensures typed { IsTyped program.now.channels program.now.vars (process_of program.now.body) }
 {
     let body = program.body();
     let begins = first(program, halved, body).saturating_add(2);
     let ends = low(program, falls, body, 2).saturating_add(2);
-    within(program, falls, halved, body).max(begins.max(ends))
+    let mut loops = Vec::new(alloc);
+    let inner = within(program, falls, halved, body, &mut loops)?;
+    Ok(inner.max(begins.max(ends)))
 }
 
 /// How many moves, one behind the other, the circuit of the program makes at most from the steps of one round to those
 /// of the next, by the definition `longest`, which reads it off the program; saturates at 2^64 - 1. That circuits keep
 /// to it where no assignment reads its own target, and else to twice that of the program in halves, is the law
 /// `keeps_time` of `net_pace`. It fails if memory runs out: it takes a number for each channel and each variable, with
-/// which its time grows with the program alone, and not with how many sites a channel has.
+/// which its time grows with the program alone, and not with how many sites a channel has, and one for each loop.
 pub fn longest_of(alloc: Global, program: &Typed) -> Result<u64, AllocError>
     ensures { IfOk result (λ n. n ≡ capped (longest (program_of program.now))) }
 {
     let falls = falls(alloc, program)?;
-    Ok(longest_by(program, &falls, false))
+    longest_by(alloc, program, &falls, false)
 }
 
 /// The same of the program in halves: each assignment that reads its own target is two, to a variable that nothing else
@@ -47,5 +54,5 @@ pub fn longest_in_halves(alloc: Global, program: &Typed) -> Result<u64, AllocErr
     ensures { IfOk result (λ n. n ≡ capped (longest (halved_program (program_of program.now)))) }
 {
     let falls = falls(alloc, program)?;
-    Ok(longest_by(program, &falls, true))
+    longest_by(alloc, program, &falls, true)
 }

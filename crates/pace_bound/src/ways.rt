@@ -1,22 +1,21 @@
 //! From where to where the longest way of a round leads.
 
-ghost use Rattle.std.specs.Prelude.{◌≡◌, ℕ, ◌+◌, ◌<◌, ◌≤◌, ◌-◌, ◌^◌, if◌then◌else◌, nat_lt, length, drop, ◌++◌, map, true, [], ◌∷◌, IfOk, OnOk};
-ghost use Rattle.width_check.specs.Processes.{Process, choosing};
+ghost use Rattle.std.specs.Prelude.{◌≡◌, ℕ, ◌+◌, ◌<◌, ◌≤◌, ◌-◌, ◌^◌, length, drop, map, true, [], ◌∷◌, IfOk};
+ghost use Rattle.width_check.specs.Processes.{choosing};
 ghost use Rattle.width_check.specs.Typed.{program_of};
 ghost use Rattle.width_check.specs.Typing.{IsProcess, AreProcesses, AreChoices};
 ghost use Rattle.width_check.specs.View.{process_of, members_in, choices_in};
-ghost use Rattle.chp_meaning.specs.Remaining.{member_at, branch_of};
 ghost use Rattle.handshake_expand.specs.Layout.{capped};
-ghost use Rattle.round_time.specs.Longest.{guards_depth, first, each_first, low, each_low, choice_low, longest};
-ghost use Rattle.round_time.specs.Ways.{step_of, way, farthest, first_step, each_first_step, last_step, each_last_step, choice_last_step, to_turn, ways_within, first_longest, longest_way, loops_within, loops};
+ghost use Rattle.round_time.specs.Longest.{guards_depth, first, low, longest};
+ghost use Rattle.round_time.specs.Ways.{step_of, way, first_step, last_step, to_turn, ways_within, first_longest, longest_way, loops};
 ghost use Rattle.pace_bound.specs.Clearing.{AreFalls};
 ghost use Rattle.pace_bound.specs.Whereabouts.{point_of, way_of, loop_of, capped_loop, IsWay, IsLongestOf, onward_ways};
 
 use crate::depth::guards_depth;
-use crate::first::{first, turn_first};
-use crate::low::{Falls, choice_low, low};
+use crate::first::{first_step, turn_first};
+use crate::low::{Falls, last_of_arms, last_step};
 use crate::table::falls;
-use crate::within::within;
+use crate::within::{Loop, within};
 use std::alloc::{AllocError, Global};
 use width_check::{TArm, TStmt, Typed};
 
@@ -39,128 +38,6 @@ pub struct Way<'p> {
     pub length: u64,
 }
 
-/// A part of a statement, by its number, and how many moves lead to its first step, or follow its last one.
-#[derive(Clone, Copy)]
-struct Farthest {
-    place: usize,
-    moves: u64,
-}
-
-/// The one of two parts that has more moves; the first one where both have as many.
-fn farther(best: Farthest, next: Farthest) -> Farthest
-    ensures { result ≡ (if nat_lt best.moves next.moves then next else best) }
-{
-    if next.moves > best.moves { next } else { best }
-}
-
-/// Of the branches of a parallel composition the number of the first one of those that come to their first step last.
-/// Where the way there is too long for a number, it is that of any branch.
-fn last_to_begin(program: &Typed, parts: &[TStmt]) -> usize
-    requires some { 1 ≤ length parts.now }
-    requires members { AreProcesses program.now.channels program.now.vars (members_in parts.now) }
-    ensures there { result < length parts.now }
-    ensures farthest { (itself : Process) → each_first (program_of program.now) (members_in parts.now) < 2 ^ 64 - 1
-        → farthest itself (each_first_step (program_of program.now) (members_in parts.now))
-        ≡ first_step (program_of program.now) (member_at (members_in parts.now) result) }
-{
-    let mut best = Farthest {
-        place: 0,
-        moves: first(program, false, &parts[0]),
-    };
-    for place in 1..parts.len() {
-        let moves = first(program, false, &parts[place]);
-        best = farther(best, Farthest { place, moves });
-    }
-    best.place
-}
-
-/// The statement whose step is the first one of a statement, if the way there isn't too long for a number.
-fn first_step<'p>(program: &Typed, s: &'p TStmt) -> &'p TStmt
-    requires { IsProcess program.now.channels program.now.vars (process_of s.now) }
-    ensures { first (program_of program.now) (process_of s.now) < 2 ^ 64 - 1
-        → process_of result.now ≡ first_step (program_of program.now) (process_of s.now) }
-{
-    match s {
-        TStmt::Then { parts } => first_step(program, &parts[0]),
-        TStmt::Beside { parts } => first_step(program, &parts[last_to_begin(program, parts)]),
-        _ => s,
-    }
-}
-
-/// Of the branches of a parallel composition the number of the first one of those whose answers fall last, as above.
-fn last_to_fall(program: &Typed, falls: &Falls, parts: &[TStmt]) -> usize
-    requires falls { AreFalls (program_of program.now) falls.now.channels.items falls.now.writes.items }
-    requires some { 1 ≤ length parts.now }
-    requires members { AreProcesses program.now.channels program.now.vars (members_in parts.now) }
-    ensures there { result < length parts.now }
-    ensures farthest { (itself : Process) → each_low (program_of program.now) (members_in parts.now) < 2 ^ 64 - 1
-        → farthest itself (each_last_step (program_of program.now) (members_in parts.now))
-        ≡ last_step (program_of program.now) 2 (member_at (members_in parts.now) result) }
-{
-    let mut best = Farthest {
-        place: 0,
-        moves: low(program, falls, &parts[0], 2),
-    };
-    for place in 1..parts.len() {
-        let moves = low(program, falls, &parts[place], 2);
-        best = farther(best, Farthest { place, moves });
-    }
-    best.place
-}
-
-/// The same of the branches of a selection or a repetition.
-fn last_arm_to_fall(program: &Typed, falls: &Falls, arms: &[TArm], held: u64) -> usize
-    requires falls { AreFalls (program_of program.now) falls.now.channels.items falls.now.writes.items }
-    requires some { 1 ≤ length arms.now }
-    requires arms { AreChoices program.now.channels program.now.vars (choices_in arms.now) }
-    ensures there { result < length arms.now }
-    ensures farthest { (n : ℕ) (itself : Process) → held ≡ capped n
-        → choice_low (program_of program.now) n (choices_in arms.now) < 2 ^ 64 - 1
-        → farthest itself (choice_last_step (program_of program.now) n (choices_in arms.now))
-        ≡ last_step (program_of program.now) n (branch_of (choices_in arms.now) result) }
-{
-    let mut best = Farthest {
-        place: 0,
-        moves: low(program, falls, &arms[0].body, held),
-    };
-    for place in 1..arms.len() {
-        let moves = low(program, falls, &arms[place].body, held);
-        best = farther(best, Farthest { place, moves });
-    }
-    best.place
-}
-
-/// The statement whose step is the last one of a statement, whose request is high for so long after that it answers, if
-/// the way from there isn't too long for a number.
-fn last_step<'p>(program: &Typed, falls: &Falls, s: &'p TStmt, held: u64) -> &'p TStmt
-    requires falls { AreFalls (program_of program.now) falls.now.channels.items falls.now.writes.items }
-    requires process { IsProcess program.now.channels program.now.vars (process_of s.now) }
-    ensures { (n : ℕ) → held ≡ capped n → low (program_of program.now) n (process_of s.now) < 2 ^ 64 - 1
-        → process_of result.now ≡ last_step (program_of program.now) n (process_of s.now) }
-{
-    match s {
-        TStmt::Then { parts } => {
-            let last = parts.len() - 1;
-            let its = held.saturating_add((last as u64).saturating_mul(2));
-            last_step(program, falls, &parts[last], its)
-        }
-        TStmt::Beside { parts } => {
-            last_step(
-                program,
-                falls,
-                &parts[last_to_fall(program, falls, parts)],
-                2,
-            )
-        }
-        TStmt::Select { again: false, arms } => {
-            let its = held.saturating_add(3);
-            let place = last_arm_to_fall(program, falls, arms, its);
-            last_step(program, falls, &arms[place].body, its)
-        }
-        _ => s,
-    }
-}
-
 /// From a point to the first step of a statement, whose request comes so many moves after the point.
 fn to_first<'p>(program: &Typed, from: Point<'p>, to: &'p TStmt, before: u64) -> Way<'p>
     requires { IsProcess program.now.channels program.now.vars (process_of to.now) }
@@ -168,10 +45,11 @@ fn to_first<'p>(program: &Typed, from: Point<'p>, to: &'p TStmt, before: u64) ->
         → IsWay (way (point_of from.entry) (step_of (first_step (program_of program.now) (process_of to.now)))
         (n + first (program_of program.now) (process_of to.now))) result }
 {
+    let first = first_step(program, false, to);
     Way {
         from,
-        to: Point::Step(first_step(program, to)),
-        length: before.saturating_add(first(program, false, to)),
+        to: Point::Step(first.statement),
+        length: before.saturating_add(first.moves),
     }
 }
 
@@ -191,10 +69,11 @@ fn from_last<'p>(
         → IsWay (way (step_of (last_step (program_of program.now) held (process_of from.now))) (point_of to.entry)
         (low (program_of program.now) held (process_of from.now) + n)) result }
 {
+    let last = last_step(program, falls, from, held);
     Way {
-        from: Point::Step(last_step(program, falls, from, held)),
+        from: Point::Step(last.statement),
         to,
-        length: low(program, falls, from, held).saturating_add(after),
+        length: last.moves.saturating_add(after),
     }
 }
 
@@ -213,13 +92,11 @@ fn to_turn<'p>(
     requires guards { guards ≡ capped (guards_depth (choices_in arms.now)) }
     ensures { IsWay (to_turn (program_of program.now) (choices_in arms.now)) result }
 {
-    let place = last_arm_to_fall(program, falls, arms, 4);
+    let last = last_of_arms(program, falls, arms, 4);
     Way {
-        from: Point::Step(last_step(program, falls, &arms[place].body, 4)),
+        from: Point::Step(last.statement),
         to: Point::Step(itself),
-        length: choice_low(program, falls, arms, 4)
-            .saturating_add(guards)
-            .saturating_add(4),
+        length: last.moves.saturating_add(guards).saturating_add(4),
     }
 }
 
@@ -249,7 +126,7 @@ fn on_to_next<'p>(
     ensures { IsLongestOf best.entry result (onward_ways (program_of program.now) (members_in (drop place parts.now))) }
 {
     if place + 1 < parts.len() {
-        let to = Point::Step(first_step(program, &parts[place + 1]));
+        let to = Point::Step(first_step(program, false, &parts[place + 1]).statement);
         let after = turn_first(program, false, &parts[place + 1..]).saturating_add(1);
         longer(best, from_last(program, falls, &parts[place], 2, to, after))
     } else {
@@ -318,50 +195,6 @@ pub fn longest_way<'p>(alloc: Global, program: &'p Typed) -> Result<Way<'p>, All
     Ok(longer(inner, from_last(program, &falls, body, 2, Point::Ended, 2)))
 }
 
-/// A loop, and how long the longest way inside of it is; the number saturates at 2^64 - 1.
-#[derive(Clone, Copy)]
-pub struct Loop<'p> {
-    pub statement: &'p TStmt,
-    pub longest: u64,
-}
-
-/// Notes each loop of a statement, with how long the longest way inside of it is.
-fn note_loops<'p>(
-    program: &Typed,
-    falls: &Falls,
-    s: &'p TStmt,
-    loops: &mut Vec<Loop<'p>>,
-) -> Result<(), AllocError>
-    requires falls { AreFalls (program_of program.now) falls.now.channels.items falls.now.writes.items }
-    requires process { IsProcess program.now.channels program.now.vars (process_of s.now) }
-    ensures { OnOk result (map loop_of loops.new.items
-        ≡ map loop_of loops.old.items
-        ++ map capped_loop (loops_within (program_of program.now) (process_of s.now))) }
-{
-    match s {
-        TStmt::Then { parts } | TStmt::Beside { parts } => {
-            for part in parts {
-                note_loops(program, falls, part, loops)?;
-            }
-        }
-        TStmt::Select { arms, .. } => {
-            for arm in arms {
-                note_loops(program, falls, &arm.body, loops)?;
-            }
-        }
-        TStmt::Repeat { body } => {
-            let longest = within(program, falls, false, s);
-            loops.push(Loop {
-                statement: s,
-                longest,
-            })?;
-            note_loops(program, falls, body, loops)?;
-        }
-        _ => {}
-    }
-    Ok(())
-}
-
 /// The loops of a program in the order of the text, each with how long the longest way inside of it is. A loop is told
 /// up to statements that are alike. It fails if memory runs out.
 pub fn loops_of<'p>(alloc: Global, program: &'p Typed) -> Result<Vec<Loop<'p>>, AllocError>
@@ -369,6 +202,6 @@ pub fn loops_of<'p>(alloc: Global, program: &'p Typed) -> Result<Vec<Loop<'p>>, 
 {
     let falls = falls(alloc, program)?;
     let mut found = Vec::new(alloc);
-    note_loops(program, &falls, program.body(), &mut found)?;
+    within(program, &falls, false, program.body(), &mut found)?;
     Ok(found)
 }

@@ -1,4 +1,4 @@
-use Rattle.std.proofs.Common.{◌≡◌, ◌+◌, ◌≤◌, false, length, drop, sym, ap, subst, ◌∙◌, arith}
+use Rattle.std.proofs.Common.{◌≡◌, ◌+◌, ◌≤◌, false, length, drop, refl, sym, ap, subst, ◌∙◌, arith}
 use Rattle.std.proofs.lemmas.List.{length-drop, take_rest}
 use Rattle.width_check.specs.Processes.{and_member}
 use Rattle.width_check.specs.Typed.{program_of}
@@ -39,10 +39,10 @@ returns-then-place-parts c =
     ∙ (ap (λ ss. capped (turn_first_by false P (members_in ss))) (take_rest parts (i + 1))
     ∙ (ap (λ ms. capped (turn_first_by false P ms)) behind ∙ ap capped (turn_first_whole P (and_member (process_of q) more)))) in
     let least = turn_first_more P (process_of q) more in
-    let way = ends_at (step_of (last_step P 2 p)) (step_of (process_of c.first_step.result.now)) (step_of (first_step P (process_of q)))
+    let way = ends_at (step_of (last_step P 2 p)) (step_of (process_of c.first_step.result.statement.now)) (step_of (first_step P (process_of q)))
     (low P 2 p + (1 + moves)) (low P 2 p + 1 + moves) c.from_last.result
     (c.from_last.ensures (1 + moves) (omega (arith, own, c.saturating_add-after.ensures))) (omega arith)
-    (λ small. ap step_of (c.first_step.ensures (omega (arith, small, least)))) in
+    (λ small. ap step_of (c.first_step.ensures.step refl (omega (arith, small, least)))) in
     subst (IsLongestOf c.args.best c.longer.result) (sym (ap (onward_ways P) from))
     (single c.args.best c.from_last.result c.longer.result (to_next P p (process_of q) more) c.longer.ensures way)
 
