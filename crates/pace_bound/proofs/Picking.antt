@@ -38,7 +38,8 @@ pub picked_more : (best here next : StepAway) (p : Process) (n : ℕ) (left befo
     → before ≡ with_moves n p ∷ left → IsPicked best before all → IsPicked next left all
 picked_more best here next p n left before all is there moves parts h itself =
     ap (λ (s : told.StepAway). (first_greatest moves_of s left).0) is
-    ∙ (ap (λ (s : told.StepAway). (first_greatest moves_of (if nat_lt best.moves here.moves then s else away_of best) left).0) (ap (with_moves here.moves) there)
+    ∙ (ap (λ (s : told.StepAway). (first_greatest moves_of (if nat_lt best.moves here.moves then s else away_of best) left).0)
+    (ap (with_moves here.moves) there)
     ∙ (ap (λ (m : ℕ). (first_greatest moves_of (if nat_lt best.moves m then with_moves m p else away_of best) left).0) moves
     ∙ (ap (λ (l : List told.StepAway). (first_greatest moves_of (away_of best) l).0) (sym parts) ∙ h itself)))
 

@@ -6,8 +6,8 @@ ghost use Rattle.pace_bound.specs.Whereabouts.{away_of};
 
 use width_check::TStmt;
 
-/// A statement that makes a step, and how many moves lead to that, or follow it until the answer has fallen; their number
-/// saturates at 2^64 - 1.
+/// A statement that makes a step, and how many moves lead to that, or follow it until the answer has fallen; their
+/// number saturates at 2^64 - 1.
 #[derive(Clone, Copy)]
 pub(crate) struct StepAway<'p> {
     pub statement: &'p TStmt,

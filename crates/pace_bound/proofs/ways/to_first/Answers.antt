@@ -17,6 +17,6 @@ returns c n before =
     let long : c.saturating_add.result ≡ capped (n + first P p) = omega (arith, before, moves, c.saturating_add.ensures) in
     record {
       long = long;
-      exact = λ small. way_same (point_of c.args.from) (step_of (process_of c.first_step-first.result.statement.now)) (step_of (first_step P p)) c.saturating_add.result
-          (n + first P p) (ap step_of (c.first_step-first.ensures.step refl (omega (arith, small, long)))) (omega (arith, small, long));
+      exact = λ small. way_same (point_of c.args.from) (step_of (process_of c.first_step-first.result.statement.now)) (step_of (first_step P p))
+          c.saturating_add.result (n + first P p) (ap step_of (c.first_step-first.ensures.step refl (omega (arith, small, long)))) (omega (arith, small, long));
     }
