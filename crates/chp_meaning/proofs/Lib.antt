@@ -10,6 +10,7 @@ pub mod OneEnd
 pub mod Rows
 pub mod Guards
 pub mod Planning
+pub mod Changing
 pub mod Settling
 pub mod Leaving
 pub mod Remainders

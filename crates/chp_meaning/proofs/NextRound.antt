@@ -13,11 +13,10 @@ use Rattle.chp_meaning.specs.declared.config.Config.{Config}
 use Rattle.chp_meaning.specs.declared.effect.Move.{Move}
 use Rattle.chp_meaning.specs.declared.effect.TrueGuards.{TrueGuards}
 use Rattle.chp_meaning.specs.declared.effect.TrueGuards.TheVariants.{Zero, One, Several as Many}
-use Rattle.chp_meaning.specs.declared.left.Left.{Left}
 use Rattle.chp_meaning.specs.Terms.{Place}
 use Rattle.chp_meaning.specs.Steps.{Configuration, Step}
 use Rattle.chp_meaning.specs.Rounds.{round}
-use Rattle.chp_meaning.specs.Remaining.{remains_of, term_of, CanRemain, IsRunnable}
+use Rattle.chp_meaning.specs.Remaining.{Remains, remains_of, term_of, CanRemain, IsRunnable}
 use Rattle.chp_meaning.specs.AtOnce.{Outset, plain_move, sent_move, meeting_move, next_of, received_move, choosing_move, true_guards, guards_counted, move_of, moves_of, noted_send, noted_receive, statements, written, written_in, less, used, used_on, passed, passed_on, is_below, number_below, held_values}
 use Rattle.chp_meaning.specs.Standing.{offer_of_rest, histories_of, configuration_of, IsStanding, IsUnchanged, IsPlan, HaveMoved, AreWithin, next_outset, next_moves}
 use Rattle.chp_meaning.proofs.Places.{In, in_either}
@@ -154,27 +153,27 @@ used_length rests (w ∷ ms) = used_length (used rests w) ms ∙ one w.uses
     one None = refl
     one (Some k) = length-set rests k (less (offer_at rests k))
 
-settled_rests : (c d : Config) (left : Left) (moves : List Move) → HaveMoved c d left moves → length d.rests.items ≡ length c.rests.items
+settled_rests : (c d : Config) (left : Remains) (moves : List Move) → HaveMoved c d left moves → length d.rests.items ≡ length c.rests.items
 settled_rests c d left moves s =
     sym (length-map d.rests.items offer_of_rest) ∙ (ap (λ (xs : List OfferValue). length xs) s.rests
     ∙ (used_length (map offer_of_rest c.rests.items) moves ∙ length-map c.rests.items offer_of_rest))
 
-settled_store : (c d : Config) (left : Left) (moves : List Move) → HaveMoved c d left moves → length d.store.items ≡ length c.store.items
+settled_store : (c d : Config) (left : Remains) (moves : List Move) → HaveMoved c d left moves → length d.store.items ≡ length c.store.items
 settled_store c d left moves s = ap (λ (xs : List ℕ). length xs) s.store ∙ written_length c.store.items moves
 
-settled_histories : (c d : Config) (left : Left) (moves : List Move) → HaveMoved c d left moves → length d.histories.items ≡ length c.histories.items
+settled_histories : (c d : Config) (left : Remains) (moves : List Move) → HaveMoved c d left moves → length d.histories.items ≡ length c.histories.items
 settled_histories c d left moves s =
     sym (length-map d.histories.items (λ h. h.items))
     ∙ (ap (λ (xs : List (List ℕ)). length xs) s.histories ∙ (all_passed_length (histories_of c) moves ∙ length-map c.histories.items (λ h. h.items)))
 
-pub settled_stands : (body : Process) (c d : Config) (left : Left) (moves : List Move) → IsStanding body c → IsPlan body c left moves →
+pub settled_stands : (body : Process) (c d : Config) (left : Remains) (moves : List Move) → IsStanding body c → IsPlan body c left moves →
     HaveMoved c d left moves → IsStanding body d
 settled_stands body c d left moves s p t =
     let n = settled_rests c d left moves t in
     let m = settled_store c d left moves t in
     record {
       runnable = subst (λ k. IsRunnable k (length d.store.items) body) (sym n) (subst (λ k. IsRunnable (length c.rests.items) k body) (sym m) s.runnable);
-      remains = subst (CanRemain body) (sym (ap remains_of t.left_is ∙ p.left_is))
+      remains = subst (CanRemain body) (sym (t.left_is ∙ p.left_is))
           (advanced_can (length c.rests.items) (length c.store.items) (next_outset body c) body (remains_of c.left) s.runnable s.remains);
       histories = settled_histories c d left moves t ∙ (s.histories ∙ sym n);
       sends = t.sends ∙ (s.sends ∙ ap (λ k. replicate k false) (sym n));
@@ -213,13 +212,13 @@ moves_same body c = ap (λ o. moves_of o (actives (term_of body (remains_of c.le
 same_parts : (c d : Configuration) → c.term ≡ d.term → c.store ≡ d.store → c.rests ≡ d.rests → c.histories ≡ d.histories → c ≡ d
 same_parts c d e f g h = λ i. record { term = e i; store = f i; rests = g i; histories = h i }
 
-pub settled_round : (body : Process) (c d : Config) (left : Left) (moves : List Move) → IsStanding body c → Fits (configuration_of body c).term →
+pub settled_round : (body : Process) (c d : Config) (left : Remains) (moves : List Move) → IsStanding body c → Fits (configuration_of body c).term →
     IsPlan body c left moves → HaveMoved c d left moves → configuration_of body d ≡ round (configuration_of body c)
 settled_round body c d left moves s f p t =
     let r = round_parts body c s f in
     let ms : moves ≡ moves_of (outset_for (configuration_of body c)) (actives (configuration_of body c).term) = p.moves_are ∙ sym (moves_same body c) in
     same_parts (configuration_of body d) (round (configuration_of body c))
-    (ap (term_of body) (ap remains_of t.left_is ∙ p.left_is)
+    (ap (term_of body) (t.left_is ∙ p.left_is)
     ∙ (advanced_term (length c.rests.items) (length c.store.items) (next_outset body c) body (remains_of c.left) s.runnable s.remains
     ∙ (ap (λ o. all_left (left_of o) (term_of body (remains_of c.left))) (sym (outset_same body c)) ∙ sym r.term)))
     (t.store ∙ (ap (fold written c.store.items) ms ∙ sym r.store))
@@ -270,7 +269,7 @@ held_passed (w ∷ ms) hs below =
     let next = held_passed ms (passed hs w) (λ u i. subst (λ n. is_below n u.pass ≡ true) (sym (passed_length hs w.pass)) (below u (inr i))) in
     omega (arith, next, one_held hs w.pass (below w (inl refl)), sum_by-cons (λ (x : Move). cond (is_some x.pass) 1 0) w ms)
 
-pub settled_held : (body : Process) (c d : Config) (left : Left) (moves : List Move) → IsStanding body c → IsPlan body c left moves → HaveMoved c d left moves →
+pub settled_held : (body : Process) (c d : Config) (left : Remains) (moves : List Move) → IsStanding body c → IsPlan body c left moves → HaveMoved c d left moves →
     held_values (histories_of d) ≡ held_values (histories_of c) + passing moves
 settled_held body c d left moves s p t =
     ap held_values t.histories ∙ held_passed moves (histories_of c) (λ w i.
@@ -291,7 +290,7 @@ within_after c d moves u w =
       uses = subst (λ k. All (λ (x : Move). number_below k x.uses ≡ true) moves) (sym n) w.uses;
     }
 
-pub settled_after : (c d e : Config) (left : Left) (moves : List Move) → IsUnchanged c d → HaveMoved d e left moves → HaveMoved c e left moves
+pub settled_after : (c d e : Config) (left : Remains) (moves : List Move) → IsUnchanged c d → HaveMoved d e left moves → HaveMoved c e left moves
 settled_after c d e left moves u s = record {
   left_is = s.left_is;
   store = s.store ∙ ap (λ xs. fold written xs moves) u.store;
@@ -300,6 +299,12 @@ settled_after c d e left moves u s = record {
   sends = s.sends ∙ u.sends;
   receives = s.receives ∙ u.receives;
 }
+
+-- the same where what is left is told as a change of what was left
+pub settled_changed : (c d e : Config) (f : Remains → Remains) (moves : List Move) → IsUnchanged c d → HaveMoved d e (f (remains_of d.left)) moves →
+    HaveMoved c e (f (remains_of c.left)) moves
+settled_changed c d e f moves u s =
+    settled_after c d e (f (remains_of c.left)) moves u (subst (λ l. HaveMoved d e (f (remains_of l)) moves) u.left_is s)
 
 pub unchanged_self : (c : Config) → IsUnchanged c c
 unchanged_self c = record { left_is = refl; store = refl; rests = refl; histories = refl; sends = refl; receives = refl }
@@ -314,10 +319,10 @@ unchanged_after c d e u v = record {
   receives = v.receives ∙ u.receives;
 }
 
-pub planned_of : (body : Process) (c : Config) (left : Left) (all some : List Move) → some ≡ all → IsPlan body c left all → IsPlan body c left some
+pub planned_of : (body : Process) (c : Config) (left : Remains) (all some : List Move) → some ≡ all → IsPlan body c left all → IsPlan body c left some
 planned_of body c left all some e p = record { left_is = p.left_is; moves_are = e ∙ p.moves_are }
 
-pub planned_held : (body : Process) (c : Config) (left : Left) (moves : List Move) → IsStanding body c → Fits (configuration_of body c).term →
+pub planned_held : (body : Process) (c : Config) (left : Remains) (moves : List Move) → IsStanding body c → Fits (configuration_of body c).term →
     IsPlan body c left moves → held_values (round (configuration_of body c)).histories ≡ held_values (histories_of c) + passing moves
 planned_held body c left moves s f p =
     let r = round_parts body c s f in

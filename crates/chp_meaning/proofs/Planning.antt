@@ -14,11 +14,11 @@ use Rattle.chp_meaning.specs.declared.effect.TrueGuards.{TrueGuards}
 use Rattle.chp_meaning.specs.declared.effect.TrueGuards.TheVariants.{Zero, One, Several as Many}
 use Rattle.chp_meaning.specs.declared.left.Left.{Left, Branches, Inside}
 use Rattle.chp_meaning.specs.declared.config.Config.{Config}
-use Rattle.chp_meaning.specs.Remaining.{Several, no_more, and_left, remains_of, several_of, part_of, part_count, CanRemain, EachCanRemain, gathered, IsRunnable, RunsOn, ChoicesRunnable, GuardsHaveValues}
-use Rattle.chp_meaning.specs.AtOnce.{Outset, true_guards, guards_counted, choosing_move, HasBranch, move_of, chosen_remains, step_remains, advanced, each_advanced, statements, each_statements, moves_of, noted_send, noted_receive, if_waiting}
+use Rattle.chp_meaning.specs.Remaining.{no_more, and_left, remains_of, several_of, part_of, part_count, CanRemain, EachCanRemain, IsRunnable, RunsOn, ChoicesRunnable, GuardsHaveValues}
+use Rattle.chp_meaning.specs.AtOnce.{Outset, true_guards, guards_counted, choosing_move, HasBranch, move_of, chosen_remains, step_remains, statements, each_statements, moves_of, noted_send, noted_receive, if_waiting}
 use Rattle.chp_meaning.specs.Standing.{CanRun}
 use Rattle.chp_meaning.proofs.Places.{In}
-use Rattle.chp_meaning.proofs.Rows.{select_said, inside_said, branches_said, count_lefts, part_runnable, front, front_push, front_all}
+use Rattle.chp_meaning.proofs.Rows.{select_said, inside_said, branches_said, count_lefts, part_runnable}
 
 -- a selection
 
@@ -189,22 +189,3 @@ pub told_end : {X : Type 0} (told : List Process → List X) (p : Process) (xs :
     before ++ told (each_statements p i (several_of (drop i xs))) ≡ all → before ≡ all
 told_end told p xs i before all none le so_far =
     sym (append-nil before) ∙ (ap (λ ms. before ++ ms) (sym none ∙ ap told (ap (each_statements p i) (sym (no_left_more xs i le)))) ∙ so_far)
-
-pub lefts_more : (o : Outset) (p : Process) (xs : List Left) (i : ℕ) (x : Left) (ls : List Left) (l : Left) (all : Several) → i < length xs →
-    x ≡ get_or xs i x → remains_of l ≡ advanced o (part_of p i) (remains_of x)
-    → front ls (each_advanced o p i (several_of (drop i xs))) ≡ all → front (ls ++ l ∷ []) (each_advanced o p (i + 1) (several_of (drop (i + 1) xs))) ≡ all
-lefts_more o p xs i x ls l all lt at is so_far =
-    let e : suc i ≡ i + 1 = omega arith in
-    let rest = several_of (drop (i + 1) xs) in
-    front_push ls l (each_advanced o p (i + 1) rest)
-    ∙ (ap (λ k. front ls (and_left (remains_of l) (each_advanced o p k rest))) (sym e)
-    ∙ (ap (λ r. front ls (and_left r (each_advanced o p (suc i) rest))) is
-    ∙ (ap (λ s. front ls (each_advanced o p i s)) (sym (left_more xs i x lt at)) ∙ so_far)))
-
-pub lefts_end : (o : Outset) (p : Process) (l : Left) (v : Vec Left Global) (xs : List Left) (i : ℕ) (ls : List Left) → l ≡ Branches v → xs ≡ v.items →
-    length xs ≤ i
-    → front ls (each_advanced o p i (several_of (drop i xs))) ≡ each_advanced o p 0 (several_of xs) → gathered (several_of ls) ≡ advanced o p (remains_of l)
-lefts_end o p l v xs i ls is same le so_far =
-    ap gathered (sym (front_all ls) ∙ (ap (λ s. front ls (each_advanced o p i s)) (sym (no_left_more xs i le))
-    ∙ (so_far ∙ ap (λ (ys : List Left). each_advanced o p 0 (several_of ys)) same)))
-    ∙ ap (advanced o p) (sym (branches_said l v is))

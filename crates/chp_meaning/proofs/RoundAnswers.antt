@@ -15,9 +15,9 @@ use Rattle.chp_meaning.specs.Terms.{Place}
 use Rattle.chp_meaning.specs.Steps.{Configuration, Step, Leads, no_step, one_step}
 use Rattle.chp_meaning.specs.Rounds.{enabled_places, taken, round, rounds_from}
 use Rattle.chp_meaning.specs.AtOnce.{held_values}
-use Rattle.chp_meaning.specs.declared.left.Left.{Left}
 use Rattle.chp_meaning.specs.declared.run.RunEnd.{RunEnd}
 use Rattle.chp_meaning.specs.declared.run.RunEnd.TheVariants.{Rest, Spent, TooMany}
+use Rattle.chp_meaning.specs.Remaining.{Remains}
 use Rattle.chp_meaning.specs.Standing.{configuration_of, histories_of, IsStanding, IsUnchanged, IsPlan, HaveMoved, next_moves}
 use Rattle.chp_meaning.specs.Ends.{IsReached, CanStep, held_in, is_some_step, IsEnd, IsWithin, IsEndBy, end_before, end_by}
 use Rattle.chp_meaning.proofs.Places.{In}
@@ -131,7 +131,7 @@ held_there : (body : Process) (old : Configuration) (i : ℕ) (c d : Config) →
     held_in (configuration_of body d) ≡ held_values (histories_of c)
 held_there body old i c d a = ap held_values a.unchanged.histories
 
-pub rested : (body : Process) (old : Configuration) (i n most : ℕ) (c d : Config) (left : Left) (moves : List Move) → Fits old.term → IsAt body old i c d →
+pub rested : (body : Process) (old : Configuration) (i n most : ℕ) (c d : Config) (left : Remains) (moves : List Move) → Fits old.term → IsAt body old i c d →
     IsPlan body c left moves → moves ≡ [] → i ≤ n → held_values (histories_of c) ≤ most → IsEnd n most old (configuration_of body d) Rest
 rested body old i n most c d left moves f a p none le few =
     let rest = rest_there body old i c d f a (sym p.moves_are ∙ none) in
@@ -141,7 +141,7 @@ rested body old i n most c d left moves f a p none le few =
     ∙ (ap (λ x. rounds_from x (n - i)) there ∙ (rounds_more i (n - i) old ∙ ap (rounds_from old) e)) in
     (omega (arith, few, held_there body old i c d a, ap held_in last), last, rest)
 
-pub overfull : (body : Process) (old : Configuration) (i n most : ℕ) (c d : Config) (left : Left) (moves : List Move) → Fits old.term → IsAt body old i c d →
+pub overfull : (body : Process) (old : Configuration) (i n most : ℕ) (c d : Config) (left : Remains) (moves : List Move) → Fits old.term → IsAt body old i c d →
     IsPlan body c left moves → i < n → held_values (histories_of c) ≤ most → most < held_values (histories_of c) + passing moves →
     IsEnd n most old (configuration_of body d) TooMany
 overfull body old i n most c d left moves f a p lt few many =
@@ -151,7 +151,7 @@ overfull body old i n most c d left moves f a p lt few many =
     let more = rounds_held (suc i) n old f (omega (arith, lt)) in
     (omega (arith, next, many, more), (i, lt, there, omega (arith, few, held_there body old i c d a), omega (arith, next, many)))
 
-pub ended : (body : Process) (old : Configuration) (n most : ℕ) (c d : Config) (left : Left) (moves : List Move) → Fits old.term → IsAt body old n c d →
+pub ended : (body : Process) (old : Configuration) (n most : ℕ) (c d : Config) (left : Remains) (moves : List Move) → Fits old.term → IsAt body old n c d →
     IsPlan body c left moves → held_values (histories_of c) ≤ most → (xs : List Move) → xs ≡ moves → IsEnd n most old (configuration_of body d) (end_by xs)
 ended body old n most c d left moves f a p few [] e = rested body old n n most c d left moves f a p (sym e) (omega arith) few
 ended body old n most c d left moves f a p few (x ∷ xs) e =
@@ -175,7 +175,7 @@ goes_on moves count most e = by_tests (length moves == 0) (nat_lt most (count + 
     by_tests false true is e = absurd (cc e)
     by_tests false false is e = ltb-false most (count + passing moves) is
 
-pub ended_before : (body : Process) (old : Configuration) (i n most : ℕ) (c d : Config) (left : Left) (moves : List Move) (end : RunEnd) → Fits old.term →
+pub ended_before : (body : Process) (old : Configuration) (i n most : ℕ) (c d : Config) (left : Remains) (moves : List Move) (end : RunEnd) → Fits old.term →
     IsAt body old i c d → IsPlan body c left moves → end_before moves (held_values (histories_of c)) most ≡ Some end → i < n →
     held_values (histories_of c) ≤ most → IsEnd n most old (configuration_of body d) end
 ended_before body old i n most c d left moves end f a p e lt few =
@@ -198,7 +198,7 @@ pub ended_by : (body : Process) (old : Configuration) (n most : ℕ) (c d : Conf
 ended_by body old n most c d end f a few e =
     subst (λ (x : RunEnd). IsEnd n most old (configuration_of body d) x) (sym e.3) (ended body old n most c d e.0 e.1 f a e.2 few e.1 refl)
 
-pub after_round : (body : Process) (old : Configuration) (i : ℕ) (c d e : Config) (left : Left) (moves : List Move) → Fits old.term → IsAt body old i c d →
+pub after_round : (body : Process) (old : Configuration) (i : ℕ) (c d e : Config) (left : Remains) (moves : List Move) → Fits old.term → IsAt body old i c d →
     IsPlan body c left moves → HaveMoved d e left moves → configuration_of body e ≡ rounds_from old (i + 1)
 after_round body old i c d e left moves f a p s =
     let k : suc i ≡ i + 1 = omega arith in

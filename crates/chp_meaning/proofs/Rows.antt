@@ -1,7 +1,6 @@
 -- The members, arms and branches of a statement and of what is left of it, as lists.
-use Rattle.std.proofs.Common.{◌≡◌, ℕ, zero, suc, ◌+◌, ◌<◌, ◌≤◌, Bool, true, false, List, [], ◌∷◌, ◌++◌, length, get_or, drop, refl, sym, ap, ◌∙◌, subst, arith}
-use Rattle.std.specs.Prelude.{◌&&◌, if◌then◌else◌}
-use Rattle.std.specs.List.{list_all}
+use Rattle.std.proofs.Common.{◌≡◌, ℕ, zero, suc, ◌+◌, ◌<◌, ◌≤◌, Bool, List, [], ◌∷◌, ◌++◌, length, get_or, drop, refl, sym, ap, ◌∙◌, subst, arith}
+use Rattle.std.specs.Prelude.{if◌then◌else◌}
 use Rattle.std.proofs.lemmas.Bool.{lt-ltb, le-ltb}
 use Rattle.std.proofs.lemmas.List.{drop_more, drop_all}
 use Rattle.std.specs.declared.alloc.Global.{Global}
@@ -14,7 +13,7 @@ use Rattle.width_check.specs.Processes.{Process, skipping, assigning, sending, r
 use Rattle.width_check.specs.View.{formula_of, process_of, processes_of, choices_of as row_choices, members_in, choices_in}
 use Rattle.chp_meaning.specs.declared.left.Left.{Left, Branches, Inside, Row_of-Left, end_of-Left, more_of-Left, items-the_row-Left, items_hidden-the_row-Left-0}
 use Rattle.chp_meaning.specs.declared.left.Left.TheBlock.{hidden-the_row-Left-0}
-use Rattle.chp_meaning.specs.Remaining.{within, alongside, Several, no_more, and_left, remains_of, each_of, several_of, member_at, branch_of, part_of, part_count, all_over, none_remains, how_many, begun, first_begun, each_begun, after_part, gathered, over, IsRunnable, AreRunnable, ChoicesRunnable, HasMembers}
+use Rattle.chp_meaning.specs.Remaining.{within, alongside, Several, no_more, and_left, remains_of, each_of, several_of, member_at, branch_of, part_of, part_count, how_many, begun, first_begun, each_begun, after_part, over, IsRunnable, AreRunnable, ChoicesRunnable, HasMembers}
 
 members_row : {m : _} (row : Row_of-TStmt m) → processes_of row ≡ members_in (items-the_row-TStmt m row)
 members_row end_of-TStmt = refl
@@ -209,17 +208,3 @@ then_last s v k is le =
     ap (λ p. after_part p k) (then_said s v is)
     ∙ ap (λ b. if b then within (k + 1) (begun (member_at (members_in v.items) (k + 1))) else over)
     (le-ltb (k + 1) (member_count (members_in v.items)) (omega (arith, le, count)))
-
-all_are_over : (ls : List Left) → list_all (λ l. none_remains (remains_of l)) ls ≡ all_over (several_of ls)
-all_are_over [] = refl
-all_are_over (l ∷ ls) = ap (λ b. none_remains (remains_of l) && b) (all_are_over ls)
-
-pub gathered_over : (v : Vec Left Global) (xs : List Left) → xs ≡ v.items → list_all (λ l. none_remains (remains_of l)) xs ≡ true →
-    over ≡ gathered (several_of v.items)
-gathered_over v xs same all = ap (λ b. if b then over else alongside (several_of v.items)) (sym all
-    ∙ (all_are_over xs ∙ ap (λ (ys : List Left). all_over (several_of ys)) same))
-
-pub gathered_left : (v : Vec Left Global) (xs : List Left) → xs ≡ v.items → list_all (λ l. none_remains (remains_of l)) xs ≡ false →
-    remains_of (Branches v) ≡ gathered (several_of v.items)
-gathered_left v xs same not_all = branches_is v
-    ∙ ap (λ b. if b then over else alongside (several_of v.items)) (sym not_all ∙ (all_are_over xs ∙ ap (λ (ys : List Left). all_over (several_of ys)) same))

@@ -5,7 +5,7 @@ use Rattle.width_check.specs.Typed.{TypedValue, program_of}
 use Rattle.width_check.specs.Processes.{Process}
 use Rattle.width_check.specs.View.{process_of}
 use Rattle.chp_meaning.specs.declared.config.Config.{Config}
-use Rattle.chp_meaning.specs.declared.left.Left.{Left}
+use Rattle.chp_meaning.specs.Remaining.{Remains}
 use Rattle.chp_meaning.specs.declared.effect.Move.{Move}
 use Rattle.chp_meaning.specs.declared.run.RunEnd.{RunEnd}
 use Rattle.chp_meaning.specs.declared.run.RunEnd.TheVariants.{Rest, Spent, TooMany}
@@ -69,12 +69,12 @@ end_before moves count most =
 -- The next round of a program that does this was made, by these moves; or the run ends before it, and nothing is
 -- changed.
 abbrev pub IsNext : Process → (most : ℕ) → Config → Config → Option RunEnd → Type 0
-IsNext body most old new None = (left : Left) × (moves : List Move) × IsPlan body old left moves
+IsNext body most old new None = (left : Remains) × (moves : List Move) × IsPlan body old left moves
     × HaveMoved old new left moves
     × (held_values (histories_of old) + count_by (λ (step : Move). is_some step.pass) moves ≤ most)
-IsNext body most old new (Some end) = (left : Left) × (moves : List Move) × IsPlan body old left moves
+IsNext body most old new (Some end) = (left : Remains) × (moves : List Move) × IsPlan body old left moves
     × IsUnchanged old new × (end_before moves (held_values (histories_of old)) most ≡ Some end)
 
 -- after the last round of a program that does this
 abbrev pub IsEndBy : Process → Config → RunEnd → Type 0
-IsEndBy body c end = (left : Left) × (moves : List Move) × IsPlan body c left moves × (end ≡ end_by moves)
+IsEndBy body c end = (left : Remains) × (moves : List Move) × IsPlan body c left moves × (end ≡ end_by moves)

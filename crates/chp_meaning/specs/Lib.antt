@@ -6,6 +6,7 @@ pub mod Laws
 pub mod Fitting
 pub mod Remaining
 pub mod AtOnce
+pub mod Changes
 pub mod Standing
 pub mod Ends
 pub mod Halves

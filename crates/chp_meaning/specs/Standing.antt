@@ -4,13 +4,12 @@ use Rattle.std.specs.declared.alloc.Global.{Global}
 use Rattle.std.specs.declared.vec.Vec.{Vec}
 use Rattle.env_script.specs.Scripts.{OfferValue, gives, takes, nothing}
 use Rattle.width_check.specs.Processes.{Process}
-use Rattle.chp_meaning.specs.declared.left.Left.{Left}
 use Rattle.chp_meaning.specs.declared.effect.Move.{Move}
 use Rattle.chp_meaning.specs.declared.config.Rest.{Rest}
 use Rattle.chp_meaning.specs.declared.config.Rest.TheVariants.{Gives, Takes, Nothing}
 use Rattle.chp_meaning.specs.declared.config.Config.{Config}
 use Rattle.chp_meaning.specs.Steps.{Configuration}
-use Rattle.chp_meaning.specs.Remaining.{remains_of, term_of, CanRemain, IsRunnable}
+use Rattle.chp_meaning.specs.Remaining.{Remains, remains_of, term_of, CanRemain, IsRunnable}
 use Rattle.chp_meaning.specs.AtOnce.{Outset, noted_send, noted_receive, statements, moves_of, advanced, written, used, passed, is_below, number_below}
 
 -- the values that are still to come, the count that is left
@@ -66,8 +65,8 @@ abbrev pub next_moves : Process → Config → List Move
 next_moves body c = moves_of (next_outset body c) (statements body (remains_of c.left))
 
 -- this is left after the next round, and these are its moves
-pub record IsPlan (body : Process) (c : Config) (left : Left) (moves : List Move) : Type 0 where
-  pub left_is : remains_of left ≡ advanced (next_outset body c) body (remains_of c.left)
+pub record IsPlan (body : Process) (c : Config) (left : Remains) (moves : List Move) : Type 0 where
+  pub left_is : left ≡ advanced (next_outset body c) body (remains_of c.left)
   pub moves_are : moves ≡ next_moves body c
 
 -- the numbers of the moves are within the lists
@@ -77,8 +76,8 @@ pub record AreWithin (c : Config) (moves : List Move) : Type 0 where
   pub uses : All (λ (m : Move). number_below (length c.rests.items) m.uses ≡ true) moves
 
 -- the same except for what the moves change, and what is left
-pub record HaveMoved (old new : Config) (left : Left) (moves : List Move) : Type 0 where
-  pub left_is : new.left ≡ left
+pub record HaveMoved (old new : Config) (left : Remains) (moves : List Move) : Type 0 where
+  pub left_is : remains_of new.left ≡ left
   pub store : new.store.items ≡ fold written old.store.items moves
   pub rests : map offer_of_rest new.rests.items ≡ fold used (map offer_of_rest old.rests.items) moves
   pub histories : histories_of new ≡ fold passed (histories_of old) moves

@@ -1,9 +1,8 @@
 //! What is left of a program, by the numbers of its parts.
 
 ghost use Rattle.std.specs.Prelude.{◌≡◌, ◌<◌, IfOk};
-ghost use Rattle.std.specs.List.{list_all};
 ghost use Rattle.width_check.specs.View.{process_of};
-ghost use Rattle.chp_meaning.specs.Remaining.{remains_of, several_of, none_remains, part_of, part_count, begun, after_part, resumed, gathered, within, HasMembers};
+ghost use Rattle.chp_meaning.specs.Remaining.{remains_of, none_remains, part_of, part_count, begun, after_part, resumed, within, HasMembers};
 
 use std::alloc::{AllocError, Global};
 use width_check::TStmt;
@@ -113,22 +112,5 @@ pub(crate) fn resumed(
         next(alloc, stmt, index)
     } else {
         inside(alloc, index, inner)
-    }
-}
-
-fn all_done(lefts: &[Left]) -> bool
-    ensures { result ≡ list_all (λ left. none_remains (remains_of left)) lefts.now }
-{
-    lefts.iter().all(|left| is_done(left))
-}
-
-/// What is left of a parallel composition, of whose branches this is left.
-pub(crate) fn together(lefts: Vec<Left>) -> Left
-    ensures { remains_of result ≡ gathered (several_of lefts.items) }
-{
-    if all_done(&lefts) {
-        Left::Done
-    } else {
-        Left::Branches { lefts }
     }
 }

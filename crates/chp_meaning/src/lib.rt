@@ -1,6 +1,7 @@
 //! The meaning of programs, in steps and in rounds.
 #![tactic(auto)]
 
+mod change;
 mod config;
 mod effect;
 mod enabled;

@@ -2,13 +2,16 @@
 
 ghost use Rattle.std.specs.Prelude.{◌≡◌, ◌++◌, length, fold, option_to_list, IfOk, OnOk};
 ghost use Rattle.width_check.specs.View.{process_of};
-ghost use Rattle.chp_meaning.specs.Remaining.{remains_of, CanRemain, RunsOn, HasMembers};
-ghost use Rattle.chp_meaning.specs.AtOnce.{statements, noted_send, noted_receive, step_remains, chosen_remains, choosing_move, HasBranch, move_of, advanced, moves_of};
+ghost use Rattle.chp_meaning.specs.Remaining.{remains_of, whole, CanRemain, RunsOn, HasMembers};
+ghost use Rattle.chp_meaning.specs.declared.change.Change.{Stays};
+ghost use Rattle.chp_meaning.specs.Changes.{changed};
+ghost use Rattle.chp_meaning.specs.AtOnce.{statements, noted_send, noted_receive, step_remains, ended, ending_move, is_met, chosen_remains, choosing_move, HasBranch, move_of, advanced, moves_of};
 ghost use Rattle.chp_meaning.specs.Standing.{outset_of, CanRun};
 
+use crate::change::{Change, add, ends, set_branches, set_done, set_entered, set_part_change};
 use crate::config::Config;
 use crate::effect::{Move, TrueGuards, chosen, ending, is_met, plain_move};
-use crate::left::{Left, entered, part, resumed, together};
+use crate::left::{Left, part};
 use std::alloc::{AllocError, Global};
 use width_check::TStmt;
 
@@ -46,100 +49,125 @@ pub(crate) fn note(
     }
 }
 
-/// What is left of an active selection after the round, where these of its guards are true.
-fn stepped_selection(
+/// How an active selection changes in the round, where these of its guards are true.
+fn chosen_change(
     alloc: Global,
     stmt: &TStmt,
     again: bool,
     found: TrueGuards,
     moves: &mut Vec<Move>,
-) -> Result<Left, AllocError>
+    change: &mut Change,
+) -> Result<(), AllocError>
     requires members { HasMembers (process_of stmt.now) }
     requires within { HasBranch (process_of stmt.now) found }
-    ensures left { IfOk result (λ left. remains_of left ≡ chosen_remains (process_of stmt.now) again found) }
+    requires stays { change.old ≡ Stays }
+    ensures left { OnOk result (changed change.new whole ≡ chosen_remains (process_of stmt.now) again found) }
     ensures moves { OnOk result (moves.new.items ≡ moves.old.items ++ option_to_list (choosing_move again found)) }
 {
     match found {
         TrueGuards::One(index) => {
             moves.push(plain_move())?;
-            entered(alloc, stmt, index)
+            set_entered(alloc, stmt, index, change)
         }
         TrueGuards::Zero => {
             if again {
                 moves.push(plain_move())?;
-                Ok(Left::Done)
-            } else {
-                Ok(Left::Whole)
+                set_done(change);
             }
+            Ok(())
         }
-        TrueGuards::Several => Ok(Left::Whole),
+        TrueGuards::Several => Ok(()),
     }
 }
 
-/// What is left of an active statement after the round.
+/// How an active statement that ends with its step changes in the round.
+#[inline(never)]
+fn ended(
+    config: &Config,
+    stmt: &TStmt,
+    moves: &mut Vec<Move>,
+    change: &mut Change,
+) -> Result<(), AllocError>
+    requires numbers { CanRun config.now (process_of stmt.now) }
+    requires stays { change.old ≡ Stays }
+    ensures left { OnOk result (changed change.new whole ≡ ended (ending_move (outset_of config.now)
+        (process_of stmt.now)) (is_met (outset_of config.now) (process_of stmt.now))) }
+    ensures moves { OnOk result (moves.new.items ≡ moves.old.items
+        ++ option_to_list (ending_move (outset_of config.now) (process_of stmt.now))) }
+{
+    if let Some(step) = ending(config, stmt) {
+        moves.push(step)?;
+        set_done(change);
+    } else if is_met(config, stmt) {
+        set_done(change);
+    }
+    Ok(())
+}
+
+/// How an active statement changes in the round.
 fn stepped(
     alloc: Global,
     config: &Config,
     stmt: &TStmt,
     moves: &mut Vec<Move>,
-) -> Result<Left, AllocError>
-    requires { CanRun config.now (process_of stmt.now) }
-    ensures left { IfOk result (λ left. remains_of left ≡ step_remains (outset_of config.now) (process_of stmt.now)) }
+    change: &mut Change,
+) -> Result<(), AllocError>
+    requires numbers { CanRun config.now (process_of stmt.now) }
+    requires stays { change.old ≡ Stays }
+    ensures left { OnOk result (changed change.new whole ≡
+        step_remains (outset_of config.now) (process_of stmt.now)) }
     ensures moves { OnOk result (moves.new.items ≡ moves.old.items
         ++ option_to_list (move_of (outset_of config.now) (process_of stmt.now))) }
 {
     match stmt {
         TStmt::Select { again, arms } => {
             let found = chosen(arms, &config.store);
-            stepped_selection(alloc, stmt, *again, found, moves)
+            chosen_change(alloc, stmt, *again, found, moves, change)
         }
         TStmt::Repeat { .. } => {
             moves.push(plain_move())?;
-            entered(alloc, stmt, 0)
+            set_entered(alloc, stmt, 0, change)
         }
-        _ => match ending(config, stmt) {
-            Some(step) => {
-                moves.push(step)?;
-                Ok(Left::Done)
-            }
-            None => Ok(if is_met(config, stmt) {
-                Left::Done
-            } else {
-                Left::Whole
-            }),
-        },
+        _ => ended(config, stmt, moves, change),
     }
 }
 
-/// What is left of a statement after the round, of which this is left before it; the moves of the steps are appended
-/// in the order of their places.
+/// How what is left of a statement changes in the round; the moves of the steps are appended in the order of their
+/// places.
 pub(crate) fn advanced(
     alloc: Global,
     left: &Left,
     stmt: &TStmt,
     config: &Config,
     moves: &mut Vec<Move>,
-) -> Result<Left, AllocError>
+    change: &mut Change,
+) -> Result<(), AllocError>
     requires remains { CanRemain (process_of stmt.now) (remains_of left.now) }
     requires numbers { CanRun config.now (process_of stmt.now) }
-    ensures left { IfOk result (λ left'. remains_of left' ≡ advanced (outset_of config.now) (process_of stmt.now)
-        (remains_of left.now)) }
+    requires stays { change.old ≡ Stays }
+    ensures left { OnOk result (changed change.new (remains_of left.now) ≡
+        advanced (outset_of config.now) (process_of stmt.now) (remains_of left.now)) }
     ensures moves { OnOk result (moves.new.items ≡ moves.old.items
         ++ moves_of (outset_of config.now) (statements (process_of stmt.now) (remains_of left.now))) }
 {
     match left {
-        Left::Done => Ok(Left::Done),
-        Left::Whole => stepped(alloc, config, stmt, moves),
+        Left::Done => Ok(()),
+        Left::Whole => stepped(alloc, config, stmt, moves, change),
         Left::Inside { index, inner } => {
-            let inner = advanced(alloc, inner, part(stmt, *index), config, moves)?;
-            resumed(alloc, stmt, *index, inner)
+            advanced(alloc, inner, part(stmt, *index), config, moves, change)?;
+            set_part_change(alloc, stmt, *index, change)
         }
         Left::Branches { lefts } => {
-            let mut next = Vec::new(alloc);
+            let mut changes = Vec::new(alloc);
+            let mut all_done = true;
+            let mut branch = Change::Stays;
             for (index, left) in lefts.iter().enumerate() {
-                next.push(advanced(alloc, left, part(stmt, index), config, moves)?)?;
+                advanced(alloc, left, part(stmt, index), config, moves, &mut branch)?;
+                all_done &= ends(left, &branch);
+                add(&mut changes, index, &mut branch)?;
             }
-            Ok(together(next))
+            set_branches(change, changes, all_done);
+            Ok(())
         }
     }
 }

@@ -9,13 +9,14 @@ ghost use Rattle.chp_meaning.specs.Fitting.{Fits};
 ghost use Rattle.chp_meaning.specs.Rounds.{round};
 ghost use Rattle.chp_meaning.specs.Laws.{OneHistory, RoundsHold};
 ghost use Rattle.chp_meaning.specs.Remaining.{remains_of, CanRemain};
+ghost use Rattle.chp_meaning.specs.Changes.{changed};
 ghost use Rattle.chp_meaning.specs.AtOnce.{advanced, moves_of, statements, held_values};
 ghost use Rattle.chp_meaning.specs.Ends.{seen, IsOf, CanStep, IsEnd, IsWithin, IsNext, IsEndBy, held_in, is_some_step, end_before, end_by};
 ghost use Rattle.chp_meaning.specs.Standing.{outset_of, histories_of, items_of, configuration_of, next_moves, CanRun, IsStanding, IsPlan, AreWithin, HaveMoved, IsUnchanged};
 
+use crate::change::{Change, apply};
 use crate::config::Config;
 use crate::effect::Move;
-use crate::left::Left;
 use crate::plan::{advanced, note};
 use crate::settle::{pass_all, use_all, write_all};
 use std::alloc::{AllocError, Global};
@@ -32,28 +33,30 @@ pub enum RunEnd {
     TooMany,
 }
 
-/// What is left after the next round, and its moves, where the ends that wait are noted.
-fn plan(alloc: Global, config: &Config, body: &TStmt) -> Result<(Left, Vec<Move>), AllocError>
+/// How what is left changes in the next round, and the moves of that, where the ends that wait are noted.
+fn plan(alloc: Global, config: &Config, body: &TStmt) -> Result<(Change, Vec<Move>), AllocError>
     requires remains { CanRemain (process_of body.now) (remains_of config.now.left) }
     requires numbers { CanRun config.now (process_of body.now) }
-    ensures left { IfOk result (λ plan. remains_of plan.0 ≡ advanced (outset_of config.now) (process_of body.now)
-        (remains_of config.now.left)) }
+    ensures left { IfOk result (λ plan. changed plan.0 (remains_of config.now.left) ≡
+        advanced (outset_of config.now) (process_of body.now) (remains_of config.now.left)) }
     ensures moves { IfOk result (λ plan. plan.1.items ≡
         moves_of (outset_of config.now) (statements (process_of body.now) (remains_of config.now.left))) }
 {
     let mut moves = Vec::new(alloc);
-    let left = advanced(alloc, &config.left, body, config, &mut moves)?;
-    Ok((left, moves))
+    let mut change = Change::Stays;
+    advanced(alloc, &config.left, body, config, &mut moves, &mut change)?;
+    Ok((change, moves))
 }
 
-/// What is left after the next round, and its moves.
+/// How what is left changes in the next round, and the moves of that.
 fn planned(
     alloc: Global,
     config: &mut Config,
     body: &TStmt,
-) -> Result<(Left, Vec<Move>), AllocError>
+) -> Result<(Change, Vec<Move>), AllocError>
     requires { IsStanding (process_of body.now) config.old }
-    ensures plan { IfOk result (λ plan. IsPlan (process_of body.now) config.old plan.0 plan.1.items) }
+    ensures plan { IfOk result (λ plan. IsPlan (process_of body.now) config.old (changed plan.0 (remains_of config.old.left))
+        plan.1.items) }
     ensures unchanged { IsUnchanged config.old config.new }
 {
     note(
@@ -75,15 +78,15 @@ fn planned(
 }
 
 /// Makes the round of a plan. Where memory runs out nothing is changed.
-fn settled(config: &mut Config, left: Left, moves: &[Move]) -> Result<(), AllocError>
+fn settled(config: &mut Config, change: &mut Change, moves: &[Move]) -> Result<(), AllocError>
     requires { AreWithin config.old moves.now }
-    ensures ok { OnOk result (HaveMoved config.old config.new left moves.now) }
+    ensures ok { OnOk result (HaveMoved config.old config.new (changed change.old (remains_of config.old.left)) moves.now) }
     ensures err { OnErr result (IsUnchanged config.old config.new) }
 {
     pass_all(&mut config.histories, moves)?;
     write_all(&mut config.store, moves);
     use_all(&mut config.rests, moves);
-    config.left = left;
+    apply(change, &mut config.left);
     Ok(())
 }
 
@@ -98,8 +101,8 @@ pub(crate) fn round_of(alloc: Global, config: &mut Config, body: &TStmt) -> Resu
     ensures err { OnErr result (configuration_of (process_of body.now) config.new ≡
         configuration_of (process_of body.now) config.old) }
 {
-    let (left, moves) = planned(alloc, config, body)?;
-    settled(config, left, &moves)?;
+    let (mut change, moves) = planned(alloc, config, body)?;
+    settled(config, &mut change, &moves)?;
     Ok(!moves.is_empty())
 }
 
@@ -180,12 +183,12 @@ fn next_round(
     ensures count { OnOk result (count.new ≡ held_values (histories_of config.new)) }
     ensures err { OnErr result (IsUnchanged config.old config.new) }
 {
-    let (left, moves) = planned(alloc, config, body)?;
+    let (mut change, moves) = planned(alloc, config, body)?;
     if let Some(end) = end_before(&moves, *count, most) {
         return Ok(Some(end));
     }
     *count += passing(&moves);
-    settled(config, left, &moves)?;
+    settled(config, &mut change, &moves)?;
     Ok(None)
 }
 

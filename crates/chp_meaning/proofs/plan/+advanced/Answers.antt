@@ -1,19 +1,23 @@
-use Rattle.std.proofs.Common.{rules, ap, ◌∙◌, arith}
+use Rattle.std.proofs.Common.{rules, ap, refl, arith}
 use Rattle.std.proofs.lemmas.List.{get_or_read}
 use Rattle.width_check.specs.View.{process_of}
 use Rattle.chp_meaning.specs.declared.left.Left.{the_lemmas}
 use Rattle.chp_meaning.specs.Remaining.{several_of}
-use Rattle.chp_meaning.specs.AtOnce.{each_advanced, moves_of}
+use Rattle.chp_meaning.specs.Changes.{each_changed}
+use Rattle.chp_meaning.specs.AtOnce.{moves_of}
 use Rattle.chp_meaning.specs.Standing.{outset_of}
-use Rattle.chp_meaning.proofs.Rows.{front}
-use Rattle.chp_meaning.proofs.Planning.{inner_remains, carries_part, remains_start, remains_more, remains_next, moves_append, told_start, told_more, lefts_more, lefts_end}
+use Rattle.chp_meaning.proofs.Changing.{change_more, done_more, change_end}
+use Rattle.chp_meaning.proofs.Planning.{inner_remains, carries_part, remains_start, remains_more, remains_next, moves_append, told_start, told_more}
 use Rattle.chp_meaning.proofs.plan.+advanced.Goals as goal
 
 pub advanced-requires : goal.advanced-requires
 advanced-requires t c =
     let r = inner_remains c.args.left.now c.in-Inside.index c.in-Inside.inner _ c.in-Inside.is c.requires.remains in (
       search (rules, the_lemmas, get_or_read),
-      (rw (c.part.ensures, c.deref.ensures) r.1, rw c.part.ensures (carries_part c.args.config.now _ c.in-Inside.index r.0 c.requires.numbers)),
+      (
+        rw (c.part.ensures, c.deref.ensures) r.1,
+        (rw c.part.ensures (carries_part c.args.config.now _ c.in-Inside.index r.0 c.requires.numbers), c.requires.stays),
+      ),
     )
 
 pub advanced-requires-in-loop-index : goal.advanced-requires-in-loop-index
@@ -24,8 +28,11 @@ advanced-requires-in-loop-index t c =
       search (rules, the_lemmas, get_or_read),
       (
         rw c.part-in-loop-index.ensures more.0,
-        rw c.part-in-loop-index.ensures
-            (carries_part c.args.config.now p c.loop-index.index (omega (arith, c.loop-index-test.true, c.loop-index.invariant.count)) c.requires.numbers),
+        (
+          rw c.part-in-loop-index.ensures
+              (carries_part c.args.config.now p c.loop-index.index (omega (arith, c.loop-index-test.true, c.loop-index.invariant.count)) c.requires.numbers),
+          c.loop-index.invariant.stays,
+        ),
       ),
     )
 
@@ -37,7 +44,9 @@ loop-index-init t c =
     let o = outset_of c.args.config.now in
     let start = remains_start c.args.left.now c.in-Branches.lefts xs p c.in-Branches.is same c.requires.remains in
     record {
-      lefts = ap (λ ls. front ls (each_advanced o p 0 (several_of xs))) c.new-next.ensures.items;
+      changes = ap (λ cs. each_changed cs (several_of xs)) c.new-changes.ensures.items;
+      done = refl;
+      stays = refl;
       moves = told_start (moves_of o) p c.args.left.now c.in-Branches.lefts xs c.args.moves.now.items c.in-Branches.is same;
       remains = start.1;
       count = start.0;
@@ -50,9 +59,13 @@ loop-index-preserved t c =
     let o = outset_of c.args.config.now in
     let i = c.loop-index.index in
     let kept = c.loop-index.invariant in
+    let is = rw c.part-in-loop-index.ensures at c.in_ok-advanced-in-Branches.ensures.left in
     record {
-      lefts = rw c.in_ok-push-in-Branches.ensures.items (lefts_more o p xs i _ c.loop-index.next.items _ _ c.loop-index-test.true c.left-item.is
-          (rw c.part-in-loop-index.ensures at c.in_ok-advanced-in-Branches.ensures.left) kept.lefts);
+      changes = change_more o p xs i _ c.loop-index.changes.items c.add.new.changes.items c.advanced-in-loop-index.new.change c.loop-index-test.true
+          c.left-item.is is c.in_ok-add-in-Branches.ensures.added kept.changes;
+      done = done_more o p xs i _ c.advanced-in-loop-index.new.change c.loop-index.all_done c.ends-all_done.result _ c.loop-index-test.true c.left-item.is is
+          c.ends-all_done.ensures refl kept.done;
+      stays = c.add.ensures.stays;
       moves = told_more (moves_of o) (moves_append o) p xs i _ c.loop-index.moves.items _ _ c.loop-index-test.true c.left-item.is
           (rw c.part-in-loop-index.ensures at c.in_ok-advanced-in-Branches.ensures.moves) kept.moves;
       remains = remains_next p xs i _ c.loop-index-test.true c.left-item.is kept.remains;
@@ -61,5 +74,6 @@ loop-index-preserved t c =
 
 pub returns-after-loop-index-clause-left : goal.returns-after-loop-index-clause-left
 returns-after-loop-index-clause-left t c =
-    c.together.ensures ∙ lefts_end (outset_of c.args.config.now) (process_of c.args.stmt.now) c.args.left.now c.in-Branches.lefts c.deref-left-items.result.now
-    c.loop-index.index c.loop-index.next.items c.in-Branches.is c.deref-left-items.ensures.value c.loop-index-test.false c.loop-index.invariant.lefts
+    change_end (outset_of c.args.config.now) (process_of c.args.stmt.now) c.args.left.now c.in-Branches.lefts c.deref-left-items.result.now c.loop-index.index
+    c.loop-index.changes.items c.loop-index.all_done c.set_branches.new.change c.in-Branches.is c.deref-left-items.ensures.value c.loop-index-test.false
+    c.set_branches.ensures c.loop-index.invariant.changes c.loop-index.invariant.done
