@@ -27,9 +27,11 @@ in_same f g e (within k r) = refl
 in_same f g e (alongside rs) = ap alongside (e rs)
 
 pub branches_change : (v : Vec BranchChange Global) (r : Remains) → changed (Branches v) r ≡ in_branches (each_changed v.items) r
-branches_change v r = in_same (row_changed (hidden-the_row-BranchChange-0 v)) (each_changed v.items) (λ rs. row_is (hidden-the_row-BranchChange-0 v) rs ∙ ap (λ cs. each_changed cs rs) (items_hidden-the_row-BranchChange-0 v)) r
+branches_change v r = in_same (row_changed (hidden-the_row-BranchChange-0 v)) (each_changed v.items)
+    (λ rs. row_is (hidden-the_row-BranchChange-0 v) rs ∙ ap (λ cs. each_changed cs rs) (items_hidden-the_row-BranchChange-0 v)) r
 
-pub each_push : (cs : List BranchChange) (c : BranchChange) (rs : Several) → each_changed (cs ++ c ∷ []) rs ≡ altered (each_changed cs rs) c.number (changed c.change)
+pub each_push : (cs : List BranchChange) (c : BranchChange) (rs : Several) →
+    each_changed (cs ++ c ∷ []) rs ≡ altered (each_changed cs rs) c.number (changed c.change)
 each_push [] c rs = refl
 each_push (d ∷ cs) c rs = each_push cs c (altered rs d.number (changed d.change))
 
@@ -51,11 +53,13 @@ first_over o p k (suc n) no_more = true
 first_over o p k (suc n) (and_left r rest) = none_remains (advanced o (part_of p k) r) && first_over o p (suc k) n rest
 
 advanced_more : (o : Outset) (p : Process) (k n m : ℕ) (xs : List Left) (x : Left) (f : Remains → Remains) → n < length xs → x ≡ get_or xs n x → m ≡ k + n →
-    f (remains_of x) ≡ advanced o (part_of p m) (remains_of x) → altered (first_advanced o p k n (several_of xs)) n f ≡ first_advanced o p k (suc n) (several_of xs)
+    f (remains_of x) ≡ advanced o (part_of p m) (remains_of x) →
+    altered (first_advanced o p k n (several_of xs)) n f ≡ first_advanced o p k (suc n) (several_of xs)
 advanced_more o p k n m [] x f lt at e is = absurd (omega (arith, lt))
 advanced_more o p k zero m (y ∷ xs) x f lt at e is =
     let same : m ≡ k = omega (arith, e) in
-    ap (λ r. and_left r (several_of xs)) (ap (λ l. f (remains_of l)) (sym at) ∙ (is ∙ (ap (λ i. advanced o (part_of p i) (remains_of x)) same ∙ ap (λ l. advanced o (part_of p k) (remains_of l)) at)))
+    ap (λ r. and_left r (several_of xs)) (ap (λ l. f (remains_of l)) (sym at)
+    ∙ (is ∙ (ap (λ i. advanced o (part_of p i) (remains_of x)) same ∙ ap (λ l. advanced o (part_of p k) (remains_of l)) at)))
 advanced_more o p k (suc n) m (y ∷ xs) x f lt at e is =
     ap (and_left (advanced o (part_of p k) (remains_of y))) (advanced_more o p (suc k) n m xs x f (omega (arith, lt)) at (omega (arith, e)) is)
 
@@ -76,15 +80,18 @@ over_more o p k zero m (y ∷ xs) x lt at e =
     ∙ (ap (λ i. none_remains (advanced o (part_of p i) (remains_of y))) same ∙ ap (λ l. none_remains (advanced o (part_of p m) (remains_of l))) (sym at))
 over_more o p k (suc n) m (y ∷ xs) x lt at e =
     ap (λ b. none_remains (advanced o (part_of p k) (remains_of y)) && b) (over_more o p (suc k) n m xs x (omega (arith, lt)) at (omega (arith, e)))
-    ∙ and_assoc (none_remains (advanced o (part_of p k) (remains_of y))) (first_over o p (suc k) n (several_of xs)) (none_remains (advanced o (part_of p m) (remains_of x)))
+    ∙ and_assoc (none_remains (advanced o (part_of p k) (remains_of y))) (first_over o p (suc k) n (several_of xs))
+    (none_remains (advanced o (part_of p m) (remains_of x)))
 
-advanced_all : (o : Outset) (p : Process) (k n : ℕ) (xs : List Left) → length xs ≤ n → first_advanced o p k n (several_of xs) ≡ each_advanced o p k (several_of xs)
+advanced_all : (o : Outset) (p : Process) (k n : ℕ) (xs : List Left) → length xs ≤ n →
+    first_advanced o p k n (several_of xs) ≡ each_advanced o p k (several_of xs)
 advanced_all o p k zero [] le = refl
 advanced_all o p k zero (x ∷ xs) le = absurd (omega (arith, le))
 advanced_all o p k (suc n) [] le = refl
 advanced_all o p k (suc n) (x ∷ xs) le = ap (and_left (advanced o (part_of p k) (remains_of x))) (advanced_all o p (suc k) n xs (omega (arith, le)))
 
-over_all : (o : Outset) (p : Process) (k n : ℕ) (xs : List Left) → length xs ≤ n → first_over o p k n (several_of xs) ≡ all_over (each_advanced o p k (several_of xs))
+over_all : (o : Outset) (p : Process) (k n : ℕ) (xs : List Left) → length xs ≤ n →
+    first_over o p k n (several_of xs) ≡ all_over (each_advanced o p k (several_of xs))
 over_all o p k zero [] le = refl
 over_all o p k zero (x ∷ xs) le = absurd (omega (arith, le))
 over_all o p k (suc n) [] le = refl

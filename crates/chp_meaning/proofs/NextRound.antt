@@ -269,8 +269,8 @@ held_passed (w ∷ ms) hs below =
     let next = held_passed ms (passed hs w) (λ u i. subst (λ n. is_below n u.pass ≡ true) (sym (passed_length hs w.pass)) (below u (inr i))) in
     omega (arith, next, one_held hs w.pass (below w (inl refl)), sum_by-cons (λ (x : Move). cond (is_some x.pass) 1 0) w ms)
 
-pub settled_held : (body : Process) (c d : Config) (left : Remains) (moves : List Move) → IsStanding body c → IsPlan body c left moves → HaveMoved c d left moves →
-    held_values (histories_of d) ≡ held_values (histories_of c) + passing moves
+pub settled_held : (body : Process) (c d : Config) (left : Remains) (moves : List Move) → IsStanding body c → IsPlan body c left moves →
+    HaveMoved c d left moves → held_values (histories_of d) ≡ held_values (histories_of c) + passing moves
 settled_held body c d left moves s p t =
     ap held_values t.histories ∙ held_passed moves (histories_of c) (λ w i.
     let j = subst (λ (ms : List Move). In ms w) p.moves_are i in

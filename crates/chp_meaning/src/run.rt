@@ -55,8 +55,8 @@ fn planned(
     body: &TStmt,
 ) -> Result<(Change, Vec<Move>), AllocError>
     requires { IsStanding (process_of body.now) config.old }
-    ensures plan { IfOk result (λ plan. IsPlan (process_of body.now) config.old (changed plan.0 (remains_of config.old.left))
-        plan.1.items) }
+    ensures plan { IfOk result (λ plan.
+        IsPlan (process_of body.now) config.old (changed plan.0 (remains_of config.old.left)) plan.1.items) }
     ensures unchanged { IsUnchanged config.old config.new }
 {
     note(
@@ -80,7 +80,8 @@ fn planned(
 /// Makes the round of a plan. Where memory runs out nothing is changed.
 fn settled(config: &mut Config, change: &mut Change, moves: &[Move]) -> Result<(), AllocError>
     requires { AreWithin config.old moves.now }
-    ensures ok { OnOk result (HaveMoved config.old config.new (changed change.old (remains_of config.old.left)) moves.now) }
+    ensures ok { OnOk result
+        (HaveMoved config.old config.new (changed change.old (remains_of config.old.left)) moves.now) }
     ensures err { OnErr result (IsUnchanged config.old config.new) }
 {
     pass_all(&mut config.histories, moves)?;

@@ -22,7 +22,8 @@ apply-requires-then-branch-len t c =
     let lt : i < length xs = omega (arith, c.loop-branch-test.true, c.loop-branch.auto.branch-items) in
     let there : c.deref_mut-branch-items.result.now ≡ all = c.deref_mut-branch-items.ensures.value
     ∙ ap (λ (v : Vec BranchChange Global). v.items) c.in-Branches.changes-is in
-    let same : get_or xs i d ≡ get_or all i d = item_is xs c.deref_mut-branch-items.result.now i d lt c.loop-branch.auto.branch-items c.loop-branch.invariant.rest
+    let same : get_or xs i d ≡ get_or all i d =
+    item_is xs c.deref_mut-branch-items.result.now i d lt c.loop-branch.auto.branch-items c.loop-branch.invariant.rest
     ∙ ap (λ ys. get_or ys i d) there in
     let within : i < length all = subst (λ (ys : List BranchChange). i < length ys) there c.loop-branch-test.true in
     (search (rules, the_lemmas, get_or_read, same, within), tt)
@@ -51,7 +52,8 @@ loop-branch-preserved t c =
           let past : length ls ≤ x.number = omega (arith, w.if-branch-len.false, c.len.ensures, c.loop-branch.lefts.ok.0) in
           rw (w.lefts-is, w.branch-items-is) (record {
             rest = rest_set xs ys i d _ lt len c.loop-branch.invariant.rest;
-            changes = branch_made ys i d x ls ls _ c.loop-branch-test.true at (altered_past ls x.number (changed x.change) past) c.loop-branch.invariant.changes;
+            changes = branch_made ys i d x ls ls _ c.loop-branch-test.true at (altered_past ls x.number (changed x.change) past)
+                c.loop-branch.invariant.changes;
           })
     ]
 
