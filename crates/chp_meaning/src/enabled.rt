@@ -14,7 +14,7 @@ ghost use Rattle.chp_meaning.specs.Ends.{seen, IsOf};
 use crate::config::Config;
 use crate::effect::{TrueGuards, chosen, ending};
 use crate::left::{Left, part};
-use crate::plan::note;
+use crate::plan::{clear, note};
 use std::alloc::{AllocError, Global};
 use width_check::{TStmt, Typed};
 
@@ -98,7 +98,7 @@ fn steps_of<'p>(
         (statements (process_of body.now) (remains_of config.old.left))) }
     ensures unchanged { IsUnchanged config.old config.new }
 {
-    note(
+    let passed = note(
         &config.left,
         body,
         true,
@@ -106,10 +106,10 @@ fn steps_of<'p>(
         &mut config.receives,
     );
     let steps = listed_steps(alloc, config, body);
-    note(
+    clear(
         &config.left,
         body,
-        false,
+        passed,
         &mut config.sends,
         &mut config.receives,
     );

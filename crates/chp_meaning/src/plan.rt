@@ -1,6 +1,6 @@
 //! The plan of a round: each step that is enabled at its start, once.
 
-ghost use Rattle.std.specs.Prelude.{◌≡◌, ◌++◌, length, fold, option_to_list, IfOk, OnOk};
+ghost use Rattle.std.specs.Prelude.{◌≡◌, ◌++◌, length, replicate, fold, option_to_list, true, false, None, IfOk, OnOk};
 ghost use Rattle.width_check.specs.View.{process_of};
 ghost use Rattle.chp_meaning.specs.Remaining.{remains_of, whole, CanRemain, RunsOn, HasMembers};
 ghost use Rattle.chp_meaning.specs.declared.change.Change.{Stays};
@@ -15,14 +15,15 @@ use crate::left::{Left, part};
 use std::alloc::{AllocError, Global};
 use width_check::TStmt;
 
-/// Records at each channel which ends of it wait in what is left of the statement, or that none does.
+/// Records at each channel which ends of it wait in what is left of the statement, or that none does. Returns how many
+/// active statements it has passed.
 pub(crate) fn note(
     left: &Left,
     stmt: &TStmt,
     waits: bool,
     sends: &mut [bool],
     receives: &mut [Option<u32>],
-)
+) -> usize
     requires remains { CanRemain (process_of stmt.now) (remains_of left.now) }
     requires channels { RunsOn (length sends.old) (process_of stmt.now) }
     requires tables { length receives.old ≡ length sends.old }
@@ -32,20 +33,58 @@ pub(crate) fn note(
         fold (noted_receive waits) receives.old (statements (process_of stmt.now) (remains_of left.now)) }
 {
     match left {
-        Left::Done => {}
-        Left::Whole => match stmt {
-            TStmt::Send { chan, .. } => sends[*chan as usize] = waits,
-            TStmt::Receive { chan, var, .. } => {
-                receives[*chan as usize] = if waits { Some(*var) } else { None };
+        Left::Done => 0,
+        Left::Whole => {
+            match stmt {
+                TStmt::Send { chan, .. } => sends[*chan as usize] = waits,
+                TStmt::Receive { chan, var, .. } => {
+                    receives[*chan as usize] = if waits { Some(*var) } else { None };
+                }
+                _ => {}
             }
-            _ => {}
-        },
+            1
+        }
         Left::Inside { index, inner } => note(inner, part(stmt, *index), waits, sends, receives),
         Left::Branches { lefts } => {
+            let mut passed: usize = 0;
             for (index, left) in lefts.iter().enumerate() {
-                note(left, part(stmt, index), waits, sends, receives);
+                passed = passed.saturating_add(note(
+                    left,
+                    part(stmt, index),
+                    waits,
+                    sends,
+                    receives,
+                ));
             }
+            passed
         }
+    }
+}
+
+/// Clears the tables, where the ends that wait in what is left of the statement are noted. Passing so many active
+/// statements once more costs more than whole tables that have no more entries.
+pub(crate) fn clear(
+    left: &Left,
+    stmt: &TStmt,
+    passed: usize,
+    sends: &mut [bool],
+    receives: &mut [Option<u32>],
+)
+    requires remains { CanRemain (process_of stmt.now) (remains_of left.now) }
+    requires channels { RunsOn (length sends.old) (process_of stmt.now) }
+    requires tables { length receives.old ≡ length sends.old }
+    requires sends { sends.old ≡ fold (noted_send true) (replicate (length sends.old) false)
+        (statements (process_of stmt.now) (remains_of left.now)) }
+    requires receives { receives.old ≡ fold (noted_receive true) (replicate (length receives.old) None)
+        (statements (process_of stmt.now) (remains_of left.now)) }
+    ensures sends { sends.new ≡ replicate (length sends.old) false }
+    ensures receives { receives.new ≡ replicate (length receives.old) None }
+{
+    if sends.len() <= passed {
+        sends.fill(false);
+        receives.fill(None);
+    } else {
+        note(left, stmt, false, sends, receives);
     }
 }
 

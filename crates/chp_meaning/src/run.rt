@@ -17,7 +17,7 @@ ghost use Rattle.chp_meaning.specs.Standing.{outset_of, histories_of, items_of, 
 use crate::change::{Change, apply};
 use crate::config::Config;
 use crate::effect::Move;
-use crate::plan::{advanced, note};
+use crate::plan::{advanced, clear, note};
 use crate::settle::{pass_all, use_all, write_all};
 use std::alloc::{AllocError, Global};
 use width_check::{TStmt, Typed};
@@ -59,7 +59,7 @@ fn planned(
         IsPlan (process_of body.now) config.old (changed plan.0 (remains_of config.old.left)) plan.1.items) }
     ensures unchanged { IsUnchanged config.old config.new }
 {
-    note(
+    let passed = note(
         &config.left,
         body,
         true,
@@ -67,10 +67,10 @@ fn planned(
         &mut config.receives,
     );
     let found = plan(alloc, config, body);
-    note(
+    clear(
         &config.left,
         body,
-        false,
+        passed,
         &mut config.sends,
         &mut config.receives,
     );

@@ -2,8 +2,18 @@ use Rattle.std.proofs.Common.{refl}
 use Rattle.width_check.specs.View.{process_of}
 use Rattle.chp_meaning.specs.Remaining.{remains_of}
 use Rattle.chp_meaning.specs.AtOnce.{statements}
-use Rattle.chp_meaning.proofs.Clearing.{sends_cleared, receives_cleared}
+use Rattle.chp_meaning.proofs.Clearing.{sends_found, receives_found, sends_cleared, receives_cleared}
 use Rattle.chp_meaning.proofs.run.planned.Goals as goal
+
+pub clear-requires-clause-sends : goal.clear-requires-clause-sends
+clear-requires-clause-sends c =
+    sends_found c.args.config.now.sends _ _ _ _ (statements (process_of c.args.body.now) (remains_of c.args.config.now.left)) c.requires.sends
+    c.deref_mut.ensures.value c.note-passed.ensures.sends c.deref_mut-3.ensures.value
+
+pub clear-requires-clause-receives : goal.clear-requires-clause-receives
+clear-requires-clause-receives c =
+    receives_found c.args.config.now.receives _ _ _ _ (statements (process_of c.args.body.now) (remains_of c.args.config.now.left)) c.requires.receives
+    c.deref_mut-2.ensures.value c.note-passed.ensures.receives c.deref_mut-4.ensures.value
 
 pub returns-clause-unchanged : goal.returns-clause-unchanged
 returns-clause-unchanged c = record {
@@ -12,7 +22,7 @@ returns-clause-unchanged c = record {
   rests = refl;
   histories = refl;
   sends = sends_cleared c.args.config.now.sends _ _ _ _ _ (statements (process_of c.args.body.now) (remains_of c.args.config.now.left)) c.requires.sends
-      c.deref_mut.ensures.value c.note.ensures.sends c.deref_mut-3.ensures.value c.note-2.ensures.sends;
+      c.deref_mut.ensures.value c.note-passed.ensures.sends c.deref_mut-3.ensures.value c.clear.ensures.sends;
   receives = receives_cleared c.args.config.now.receives _ _ _ _ _ (statements (process_of c.args.body.now) (remains_of c.args.config.now.left))
-      c.requires.receives c.deref_mut-2.ensures.value c.note.ensures.receives c.deref_mut-4.ensures.value c.note-2.ensures.receives;
+      c.requires.receives c.deref_mut-2.ensures.value c.note-passed.ensures.receives c.deref_mut-4.ensures.value c.clear.ensures.receives;
 }
