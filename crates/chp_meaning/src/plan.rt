@@ -1,6 +1,6 @@
 //! The plan of a round: each step that is enabled at its start, once.
 
-ghost use Rattle.std.specs.Prelude.{◌≡◌, ◌++◌, length, replicate, fold, option_to_list, true, false, None, IfOk, OnOk};
+ghost use Rattle.std.specs.Prelude.{◌≡◌, ◌++◌, length, replicate, fold, option_to_list, true, false, None, OnOk};
 ghost use Rattle.width_check.specs.View.{process_of};
 ghost use Rattle.chp_meaning.specs.Remaining.{remains_of, whole, CanRemain, RunsOn, HasMembers};
 ghost use Rattle.chp_meaning.specs.declared.change.Change.{Stays};
