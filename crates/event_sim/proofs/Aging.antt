@@ -1,14 +1,14 @@
 -- Ages: what one more pick makes of them, and the first of the oldest and of the newest.
 use Rattle.std.proofs.Common.{◌≡◌, ℕ, zero, suc, ◌+◌, ◌-◌, ◌*◌, ◌^◌, ◌<◌, ◌≤◌, Bool, true, false, List, [], ◌∷◌, length, get_or, map, replicate, refl, sym, ap, subst, ◌∙◌, inl, inr, arith}
-use Rattle.std.specs.Prelude.{◌⊎◌, ◌==◌, nat_le, if◌then◌else◌, slice_index, All}
+use Rattle.std.specs.Prelude.{◌⊎◌, ◌==◌, nat_le, if◌then◌else◌, slice_index, All, AllPairs}
 use Rattle.std.specs.List.{list_any, list_all, position_or_len, range_with_len}
 use Rattle.std.proofs.lemmas.Bool.{and_right, le-leb, lt-leb, eqb-true, cases_eq, cases_lt}
 use Rattle.std.proofs.lemmas.List.{get_or-map, get_or_default}
 use Rattle.std.proofs.lemmas.List.Folds.{Any-from_list_any}
 use Rattle.std.proofs.lemmas.List.FromFn.{fill_by_all, get_or-map-range_with_len, length-map-range_with_len}
-use Rattle.event_sim.specs.Ages.{age_at, ages_at, aged, age_rank, IsByAge, first_greatest, first_least}
+use Rattle.event_sim.specs.Ages.{age_at, ages_at, aged, age_rank, IsByAge, IsPlaceOfNewest, first_greatest, first_least}
 use Rattle.event_sim.specs.Picking.{IsChoiceList}
-use Rattle.event_sim.proofs.Present.{IsAt, IsOnTheWay, any_in}
+use Rattle.event_sim.proofs.Present.{IsAt, IsOnTheWay, any_in, all_older}
 
 -- where a list has a number
 found : (xs : List ℕ) (n : ℕ) → list_any (λ m. m == n) xs ≡ true → IsAt xs n
@@ -173,9 +173,7 @@ module _ (now : ℕ) (since list order : List ℕ) (kept : IsByAge now since lis
           kept.ascending k place 0 less place_in,
         ))
 
-  module _ (first : ℕ) (older : (p : ℕ) → p < first → age_rank since (get_or order p 0) < 2 ^ 32 * get_or since (get_or order (length order - 1) 0) 0 + 0)
-      (others : (p : ℕ) → first ≤ p → p < length order → 2 ^ 32 * get_or since (get_or order (length order - 1) 0) 0 + 0 ≤ age_rank since (get_or order p 0))
-      (first_in : first < length order) (here : get_or list place 0 ≡ get_or order first 0) where
+  module _ (first : ℕ) (newest : IsPlaceOfNewest since order first) (here : get_or list place 0 ≡ get_or order first 0) where
     abbrev latest : ℕ
     latest = get_or since (get_or order (length order - 1) 0) 0
 
@@ -196,8 +194,9 @@ module _ (now : ℕ) (since list order : List ℕ) (kept : IsByAge now since lis
 
     its_since : get_or since (get_or list place 0) 0 ≡ latest
     its_since =
-        let least : latest ≤ get_or since (get_or order first 0) 0 = omega (arith, others first (omega arith) first_in, low_at first first_in) in
-        ap (λ n. get_or since n 0) here ∙ omega (arith, least, none_later first first_in)
+        let least : latest ≤ get_or since (get_or order first 0) 0 =
+        omega (arith, newest.others first (omega arith) newest.within, low_at first newest.within) in
+        ap (λ n. get_or since n 0) here ∙ omega (arith, least, none_later first newest.within)
 
     since_in : (k : ℕ) → k < length list → get_or since (get_or list k 0) 0 ≤ latest
     since_in k less = let at = kept.whole k less in subst (λ n. get_or since n 0 ≤ latest) at.2 (none_later at.0 at.1)
@@ -207,7 +206,7 @@ module _ (now : ℕ) (since list order : List ℕ) (kept : IsByAge now since lis
       where
         by_place : (p : ℕ) → p < length order → get_or order p 0 ≡ get_or list k 0 → (p < first) ⊎ (first ≤ p) → (first ≡ p) ⊎ (first ≡ p → ⊥) →
             get_or since (get_or list k 0) 0 < latest
-        by_place p within at (inl old) which = omega (arith, older p old, ap (age_rank since) at)
+        by_place p within at (inl old) which = omega (arith, newest.older p old, ap (age_rank since) at)
         by_place p within at (inr new) (inl same) =
             let equal : get_or order first 0 ≡ get_or order p 0 = ap (λ q. get_or order q 0) same in
             absurd (omega (arith, before, here, equal, at))
@@ -236,7 +235,7 @@ order_below now since list order kept = λ p d within.
     let at = kept.only p within in
     subst (λ n. n < length since) (at.2 ∙ get_or_default order p 0 d within) (kept.below at.0 0 at.1)
 
-pub first_within : (since order : List ℕ) (first last pick : ℕ) → first ≤ length order → 0 < length order → last ≡ get_or order (length order - 1) 0 →
+first_within : (since order : List ℕ) (first last pick : ℕ) → first ≤ length order → 0 < length order → last ≡ get_or order (length order - 1) 0 →
     pick ≡ get_or since last 0 → ((k : ℕ) → k < first → age_rank since (get_or order k 0) < 2 ^ 32 * pick + 0) → first < length order
 first_within since order first last pick within some is_last is_pick older = by_place (cases_lt first (length order))
   where
@@ -256,15 +255,63 @@ pub choice_is : (best : List ℕ → ℕ) (r : ℕ) (after before list given : L
 choice_is best r after before list given is same aging =
     is ∙ ap (λ (xs : List ℕ). best (map (slice_index after) xs)) same ∙ ap (λ (ages : List ℕ). best (map (slice_index ages) given)) aging
 
-pub newest_at : (now : ℕ) (since list order : List ℕ) (kept : IsByAge now since list order) (place : ℕ) → place < length list → (first last pick : ℕ) →
-    last ≡ get_or order (length order - 1) 0 → pick ≡ get_or since last 0 →
-    ((p : ℕ) → p < first → age_rank since (get_or order p 0) < 2 ^ 32 * pick + 0) →
-    ((p : ℕ) → first ≤ p → p < length order → 2 ^ 32 * pick + 0 ≤ age_rank since (get_or order p 0)) →
-    first < length order → get_or list place 0 ≡ get_or order first 0 → place ≡ first_least (map (slice_index (ages_at now since list)) list)
-newest_at now since list order kept place place_in first last pick is_last is_pick older others first_in here =
-    newest_is now since list order kept place place_in first
-    (subst (λ (n : ℕ). (p : ℕ) → p < first → age_rank since (get_or order p 0) < 2 ^ 32 * n + 0) same older)
-    (subst (λ (n : ℕ). (p : ℕ) → first ≤ p → p < length order → 2 ^ 32 * n + 0 ≤ age_rank since (get_or order p 0)) same others) first_in here
-  where
-    same : pick ≡ get_or since (get_or order (length order - 1) 0) 0
-    same = is_pick ∙ ap (λ (n : ℕ). get_or since n 0) is_last
+-- the place of the newest, where the last node is known
+module _ (since order : List ℕ) (end last : ℕ) (few : length since < 2 ^ 32) (below : All (λ n. n < length since) order)
+    (ranked : AllPairs (λ (a b : ℕ). age_rank since a < age_rank since b) order) (end_is : end + 1 ≡ length order) (is_last : last ≡ get_or order end 0) where
+  latest_is : get_or since last 0 ≡ get_or since (get_or order (length order - 1) 0) 0
+  latest_is =
+      let same : end ≡ length order - 1 = omega (arith, end_is) in
+      ap (λ n. get_or since n 0) (is_last ∙ ap (λ k. get_or order k 0) same)
+
+  abbrev AllFrom : ℕ → Type 0
+  AllFrom place = (k : ℕ) → place ≤ k → k < length order → 2 ^ 32 * get_or since last 0 ≤ age_rank since (get_or order k 0)
+
+  pub last_alone : AllFrom end
+  last_alone k past within =
+      let same : k ≡ end = omega (arith, past, within, end_is) in
+      let here : get_or order k 0 ≡ last = ap (λ p. get_or order p 0) same ∙ sym is_last in
+      omega (arith, ap (age_rank since) here)
+
+  pub one_earlier : (place node : ℕ) → 0 < place → node ≡ get_or order (place - 1) 0 → get_or since last 0 ≤ get_or since node 0 → AllFrom place →
+      AllFrom (place - 1)
+  one_earlier place node some is_node as_new from k past within = by_place (cases_eq k (place - 1))
+    where
+      by_place : (k ≡ place - 1) ⊎ (k ≡ place - 1 → ⊥) → 2 ^ 32 * get_or since last 0 ≤ age_rank since (get_or order k 0)
+      by_place (inl same) =
+          let here : node ≡ get_or order k 0 = is_node ∙ ap (λ p. get_or order p 0) (sym same) in
+          omega (arith, as_new, ap (age_rank since) here)
+      by_place (inr other) = from k (omega (arith, past)) within
+
+  pub found_newest : (place node : ℕ) → 0 < place → place ≤ end → node ≡ get_or order (place - 1) 0 → get_or since node 0 < get_or since last 0 →
+      AllFrom place → IsPlaceOfNewest since order place
+  found_newest place node some within is_node is_before from = record {
+    within = omega (arith, within, end_is);
+    older = λ k less.
+        subst (λ (n : ℕ). age_rank since (get_or order k 0) < 2 ^ 32 * n) latest_is
+        (all_older since order (place - 1) (2 ^ 32 * get_or since last 0) ranked inner lower k (omega (arith, less, some)));
+    others = λ k past less. subst (λ (n : ℕ). 2 ^ 32 * n ≤ age_rank since (get_or order k 0)) latest_is (from k past less);
+  }
+    where
+      inner : place - 1 < length order
+      inner = omega (arith, within, end_is)
+
+      lower : age_rank since (get_or order (place - 1) 0) < 2 ^ 32 * get_or since last 0
+      lower =
+          let earlier : get_or since (get_or order (place - 1) 0) 0 < get_or since last 0 =
+          subst (λ n. get_or since n 0 < get_or since last 0) is_node is_before in
+          omega (arith, earlier, below (place - 1) 0 inner, few)
+
+  pub counted_newest : (first : ℕ) → first ≤ length order →
+      ((k : ℕ) → k < first → age_rank since (get_or order k 0) < 2 ^ 32 * get_or since last 0 + 0) →
+      ((k : ℕ) → first ≤ k → k < length order → 2 ^ 32 * get_or since last 0 + 0 ≤ age_rank since (get_or order k 0)) →
+      IsPlaceOfNewest since order first
+  counted_newest first within older others = record {
+    within = first_within since order first last (get_or since last 0) within (omega (arith, end_is)) is_last_of refl older;
+    older = λ k less. let is = older k less in omega (arith, is, latest_is);
+    others = λ k past less. let is = others k past less in omega (arith, is, latest_is);
+  }
+    where
+      is_last_of : last ≡ get_or order (length order - 1) 0
+      is_last_of =
+          let same : end ≡ length order - 1 = omega (arith, end_is) in
+          is_last ∙ ap (λ k. get_or order k 0) same

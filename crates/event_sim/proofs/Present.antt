@@ -6,7 +6,7 @@ use Rattle.std.specs.Ordering.{nat_cmp}
 use Rattle.std.proofs.lemmas.List.Sorted.{searched}
 use Rattle.std.specs.List.{list_any, remove}
 use Rattle.std.proofs.lemmas.Bool.{eq-eqb, eqb-true, ne_eqb, or_from, cases_eq, cases_lt}
-use Rattle.std.proofs.lemmas.List.{get_or-set_same, get_or-set_other, get_or_append_left, get_or_push, get_or_default, get_or-take, get_or-drop, length-set, length_push}
+use Rattle.std.proofs.lemmas.List.{get_or-set_same, get_or-set_other, get_or_append_left, get_or_push, get_or_default, get_or-take, get_or-drop, length-set, length-take, length-drop, length_push}
 use Rattle.std.proofs.Math.Seq.{take-append_seam}
 use Rattle.std.proofs.lemmas.List.Edits.{length-remove, get_or-remove_below, get_or-remove_above}
 use Rattle.std.proofs.lemmas.List.Folds.{list_any_at}
@@ -70,7 +70,7 @@ pick_false : (b : Bool) (x y : ℕ) → b ≡ false → y ≡ (if b then x else 
 pick_false true x y off = absurd (cc off)
 pick_false false x y off = refl
 
-pub started : (now : ℕ) (was list before order : List ℕ) → IsByAge now before was order → IsOnTheWay now 0 0 was list before before order
+started : (now : ℕ) (was list before order : List ℕ) → IsByAge now before was order → IsOnTheWay now 0 0 was list before before order
 started now was list before order kept = record {
   left_in = omega arith;
   done_in = omega arith;
@@ -167,6 +167,14 @@ module _ (now left done run : ℕ) (was list before since order : List ℕ) (was
     ages_list = stays_ages;
     ages_was = λ k past within. way.ages_was k (omega arith) within;
   }
+
+-- the beginning stays
+pub started_at : (now n : ℕ) (was list before order : List ℕ) → IsByAge now before was order → AllPairs (λ (a b : ℕ). a < b) list →
+    AreEqualFrom was 0 list 0 n → IsOnTheWay now n n was list before before order
+started_at now n was list before order kept list_up same =
+    let all : 0 + n ≡ n = omega arith in
+    subst (λ (k : ℕ). IsOnTheWay now k k was list before before order) all
+    (stayed now 0 0 n was list before before order kept.ascending list_up (started now was list before order kept) same)
 
 -- a node leaves
 module _ (now left done : ℕ) (was list before since order : List ℕ) (was_up : AllPairs (λ (a b : ℕ). a < b) was)
@@ -549,6 +557,53 @@ group_same was list left done run n so_far was_in list_in equal = record {
         let short : i < n = omega (arith, less) in
         sym (ap (λ k. get_or was k 0) was_at) ∙ sym (entry was (left + run) i short) ∙ ap (λ xs. get_or xs i 0) equal ∙ entry list (done + run) i short
         ∙ ap (λ k. get_or list k 0) list_at
+
+pub none_same : (was list : List ℕ) (left done : ℕ) → left ≤ length was → done ≤ length list → AreEqualFrom was left list done 0
+none_same was list left done was_in list_in = record {
+  left_in = omega (arith, was_in);
+  done_in = omega (arith, list_in);
+  same = λ a b past less aligned. absurd (omega (arith, past, less));
+}
+
+-- so many nodes at the beginning, and all that are left
+range_same : (was list : List ℕ) (left a done b n : ℕ) → left + n ≡ a → done + n ≡ b → a ≤ length was → b ≤ length list →
+    slice_range was left a ≡ slice_range list done b → AreEqualFrom was left list done n
+range_same was list left a done b n a_is b_is was_in list_in equal = record {
+  left_in = omega (arith, a_is, was_in);
+  done_in = omega (arith, b_is, list_in);
+  same = λ x y past less aligned.
+      let i : ℕ = x - left in
+      let was_at : left + i ≡ x = omega arith in
+      let list_at : done + i ≡ y = omega (arith, aligned) in
+      sym (ap (λ k. get_or was k 0) was_at) ∙ sym (entry was left a i (omega (arith, less, a_is))) ∙ ap (λ xs. get_or xs i 0) equal
+      ∙ entry list done b i (omega (arith, less, b_is)) ∙ ap (λ k. get_or list k 0) list_at;
+}
+  where
+    entry : (xs : List ℕ) (from to i : ℕ) → from + i < to → get_or (slice_range xs from to) i 0 ≡ get_or xs (from + i) 0
+    entry xs from to i less =
+        let short : i < to - from = omega (arith, less) in
+        get_or-take (to - from) (drop from xs) i 0 short ∙ get_or-drop from xs i 0
+
+pub start_same : (was list : List ℕ) (n : ℕ) → n ≤ length was → n ≤ length list → take n was ≡ take n list → AreEqualFrom was 0 list 0 n
+start_same was list n was_in list_in equal = record {
+  left_in = omega (arith, was_in);
+  done_in = omega (arith, list_in);
+  same = λ a b past less aligned.
+      let short : a < n = omega (arith, less) in
+      let same : a ≡ b = omega (arith, aligned) in
+      sym (get_or-take n was a 0 short) ∙ ap (λ xs. get_or xs a 0) equal ∙ get_or-take n list a 0 short ∙ ap (λ k. get_or list k 0) same;
+}
+
+pub rest_same : (was list : List ℕ) (left done : ℕ) → left ≤ length was → done ≤ length list →
+    slice_range was left (length was) ≡ slice_range list done (length list) → AreEqualFrom was left list done (length was - left)
+rest_same was list left done was_in list_in equal =
+    range_same was list left (length was) done (length list) (length was - left) (omega arith) (omega (arith, long)) (omega arith) (omega arith) equal
+  where
+    whole : (xs : List ℕ) (from : ℕ) → from ≤ length xs → length (slice_range xs from (length xs)) ≡ length xs - from
+    whole xs from within = omega (arith, length-take (length xs - from) (drop from xs), length-drop from xs)
+
+    long : length was - left ≡ length list - done
+    long = sym (whole was left was_in) ∙ ap length equal ∙ whole list done list_in
 
 pub number_decides : (a b : ℕ) → Decides (nat_eq a b) (a ≡ b)
 number_decides a b = (eqb-true a b, eq-eqb a b)

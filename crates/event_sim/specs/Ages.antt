@@ -1,6 +1,7 @@
 -- How long nodes have been in the lists of a scheduler, and which of them is the oldest or the newest.
 use Rattle.std.specs.Prelude.{◌≡◌, ℕ, ◌+◌, ◌-◌, ◌*◌, ◌^◌, ◌<◌, ◌≤◌, nat_le, ◌==◌, if◌then◌else◌, List, length, map, slice_index, All, AllPairs, Option, vec_capacity}
 use Rattle.std.specs.List.{list_any, list_all, position_or_len, range_with_len}
+use Rattle.std.specs.VecDeque.{deque_capacity}
 use Rattle.event_sim.specs.declared.ages.Presence.{Presence}
 
 -- the age of a node, where so many picks were made: how many picks ago its presence in the lists began, if it is in the
@@ -43,17 +44,25 @@ pub record IsByAge (now : ℕ) (since list order : List ℕ) : Type 0 where
   pub only : (p : ℕ) → p < length order → (k : ℕ) × (k < length list) × (slice_index list k ≡ slice_index order p)
   pub count : length order ≡ length list
 
+-- the place in an order of the first node whose presence began no earlier than that of the last one
+pub record IsPlaceOfNewest (since order : List ℕ) (place : ℕ) : Type 0 where
+  pub within : place < length order
+  pub older : (k : ℕ) → k < place
+      → age_rank since (slice_index order k) < 2 ^ 32 * slice_index since (slice_index order (length order - 1))
+  pub others : (k : ℕ) → place ≤ k → k < length order
+      → 2 ^ 32 * slice_index since (slice_index order (length order - 1)) ≤ age_rank since (slice_index order k)
+
 -- so it is kept, with room for any list
 pub record IsPresence (now : ℕ) (p : Presence) : Type 0 where
   pub by_age : IsByAge now p.since.items p.list.items p.order.items
   pub list_room : length p.since.items ≤ vec_capacity p.list
-  pub order_room : 2 * length p.since.items ≤ vec_capacity p.order
+  pub order_room : 2 * length p.since.items ≤ deque_capacity p.order
 
 -- room for lists of so many nodes
 pub record HasRoomForAges (count : ℕ) (p : Presence) : Type 0 where
   pub since : count ≤ vec_capacity p.since
   pub list : count ≤ vec_capacity p.list
-  pub order : 2 * count ≤ vec_capacity p.order
+  pub order : 2 * count ≤ deque_capacity p.order
 
 -- so many nodes from these places on are equal in two lists
 pub record AreEqualFrom (was : List ℕ) (left : ℕ) (list : List ℕ) (done : ℕ) (run : ℕ) : Type 0 where

@@ -1,14 +1,27 @@
 //! How long the nodes of a scheduler's lists have been in them.
 
-ghost use Rattle.std.specs.Prelude.{◌≡◌, ◌≢◌, ◌↔◌, ◌⊎◌, ◌+◌, ◌*◌, ◌^◌, ◌<◌, ◌≤◌, ◌∷◌, ◌++◌, ℕ, [], IsTrue, OnOk, All, AllPairs, length, replicate, slice_index, slice_set, map, vec_len, vec_capacity};
+ghost use Rattle.std.specs.Prelude.{◌≡◌, ◌≢◌, ◌↔◌, ◌⊎◌, ◌+◌, ◌*◌, ◌^◌, ◌<◌, ◌≤◌, ◌∷◌, ◌++◌, ℕ, [], IsTrue, OnOk, All, AllPairs, length, replicate, slice_index, slice_set, map, vec_capacity};
+ghost use Rattle.std.specs.VecDeque.{deque_len, deque_capacity};
 ghost use Rattle.std.specs.List.{remove};
-ghost use Rattle.event_sim.specs.Ages.{ages_at, aged, age_rank, IsByAge, HasRoomForAges, IsPresence, AreEqualFrom, first_greatest, first_least};
+ghost use Rattle.event_sim.specs.Ages.{ages_at, aged, age_rank, IsByAge, IsPlaceOfNewest, HasRoomForAges, IsPresence, AreEqualFrom, first_greatest, first_least};
 ghost use Rattle.event_sim.specs.Picking.{IsChoiceList};
 
 use std::alloc::{AllocError, Global};
+use std::collections::VecDeque;
 
 /// How many nodes are compared at once.
 const GROUP: usize = 32;
+
+/// How many of the newest nodes are looked through one by one.
+const FEW: usize = 8;
+
+/// Where a node stands: its index in the list, and its place in the order. A list mostly differs from the last one
+/// where the last choice stood, so a change is looked for there first, and elsewhere if it isn't there.
+#[derive(Clone, Copy)]
+pub(crate) struct Spot {
+    pub(crate) index: usize,
+    pub(crate) place: usize,
+}
 
 /// The last list of a scheduler, and its nodes once more, the oldest first, of equally old ones the least first. For
 /// each of them it also has the number of picks that were made before its presence in the lists began. So the time of
@@ -17,7 +30,7 @@ const GROUP: usize = 32;
 pub(crate) struct Presence {
     since: Vec<u64>,
     list: Vec<u32>,
-    order: Vec<u32>,
+    order: VecDeque<u32>,
 }
 
 /// Whether the first node is older, of equally old ones the lesser.
@@ -28,13 +41,13 @@ fn is_older(since: u64, node: u32, other_since: u64, other: u32) -> bool
 }
 
 /// How many nodes of the order are older than a node that is present since this pick.
-fn count_older(since: &[u64], order: &[u32], pick: u64, node: u32) -> usize
-    requires below { All (λ n. n < length since.now) order.now }
-    requires ranked { AllPairs (λ (a b : ℕ). age_rank since.now a < age_rank since.now b) order.now }
-    ensures within { result ≤ length order.now }
-    ensures older { (k : ℕ) → k < result → age_rank since.now (slice_index order.now k) < 2 ^ 32 * pick + node }
-    ensures others { (k : ℕ) → result ≤ k → k < length order.now
-        → 2 ^ 32 * pick + node ≤ age_rank since.now (slice_index order.now k) }
+fn count_older(since: &[u64], order: &VecDeque<u32>, pick: u64, node: u32) -> usize
+    requires below { All (λ n. n < length since.now) order.now.items }
+    requires ranked { AllPairs (λ (a b : ℕ). age_rank since.now a < age_rank since.now b) order.now.items }
+    ensures within { result ≤ length order.now.items }
+    ensures older { (k : ℕ) → k < result → age_rank since.now (slice_index order.now.items k) < 2 ^ 32 * pick + node }
+    ensures others { (k : ℕ) → result ≤ k → k < length order.now.items
+        → 2 ^ 32 * pick + node ≤ age_rank since.now (slice_index order.now.items k) }
 {
     let mut low = 0;
     let mut high = order.len();
@@ -50,29 +63,54 @@ fn count_older(since: &[u64], order: &[u32], pick: u64, node: u32) -> usize
     low
 }
 
-/// The presence of a node ends.
-fn leave(since: &[u64], order: &mut Vec<u32>, node: u32)
+/// The place of a node in the order. It may be the one that is guessed.
+fn place_in_order(since: &[u64], order: &VecDeque<u32>, node: u32, guess: usize) -> usize
+    requires below { All (λ n. n < length since.now) order.now.items }
+    requires ranked { AllPairs (λ (a b : ℕ). age_rank since.now a < age_rank since.now b) order.now.items }
+    requires there { (p : ℕ) × (p < length order.now.items) × (slice_index order.now.items p ≡ node) }
+    ensures within { result < length order.now.items }
+    ensures here { slice_index order.now.items result ≡ node }
+{
+    if guess < order.len() && order[guess] == node {
+        return guess;
+    }
+    count_older(since, order, since[node as usize], node)
+}
+
+/// The presence of a node ends. Its place in the order may be the one that is guessed.
+fn leave(since: &[u64], order: &mut VecDeque<u32>, node: u32, guess: usize)
     requires below { All (λ n. n < length since.now) order.old.items }
     requires ranked { AllPairs (λ (a b : ℕ). age_rank since.now a < age_rank since.now b) order.old.items }
     requires there { (p : ℕ) × (p < length order.old.items) × (slice_index order.old.items p ≡ node) }
     ensures left { (p : ℕ) × (p < length order.old.items) × (slice_index order.old.items p ≡ node)
         × (order.new.items ≡ remove order.old.items p) }
-    ensures room { vec_capacity order.new ≡ vec_capacity order.old }
+    ensures room { deque_capacity order.new ≡ deque_capacity order.old }
 {
-    let place = count_older(since, order, since[node as usize], node);
-    order.remove(place);
+    let place = place_in_order(since, order, node, guess);
+    // the place is in the order, so this removes it
+    let _ = order.remove(place);
 }
 
 /// The presence of a node begins.
-fn arrive(since: &mut [u64], order: &mut Vec<u32>, node: u32, now: u64)
+fn arrive(since: &mut [u64], order: &mut VecDeque<u32>, node: u32, now: u64)
     requires node { node < length since.old }
-    requires room { vec_len order.old < vec_capacity order.old }
+    requires room { deque_len order.old < deque_capacity order.old }
     ensures since { since.new ≡ slice_set since.old node now }
     ensures order { order.new.items ≡ order.old.items ++ node ∷ [] }
-    ensures room { vec_capacity order.new ≡ vec_capacity order.old }
+    ensures room { deque_capacity order.new ≡ deque_capacity order.old }
 {
     since[node as usize] = now;
-    order.push_reserved(node);
+    order.push_back_reserved(node);
+}
+
+/// How many nodes at the beginning are equal: as many as are guessed, or none.
+fn equal_start(was: &[u32], list: &[u32], guess: usize) -> usize
+    ensures { AreEqualFrom was.now 0 list.now 0 result }
+{
+    if guess <= was.len() && guess <= list.len() && was[..guess] == list[..guess] {
+        return guess;
+    }
+    0
 }
 
 /// How many nodes are equal from these places on, in whole groups.
@@ -99,6 +137,9 @@ fn equal_run(was: &[u32], left: usize, list: &[u32], done: usize) -> usize
     ensures apart { left + result < length was.now → done + result < length list.now
         → slice_index was.now (left + result) ≢ slice_index list.now (done + result) }
 {
+    if was[left..] == list[done..] {
+        return was.len() - left;
+    }
     let mut run = group_run(was, left, list, done);
     while left + run < was.len() && done + run < list.len() && was[left + run] == list[done + run] {
         run += 1;
@@ -116,41 +157,76 @@ fn is_first(was: &[u32], left: usize, list: &[u32], done: usize) -> bool
     done < list.len() && (left == was.len() || list[done] < was[left])
 }
 
-/// Makes an order of the nodes of the last list one of the nodes of this list.
-fn follow(since: &mut [u64], order: &mut Vec<u32>, was: &[u32], list: &[u32], now: u64)
+/// Makes an order of the nodes of the last list one of the nodes of this list. It is told where the last choice stood.
+/// The result is the index of the first node that arrived, or the length of the list if none did.
+fn follow(
+    since: &mut [u64],
+    order: &mut VecDeque<u32>,
+    was: &[u32],
+    list: &[u32],
+    now: u64,
+    last: Spot,
+) -> usize
     requires list { IsChoiceList (length since.old) list.now }
     requires by_age { IsByAge now since.old was.now order.old.items }
-    requires room { 2 * length since.old ≤ vec_capacity order.old }
+    requires room { 2 * length since.old ≤ deque_capacity order.old }
     ensures by_age { IsByAge (now + 1) since.new list.now order.new.items }
     ensures ages { ages_at (now + 1) since.new list.now ≡ aged list.now (ages_at now since.old was.now) }
-    ensures room { vec_capacity order.new ≡ vec_capacity order.old }
+    ensures room { deque_capacity order.new ≡ deque_capacity order.old }
 {
-    let mut left = 0;
-    let mut done = 0;
+    let mut left = equal_start(was, list, last.index);
+    let mut done = left;
+    let mut first = list.len();
     while left < was.len() || done < list.len() {
         let run = equal_run(was, left, list, done);
         left += run;
         done += run;
         if is_first(was, left, list, done) {
             arrive(since, order, list[done], now);
+            first = first.min(done);
             done += 1;
         } else if left < was.len() {
-            leave(since, order, was[left]);
+            leave(since, order, was[left], last.place);
             left += 1;
         }
     }
+    first
 }
 
-/// The index of the node in an ascending list.
-fn place_of(list: &[u32], node: u32) -> usize
+/// The place in the order of the least of the newest nodes. Mostly these are few, so it looks at the last ones first.
+fn place_of_newest(since: &[u64], order: &VecDeque<u32>) -> usize
+    requires some { 0 < length order.now.items }
+    requires few { length since.now < 2 ^ 32 }
+    requires below { All (λ n. n < length since.now) order.now.items }
+    requires ranked { AllPairs (λ (a b : ℕ). age_rank since.now a < age_rank since.now b) order.now.items }
+    ensures { IsPlaceOfNewest since.now order.now.items result }
+{
+    let end = order.len() - 1;
+    let pick = since[order[end] as usize];
+    let mut place = end;
+    while place > 0 && end - place < FEW {
+        let node = order[place - 1];
+        if since[node as usize] < pick {
+            return place;
+        }
+        place -= 1;
+    }
+    count_older(since, order, pick, 0)
+}
+
+/// The index of the node in an ascending list. It may be the one that is guessed.
+fn index_of(list: &[u32], node: u32, guess: usize) -> usize
     requires ascending { AllPairs (λ (a b : ℕ). a < b) list.now }
     requires there { (k : ℕ) × (k < length list.now) × (slice_index list.now k ≡ node) }
     ensures within { result < length list.now }
-    ensures place { slice_index list.now result ≡ node }
+    ensures here { slice_index list.now result ≡ node }
 {
+    if guess < list.len() && list[guess] == node {
+        return guess;
+    }
     match list.binary_search(&node) {
-        Ok(place) => place,
-        Err(place) => place,
+        Ok(index) => index,
+        Err(index) => index,
     }
 }
 
@@ -175,7 +251,7 @@ impl Presence {
         Presence {
             since: Vec::new(alloc),
             list: Vec::new(alloc),
-            order: Vec::new(alloc),
+            order: VecDeque::new(alloc),
         }
     }
 
@@ -205,8 +281,9 @@ impl Presence {
         }
     }
 
-    /// Records one more pick, from this list, after so many.
-    pub(crate) fn note(&mut self, list: &[u32], now: u64)
+    /// Records one more pick, from this list, after so many. It is told where the last choice stood, and the result is
+    /// where the list's newest node probably stands in it.
+    pub(crate) fn note(&mut self, list: &[u32], now: u64, last: Spot) -> usize
         requires list { IsChoiceList (length self.old.since.items) list.now }
         requires presence { IsPresence now self.old }
         ensures presence { IsPresence (now + 1) self.new }
@@ -215,8 +292,16 @@ impl Presence {
             aged list.now (ages_at now self.old.since.items self.old.list.items) }
         ensures count { length self.new.since.items ≡ length self.old.since.items }
     {
-        follow(&mut self.since, &mut self.order, &self.list, list, now);
+        let first = follow(
+            &mut self.since,
+            &mut self.order,
+            &self.list,
+            list,
+            now,
+            last,
+        );
         copy_into(&mut self.list, list);
+        first
     }
 
     /// The index of the list's oldest node, the least of equally old ones.
@@ -229,21 +314,24 @@ impl Presence {
             (map (slice_index (ages_at now self.now.since.items self.now.list.items)) self.now.list.items) }
         ensures within { result < length self.now.list.items }
     {
-        place_of(&self.list, self.order[0])
+        index_of(&self.list, self.order[0], 0)
     }
 
-    /// The index of the list's newest node, the least of equally new ones.
-    pub(crate) fn newest(&self) -> usize
+    /// Where the list's newest node stands, the least of equally new ones. Its index may be the one that is guessed.
+    pub(crate) fn newest(&self, guess: usize) -> Spot
         requires some { 0 < length self.now.list.items }
         requires by_age { (now : ℕ) × IsByAge now self.now.since.items self.now.list.items self.now.order.items }
         ensures best { (now : ℕ)
             → IsByAge now self.now.since.items self.now.list.items self.now.order.items
-            → result ≡ first_least
+            → result.index ≡ first_least
             (map (slice_index (ages_at now self.now.since.items self.now.list.items)) self.now.list.items) }
-        ensures within { result < length self.now.list.items }
+        ensures within { result.index < length self.now.list.items }
     {
-        let last = self.order[self.order.len() - 1];
-        let first = count_older(&self.since, &self.order, self.since[last as usize], 0);
-        place_of(&self.list, self.order[first])
+        let place = place_of_newest(&self.since, &self.order);
+        let index = index_of(&self.list, self.order[place], guess);
+        Spot {
+            index: index,
+            place: place,
+        }
     }
 }

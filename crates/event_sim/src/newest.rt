@@ -4,7 +4,7 @@ ghost use Rattle.std.specs.Prelude.{◌≡◌, ◌+◌, ◌<◌, ◌≤◌, [], 
 ghost use Rattle.event_sim.specs.Ages.{aged, ages_in, first_least};
 ghost use Rattle.event_sim.specs.Picking.{IsChoiceList};
 
-use crate::ages::Presence;
+use crate::ages::{Presence, Spot};
 use crate::picker::Picker;
 use std::alloc::{AllocError, Global};
 use std::marker::Model;
@@ -15,6 +15,7 @@ pub struct Newest {
     log: Vec<usize>,
     seeded: Option<(u64, usize)>,
     presence: Presence,
+    last: Spot,
 }
 
 impl Model for Newest {
@@ -44,6 +45,7 @@ impl Newest {
             log: Vec::new(alloc),
             seeded: None,
             presence: Presence::new(alloc),
+            last: Spot { index: 0, place: 0 },
         }
     }
 }
@@ -95,10 +97,13 @@ impl Picker for Newest {
         ensures nodes { length self.new.ages ≡ length self.old.ages }
         ensures seeded { self.new.seeded ≡ self.old.seeded }
     {
-        self.presence.note(enabled, self.log.len() as u64);
-        let place = self.presence.newest();
-        self.log.push_reserved(place);
-        place
+        let guess = self
+            .presence
+            .note(enabled, self.log.len() as u64, self.last);
+        let found = self.presence.newest(guess);
+        self.last = found;
+        self.log.push_reserved(found.index);
+        found.index
     }
 
     fn log(&self) -> &[usize] {

@@ -4,7 +4,7 @@ ghost use Rattle.std.specs.Prelude.{◌≡◌, ◌+◌, ◌<◌, ◌≤◌, [], 
 ghost use Rattle.event_sim.specs.Ages.{aged, ages_in, first_greatest};
 ghost use Rattle.event_sim.specs.Picking.{IsChoiceList};
 
-use crate::ages::Presence;
+use crate::ages::{Presence, Spot};
 use crate::picker::Picker;
 use std::alloc::{AllocError, Global};
 use std::marker::Model;
@@ -15,6 +15,7 @@ pub struct Oldest {
     log: Vec<usize>,
     seeded: Option<(u64, usize)>,
     presence: Presence,
+    last: usize,
 }
 
 impl Model for Oldest {
@@ -44,6 +45,7 @@ impl Oldest {
             log: Vec::new(alloc),
             seeded: None,
             presence: Presence::new(alloc),
+            last: 0,
         }
     }
 }
@@ -95,10 +97,16 @@ impl Picker for Oldest {
         ensures nodes { length self.new.ages ≡ length self.old.ages }
         ensures seeded { self.new.seeded ≡ self.old.seeded }
     {
-        self.presence.note(enabled, self.log.len() as u64);
-        let place = self.presence.oldest();
-        self.log.push_reserved(place);
-        place
+        // the oldest node is the first of the order
+        let last = Spot {
+            index: self.last,
+            place: 0,
+        };
+        let _ = self.presence.note(enabled, self.log.len() as u64, last);
+        let index = self.presence.oldest();
+        self.last = index;
+        self.log.push_reserved(index);
+        index
     }
 
     fn log(&self) -> &[usize] {

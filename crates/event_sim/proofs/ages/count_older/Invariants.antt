@@ -5,9 +5,9 @@ use Rattle.event_sim.proofs.ages.count_older.Given as goal
 abbrev pub invariant-loop-low : goal.invariant-loop-low
 invariant-loop-low l = record {
   ordered : l.low ≤ l.high;
-  within : l.high ≤ length l.order;
-  older : (k : ℕ) → k < l.low → age_rank l.since (get_or l.order k 0) < 2 ^ 32 * l.pick + l.node;
-  others : (k : ℕ) → l.high ≤ k → k < length l.order → 2 ^ 32 * l.pick + l.node ≤ age_rank l.since (get_or l.order k 0);
+  within : l.high ≤ length l.order.items;
+  older : (k : ℕ) → k < l.low → age_rank l.since (get_or l.order.items k 0) < 2 ^ 32 * l.pick + l.node;
+  others : (k : ℕ) → l.high ≤ k → k < length l.order.items → 2 ^ 32 * l.pick + l.node ≤ age_rank l.since (get_or l.order.items k 0);
 }
 
 abbrev pub decreases-loop-low : goal.decreases-loop-low

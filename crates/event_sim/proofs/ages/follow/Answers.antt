@@ -1,11 +1,12 @@
 use Rattle.std.proofs.Common.{◌+◌, ◌<◌, length, get_or, refl, ◌∙◌, arith}
-use Rattle.event_sim.proofs.Present.{started, stayed, left_one, arrived, way_below, way_ranked, leaves_first, ascending_few, ended}
+use Rattle.event_sim.proofs.Present.{started_at, stayed, left_one, arrived, way_below, way_ranked, leaves_first, ascending_few, ended}
 use Rattle.event_sim.proofs.Aging.{kept_by_age, ages_are}
 use Rattle.event_sim.proofs.ages.follow.Goals as goal
 
 pub loop-left-init : goal.loop-left-init
 loop-left-init c = record {
-  way = started c.args.now c.args.was.now c.args.list.now c.args.since.now c.args.order.now.items c.requires.by_age;
+  way = started_at c.args.now c.equal_start-left.result c.args.was.now c.args.list.now c.args.since.now c.args.order.now.items c.requires.by_age
+      c.requires.list.ascending c.equal_start-left.ensures;
   room = refl;
 }
 

@@ -1,12 +1,12 @@
-use Rattle.event_sim.proofs.Present.{at_rank}
+use Rattle.std.proofs.Common.{◌≡◌, ℕ, subst, arith}
+use Rattle.std.specs.Prelude.{Option, OnSome}
+use Rattle.std.specs.List.{remove}
 use Rattle.event_sim.proofs.ages.leave.Goals as goal
-
-pub count_older-place-requires-clause-ranked : goal.count_older-place-requires-clause-ranked
-count_older-place-requires-clause-ranked c = rw c.deref.ensures.value c.requires.ranked
 
 pub returns-clause-left : goal.returns-clause-left
 returns-clause-left c =
-    let place = c.count_older-place.result in
-    let at = at_rank c.args.since.now c.args.order.now.items c.args.node place c.requires.ranked c.requires.there
-    (rw c.deref.ensures.value at c.count_older-place.ensures.older) (rw c.deref.ensures.value at c.count_older-place.ensures.others) in
-    (place, at.0, at.1, c.remove.ensures.items)
+    let order = c.args.order.now in
+    let place = c.place_in_order-place.result in
+    let found = c.place_in_order-place.ensures in
+    let some = c.remove.ensures.succeeds 0 (omega (arith, found.within, order.ok.0)) in
+    (place, found.within, found.here, subst (λ (r : Option ℕ). OnSome r (c.remove.new.self.items ≡ remove order.items place)) some c.remove.ensures.items)

@@ -15,25 +15,26 @@ copy_into-requires c = record {
 pub returns-clause-presence : goal.returns-clause-presence
 returns-clause-presence c =
     let s = c.args.self.now in
-    let after = c.follow.new.since in
-    let long : s.since.len ≡ length after = omega (arith, c.follow.auto.since, ap length c.deref_mut.ensures.value, s.since.ok.0) in
+    let after = c.follow-first.new.since in
+    let long : s.since.len ≡ length after = omega (arith, c.follow-first.auto.since, ap length c.deref_mut.ensures.value, s.since.ok.0) in
     let same : take s.since.len (after ++ drop (length after) s.since.items) ≡ after = whole_back after s.since.items s.since.len long in
     record {
-      by_age = subst (λ (xs : List ℕ). IsByAge (c.args.now + 1) xs c.copy_into.new.to.items c.follow.new.order.items) (sym same)
-          (subst (λ (xs : List ℕ). IsByAge (c.args.now + 1) after xs c.follow.new.order.items) (sym c.copy_into.ensures.items) c.follow.ensures.by_age);
+      by_age = subst (λ (xs : List ℕ). IsByAge (c.args.now + 1) xs c.copy_into.new.to.items c.follow-first.new.order.items) (sym same)
+          (subst (λ (xs : List ℕ). IsByAge (c.args.now + 1) after xs c.follow-first.new.order.items) (sym c.copy_into.ensures.items)
+          c.follow-first.ensures.by_age);
       list_room = omega (arith, ap length same, long, s.since.ok.0, c.copy_into.ensures.room, c.requires.presence.list_room);
-      order_room = omega (arith, ap length same, long, s.since.ok.0, c.follow.ensures.room, c.requires.presence.order_room);
+      order_room = omega (arith, ap length same, long, s.since.ok.0, c.follow-first.ensures.room, c.requires.presence.order_room);
     }
 
 pub returns-clause-ages : goal.returns-clause-ages
 returns-clause-ages c =
     let s = c.args.self.now in
-    let after = c.follow.new.since in
+    let after = c.follow-first.new.since in
     let now = c.args.now in
-    let long : s.since.len ≡ length after = omega (arith, c.follow.auto.since, ap length c.deref_mut.ensures.value, s.since.ok.0) in
+    let long : s.since.len ≡ length after = omega (arith, c.follow-first.auto.since, ap length c.deref_mut.ensures.value, s.since.ok.0) in
     let same : take s.since.len (after ++ drop (length after) s.since.items) ≡ after = whole_back after s.since.items s.since.len long in
     ap (λ (xs : List ℕ). ages_at (now + 1) xs c.copy_into.new.to.items) same
     ∙ ap (λ (xs : List ℕ). ages_at (now + 1) after xs) c.copy_into.ensures.items
-    ∙ c.follow.ensures.ages
+    ∙ c.follow-first.ensures.ages
     ∙ ap (λ (xs : List ℕ). aged c.args.list.now (ages_at now xs c.deref.result.now)) c.deref_mut.ensures.value
     ∙ ap (λ (xs : List ℕ). aged c.args.list.now (ages_at now s.since.items xs)) c.deref.ensures.value

@@ -1,5 +1,6 @@
 use Rattle.std.proofs.Common.{◌≡◌, [], replicate}
 use Rattle.std.specs.Prelude.{vec_capacity}
+use Rattle.std.specs.VecDeque.{deque_capacity}
 use Rattle.event_sim.proofs.ages.Presence.reset.Given as goal
 
 abbrev pub invariant-loop-node : goal.invariant-loop-node
@@ -9,5 +10,5 @@ invariant-loop-node l = record {
   order : l.self.order.items ≡ [];
   room : vec_capacity l.self.since ≡ vec_capacity l.fn.self.since;
   list_room : vec_capacity l.self.list ≡ vec_capacity l.fn.self.list;
-  order_room : vec_capacity l.self.order ≡ vec_capacity l.fn.self.order;
+  order_room : deque_capacity l.self.order ≡ deque_capacity l.fn.self.order;
 }

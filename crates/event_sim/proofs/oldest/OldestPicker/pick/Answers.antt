@@ -21,5 +21,5 @@ returns-clause-choice c =
     let aging : ages_at (now + 1) p.since.items p.list.items ≡ aged enabled c.args.self.now.ages =
     c.note.ensures.ages ∙ ap (λ (n : ℕ). aged enabled (ages_at n s.presence.since.items s.presence.list.items)) made
     ∙ ap (λ (v : AgedValue). aged enabled v.ages) c.self.view_is in
-    choice_is first_greatest c.oldest-place.result (ages_at (now + 1) p.since.items p.list.items) c.args.self.now.ages p.list.items enabled
-    (c.oldest-place.ensures.best (now + 1) c.note.ensures.presence.by_age) c.note.ensures.list aging
+    choice_is first_greatest c.oldest-index.result (ages_at (now + 1) p.since.items p.list.items) c.args.self.now.ages p.list.items enabled
+    (c.oldest-index.ensures.best (now + 1) c.note.ensures.presence.by_age) c.note.ensures.list aging
