@@ -21,3 +21,6 @@ pub mod Asked
 pub mod Added
 pub mod Concerning
 mod Tested
+mod Exchange
+mod Leaving
+mod Unasked

@@ -2,7 +2,7 @@
 use Rattle.std.proofs.Common.{◌≡◌, ◌≢◌, ℕ, zero, suc, ◌+◌, ◌/◌, ◌<◌, Bool, true, false, cond, List, [], ◌∷◌, length, get_or, refl, sym, ap, ◌∙◌, inl, inr, arith}
 use Rattle.std.specs.Prelude.{◌⊎◌, not, ◌&&◌, ◌||◌, ◌==◌, if◌then◌else◌, slice_get, slice_index, slice_index_or, Option, Some, None, Contains}
 use Rattle.std.specs.List.{list_any}
-use Rattle.std.proofs.lemmas.Bool.{eqb-true, eqb-false, eq-eqb, or_parts, or_from, or_left, or_right, and_left, both_ways as clash}
+use Rattle.std.proofs.lemmas.Bool.{eqb-true, eqb-false, eq-eqb, or_parts, or_from, or_left, or_right, and_left, and_right, both_ways as clash}
 use Rattle.std.proofs.lemmas.List.{get_or-set_other}
 use Rattle.prs_core.specs.declared.rule.Literal.{Literal}
 use Rattle.prs_core.specs.declared.wires.Wires.{Wires}
@@ -28,18 +28,17 @@ raises_among v value m (t ∷ f ∷ rest) apart =
     by_bit true no_t no_f = and_left _ _ no_t
     by_bit false no_t no_f = and_left _ _ no_f
 
-pub not_offered : (v : ℕ → Bool) (w : Wires) (offer : OfferValue) (done m : ℕ) → is_wire w m ≡ false → offer_moves v w offer done m ≡ false
-not_offered v w (gives values) done m apart = by_ack (slice_get values done) (v w.ack) (or_parts (m == w.ack) (list_any (λ rail. m == rail) w.rails) apart).1
+pub not_sent : (v : ℕ → Bool) (w : Wires) (values : List ℕ) (done m : ℕ) → list_any (λ rail. m == rail) w.rails ≡ false →
+    offer_moves v w (gives values) done m ≡ false
+not_sent v w values done m apart = by_ack (slice_get values done) (v w.ack)
   where
-    by_ack : (next : Option ℕ) (b : Bool) → list_any (λ rail. m == rail) w.rails ≡ false →
-        (if b then lowers v w.rails m else raises_next v next w.rails m) ≡ false
-    by_ack next true none = no_right (v m) _ none
-      where
-        no_right : (a b : Bool) → b ≡ false → (a && b) ≡ false
-        no_right true b off = off
-        no_right false b off = refl
-    by_ack None false none = refl
-    by_ack (Some value) false none = raises_among v value m w.rails none
+    by_ack : (next : Option ℕ) (b : Bool) → (if b then lowers v w.rails m else raises_next v next w.rails m) ≡ false
+    by_ack next true = and_right (v m) _ apart
+    by_ack None false = refl
+    by_ack (Some value) false = raises_among v value m w.rails apart
+
+pub not_offered : (v : ℕ → Bool) (w : Wires) (offer : OfferValue) (done m : ℕ) → is_wire w m ≡ false → offer_moves v w offer done m ≡ false
+not_offered v w (gives values) done m apart = not_sent v w values done m (or_parts (m == w.ack) (list_any (λ rail. m == rail) w.rails) apart).1
 not_offered v w (takes count) done m apart = and_left _ _ (or_parts (m == w.ack) (list_any (λ rail. m == rail) w.rails) apart).0
 not_offered v w nothing done m apart = refl
 

@@ -101,6 +101,15 @@ pub record IsRetested (passes : ℕ → Bool) (nodes : List ℕ) (old new : List
   pub least : (f : ℕ → Bool) → before ≡ least_below (length old) f → now ≡ least_below (length old)
       (λ n. f n || (is_among nodes n && (is_member old n && not (passes n))))
 
+-- the set without a node that is to leave it, where there is one
+abbrev pub without : List Bool → Option ℕ → List Bool
+without marks None = marks
+without marks (Some n) = slice_set marks n false
+
+-- a node that is to leave the set is in it
+abbrev pub IsLeaving : List Bool → Option ℕ → Type 0
+IsLeaving marks leaving = IfSome leaving (λ n. is_member marks n ≡ true)
+
 -- the lesser of two nodes, of which the first may be none
 abbrev pub lesser : Option ℕ → ℕ → Option ℕ
 lesser None n = Some n

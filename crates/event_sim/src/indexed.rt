@@ -56,6 +56,7 @@ impl IndexedNet {
     pub(crate) fn net(&self) -> &Net
         ensures net { result.now ≡ self.now.net }
         ensures is_net { IsNet self.now.net }
+        ensures script { IsScript (net_channels self.now.net) self.now.script }
     {
         &self.net
     }

@@ -1,12 +1,12 @@
 //! The set of the nodes that have a move, kept from move to move.
 
-ghost use Rattle.std.specs.Prelude.{◌≡◌, ℕ, ◌<◌, not, ◌&&◌, ◌∷◌, [], if◌then◌else◌, List, Bool, All, Some, None, length};
+ghost use Rattle.std.specs.Prelude.{◌≡◌, ℕ, ◌<◌, true, false, not, ◌&&◌, ◌∷◌, [], if◌then◌else◌, List, Bool, All, Some, None, length, slice_set};
 ghost use Rattle.std.specs.List.{find};
 ghost use Rattle.prs_core.specs.Moves.{high, both_ways};
 ghost use Rattle.prs_core.specs.Fans.{readers_below};
 ghost use Rattle.env_script.specs.Hazards.{or_else};
 ghost use Rattle.guard_rows.specs.Places.{readers_in, AreRows};
-ghost use Rattle.event_sim.specs.Locality.{has_move, is_ready, lesser, IsPassing, IsRetested, IsRetestedNear, IsCountedMove, IsListedBehind, IsRelisted};
+ghost use Rattle.event_sim.specs.Locality.{has_move, is_asked, is_member, is_ready, lesser, without, IsLeaving, IsPassing, IsRetested, IsRetestedNear, IsCountedMove, IsListedBehind, IsRelisted};
 ghost use Rattle.event_sim.specs.Standings.{IsRetestedOn};
 
 use crate::hazards::pulled_among;
@@ -59,12 +59,97 @@ fn retest(
     lost
 }
 
+/// Whether the node is in the set, apart from the one that is to leave it.
+fn stays(moves: &NodeSet, leaving: Option<u32>, node: u32) -> bool
+    requires { node < length moves.now }
+    ensures { result ≡ is_member (without moves.now leaving) node }
+{
+    match leaving {
+        None => moves.contains(node),
+        Some(left) => {
+            if left == node {
+                false
+            } else {
+                moves.contains(node)
+            }
+        }
+    }
+}
+
+/// Takes the node out of the set unless it is ready, or says that it is to leave.
+fn leave_or_stay(moves: &mut NodeSet, node: u32, ready: bool) -> Option<u32>
+    requires { node < length moves.old }
+    ensures set { without moves.new result ≡ slice_set moves.old node ready }
+    ensures leaving { IsLeaving moves.new result }
+{
+    if ready || !moves.contains(node) {
+        moves.set(node, ready);
+        return None;
+    }
+    Some(node)
+}
+
+/// Puts the node into the set where it is ready, else takes it out, while this one is to leave the set.
+fn place_beside(moves: &mut NodeSet, left: u32, node: u32, ready: bool) -> Option<u32>
+    requires left { is_member moves.old left ≡ true }
+    requires node { node < length moves.old }
+    ensures set { without moves.new result ≡ slice_set (slice_set moves.old left false) node ready }
+    ensures leaving { IsLeaving moves.new result }
+{
+    if left == node {
+        if ready {
+            return None;
+        }
+        return Some(left);
+    }
+    if ready && !moves.contains(node) {
+        moves.replace(left, node);
+        return None;
+    }
+    moves.set(node, ready);
+    Some(left)
+}
+
+/// Puts the node into the set where it is ready, else takes it out. A node that comes takes the place of the one that
+/// is to leave the set: both at once cost less than one after the other. Returns which one is to leave then.
+fn place(moves: &mut NodeSet, leaving: Option<u32>, node: u32, ready: bool) -> Option<u32>
+    requires node { node < length moves.old }
+    requires leaving { IsLeaving moves.old leaving }
+    ensures set { without moves.new result ≡ slice_set (without moves.old leaving) node ready }
+    ensures leaving { IsLeaving moves.new result }
+{
+    match leaving {
+        None => {
+            moves.set(node, ready);
+            None
+        }
+        Some(left) => place_beside(moves, left, node, ready),
+    }
+}
+
+/// Takes the node out of the set that is to leave it.
+fn leave(moves: &mut NodeSet, leaving: Option<u32>)
+    requires { IsLeaving moves.old leaving }
+    ensures { moves.new ≡ without moves.old leaving }
+{
+    if let Some(node) = leaving {
+        moves.set(node, false);
+    }
+}
+
 /// What a move does to the nodes near its own: the least whose move it disabled, and the first of its readers that has
 /// interference (both guards hold).
 #[derive(Clone, Copy)]
 pub(crate) struct Trouble {
     pub(crate) lost: Option<u32>,
     pub(crate) pulled: Option<u32>,
+}
+
+/// The same for some of its readers, and the node that is still to leave the set.
+#[derive(Clone, Copy)]
+struct Retested {
+    leaving: Option<u32>,
+    trouble: Trouble,
 }
 
 /// The first node with interference, once this one is looked at too.
@@ -77,34 +162,37 @@ fn first_torn(pulled: Option<u32>, node: u32, up: bool, down: bool) -> Option<u3
     }
 }
 
-/// Tests the node again, and counts it where it is lost or has interference.
+/// Tests the reader of a node again, and counts it where it is lost or has interference. The environment moves none.
 fn retest_reader(
     indexed: &IndexedNet,
     rows: &GuardRows,
-    done: &[u64],
     state: &State,
     node: u32,
     moves: &mut NodeSet,
-    before: Trouble,
-) -> Trouble
+    before: Retested,
+) -> Retested
     requires rows { AreRows indexed.now.net state.now rows.now }
-    requires done { length done.now ≡ length indexed.now.net.channels }
     requires state { length state.now ≡ length indexed.now.net.first }
     requires moves { length moves.old ≡ length indexed.now.net.first }
     requires node { node < length indexed.now.net.first }
-    ensures retested { IsRetested (is_ready indexed.now done.now state.now) (node ∷ []) moves.old moves.new
-        before.lost result.lost }
-    ensures pulled { result.pulled ≡ or_else before.pulled
+    requires leaving { IsLeaving moves.old before.leaving }
+    ensures retested { (done : List ℕ) → is_asked indexed.now done state.now node ≡ false
+        → IsRetested (is_ready indexed.now done state.now) (node ∷ []) (without moves.old before.leaving)
+        (without moves.new result.leaving) before.trouble.lost result.trouble.lost }
+    ensures pulled { result.trouble.pulled ≡ or_else before.trouble.pulled
         (if both_ways indexed.now.net (high state.now) node then Some node else None) }
+    ensures count { length moves.new ≡ length moves.old }
+    ensures leaving { IsLeaving moves.new result.leaving }
 {
     let (up, down) = rows.says(indexed.net(), state, node);
-    let was = moves.contains(node);
-    let ready = indexed.may_move(rule_of(state.is_high(node), up, down), done, state, node);
-    moves.set(node, ready);
-    Trouble {
-        lost: least_lost(before.lost, node, was, ready),
-        pulled: first_torn(before.pulled, node, up, down),
-    }
+    let was = stays(moves, before.leaving, node);
+    let ready = rule_of(state.is_high(node), up, down);
+    let leaving = place(moves, before.leaving, node, ready);
+    let trouble = Trouble {
+        lost: least_lost(before.trouble.lost, node, was, ready),
+        pulled: first_torn(before.trouble.pulled, node, up, down),
+    };
+    Retested { leaving, trouble }
 }
 
 /// What the rule says that turns a node over.
@@ -114,32 +202,65 @@ fn rule_of(high: bool, up: bool, down: bool) -> bool
     if high { down } else { up }
 }
 
-/// Tests the readers again to which these edges lead. Returns the least that is lost, and the first with interference.
+/// Tests the readers again to which these edges lead. Finds the least that is lost, and the first with interference.
 fn retest_readers(
+    indexed: &IndexedNet,
+    rows: &GuardRows,
+    state: &State,
+    edges: &[(u32, u32)],
+    moves: &mut NodeSet,
+    leaving: Option<u32>,
+) -> Retested
+    requires rows { AreRows indexed.now.net state.now rows.now }
+    requires state { length state.now ≡ length indexed.now.net.first }
+    requires moves { length moves.old ≡ length indexed.now.net.first }
+    requires readers { All (λ n. n < length indexed.now.net.first) (readers_in edges.now) }
+    requires leaving { IsLeaving moves.old leaving }
+    ensures retested { (done : List ℕ)
+        → All (λ n. is_asked indexed.now done state.now n ≡ false) (readers_in edges.now)
+        → IsRetested (is_ready indexed.now done state.now) (readers_in edges.now) (without moves.old leaving)
+        (without moves.new result.leaving) None result.trouble.lost }
+    ensures pulled { result.trouble.pulled ≡ find (both_ways indexed.now.net (high state.now)) (readers_in edges.now) }
+    ensures count { length moves.new ≡ length moves.old }
+    ensures leaving { IsLeaving moves.new result.leaving }
+{
+    let trouble = Trouble {
+        lost: None,
+        pulled: None,
+    };
+    let mut found = Retested { leaving, trouble };
+    for (reader, _) in edges {
+        found = retest_reader(indexed, rows, state, *reader, moves, found);
+    }
+    found
+}
+
+/// Tests again the node that was moved, and its readers.
+fn retest_own(
     indexed: &IndexedNet,
     rows: &GuardRows,
     done: &[u64],
     state: &State,
-    edges: &[(u32, u32)],
+    node: u32,
     moves: &mut NodeSet,
 ) -> Trouble
     requires rows { AreRows indexed.now.net state.now rows.now }
     requires done { length done.now ≡ length indexed.now.net.channels }
     requires state { length state.now ≡ length indexed.now.net.first }
     requires moves { length moves.old ≡ length indexed.now.net.first }
-    requires readers { All (λ n. n < length indexed.now.net.first) (readers_in edges.now) }
-    ensures retested { IsRetested (is_ready indexed.now done.now state.now) (readers_in edges.now) moves.old
-        moves.new None result.lost }
-    ensures pulled { result.pulled ≡ find (both_ways indexed.now.net (high state.now)) (readers_in edges.now) }
+    requires node { node < length indexed.now.net.first }
+    ensures retested { IsRetested (is_ready indexed.now done.now state.now)
+        (readers_below indexed.now.net (length indexed.now.net.first) node)
+        (slice_set moves.old node (is_ready indexed.now done.now state.now node)) moves.new None result.lost }
+    ensures pulled { result.pulled ≡ find (both_ways indexed.now.net (high state.now))
+        (readers_below indexed.now.net (length indexed.now.net.first) node) }
 {
-    let mut found = Trouble {
-        lost: None,
-        pulled: None,
-    };
-    for (reader, _) in edges {
-        found = retest_reader(indexed, rows, done, state, *reader, moves, found);
-    }
-    found
+    let _net = indexed.net();
+    let ready = indexed.is_ready(rows, done, state, node);
+    let leaving = leave_or_stay(moves, node, ready);
+    let found = retest_readers(indexed, rows, state, rows.edges(node), moves, leaving);
+    leave(moves, found.leaving);
+    found.trouble
 }
 
 /// Tests again what a move of the node concerns: itself, its readers, and the wires of its channel. Returns the least
@@ -161,16 +282,7 @@ fn retest_near(
     ensures pulled { result.pulled ≡ find (both_ways indexed.now.net (high state.now))
         (readers_below indexed.now.net (length indexed.now.net.first) node) }
 {
-    let ready = indexed.is_ready(rows, done, state, node);
-    moves.set(node, ready);
-    let Trouble { lost, pulled } = retest_readers(
-        indexed,
-        rows,
-        done,
-        state,
-        rows.edges(node),
-        moves,
-    );
+    let Trouble { lost, pulled } = retest_own(indexed, rows, done, state, node, moves);
     match indexed.shared_channel(node) {
         None => Trouble { lost, pulled },
         Some(chan) => {

@@ -1,6 +1,6 @@
 //! Sets of nodes.
 
-ghost use Rattle.std.specs.Prelude.{◌≡◌, ◌<◌, ◌≤◌, ◌+◌, ◌-◌, ◌^◌, List, Bool, true, false, length, drop, replicate, slice_set, vec_len, IfOk};
+ghost use Rattle.std.specs.Prelude.{◌≡◌, ℕ, ◌<◌, ◌≤◌, ◌+◌, ◌-◌, ◌^◌, List, Bool, true, false, length, drop, replicate, slice_index, slice_set, vec_len, Err, IfOk};
 ghost use Rattle.std.specs.List.{insert, remove};
 ghost use Rattle.std.specs.List.Sorted.{IsSearchInRange};
 ghost use Rattle.event_sim.specs.Locality.{is_member, members, IsListPlace};
@@ -91,6 +91,60 @@ fn remove_at(slots: &mut Vec<u32>, from: usize, place: usize)
     slots[from..from + place + 1].rotate_left(place);
 }
 
+/// Moves what stands between two slots by one slot towards the first, so that the second becomes free.
+fn free_slot(slots: &mut Vec<u32>, place: usize, to: usize)
+    requires place { place < vec_len slots.old }
+    requires to { to < vec_len slots.old }
+    ensures count { vec_len slots.new ≡ vec_len slots.old }
+    ensures before { (k : ℕ) → k < place → k < to → slice_index slots.new.items k ≡ slice_index slots.old.items k }
+    ensures behind { (k : ℕ) → place < k → to < k → slice_index slots.new.items k ≡ slice_index slots.old.items k }
+    ensures down { (k : ℕ) → place ≤ k → k < to → slice_index slots.new.items k ≡ slice_index slots.old.items (k + 1) }
+    ensures up { (k : ℕ) → to ≤ k → k < place → slice_index slots.new.items (k + 1) ≡ slice_index slots.old.items k }
+{
+    if place < to {
+        slots.copy_within(place + 1..to + 1, place);
+    } else {
+        slots.copy_within(to..place, to + 1);
+    }
+}
+
+/// Writes the node over the one at an index of the list that begins at this slot, and moves it to another index.
+fn put_over(slots: &mut Vec<u32>, from: usize, place: usize, to: usize, node: u32)
+    requires place { from + place < vec_len slots.old }
+    requires to { from + to < vec_len slots.old }
+    ensures list { drop from slots.new.items ≡ insert (remove (drop from slots.old.items) place) to node }
+    ensures count { vec_len slots.new ≡ vec_len slots.old }
+{
+    free_slot(slots, from + place, from + to);
+    slots[from + to] = node;
+}
+
+/// Whether a list stays ascending where the node stands in it in place of the one at this index.
+fn fits(list: &[u32], place: usize, node: u32) -> bool
+    requires { place < length list.now }
+    ensures before { result ≡ true → 0 < place → slice_index list.now (place - 1) < node }
+    ensures behind { result ≡ true → place + 1 < length list.now → node < slice_index list.now (place + 1) }
+{
+    (place == 0 || list[place - 1] < node) && (place + 1 == list.len() || node < list[place + 1])
+}
+
+/// The index at which the node is inserted into the list of a set once the node at this index is gone. Half of the
+/// nodes that get a move by a move stand where the moved node stood.
+fn place_after(list: &[u32], place: usize, node: u32) -> usize
+    requires { place < length list.now }
+    ensures within { result < length list.now }
+    ensures place { (marks : List Bool) → list.now ≡ members marks → is_member marks node ≡ false →
+        IsListPlace (remove list.now place) node (Err result) }
+{
+    if fits(list, place, node) {
+        return place;
+    }
+    match place_in(list, node) {
+        Ok(_) => place,
+        Err(to) => { if to <= place { to } else { to - 1 } }
+    }
+}
+
 /// Inserts the node into the list of a set that does not have it.
 fn put_in(slots: &mut Vec<u32>, from: usize, node: u32)
     requires room { 0 < from }
@@ -114,6 +168,23 @@ fn take_out(slots: &mut Vec<u32>, from: usize, node: u32)
 {
     match place_in(list_from(slots, from), node) {
         Ok(place) => remove_at(slots, from, place),
+        Err(_) => {}
+    }
+}
+
+/// Puts a node that the list of a set does not have in place of one that it has.
+fn exchange(slots: &mut Vec<u32>, from: usize, gone: u32, node: u32)
+    requires from { from ≤ vec_len slots.old }
+    ensures list { (marks : List Bool) → drop from slots.old.items ≡ members marks → gone < length marks →
+        is_member marks gone ≡ true → node < length marks → is_member marks node ≡ false →
+        drop from slots.new.items ≡ members (slice_set (slice_set marks gone false) node true) }
+    ensures count { vec_len slots.new ≡ vec_len slots.old }
+{
+    match place_in(list_from(slots, from), gone) {
+        Ok(place) => {
+            let to = place_after(list_from(slots, from), place, node);
+            put_over(slots, from, place, to, node);
+        }
         Err(_) => {}
     }
 }
@@ -162,5 +233,18 @@ impl NodeSet {
             take_out(&mut self.slots, self.from, node);
             self.from += 1;
         }
+    }
+
+    /// Removes a node from the set and inserts another one. It allocates no memory.
+    pub(crate) fn replace(&mut self, gone: u32, node: u32)
+        requires gone { gone < length self.old }
+        requires there { is_member self.old gone ≡ true }
+        requires node { node < length self.old }
+        requires new { is_member self.old node ≡ false }
+        ensures { self.new ≡ slice_set (slice_set self.old gone false) node true }
+    {
+        exchange(&mut self.slots, self.from, gone, node);
+        self.marks[gone as usize] = false;
+        self.marks[node as usize] = true;
     }
 }

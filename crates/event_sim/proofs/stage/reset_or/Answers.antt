@@ -1,4 +1,4 @@
-use Rattle.std.proofs.Common.{◌∙◌, sym}
+use Rattle.std.proofs.Common.{sym}
 use Rattle.event_sim.proofs.Behind.{reset_within}
 use Rattle.event_sim.proofs.Concerning.{one_reset, no_reset}
 use Rattle.event_sim.proofs.stage.reset_or.Goals as goal
