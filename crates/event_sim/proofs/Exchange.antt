@@ -72,7 +72,8 @@ put_at xs ys from place to node there here count before behind down up =
 -- where a node is inserted once another one is gone
 
 pub stays_here : (marks : List Bool) (list : List ℕ) (place node : ℕ) → list ≡ members marks → place < length list →
-    (0 < place → get_or list (place - 1) 0 < node) → (place + 1 < length list → node < get_or list (place + 1) 0) → IsListPlace (remove list place) node (Err place)
+    (0 < place → get_or list (place - 1) 0 < node) → (place + 1 < length list → node < get_or list (place + 1) 0) →
+    IsListPlace (remove list place) node (Err place)
 stays_here marks list place node are within before behind = (
   omega (arith, length-remove list place within),
   λ k less. let up = rises_as marks list are k (place - 1) (omega arith) (omega arith) in
