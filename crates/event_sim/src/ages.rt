@@ -107,7 +107,14 @@ fn arrive(since: &mut [u64], order: &mut VecDeque<u32>, node: u32, now: u64)
 fn equal_start(was: &[u32], list: &[u32], guess: usize) -> usize
     ensures { AreEqualFrom was.now 0 list.now 0 result }
 {
-    if guess <= was.len() && guess <= list.len() && was[..guess] == list[..guess] {
+    if guess > was.len() || guess > list.len() {
+        return 0;
+    }
+    // where one more came before it the last of these differ, so all others needn't be looked at
+    if guess > 0 && was[guess - 1] != list[guess - 1] {
+        return 0;
+    }
+    if was[..guess] == list[..guess] {
         return guess;
     }
     0
@@ -137,7 +144,8 @@ fn equal_run(was: &[u32], left: usize, list: &[u32], done: usize) -> usize
     ensures apart { left + result < length was.now → done + result < length list.now
         → slice_index was.now (left + result) ≢ slice_index list.now (done + result) }
 {
-    if was[left..] == list[done..] {
+    // at their beginning the lists differ somewhere
+    if left > 0 && was[left..] == list[done..] {
         return was.len() - left;
     }
     let mut run = group_run(was, left, list, done);
