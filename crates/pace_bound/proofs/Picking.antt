@@ -1,5 +1,5 @@
 -- The part of a statement that is the farthest, as it is looked for: the first one of the most moves so far.
-use Rattle.std.proofs.Common.{◌≡◌, ℕ, zero, suc, ◌+◌, ◌<◌, ◌≤◌, ◌-◌, ◌^◌, Bool, false, List, [], ◌∷◌, length, drop, get_or, sym, ap, subst, ◌∙◌, arith}
+use Rattle.std.proofs.Common.{◌≡◌, ℕ, ◌+◌, ◌<◌, ◌≤◌, ◌-◌, ◌^◌, Bool, false, List, [], ◌∷◌, length, drop, get_or, sym, ap, subst, ◌∙◌, arith}
 use Rattle.std.specs.Prelude.{nat_lt, if◌then◌else◌}
 use Rattle.chp_base.specs.declared.channel.Channel.{Channel}
 use Rattle.width_check.specs.declared.typed.Var.{Var}
@@ -61,9 +61,3 @@ pub arm_typed : (channels : List Channel) (vars : List Var) (arms : List TArm) (
     → AreChoices channels vars (choices_in (drop i arms))
     → IsProcess channels vars (process_of a.body) × AreChoices channels vars (choices_in (drop (i + 1) arms))
 arm_typed channels vars arms i a inside is h = let facts = subst (AreChoices channels vars) (arm_at arms i a inside is) h in (facts.1, facts.2)
-
-pub arm_found : (channels : List Channel) (vars : List Var) (arms : List TArm) (i : ℕ) (a : TArm) → i < length arms → a ≡ get_or arms i a
-    → AreChoices channels vars (choices_in arms) → IsProcess channels vars (process_of a.body)
-arm_found channels vars [] i a inside is h = absurd (omega (arith, inside))
-arm_found channels vars (x ∷ arms) zero a inside is h = subst (λ (y : TArm). IsProcess channels vars (process_of y.body)) (sym is) h.1
-arm_found channels vars (x ∷ arms) (suc i) a inside is h = arm_found channels vars arms i a (omega (arith, inside)) is h.2

@@ -36,8 +36,8 @@ abbrev pub measured : (halved : Bool) → TypedProgram → told.Loop → told.Lo
 measured halved P l = record { statement = l.statement; length = capped (within_by halved P l.statement) }
 
 -- these loops stand behind those that were there, each measured
-abbrev pub AreNoted : (halved : Bool) → TypedProgram → (old new : List Loop) → List told.Loop → Type 0
-AreNoted halved P old new more = map loop_of new ≡ map loop_of old ++ map (measured halved P) more
+abbrev pub AreLoopsNoted : (halved : Bool) → TypedProgram → (old new : List Loop) → List told.Loop → Type 0
+AreLoopsNoted halved P old new more = map loop_of new ≡ map loop_of old ++ map (measured halved P) more
 
 -- this way, or, where its length is 2^64 - 1 or more, one that is said to have 2^64 - 1 moves
 pub record IsWay (w : told.Way) (found : Way) : Type 0 where

@@ -76,8 +76,9 @@ fn receive_first(program: &Typed, chan: u32, var: u32) -> u64
     }
 }
 
-/// The statement whose step is the first one of a statement, if the way there isn't too long for a number, and how many
-/// moves lead from the request to it, of the program as it is or in halves; they saturate at 2^64 - 1.
+/// The statement whose step is the first one of a statement, and how many moves lead from the request to it. The number
+/// is of the program as it is or in halves, the statement of the program as it is. Where the number saturates
+/// (2^64 - 1) the statement may be another one.
 pub(crate) fn first_step<'p>(program: &Typed, halved: bool, s: &'p TStmt) -> StepAway<'p>
     requires { IsProcess program.now.channels program.now.vars (process_of s.now) }
     ensures moves { result.moves ≡ capped (first_by halved (program_of program.now) (process_of s.now)) }

@@ -25,9 +25,9 @@ pub(crate) struct Falls {
     pub writes: Vec<u64>,
 }
 
-/// The statement whose step is the last one of a statement, whose request is high for so long after that it answers, if
-/// the way from there isn't too long for a number, and how many moves lead from that step to the fall of the answer;
-/// they saturate at 2^64 - 1.
+/// The statement whose step is the last one of a statement, and how many moves lead from it to the fall of the answer.
+/// The request is high for `held` moves after the answer. Where the number saturates (2^64 - 1) the statement may be
+/// another one.
 #[cycle(last_steps)]
 pub(crate) fn last_step<'p>(program: &Typed, falls: &Falls, s: &'p TStmt, held: u64) -> StepAway<'p>
     requires falls { AreFalls (program_of program.now) falls.now.channels.items falls.now.writes.items }

@@ -1,17 +1,17 @@
 //! From the steps of one round to those of the next.
 
-ghost use Rattle.std.specs.Prelude.{◌≡◌, ◌+◌, ◌<◌, ◌≤◌, length, drop, IfOk, OnOk};
+ghost use Rattle.std.specs.Prelude.{◌≡◌, ◌+◌, ◌<◌, ◌≤◌, max, length, drop, IfOk, OnOk};
 ghost use Rattle.width_check.specs.Typed.{program_of};
 ghost use Rattle.width_check.specs.Typing.{IsProcess, AreProcesses, AreChoices};
 ghost use Rattle.width_check.specs.View.{formula_of, process_of, members_in, choices_in};
 ghost use Rattle.width_check.specs.Values.{IsWellFormed};
 ghost use Rattle.width_check.specs.Reads.{reads};
 ghost use Rattle.handshake_expand.specs.Layout.{capped};
-ghost use Rattle.round_time.specs.Longest.{depth, guards_depth, var_height};
+ghost use Rattle.round_time.specs.Longest.{depth, guards_depth, low, var_height};
 ghost use Rattle.round_time.specs.Ways.{loops_within};
 ghost use Rattle.pace_bound.specs.Clearing.{AreFalls, turned_again};
-ghost use Rattle.pace_bound.specs.Halving.{assign_within, onward, within_by};
-ghost use Rattle.pace_bound.specs.Whereabouts.{AreNoted};
+ghost use Rattle.pace_bound.specs.Halving.{assign_within, first_by, onward, within_by};
+ghost use Rattle.pace_bound.specs.Whereabouts.{AreLoopsNoted};
 
 use crate::depth::{expr_depth, guards_depth};
 use crate::first::{first, turn_first};
@@ -69,6 +69,18 @@ fn turned_again(program: &Typed, falls: &Falls, again: bool, arms: &[TArm], guar
     }
 }
 
+/// The longer one of the two ways of a loop with this body: from its step to the first one of the body, and from the last
+/// one of that to its own.
+fn to_body_and_back(program: &Typed, falls: &Falls, halved: bool, body: &TStmt) -> u64
+    requires falls { AreFalls (program_of program.now) falls.now.channels.items falls.now.writes.items }
+    requires process { IsProcess program.now.channels program.now.vars (process_of body.now) }
+    ensures { result ≡ capped (max (first_by halved (program_of program.now) (process_of body.now))
+        (low (program_of program.now) 1 (process_of body.now) + 1)) }
+{
+    let back = low(program, falls, body, 1).saturating_add(1);
+    first(program, halved, body).max(back)
+}
+
 /// A loop, and how long the longest way inside of it is; the number saturates at 2^64 - 1.
 #[derive(Clone, Copy)]
 pub struct Loop<'p> {
@@ -77,7 +89,8 @@ pub struct Loop<'p> {
 }
 
 /// The longest way inside of a statement from the steps of one round to those of the next, of the program as it is or
-/// in halves; saturates at 2^64 - 1. On its way it notes that of each loop.
+/// in halves; saturates at 2^64 - 1. On its way it notes each loop with that of its own, in the order of the text, behind
+/// those that are there.
 pub(crate) fn within<'p>(
     program: &Typed,
     falls: &Falls,
@@ -88,7 +101,7 @@ pub(crate) fn within<'p>(
     requires falls { AreFalls (program_of program.now) falls.now.channels.items falls.now.writes.items }
     requires process { IsProcess program.now.channels program.now.vars (process_of s.now) }
     ensures longest { IfOk result (λ n. n ≡ capped (within_by halved (program_of program.now) (process_of s.now))) }
-    ensures loops { OnOk result (AreNoted halved (program_of program.now) loops.old.items loops.new.items
+    ensures loops { OnOk result (AreLoopsNoted halved (program_of program.now) loops.old.items loops.new.items
         (loops_within (program_of program.now) (process_of s.now))) }
 {
     match s {
@@ -120,14 +133,14 @@ pub(crate) fn within<'p>(
             Ok(most)
         }
         TStmt::Repeat { body } => {
+            // It stands before the loops within it, and its number is known after theirs.
             let place = loops.len();
             loops.push(Loop {
                 statement: s,
                 longest: 0,
             })?;
-            let back = low(program, falls, body, 1).saturating_add(1);
             let inner = within(program, falls, halved, body, loops)?;
-            let longest = inner.max(first(program, halved, body).max(back));
+            let longest = inner.max(to_body_and_back(program, falls, halved, body));
             loops[place] = Loop {
                 statement: s,
                 longest,

@@ -213,15 +213,15 @@ returns-in_ok-inner-in-Repeat-clause-loops t c =
     let empty : Loop = record { statement = c.args.s; longest = 0 } in
     let pushed = ap (map loop_of) c.in_ok-push-in-Repeat.ensures.items ∙ map-append loop_of old (empty ∷ []) in
     let inner = c.in_ok-inner-in-Repeat.ensures.loops
-    ∙ (ap (λ s. map loop_of c.push.new.self.items ++ map (measured b P) (loops_within P (process_of s))) c.deref-in-Repeat-2.ensures
+    ∙ (ap (λ s. map loop_of c.push.new.self.items ++ map (measured b P) (loops_within P (process_of s))) c.deref-in-Repeat.ensures
     ∙ ap (λ l. l ++ rest) pushed) in
     let place : length (map loop_of old) ≡ c.len-place.result = omega (arith, length-map old loop_of, c.len-place.ensures) in
     let is : process_of c.args.s.now ≡ repeating q = ap process_of c.in-Repeat.is in
-    let own = c.in_ok-inner-in-Repeat.ensures.longest ∙ ap (λ s. capped (within_by b P (process_of s))) c.deref-in-Repeat-2.ensures in
-    let begins = c.first-in-Repeat.ensures ∙ ap (λ s. capped (first_by b P (process_of s))) c.deref-in-Repeat-3.ensures in
-    let ends = c.low.ensures ∙ ap (λ s. capped (low P 1 (process_of s))) c.deref-in-Repeat.ensures in
+    let own = c.in_ok-inner-in-Repeat.ensures.longest ∙ ap (λ s. capped (within_by b P (process_of s))) c.deref-in-Repeat.ensures in
+    let around = c.to_body_and_back.ensures
+    ∙ ap (λ s. capped (max (first_by b P (process_of s)) (low P 1 (process_of s) + 1))) c.deref-in-Repeat-2.ensures in
     let number : c.max-longest.result ≡ capped (max (within_by b P q) (max (first_by b P q) (low P 1 q + 1))) =
-    omega (arith, own, begins, ends, c.saturating_add-back.ensures, c.max-in-Repeat.ensures, c.max-longest.ensures) in
+    omega (arith, own, around, c.max-longest.ensures) in
     number_put c.len-place.result (map loop_of old) rest c.within-in-Repeat.new.loops.items this (loop_of empty) place inner
     ∙ (ap (λ n. map loop_of old ++ record { statement = process_of c.args.s.now; length = n } ∷ rest) number
     ∙ (ap (λ p. map loop_of old ++ record { statement = p; length = capped (within_by b P (repeating q)) } ∷ rest) is
