@@ -2,9 +2,9 @@
 use Rattle.std.proofs.Common.{◌≡◌, ◌≢◌, ℕ, Bool, true, false, List, length, set, refl, sym, ap, ◌∙◌}
 use Rattle.std.specs.Prelude.{Option, Some, None}
 use Rattle.std.proofs.lemmas.List.{length-set, set-set, set_comm, set-get_or}
-use Rattle.event_sim.specs.Locality.{is_member, without}
+use Rattle.event_sim.specs.Locality.{is_member, once_left}
 
-pub same_count : (marks : List Bool) (leaving : Option ℕ) → length (without marks leaving) ≡ length marks
+pub same_count : (marks : List Bool) (leaving : Option ℕ) → length (once_left marks leaving) ≡ length marks
 same_count marks None = refl
 same_count marks (Some n) = length-set marks n false
 

@@ -102,9 +102,9 @@ pub record IsRetested (passes : ℕ → Bool) (nodes : List ℕ) (old new : List
       (λ n. f n || (is_among nodes n && (is_member old n && not (passes n))))
 
 -- the set without a node that is to leave it, where there is one
-abbrev pub without : List Bool → Option ℕ → List Bool
-without marks None = marks
-without marks (Some n) = slice_set marks n false
+abbrev pub once_left : List Bool → Option ℕ → List Bool
+once_left marks None = marks
+once_left marks (Some n) = slice_set marks n false
 
 -- a node that is to leave the set is in it
 abbrev pub IsLeaving : List Bool → Option ℕ → Type 0

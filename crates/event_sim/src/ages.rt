@@ -18,14 +18,15 @@ const FEW: usize = 8;
 /// Where a node stands: its index in the list, and its place in the order. A list mostly differs from the last one
 /// where the last choice stood, so a change is looked for there first, and elsewhere if it isn't there.
 #[derive(Clone, Copy)]
-pub(crate) struct Spot {
+pub(crate) struct Position {
     pub(crate) index: usize,
     pub(crate) place: usize,
 }
 
 /// The last list of a scheduler, and its nodes once more, the oldest first, of equally old ones the least first. For
 /// each of them it also has the number of picks that were made before its presence in the lists began. So the time of
-/// a pick goes into the comparison of its list with the last one, and into what changed.
+/// a pick goes into the comparison of its list with the last one, and into what changed. The order is a deque: nodes
+/// join it at its end, and the scheduler that picks the oldest takes them from its front.
 #[derive(Drop)]
 pub(crate) struct Presence {
     since: Vec<u64>,
@@ -173,7 +174,7 @@ fn follow(
     was: &[u32],
     list: &[u32],
     now: u64,
-    last: Spot,
+    last: Position,
 ) -> usize
     requires list { IsChoiceList (length since.old) list.now }
     requires by_age { IsByAge now since.old was.now order.old.items }
@@ -291,7 +292,7 @@ impl Presence {
 
     /// Records one more pick, from this list, after so many. It is told where the last choice stood, and the result is
     /// where the list's newest node probably stands in it.
-    pub(crate) fn note(&mut self, list: &[u32], now: u64, last: Spot) -> usize
+    pub(crate) fn note(&mut self, list: &[u32], now: u64, last: Position) -> usize
         requires list { IsChoiceList (length self.old.since.items) list.now }
         requires presence { IsPresence now self.old }
         ensures presence { IsPresence (now + 1) self.new }
@@ -322,11 +323,12 @@ impl Presence {
             (map (slice_index (ages_at now self.now.since.items self.now.list.items)) self.now.list.items) }
         ensures within { result < length self.now.list.items }
     {
+        // nothing says where it stands; a list of one node needs no search so
         index_of(&self.list, self.order[0], 0)
     }
 
     /// Where the list's newest node stands, the least of equally new ones. Its index may be the one that is guessed.
-    pub(crate) fn newest(&self, guess: usize) -> Spot
+    pub(crate) fn newest(&self, guess: usize) -> Position
         requires some { 0 < length self.now.list.items }
         requires by_age { (now : ℕ) × IsByAge now self.now.since.items self.now.list.items self.now.order.items }
         ensures best { (now : ℕ)
@@ -337,9 +339,6 @@ impl Presence {
     {
         let place = place_of_newest(&self.since, &self.order);
         let index = index_of(&self.list, self.order[place], guess);
-        Spot {
-            index: index,
-            place: place,
-        }
+        Position { index, place }
     }
 }

@@ -109,7 +109,7 @@ impl IndexedNet {
 
     /// Whether a rule of the node is enabled, as this says, or the environment may move it while no reset is on, where
     /// so many values are completed on each channel.
-    pub(crate) fn may_move(&self, rule: bool, done: &[u64], state: &State, node: u32) -> bool
+    fn may_move(&self, rule: bool, done: &[u64], state: &State, node: u32) -> bool
         requires done { length done.now ≡ length self.now.net.channels }
         requires state { length state.now ≡ length self.now.net.first }
         requires node { node < length self.now.net.first }

@@ -6,7 +6,7 @@ ghost use Rattle.prs_core.specs.Moves.{high, both_ways};
 ghost use Rattle.prs_core.specs.Fans.{readers_below};
 ghost use Rattle.env_script.specs.Hazards.{or_else};
 ghost use Rattle.guard_rows.specs.Places.{readers_in, AreRows};
-ghost use Rattle.event_sim.specs.Locality.{has_move, is_asked, is_member, is_ready, lesser, without, IsLeaving, IsPassing, IsRetested, IsRetestedNear, IsCountedMove, IsListedBehind, IsRelisted};
+ghost use Rattle.event_sim.specs.Locality.{has_move, is_asked, is_member, is_ready, lesser, once_left, IsLeaving, IsPassing, IsRetested, IsRetestedNear, IsCountedMove, IsListedBehind, IsRelisted};
 ghost use Rattle.event_sim.specs.Standings.{IsRetestedOn};
 
 use crate::hazards::pulled_among;
@@ -62,24 +62,19 @@ fn retest(
 /// Whether the node is in the set, apart from the one that is to leave it.
 fn stays(moves: &NodeSet, leaving: Option<u32>, node: u32) -> bool
     requires { node < length moves.now }
-    ensures { result ≡ is_member (without moves.now leaving) node }
+    ensures { result ≡ is_member (once_left moves.now leaving) node }
 {
     match leaving {
-        None => moves.contains(node),
-        Some(left) => {
-            if left == node {
-                false
-            } else {
-                moves.contains(node)
-            }
-        }
+        Some(other) if other == node => false,
+        _ => moves.contains(node),
     }
 }
 
-/// Takes the node out of the set unless it is ready, or says that it is to leave.
+/// Puts the moved node into the set where it is ready. Where it is not, and the set has it, it is returned as the one
+/// that is to leave: so a reader that gets a move can take its place in the list.
 fn leave_or_stay(moves: &mut NodeSet, node: u32, ready: bool) -> Option<u32>
     requires { node < length moves.old }
-    ensures set { without moves.new result ≡ slice_set moves.old node ready }
+    ensures set { once_left moves.new result ≡ slice_set moves.old node ready }
     ensures leaving { IsLeaving moves.new result }
 {
     if ready || !moves.contains(node) {
@@ -90,32 +85,32 @@ fn leave_or_stay(moves: &mut NodeSet, node: u32, ready: bool) -> Option<u32>
 }
 
 /// Puts the node into the set where it is ready, else takes it out, while this one is to leave the set.
-fn place_beside(moves: &mut NodeSet, left: u32, node: u32, ready: bool) -> Option<u32>
-    requires left { is_member moves.old left ≡ true }
+fn set_where_one_leaves(moves: &mut NodeSet, leaving: u32, node: u32, ready: bool) -> Option<u32>
+    requires leaving { is_member moves.old leaving ≡ true }
     requires node { node < length moves.old }
-    ensures set { without moves.new result ≡ slice_set (slice_set moves.old left false) node ready }
+    ensures set { once_left moves.new result ≡ slice_set (slice_set moves.old leaving false) node ready }
     ensures leaving { IsLeaving moves.new result }
 {
-    if left == node {
+    if leaving == node {
         if ready {
             return None;
         }
-        return Some(left);
+        return Some(leaving);
     }
     if ready && !moves.contains(node) {
-        moves.replace(left, node);
+        moves.replace(leaving, node);
         return None;
     }
     moves.set(node, ready);
-    Some(left)
+    Some(leaving)
 }
 
 /// Puts the node into the set where it is ready, else takes it out. A node that comes takes the place of the one that
 /// is to leave the set: both at once cost less than one after the other. Returns which one is to leave then.
-fn place(moves: &mut NodeSet, leaving: Option<u32>, node: u32, ready: bool) -> Option<u32>
+fn set_beside(moves: &mut NodeSet, leaving: Option<u32>, node: u32, ready: bool) -> Option<u32>
     requires node { node < length moves.old }
     requires leaving { IsLeaving moves.old leaving }
-    ensures set { without moves.new result ≡ slice_set (without moves.old leaving) node ready }
+    ensures set { once_left moves.new result ≡ slice_set (once_left moves.old leaving) node ready }
     ensures leaving { IsLeaving moves.new result }
 {
     match leaving {
@@ -123,14 +118,14 @@ fn place(moves: &mut NodeSet, leaving: Option<u32>, node: u32, ready: bool) -> O
             moves.set(node, ready);
             None
         }
-        Some(left) => place_beside(moves, left, node, ready),
+        Some(other) => set_where_one_leaves(moves, other, node, ready),
     }
 }
 
 /// Takes the node out of the set that is to leave it.
 fn leave(moves: &mut NodeSet, leaving: Option<u32>)
     requires { IsLeaving moves.old leaving }
-    ensures { moves.new ≡ without moves.old leaving }
+    ensures { moves.new ≡ once_left moves.old leaving }
 {
     if let Some(node) = leaving {
         moves.set(node, false);
@@ -177,8 +172,8 @@ fn retest_reader(
     requires node { node < length indexed.now.net.first }
     requires leaving { IsLeaving moves.old before.leaving }
     ensures retested { (done : List ℕ) → is_asked indexed.now done state.now node ≡ false
-        → IsRetested (is_ready indexed.now done state.now) (node ∷ []) (without moves.old before.leaving)
-        (without moves.new result.leaving) before.trouble.lost result.trouble.lost }
+        → IsRetested (is_ready indexed.now done state.now) (node ∷ []) (once_left moves.old before.leaving)
+        (once_left moves.new result.leaving) before.trouble.lost result.trouble.lost }
     ensures pulled { result.trouble.pulled ≡ or_else before.trouble.pulled
         (if both_ways indexed.now.net (high state.now) node then Some node else None) }
     ensures count { length moves.new ≡ length moves.old }
@@ -187,7 +182,7 @@ fn retest_reader(
     let (up, down) = rows.says(indexed.net(), state, node);
     let was = stays(moves, before.leaving, node);
     let ready = rule_of(state.is_high(node), up, down);
-    let leaving = place(moves, before.leaving, node, ready);
+    let leaving = set_beside(moves, before.leaving, node, ready);
     let trouble = Trouble {
         lost: least_lost(before.trouble.lost, node, was, ready),
         pulled: first_torn(before.trouble.pulled, node, up, down),
@@ -218,8 +213,8 @@ fn retest_readers(
     requires leaving { IsLeaving moves.old leaving }
     ensures retested { (done : List ℕ)
         → All (λ n. is_asked indexed.now done state.now n ≡ false) (readers_in edges.now)
-        → IsRetested (is_ready indexed.now done state.now) (readers_in edges.now) (without moves.old leaving)
-        (without moves.new result.leaving) None result.trouble.lost }
+        → IsRetested (is_ready indexed.now done state.now) (readers_in edges.now) (once_left moves.old leaving)
+        (once_left moves.new result.leaving) None result.trouble.lost }
     ensures pulled { result.trouble.pulled ≡ find (both_ways indexed.now.net (high state.now)) (readers_in edges.now) }
     ensures count { length moves.new ≡ length moves.old }
     ensures leaving { IsLeaving moves.new result.leaving }

@@ -4,7 +4,7 @@ ghost use Rattle.std.specs.Prelude.{◌≡◌, ◌+◌, ◌<◌, ◌≤◌, [], 
 ghost use Rattle.event_sim.specs.Ages.{aged, ages_in, first_least};
 ghost use Rattle.event_sim.specs.Picking.{IsChoiceList};
 
-use crate::ages::{Presence, Spot};
+use crate::ages::{Position, Presence};
 use crate::picker::Picker;
 use std::alloc::{AllocError, Global};
 use std::marker::Model;
@@ -15,7 +15,7 @@ pub struct Newest {
     log: Vec<usize>,
     seeded: Option<(u64, usize)>,
     presence: Presence,
-    last: Spot,
+    last: Position,
 }
 
 impl Model for Newest {
@@ -45,7 +45,7 @@ impl Newest {
             log: Vec::new(alloc),
             seeded: None,
             presence: Presence::new(alloc),
-            last: Spot { index: 0, place: 0 },
+            last: Position { index: 0, place: 0 },
         }
     }
 }

@@ -108,7 +108,8 @@ fn free_slot(slots: &mut Vec<u32>, place: usize, to: usize)
     }
 }
 
-/// Writes the node over the one at an index of the list that begins at this slot, and moves it to another index.
+/// Replaces the node at an index of the list that begins at this slot by another one, which comes to stand at the index
+/// `to`. What stands between the two moves by one.
 fn put_over(slots: &mut Vec<u32>, from: usize, place: usize, to: usize, node: u32)
     requires place { from + place < vec_len slots.old }
     requires to { from + to < vec_len slots.old }
@@ -129,7 +130,7 @@ fn fits(list: &[u32], place: usize, node: u32) -> bool
 }
 
 /// The index at which the node is inserted into the list of a set once the node at this index is gone. Half of the
-/// nodes that get a move by a move stand where the moved node stood.
+/// readers that get a move by a move come to stand where the moved node stood, so that is tried first.
 fn place_after(list: &[u32], place: usize, node: u32) -> usize
     requires { place < length list.now }
     ensures within { result < length list.now }

@@ -4,7 +4,7 @@ ghost use Rattle.std.specs.Prelude.{◌≡◌, ◌+◌, ◌<◌, ◌≤◌, [], 
 ghost use Rattle.event_sim.specs.Ages.{aged, ages_in, first_greatest};
 ghost use Rattle.event_sim.specs.Picking.{IsChoiceList};
 
-use crate::ages::{Presence, Spot};
+use crate::ages::{Position, Presence};
 use crate::picker::Picker;
 use std::alloc::{AllocError, Global};
 use std::marker::Model;
@@ -98,7 +98,7 @@ impl Picker for Oldest {
         ensures seeded { self.new.seeded ≡ self.old.seeded }
     {
         // the oldest node is the first of the order
-        let last = Spot {
+        let last = Position {
             index: self.last,
             place: 0,
         };

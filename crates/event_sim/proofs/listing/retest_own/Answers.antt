@@ -5,7 +5,7 @@ use Rattle.std.proofs.lemmas.List.{length-set}
 use Rattle.prs_core.specs.Moves.{high, both_ways}
 use Rattle.prs_core.specs.Fans.{readers_below}
 use Rattle.guard_rows.specs.Places.{readers_in}
-use Rattle.event_sim.specs.Locality.{is_asked, is_ready, without, IsRetested}
+use Rattle.event_sim.specs.Locality.{is_asked, is_ready, once_left, IsRetested}
 use Rattle.event_sim.proofs.Leaving.{same_count}
 use Rattle.event_sim.proofs.Tested.{readers_within}
 use Rattle.event_sim.proofs.Unasked.{readers_unasked}
@@ -42,12 +42,12 @@ returns-clause-retested c =
     let none : All (λ m. is_asked x done values m ≡ false) (readers_in c.edges.result.now) =
     subst (λ (xs : List ℕ). All (λ m. is_asked x done values m ≡ false) xs) (sym are)
     (readers_unasked x done values n c.net-net.ensures.is_net c.net-net.ensures.script) in
-    let old : without c.leave_or_stay-leaving.new.moves c.leave_or_stay-leaving.result ≡ set c.args.moves.now n (ready n) =
+    let old : once_left c.leave_or_stay-leaving.new.moves c.leave_or_stay-leaving.result ≡ set c.args.moves.now n (ready n) =
     c.leave_or_stay-leaving.ensures.set ∙ ap (λ (b : Bool). set c.args.moves.now n b) c.is_ready-ready.ensures in
     subst (λ (xs : List ℕ). IsRetested ready xs (set c.args.moves.now n (ready n)) c.leave.new.moves None lost) are
     (subst (λ (new : List Bool). IsRetested ready (readers_in c.edges.result.now) (set c.args.moves.now n (ready n)) new None lost) (sym c.leave.ensures)
     (subst (λ (from : List Bool). IsRetested ready (readers_in c.edges.result.now) from
-    (without c.retest_readers-found.new.moves c.retest_readers-found.result.leaving) None lost) old
+    (once_left c.retest_readers-found.new.moves c.retest_readers-found.result.leaving) None lost) old
     (c.retest_readers-found.ensures.retested done none)))
 
 pub returns-clause-pulled : goal.returns-clause-pulled

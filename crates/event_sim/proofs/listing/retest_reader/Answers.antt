@@ -4,7 +4,7 @@ use Rattle.std.proofs.lemmas.List.{length-set}
 use Rattle.prs_core.specs.Nets.{NetValue, up_of, down_of}
 use Rattle.prs_core.specs.Moves.{high, guard_holds, rule_enabled}
 use Rattle.env_script.specs.Hazards.{or_else}
-use Rattle.event_sim.specs.Locality.{is_asked, is_ready, lesser, without}
+use Rattle.event_sim.specs.Locality.{is_asked, is_ready, lesser, once_left}
 use Rattle.event_sim.proofs.Behind.{retested_one}
 use Rattle.event_sim.proofs.Leaving.{same_count}
 use Rattle.event_sim.proofs.Tested.{rule_by, rule_alone, both_by}
@@ -15,7 +15,7 @@ returns-clause-retested c = λ done none.
     let x = c.args.indexed.now in
     let values = c.args.state.now in
     let n = c.args.node in
-    let old = without c.args.moves.now c.args.before.leaving in
+    let old = once_left c.args.moves.now c.args.before.leaving in
     let up : c.says-up.result.0 ≡ guard_holds (high values) (up_of x.net n) =
     c.says-up.ensures.up ∙ ap (λ (net : NetValue). guard_holds (high values) (up_of net n)) c.net.ensures.net in
     let down : c.says-up.result.1 ≡ guard_holds (high values) (down_of x.net n) =
@@ -23,9 +23,9 @@ returns-clause-retested c = λ done none.
     let ready : c.rule_of-ready.result ≡ is_ready x done values n =
     c.rule_of-ready.ensures ∙ rule_by x.net (high values) n c.is_high.result c.says-up.result.0 c.says-up.result.1 c.is_high.ensures up down
     ∙ rule_alone (rule_enabled x.net (high values) n) (is_asked x done values n) none in
-    retested_one (is_ready x done values) n old (without c.place-leaving.new.moves c.place-leaving.result) c.args.before.trouble.lost c.least_lost.result
+    retested_one (is_ready x done values) n old (once_left c.set_beside-leaving.new.moves c.set_beside-leaving.result) c.args.before.trouble.lost c.least_lost.result
     c.rule_of-ready.result (omega (arith, c.requires.node, c.requires.moves, same_count c.args.moves.now c.args.before.leaving)) ready
-    c.place-leaving.ensures.set
+    c.set_beside-leaving.ensures.set
     (c.least_lost.ensures ∙ ap (λ (b : Bool). cond (b && not c.rule_of-ready.result) (lesser c.args.before.trouble.lost n) c.args.before.trouble.lost)
     c.stays-was.ensures)
 
@@ -46,7 +46,7 @@ returns-clause-count c =
     omega (
       arith,
       same_count c.args.moves.now c.args.before.leaving,
-      same_count c.place-leaving.new.moves c.place-leaving.result,
-      ap length c.place-leaving.ensures.set,
-      length-set (without c.args.moves.now c.args.before.leaving) c.args.node c.rule_of-ready.result,
+      same_count c.set_beside-leaving.new.moves c.set_beside-leaving.result,
+      ap length c.set_beside-leaving.ensures.set,
+      length-set (once_left c.args.moves.now c.args.before.leaving) c.args.node c.rule_of-ready.result,
     )

@@ -5,7 +5,7 @@ use Rattle.std.proofs.lemmas.List.{take_all}
 use Rattle.prs_core.specs.Moves.{high, both_ways}
 use Rattle.env_script.specs.Hazards.{or_else}
 use Rattle.guard_rows.specs.Places.{readers_in}
-use Rattle.event_sim.specs.Locality.{is_ready, without, IsRetested}
+use Rattle.event_sim.specs.Locality.{is_ready, once_left, IsRetested}
 use Rattle.event_sim.proofs.Behind.{retested_more}
 use Rattle.event_sim.proofs.Lists.{first_of_both}
 use Rattle.event_sim.proofs.Tested.{reader_more, reader_within, unasked_there}
@@ -20,7 +20,7 @@ returns-clause-retested c = λ done none.
     let es = c.args.edges.now in
     let past = c.loop-reader-test.false in
     subst (λ (ys : List (ℕ × ℕ)). IsRetested (is_ready c.args.indexed.now done c.args.state.now) (readers_in ys)
-    (without c.args.moves.now c.args.leaving) (without c.loop-reader.moves c.loop-reader.found.leaving) None c.loop-reader.found.trouble.lost)
+    (once_left c.args.moves.now c.args.leaving) (once_left c.loop-reader.moves c.loop-reader.found.leaving) None c.loop-reader.found.trouble.lost)
     (take_all c.loop-reader.reader-index es (omega arith)) (c.loop-reader.invariant.retested done none)
 
 pub loop-reader-preserved : goal.loop-reader-preserved
@@ -33,9 +33,9 @@ loop-reader-preserved c =
     let before = readers_in (take i es) in
     let more = reader_more es i c.loop-reader-test.true in
     let is = c.loop-reader.invariant in
-    let old = without c.args.moves.now c.args.leaving in
-    let mid = without c.loop-reader.moves c.loop-reader.found.leaving in
-    let new = without c.retest_reader-found.new.moves c.retest_reader-found.result.leaving in
+    let old = once_left c.args.moves.now c.args.leaving in
+    let mid = once_left c.loop-reader.moves c.loop-reader.found.leaving in
+    let new = once_left c.retest_reader-found.new.moves c.retest_reader-found.result.leaving in
     let lost = c.retest_reader-found.result.trouble.lost in
     let one = c.retest_reader-found.ensures in record {
       retested = λ done none.
