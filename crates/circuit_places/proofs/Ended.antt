@@ -14,7 +14,7 @@ use Rattle.circuit_places.specs.Circuit.{turns}
 use Rattle.circuit_places.specs.Whole.{Wires, wires_seen, line_ack, is_heard, is_merged, number_rail, brings, drives, offers, value_on, neutral_on, Node, go_node, own_node, rail_node, ack_node, bit_node, wrote_node, joint_node, answers}
 use Rattle.circuit_places.proofs.RailLemmas.{lows_neutral, value_same, each_bit}
 use Rattle.circuit_places.proofs.Flow.{low_of, cases, or_left, or_right, neither_left, neither_right}
-use Rattle.circuit_places.proofs.Talks.{either}
+use Rattle.circuit_places.proofs.Talks.{either, guarded_reads_uses}
 use Rattle.circuit_places.proofs.Arriving.{number_some}
 use Rattle.circuit_places.proofs.BitTable.{Now, may, write_t, write_f, some_bit}
 use Rattle.circuit_places.proofs.Blocks.{now_at, block_waits}
@@ -26,7 +26,7 @@ use Rattle.circuit_places.proofs.Fires.{guarded_site}
 use Rattle.circuit_places.proofs.System.{Good, clean_of, can, driven, sent_turns, heard_turns, root_left, Fitted}
 use Rattle.circuit_places.proofs.Follow.{fewer, left_over, behind_none, Followed, over_before, open_is}
 use Rattle.circuit_places.proofs.Meets.{uses_within}
-use Rattle.circuit_places.proofs.Writing.{guarded_reads_uses, guarded_writing_unread}
+use Rattle.circuit_places.proofs.Writing.{guarded_writing_unread}
 use Rattle.function_blocks.specs.Rails.{number_on}
 
 -- a send that no acceptance is left for, and a receive that no value is left for; either one on a channel on which the

@@ -19,6 +19,7 @@ pub mod Stepping
 pub mod Left
 pub mod Flow
 pub mod Begin
+pub mod Everywhere
 pub mod Talks
 pub mod Sides
 pub mod Leaves

@@ -33,7 +33,8 @@ use Rattle.circuit_places.proofs.Flow.{cases}
 use Rattle.circuit_places.proofs.LineNames.{self_number, same_number}
 use Rattle.circuit_places.proofs.Change.{AckTurned}
 use Rattle.circuit_places.proofs.Fires.{Passes, passes_of}
-use Rattle.circuit_places.proofs.Writing.{number_told, guarded_reads_uses, guarded_writing_unread, guarded_writing_there}
+use Rattle.circuit_places.proofs.Writing.{number_told, guarded_writing_unread, guarded_writing_there}
+use Rattle.circuit_places.proofs.Talks.{guarded_reads_uses}
 use Rattle.circuit_places.proofs.Writers.{Writes, guarded_writes}
 use Rattle.circuit_places.proofs.RailLemmas.{each_bit}
 use Rattle.circuit_places.proofs.Meets.{sends_merged, receives_heard, uses_within}

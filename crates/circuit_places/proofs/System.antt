@@ -29,7 +29,8 @@ use Rattle.circuit_places.proofs.Begin.{guarded_idle_moves}
 use Rattle.circuit_places.proofs.Sites.{is_nil}
 use Rattle.circuit_places.proofs.Exchange.{Exchange}
 use Rattle.circuit_places.proofs.Fires.{Passes}
-use Rattle.circuit_places.proofs.Writing.{guarded_reads_uses, guarded_writing_unread}
+use Rattle.circuit_places.proofs.Writing.{guarded_writing_unread}
+use Rattle.circuit_places.proofs.Talks.{guarded_reads_uses}
 
 -- Where the whole is: the root's place fits what is seen, a high acknowledge has its site under way, a rail of a line that
 -- is high over a low acknowledge is held by a site, one that is held over a high acknowledge is high, and a rail that is

@@ -3,278 +3,186 @@ use Rattle.std.proofs.Common.{◌≡◌, ℕ, ◌==◌, Bool, true, false, List,
 use Rattle.std.specs.Prelude.{◌||◌}
 use Rattle.width_check.specs.Processes.{Choices, Process, Processes, and_member}
 use Rattle.circuit_places.specs.Lines.{Line, of_channel, of_var, same_line}
+use Rattle.circuit_places.specs.Circuit.{guards_read}
 use Rattle.function_blocks.specs.Waves.{out_rail}
-use Rattle.circuit_places.proofs.RailLemmas.{fst_true}
-use Rattle.circuit_places.proofs.Places.{Mode, GuardedAt, At, TurnAt, BranchesAt, g_rests, g_in, g_past, g_back, rests, at_skip, at_assign, at_send, at_receive, at_turn, at_side, at_body, no_more, and_at, turn_rests, at_last, at_member, at_later, Shown, guarded_shown, shown, turn_shown, branches_shown, at_choice, at_turning, at_closing, ChoiceAt, control_at, inside_at, ChosenAt, this_one, another, choice_shown, chosen_shown}
-use Rattle.circuit_places.proofs.Meets.{Fair, sends, turn_sends, receives, each_receives, choice_sends, choice_receives}
+use Rattle.width_check.specs.Reads.{reads}
+use Rattle.circuit_places.proofs.RailLemmas.{fst_true, snd_true}
+use Rattle.circuit_places.proofs.Places.{Mode, GuardedAt, BranchesAt, Shown, guarded_shown, branches_shown, under_way}
+use Rattle.circuit_places.proofs.Meets.{Fair, sends, turn_sends, choice_sends, receives, each_receives, choice_receives, uses, each_uses, choice_uses}
 use Rattle.circuit_places.proofs.Flow.{or_left, or_right, low_of}
+use Rattle.circuit_places.proofs.Everywhere.{View, GoesUp, IsSeen, guarded_view, branches_view, guarded_seen, branches_seen, guarded_everywhere, branches_everywhere}
 
 -- one of both
 pub either : {A : Type 0} (a b : Bool) → (a || b) ≡ true → (a ≡ true → A) → (b ≡ true → A) → A
 either true b h f g = f refl
 either false b h f g = g h
 
--- what is held is under way
-mutual
-  pub guarded_offers_talks : {p : Process} {m : Mode} (g : GuardedAt p m) (k : Line) (i : ℕ) (one : Bool) → (guarded_shown g).offer k i one ≡ true
-      → (guarded_shown g).talk k ≡ true
-  guarded_offers_talks (g_in u a h) k i one e = offers_talks a k i one e
-  guarded_offers_talks _ k i one e = absurd (cc e)
+both_ways : (a b c d : Bool) → (a ≡ true → c ≡ true) → (b ≡ true → d ≡ true) → (a || b) ≡ true → (c || d) ≡ true
+both_ways true b c d f g h = or_left c d (f refl)
+both_ways false b c d f g h = or_right c d (g h)
 
-  pub offers_talks : {p : Process} {m : Mode} (a : At p m) (k : Line) (i : ℕ) (one : Bool) → (shown a).offer k i one ≡ true → (shown a).talk k ≡ true
-  offers_talks (at_assign {x = x} {e = d} m u h) k i one e = fst_true (same_line (of_var x) k) (out_rail d u i one) e
-  offers_talks (at_send {c = c} {e = d} m u h) k i one e = fst_true (same_line (of_channel c) k) (out_rail d u i one) e
-  offers_talks (at_receive {x = x} m l q h) k i one e = fst_true (same_line (of_var x) k) (q i one) e
-  offers_talks (at_turn t) k i one e = turn_offers_talks t k i one e
-  offers_talks (at_side m t b h) k i one e = branches_offers_talks b k i one e
-  offers_talks (at_body a) k i one e = offers_talks a k i one e
-  offers_talks (at_choice x) k i one e = choice_offers_talks x k i one e
-  offers_talks (at_turning x) k i one e = choice_offers_talks x k i one e
-  offers_talks (at_closing c) k i one e = absurd (cc e)
-  offers_talks rests k i one e = absurd (cc e)
-  offers_talks (at_skip m h) k i one e = absurd (cc e)
+-- What is held is under way, and so is what has a step, what is being written, and a receive that has stored. Where a send is under way, the rise
+-- of its acknowledge is a step.
+pub record IsHonest (v : View) : Type 0 where
+  pub offers : (k : Line) (i : ℕ) (one : Bool) → v.shown.offer k i one ≡ true → v.shown.talk k ≡ true
+  pub says : (k : Line) → v.shown.says k ≡ true → v.shown.talk k ≡ true
+  pub steps : (c : ℕ) → v.shown.says (of_channel c) ≡ v.shown.talk (of_channel c)
+  pub takes : (c : ℕ) → v.shown.take c ≡ true → v.shown.listen c ≡ true
+  pub writes : (ack : Line → Bool) (x : ℕ) → v.writing ack x ≡ true → v.shown.talk (of_var x) ≡ true
 
-  choice_offers_talks : {again : Bool} {choices : Choices} {m : Mode} (x : ChoiceAt again choices m) (k : Line) (i : ℕ) (one : Bool)
-      → (choice_shown x).offer k i one ≡ true → (choice_shown x).talk k ≡ true
-  choice_offers_talks (control_at c) k i one e = absurd (cc e)
-  choice_offers_talks (inside_at a w) k i one e = chosen_offers_talks a k i one e
+honest : IsSeen IsHonest
+honest = record {
+  silent = λ f. record {
+    offers = λ k i one e. absurd (cc e);
+    says = λ k e. absurd (cc e);
+    steps = λ c. refl;
+    takes = λ c e. absurd (cc e);
+    writes = λ ack x e. absurd (cc e);
+  };
+  guards = λ asked choices f. record {
+    offers = λ k i one e. absurd (cc e);
+    says = λ k e. absurd (cc e);
+    steps = λ c. refl;
+    takes = λ c e. absurd (cc e);
+    writes = λ ack x e. absurd (cc e);
+  };
+  assign = λ x d m u h. record {
+    offers = λ k i one e. fst_true (same_line (of_var x) k) (out_rail d u i one) e;
+    says = λ k e. e;
+    steps = λ c. refl;
+    takes = λ c e. absurd (cc e);
+    writes = λ ack y e. fst_true (x == y) (under_way m (ack (of_var x))) e;
+  };
+  send = λ c d m u h. record {
+    offers = λ k i one e. fst_true (same_line (of_channel c) k) (out_rail d u i one) e;
+    says = λ k e. e;
+    steps = λ d. refl;
+    takes = λ d e. absurd (cc e);
+    writes = λ ack y e. absurd (cc e);
+  };
+  receive = λ c x m l q h. record {
+    offers = λ k i one e. fst_true (same_line (of_var x) k) (q i one) e;
+    says = λ k e. absurd (cc e);
+    steps = λ d. refl;
+    takes = λ d e. fst_true (c == d) l e;
+    writes = λ ack y e. fst_true (x == y) (under_way m (ack (of_channel c))) e;
+  };
+  both = λ v w g b. record {
+    offers = λ k i one e. both_ways (v.shown.offer k i one) (w.shown.offer k i one) (v.shown.talk k) (w.shown.talk k) (g.offers k i one) (b.offers k i one) e;
+    says = λ k e. both_ways (v.shown.says k) (w.shown.says k) (v.shown.talk k) (w.shown.talk k) (g.says k) (b.says k) e;
+    steps = λ c. ap (λ z. z || w.shown.says (of_channel c)) (g.steps c) ∙ ap (λ z. v.shown.talk (of_channel c) || z) (b.steps c);
+    takes = λ c e. both_ways (v.shown.take c) (w.shown.take c) (v.shown.listen c) (w.shown.listen c) (g.takes c) (b.takes c) e;
+    writes = λ ack x e. both_ways (v.writing ack x) (w.writing ack x) (v.shown.talk (of_var x)) (w.shown.talk (of_var x)) (g.writes ack x) (b.writes ack x) e;
+  };
+}
 
-  pub chosen_offers_talks : {choices : Choices} {m : Mode} (a : ChosenAt choices m) (k : Line) (i : ℕ) (one : Bool) → (chosen_shown a).offer k i one ≡ true
-      → (chosen_shown a).talk k ≡ true
-  chosen_offers_talks (this_one a) k i one e = offers_talks a k i one e
-  chosen_offers_talks (another a) k i one e = chosen_offers_talks a k i one e
+pub guarded_honest : {p : Process} {m : Mode} (g : GuardedAt p m) → IsHonest (guarded_view g)
+guarded_honest g = guarded_seen IsHonest honest g
 
-  pub branches_offers_talks : {members : Processes} {ks : List Mode} (b : BranchesAt members ks) (k : Line) (i : ℕ) (one : Bool)
-      → (branches_shown b).offer k i one ≡ true → (branches_shown b).talk k ≡ true
-  branches_offers_talks no_more k i one e = absurd (cc e)
-  branches_offers_talks (and_at g b) k i one e =
-      either ((guarded_shown g).offer k i one) ((branches_shown b).offer k i one) e
-      (λ z. or_left ((guarded_shown g).talk k) ((branches_shown b).talk k) (guarded_offers_talks g k i one z))
-      (λ z. or_right ((guarded_shown g).talk k) ((branches_shown b).talk k) (branches_offers_talks b k i one z))
+pub branches_honest : {members : Processes} {ks : List Mode} (b : BranchesAt members ks) → IsHonest (branches_view b)
+branches_honest b = branches_seen IsHonest honest b
 
-  pub turn_offers_talks : {members : Processes} {m : Mode} (t : TurnAt members m) (k : Line) (i : ℕ) (one : Bool) → (turn_shown t).offer k i one ≡ true
-      → (turn_shown t).talk k ≡ true
-  turn_offers_talks (at_last a) k i one e = offers_talks a k i one e
-  turn_offers_talks (at_member g) k i one e = guarded_offers_talks g k i one e
-  turn_offers_talks (at_later g t h) k i one e = turn_offers_talks t k i one e
-  turn_offers_talks turn_rests k i one e = absurd (cc e)
+-- what is under way is a site, a receive or a reader of what has these sites, receives and readers
+pub record StandsIn (sites : Line → Bool) (heard used : ℕ → Bool) (v : View) : Type 0 where
+  pub talks : (k : Line) → v.shown.talk k ≡ true → sites k ≡ true
+  pub listens : (c : ℕ) → v.shown.listen c ≡ true → heard c ≡ true
+  pub reads : (x : ℕ) → v.shown.read x ≡ true → used x ≡ true
 
--- and what is under way is a send of the statement
-mutual
-  pub guarded_talks_sends : {p : Process} {m : Mode} (g : GuardedAt p m) (k : Line) → (guarded_shown g).talk k ≡ true → sends p k ≡ true
-  guarded_talks_sends (g_in u a h) k e = talks_sends a k e
-  guarded_talks_sends _ k e = absurd (cc e)
+module _ (s : Line → Bool) (r u : ℕ → Bool) (v : View) where
+  -- in the first of two, and in the second
+  in_one : (s_other : Line → Bool) (r_other u_other : ℕ → Bool) → StandsIn s r u v
+      → StandsIn (λ k. s k || s_other k) (λ c. r c || r_other c) (λ x. u x || u_other x) v
+  in_one s_other r_other u_other h = record {
+    talks = λ k e. or_left (s k) (s_other k) (h.talks k e);
+    listens = λ c e. or_left (r c) (r_other c) (h.listens c e);
+    reads = λ x e. or_left (u x) (u_other x) (h.reads x e);
+  }
 
-  pub talks_sends : {p : Process} {m : Mode} (a : At p m) (k : Line) → (shown a).talk k ≡ true → sends p k ≡ true
-  talks_sends (at_assign m u h) k e = e
-  talks_sends (at_send m u h) k e = e
-  talks_sends (at_receive m l q h) k e = e
-  talks_sends (at_turn t) k e = turn_talks_sends t k e
-  talks_sends (at_side m t b h) k e = branches_talk_sends b k e
-  talks_sends (at_body a) k e = talks_sends a k e
-  talks_sends (at_choice x) k e = choice_talks_sends x k e
-  talks_sends (at_turning x) k e = choice_talks_sends x k e
-  talks_sends (at_closing c) k e = absurd (cc e)
-  talks_sends rests k e = absurd (cc e)
-  talks_sends (at_skip m h) k e = absurd (cc e)
+  in_other : (s_one : Line → Bool) (r_one u_one : ℕ → Bool) → StandsIn s r u v → StandsIn (λ k. s_one k || s k) (λ c. r_one c || r c) (λ x. u_one x || u x) v
+  in_other s_one r_one u_one h = record {
+    talks = λ k e. or_right (s_one k) (s k) (h.talks k e);
+    listens = λ c e. or_right (r_one c) (r c) (h.listens c e);
+    reads = λ x e. or_right (u_one x) (u x) (h.reads x e);
+  }
 
-  choice_talks_sends : {again : Bool} {choices : Choices} {m : Mode} (x : ChoiceAt again choices m) (k : Line) → (choice_shown x).talk k ≡ true
-      → choice_sends choices k ≡ true
-  choice_talks_sends (control_at c) k e = absurd (cc e)
-  choice_talks_sends (inside_at a w) k e = chosen_talks_sends a k e
+abbrev StandsInProcess : Process → View → Type 0
+StandsInProcess p v = StandsIn (λ k. sends p k) (λ c. receives p c) (λ x. uses p x) v
 
-  pub chosen_talks_sends : {choices : Choices} {m : Mode} (a : ChosenAt choices m) (k : Line) → (chosen_shown a).talk k ≡ true → choice_sends choices k ≡ true
-  chosen_talks_sends (this_one {p = p} {more = more} a) k e = or_left (sends p k) (choice_sends more k) (talks_sends a k e)
-  chosen_talks_sends (another {p = p} {more = more} a) k e = or_right (sends p k) (choice_sends more k) (chosen_talks_sends a k e)
+abbrev StandsInEach : Processes → View → Type 0
+StandsInEach ms v = StandsIn (λ k. turn_sends ms k) (λ c. each_receives ms c) (λ x. each_uses ms x) v
 
-  pub branches_talk_sends : {members : Processes} {ks : List Mode} (b : BranchesAt members ks) (k : Line) → (branches_shown b).talk k ≡ true
-      → turn_sends members k ≡ true
-  branches_talk_sends no_more k e = absurd (cc e)
-  branches_talk_sends (and_at {p = p} {more = more} g b) k e =
-      either ((guarded_shown g).talk k) ((branches_shown b).talk k) e
-      (λ z. or_left (sends p k) (turn_sends more k) (guarded_talks_sends g k z))
-      (λ z. or_right (sends p k) (turn_sends more k) (branches_talk_sends b k z))
+abbrev StandsInArms : Choices → View → Type 0
+StandsInArms cs v = StandsIn (λ k. choice_sends cs k) (λ c. choice_receives cs c) (λ x. choice_uses cs x) v
 
-  pub turn_talks_sends : {members : Processes} {m : Mode} (t : TurnAt members m) (k : Line) → (turn_shown t).talk k ≡ true → turn_sends members k ≡ true
-  turn_talks_sends (at_last {p = p} a) k e = or_left (sends p k) false (talks_sends a k e)
-  turn_talks_sends (at_member {p = p} {q = q} {more = more} g) k e = or_left (sends p k) (turn_sends (and_member q more) k) (guarded_talks_sends g k e)
-  turn_talks_sends (at_later {p = p} {q = q} {more = more} g t h) k e = or_right (sends p k) (turn_sends (and_member q more) k) (turn_talks_sends t k e)
-  turn_talks_sends turn_rests k e = absurd (cc e)
+stands : GoesUp StandsInProcess StandsInEach StandsInEach StandsInArms
+stands = record {
+  silent = λ p f. record { talks = λ k e. absurd (cc e); listens = λ c e. absurd (cc e); reads = λ x e. absurd (cc e) };
+  assign = λ y at d m u h. record { talks = λ k e. e; listens = λ c e. absurd (cc e); reads = λ x e. e };
+  send = λ b at d m u h. record { talks = λ k e. e; listens = λ c e. absurd (cc e); reads = λ x e. e };
+  receive = λ b y at to m l q h. record { talks = λ k e. e; listens = λ c e. e; reads = λ x e. absurd (cc e) };
+  turn = λ ms v h. record { talks = h.talks; listens = h.listens; reads = h.reads };
+  turn_silent = λ ms f. record { talks = λ k e. absurd (cc e); listens = λ c e. absurd (cc e); reads = λ x e. absurd (cc e) };
+  last = λ p v h. in_one (λ k. sends p k) (λ c. receives p c) (λ x. uses p x) v (λ k. false) (λ c. false) (λ x. false) h;
+  first = λ p q more v h. in_one (λ k. sends p k) (λ c. receives p c) (λ x. uses p x) v
+      (λ k. turn_sends (and_member q more) k) (λ c. each_receives (and_member q more) c) (λ x. each_uses (and_member q more) x) h;
+  later = λ p q more v h. in_other (λ k. turn_sends (and_member q more) k) (λ c. each_receives (and_member q more) c) (λ x. each_uses (and_member q more) x) v
+      (λ k. sends p k) (λ c. receives p c) (λ x. uses p x) h;
+  side = λ ms v h. record { talks = h.talks; listens = h.listens; reads = h.reads };
+  none = λ f. record { talks = λ k e. absurd (cc e); listens = λ c e. absurd (cc e); reads = λ x e. absurd (cc e) };
+  beside = λ {p} {more} {k} {ks} g b one other. record {
+    talks = λ k e. both_ways ((guarded_shown g).talk k) ((branches_shown b).talk k) (sends p k) (turn_sends more k) (one.talks k) (other.talks k) e;
+    listens = λ c e. both_ways ((guarded_shown g).listen c) ((branches_shown b).listen c) (receives p c) (each_receives more c)
+        (one.listens c) (other.listens c) e;
+    reads = λ x e. both_ways ((guarded_shown g).read x) ((branches_shown b).read x) (uses p x) (each_uses more x) (one.reads x) (other.reads x) e;
+  };
+  body = λ p v h. record { talks = h.talks; listens = h.listens; reads = h.reads };
+  choice = λ again cs v h. record {
+    talks = h.talks;
+    listens = h.listens;
+    reads = λ x e. or_right (guards_read cs x) (choice_uses cs x) (h.reads x e);
+  };
+  guards = λ again cs asked f. record {
+    talks = λ k e. absurd (cc e);
+    listens = λ c e. absurd (cc e);
+    reads = λ x e. or_left (guards_read cs x) (choice_uses cs x) (snd_true asked (guards_read cs x) e);
+  };
+  this = λ g p more v h. in_one (λ k. sends p k) (λ c. receives p c) (λ x. uses p x) v
+      (λ k. choice_sends more k) (λ c. choice_receives more c) (λ x. choice_uses more x) h;
+  others = λ g p more v h. in_other (λ k. choice_sends more k) (λ c. choice_receives more c) (λ x. choice_uses more x) v
+      (λ k. sends p k) (λ c. receives p c) (λ x. uses p x) h;
+}
 
--- what has a step is under way
-mutual
-  pub guarded_says_talks : {p : Process} {m : Mode} (g : GuardedAt p m) (k : Line) → (guarded_shown g).says k ≡ true → (guarded_shown g).talk k ≡ true
-  guarded_says_talks (g_in u a h) k e = says_talks a k e
-  guarded_says_talks _ k e = absurd (cc e)
+pub guarded_stands : {p : Process} {m : Mode} (g : GuardedAt p m) → StandsInProcess p (guarded_view g)
+guarded_stands g = guarded_everywhere StandsInProcess StandsInEach StandsInEach StandsInArms stands g
 
-  pub says_talks : {p : Process} {m : Mode} (a : At p m) (k : Line) → (shown a).says k ≡ true → (shown a).talk k ≡ true
-  says_talks (at_assign m u h) k e = e
-  says_talks (at_send m u h) k e = e
-  says_talks (at_receive m l q h) k e = absurd (cc e)
-  says_talks (at_turn t) k e = turn_says_talks t k e
-  says_talks (at_side m t b h) k e = branches_say_talk b k e
-  says_talks (at_body a) k e = says_talks a k e
-  says_talks (at_choice x) k e = choice_says_talks x k e
-  says_talks (at_turning x) k e = choice_says_talks x k e
-  says_talks (at_closing c) k e = absurd (cc e)
-  says_talks rests k e = absurd (cc e)
-  says_talks (at_skip m h) k e = absurd (cc e)
+pub branches_stand : {members : Processes} {ks : List Mode} (b : BranchesAt members ks) → StandsInEach members (branches_view b)
+branches_stand b = branches_everywhere StandsInProcess StandsInEach StandsInEach StandsInArms stands b
 
-  choice_says_talks : {again : Bool} {choices : Choices} {m : Mode} (x : ChoiceAt again choices m) (k : Line) → (choice_shown x).says k ≡ true
-      → (choice_shown x).talk k ≡ true
-  choice_says_talks (control_at c) k e = absurd (cc e)
-  choice_says_talks (inside_at a w) k e = chosen_says_talks a k e
+pub guarded_offers_talks : {p : Process} {m : Mode} (g : GuardedAt p m) (k : Line) (i : ℕ) (one : Bool) → (guarded_shown g).offer k i one ≡ true
+    → (guarded_shown g).talk k ≡ true
+guarded_offers_talks g = (guarded_honest g).offers
 
-  chosen_says_talks : {choices : Choices} {m : Mode} (a : ChosenAt choices m) (k : Line) → (chosen_shown a).says k ≡ true → (chosen_shown a).talk k ≡ true
-  chosen_says_talks (this_one a) k e = says_talks a k e
-  chosen_says_talks (another a) k e = chosen_says_talks a k e
+pub guarded_says_talks : {p : Process} {m : Mode} (g : GuardedAt p m) (k : Line) → (guarded_shown g).says k ≡ true → (guarded_shown g).talk k ≡ true
+guarded_says_talks g = (guarded_honest g).says
 
-  pub branches_say_talk : {members : Processes} {ks : List Mode} (b : BranchesAt members ks) (k : Line) → (branches_shown b).says k ≡ true
-      → (branches_shown b).talk k ≡ true
-  branches_say_talk no_more k e = absurd (cc e)
-  branches_say_talk (and_at g b) k e =
-      either ((guarded_shown g).says k) ((branches_shown b).says k) e
-      (λ z. or_left ((guarded_shown g).talk k) ((branches_shown b).talk k) (guarded_says_talks g k z))
-      (λ z. or_right ((guarded_shown g).talk k) ((branches_shown b).talk k) (branches_say_talk b k z))
+pub branches_say_talk : {members : Processes} {ks : List Mode} (b : BranchesAt members ks) (k : Line) → (branches_shown b).says k ≡ true
+    → (branches_shown b).talk k ≡ true
+branches_say_talk b = (branches_honest b).says
 
-  pub turn_says_talks : {members : Processes} {m : Mode} (t : TurnAt members m) (k : Line) → (turn_shown t).says k ≡ true → (turn_shown t).talk k ≡ true
-  turn_says_talks (at_last a) k e = says_talks a k e
-  turn_says_talks (at_member g) k e = guarded_says_talks g k e
-  turn_says_talks (at_later g t h) k e = turn_says_talks t k e
-  turn_says_talks turn_rests k e = absurd (cc e)
+pub guarded_says_is : {p : Process} {m : Mode} (g : GuardedAt p m) (c : ℕ) → (guarded_shown g).says (of_channel c) ≡ (guarded_shown g).talk (of_channel c)
+guarded_says_is g = (guarded_honest g).steps
 
--- where a send is under way, the rise of its acknowledge is a step
-mutual
-  pub guarded_says_is : {p : Process} {m : Mode} (g : GuardedAt p m) (c : ℕ) → (guarded_shown g).says (of_channel c) ≡ (guarded_shown g).talk (of_channel c)
-  guarded_says_is (g_in u a h) c = says_is a c
-  guarded_says_is g_rests c = refl
-  guarded_says_is g_past c = refl
-  guarded_says_is (g_back u) c = refl
+pub guarded_takes_listens : {p : Process} {m : Mode} (g : GuardedAt p m) (c : ℕ) → (guarded_shown g).take c ≡ true → (guarded_shown g).listen c ≡ true
+guarded_takes_listens g = (guarded_honest g).takes
 
-  says_is : {p : Process} {m : Mode} (a : At p m) (c : ℕ) → (shown a).says (of_channel c) ≡ (shown a).talk (of_channel c)
-  says_is (at_assign m u h) c = refl
-  says_is (at_send m u h) c = refl
-  says_is (at_receive m l q h) c = refl
-  says_is (at_turn t) c = turn_says_is t c
-  says_is (at_side m t b h) c = branches_say_is b c
-  says_is (at_body a) c = says_is a c
-  says_is (at_choice x) c = choice_says_is x c
-  says_is (at_turning x) c = choice_says_is x c
-  says_is (at_closing z) c = refl
-  says_is rests c = refl
-  says_is (at_skip m h) c = refl
+pub guarded_talks_sends : {p : Process} {m : Mode} (g : GuardedAt p m) (k : Line) → (guarded_shown g).talk k ≡ true → sends p k ≡ true
+guarded_talks_sends g = (guarded_stands g).talks
 
-  choice_says_is : {again : Bool} {choices : Choices} {m : Mode} (x : ChoiceAt again choices m) (c : ℕ)
-      → (choice_shown x).says (of_channel c) ≡ (choice_shown x).talk (of_channel c)
-  choice_says_is (control_at z) c = refl
-  choice_says_is (inside_at a w) c = chosen_says_is a c
+pub guarded_listens_receives : {p : Process} {m : Mode} (g : GuardedAt p m) (c : ℕ) → (guarded_shown g).listen c ≡ true → receives p c ≡ true
+guarded_listens_receives g = (guarded_stands g).listens
 
-  chosen_says_is : {choices : Choices} {m : Mode} (a : ChosenAt choices m) (c : ℕ) → (chosen_shown a).says (of_channel c) ≡ (chosen_shown a).talk (of_channel c)
-  chosen_says_is (this_one a) c = says_is a c
-  chosen_says_is (another a) c = chosen_says_is a c
-
-  branches_say_is : {members : Processes} {ks : List Mode} (b : BranchesAt members ks) (c : ℕ)
-      → (branches_shown b).says (of_channel c) ≡ (branches_shown b).talk (of_channel c)
-  branches_say_is no_more c = refl
-  branches_say_is (and_at g b) c = ap (λ z. z || (branches_shown b).says (of_channel c)) (guarded_says_is g c)
-      ∙ ap (λ z. (guarded_shown g).talk (of_channel c) || z) (branches_say_is b c)
-
-  turn_says_is : {members : Processes} {m : Mode} (t : TurnAt members m) (c : ℕ) → (turn_shown t).says (of_channel c) ≡ (turn_shown t).talk (of_channel c)
-  turn_says_is (at_last a) c = says_is a c
-  turn_says_is (at_member g) c = guarded_says_is g c
-  turn_says_is (at_later g t h) c = turn_says_is t c
-  turn_says_is turn_rests c = refl
-
--- a receive that has stored is under way
-mutual
-  pub guarded_takes_listens : {p : Process} {m : Mode} (g : GuardedAt p m) (c : ℕ) → (guarded_shown g).take c ≡ true → (guarded_shown g).listen c ≡ true
-  guarded_takes_listens (g_in u a h) c e = takes_listens a c e
-  guarded_takes_listens g_rests c e = absurd (cc e)
-  guarded_takes_listens g_past c e = absurd (cc e)
-  guarded_takes_listens (g_back u) c e = absurd (cc e)
-
-  takes_listens : {p : Process} {m : Mode} (a : At p m) (c : ℕ) → (shown a).take c ≡ true → (shown a).listen c ≡ true
-  takes_listens (at_receive {c = d} m l q h) c e = fst_true (d == c) l e
-  takes_listens (at_turn t) c e = turn_takes_listens t c e
-  takes_listens (at_side m t b h) c e = branches_take_listen b c e
-  takes_listens (at_body a) c e = takes_listens a c e
-  takes_listens (at_choice x) c e = choice_takes_listens x c e
-  takes_listens (at_turning x) c e = choice_takes_listens x c e
-  takes_listens (at_closing z) c e = absurd (cc e)
-  takes_listens (at_assign m u h) c e = absurd (cc e)
-  takes_listens (at_send m u h) c e = absurd (cc e)
-  takes_listens rests c e = absurd (cc e)
-  takes_listens (at_skip m h) c e = absurd (cc e)
-
-  choice_takes_listens : {again : Bool} {choices : Choices} {m : Mode} (x : ChoiceAt again choices m) (c : ℕ) → (choice_shown x).take c ≡ true
-      → (choice_shown x).listen c ≡ true
-  choice_takes_listens (control_at z) c e = absurd (cc e)
-  choice_takes_listens (inside_at a w) c e = chosen_takes_listens a c e
-
-  chosen_takes_listens : {choices : Choices} {m : Mode} (a : ChosenAt choices m) (c : ℕ) → (chosen_shown a).take c ≡ true → (chosen_shown a).listen c ≡ true
-  chosen_takes_listens (this_one a) c e = takes_listens a c e
-  chosen_takes_listens (another a) c e = chosen_takes_listens a c e
-
-  branches_take_listen : {members : Processes} {ks : List Mode} (b : BranchesAt members ks) (c : ℕ) → (branches_shown b).take c ≡ true
-      → (branches_shown b).listen c ≡ true
-  branches_take_listen no_more c e = absurd (cc e)
-  branches_take_listen (and_at g b) c e =
-      either ((guarded_shown g).take c) ((branches_shown b).take c) e
-      (λ z. or_left ((guarded_shown g).listen c) ((branches_shown b).listen c) (guarded_takes_listens g c z))
-      (λ z. or_right ((guarded_shown g).listen c) ((branches_shown b).listen c) (branches_take_listen b c z))
-
-  turn_takes_listens : {members : Processes} {m : Mode} (t : TurnAt members m) (c : ℕ) → (turn_shown t).take c ≡ true → (turn_shown t).listen c ≡ true
-  turn_takes_listens (at_last a) c e = takes_listens a c e
-  turn_takes_listens (at_member g) c e = guarded_takes_listens g c e
-  turn_takes_listens (at_later g t h) c e = turn_takes_listens t c e
-  turn_takes_listens turn_rests c e = absurd (cc e)
-
--- and what is under way is a receive of the statement
-mutual
-  pub guarded_listens_receives : {p : Process} {m : Mode} (g : GuardedAt p m) (c : ℕ) → (guarded_shown g).listen c ≡ true → receives p c ≡ true
-  guarded_listens_receives (g_in u a h) c e = listens_receives a c e
-  guarded_listens_receives g_rests c e = absurd (cc e)
-  guarded_listens_receives g_past c e = absurd (cc e)
-  guarded_listens_receives (g_back u) c e = absurd (cc e)
-
-  listens_receives : {p : Process} {m : Mode} (a : At p m) (c : ℕ) → (shown a).listen c ≡ true → receives p c ≡ true
-  listens_receives (at_receive m l q h) c e = e
-  listens_receives (at_turn t) c e = turn_listens_receives t c e
-  listens_receives (at_side m t b h) c e = branches_listen_receive b c e
-  listens_receives (at_body a) c e = listens_receives a c e
-  listens_receives (at_choice x) c e = choice_listens_receives x c e
-  listens_receives (at_turning x) c e = choice_listens_receives x c e
-  listens_receives (at_closing z) c e = absurd (cc e)
-  listens_receives (at_assign m u h) c e = absurd (cc e)
-  listens_receives (at_send m u h) c e = absurd (cc e)
-  listens_receives rests c e = absurd (cc e)
-  listens_receives (at_skip m h) c e = absurd (cc e)
-
-  choice_listens_receives : {again : Bool} {choices : Choices} {m : Mode} (x : ChoiceAt again choices m) (c : ℕ) → (choice_shown x).listen c ≡ true
-      → choice_receives choices c ≡ true
-  choice_listens_receives (control_at z) c e = absurd (cc e)
-  choice_listens_receives (inside_at a w) c e = chosen_listens_receives a c e
-
-  chosen_listens_receives : {choices : Choices} {m : Mode} (a : ChosenAt choices m) (c : ℕ) → (chosen_shown a).listen c ≡ true
-      → choice_receives choices c ≡ true
-  chosen_listens_receives (this_one {p = p} {more = more} a) c e = or_left (receives p c) (choice_receives more c) (listens_receives a c e)
-  chosen_listens_receives (another {p = p} {more = more} a) c e = or_right (receives p c) (choice_receives more c) (chosen_listens_receives a c e)
-
-  pub branches_listen_receive : {members : Processes} {ks : List Mode} (b : BranchesAt members ks) (c : ℕ) → (branches_shown b).listen c ≡ true
-      → each_receives members c ≡ true
-  branches_listen_receive no_more c e = absurd (cc e)
-  branches_listen_receive (and_at {p = p} {more = more} g b) c e =
-      either ((guarded_shown g).listen c) ((branches_shown b).listen c) e
-      (λ z. or_left (receives p c) (each_receives more c) (guarded_listens_receives g c z))
-      (λ z. or_right (receives p c) (each_receives more c) (branches_listen_receive b c z))
-
-  turn_listens_receives : {members : Processes} {m : Mode} (t : TurnAt members m) (c : ℕ) → (turn_shown t).listen c ≡ true → each_receives members c ≡ true
-  turn_listens_receives (at_last {p = p} a) c e = or_left (receives p c) false (listens_receives a c e)
-  turn_listens_receives (at_member {p = p} {q = q} {more = more} g) c e = or_left (receives p c) (each_receives (and_member q more) c)
-      (guarded_listens_receives g c e)
-  turn_listens_receives (at_later {p = p} {q = q} {more = more} g t h) c e = or_right (receives p c) (each_receives (and_member q more) c)
-      (turn_listens_receives t c e)
-  turn_listens_receives turn_rests c e = absurd (cc e)
+pub guarded_reads_uses : {p : Process} {m : Mode} (g : GuardedAt p m) (x : ℕ) → (guarded_shown g).read x ≡ true → uses p x ≡ true
+guarded_reads_uses g = (guarded_stands g).reads
 
 -- a branch and those beside it
 pub record Beside (p : Process) (more : Processes) (x y : Shown) : Type 0 where
@@ -295,17 +203,18 @@ pub beside : {p : Process} {more : Processes} {k : Mode} {ks : List Mode} → Fa
     → Beside p more (guarded_shown g) (branches_shown b)
 beside {p = p} {more = more} fair g b = record {
   mine = guarded_talks_sends g;
-  theirs = branches_talk_sends b;
-  not_theirs = λ k h. low_of ((branches_shown b).talk k) (branches_talk_sends b k) (fair.send k h);
+  theirs = (branches_stand b).talks;
+  not_theirs = λ k h. low_of ((branches_shown b).talk k) ((branches_stand b).talks k) (fair.send k h);
   not_mine = λ k h. low_of ((guarded_shown g).talk k) (guarded_talks_sends g k) (other k h);
-  none_theirs = λ k i one h. low_of ((branches_shown b).offer k i one) (λ z. branches_talk_sends b k (branches_offers_talks b k i one z)) (fair.send k h);
+  none_theirs = λ k i one h. low_of ((branches_shown b).offer k i one) (λ z. (branches_stand b).talks k ((branches_honest b).offers k i one z))
+      (fair.send k h);
   none_mine = λ k i one h. low_of ((guarded_shown g).offer k i one) (λ z. guarded_talks_sends g k (guarded_offers_talks g k i one z)) (other k h);
   hears_mine = guarded_listens_receives g;
-  hears_theirs = branches_listen_receive b;
-  deaf_theirs = λ c h. low_of ((branches_shown b).listen c) (branches_listen_receive b c) (fair.receive c h);
+  hears_theirs = (branches_stand b).listens;
+  deaf_theirs = λ c h. low_of ((branches_shown b).listen c) ((branches_stand b).listens c) (fair.receive c h);
   deaf_mine = λ c h. low_of ((guarded_shown g).listen c) (guarded_listens_receives g c) (other_receive c h);
   taken_mine = guarded_takes_listens g;
-  taken_theirs = branches_take_listen b;
+  taken_theirs = (branches_honest b).takes;
 }
   where
     other : (k : Line) → turn_sends more k ≡ true → sends p k ≡ false

@@ -16,6 +16,7 @@ use Rattle.circuit_places.proofs.RailLemmas.{fst_true, snd_true, both_true, neve
 use Rattle.circuit_places.proofs.LineNames.{same_number}
 use Rattle.circuit_places.proofs.Flow.{not_both, neither_left, neither_right, or_left, or_right}
 use Rattle.circuit_places.proofs.Talks.{either, or_false_right}
+use Rattle.circuit_places.proofs.Everywhere.{View, GoesUp, guarded_everywhere}
 use Rattle.circuit_places.proofs.Begin.{answered_kept}
 use Rattle.circuit_places.proofs.PortLeaf.{runs_kept}
 use Rattle.circuit_places.proofs.Places.{Mode, idle, running, answered, returning, asks, acks, wave_may, GuardedAt, g_rests, g_in, g_past, g_back, At, rests, at_skip, at_assign, at_send, at_receive, at_turn, at_side, at_body, at_choice, at_turning, at_closing, ChoiceAt, control_at, inside_at, ChosenAt, this_one, another, chosen_index, BranchesAt, no_more, and_at, TurnAt, turn_rests, at_last, at_member, at_later, guarded_cells, cells, choice_cells, chosen_cells, branch_cells, turn_cells, Shown, both_shown, site_shown, port_shown, guarded_shown, shown, choice_shown, chosen_shown, branches_shown, turn_shown, port_ends, PortFits, GuardedFits, Fits, ChoiceFits, ChosenFits, BranchesFit, TurnFits, next_is, link_next, not_running}
@@ -178,55 +179,38 @@ listened_takes c env g fits high z = guarded_asked_shown (listens_on c) (listens
 -- ---- of a variable that no receive writes an assignment is under way where something is
 
 module _ (v : ℕ) where
-  mutual
-    pub guarded_told : {p : Process} {m : Mode} (g : GuardedAt p m) → is_received v p ≡ false → (guarded_shown g).talk (of_var v) ≡ true
-        → (guarded_shown g).says (of_var v) ≡ true
-    guarded_told (g_in u a h) none e = told a none e
-    guarded_told g_rests none e = absurd (cc e)
-    guarded_told g_past none e = absurd (cc e)
-    guarded_told (g_back u) none e = absurd (cc e)
+  abbrev IsTold : Bool → View → Type 0
+  IsTold written x = written ≡ false → x.shown.talk (of_var v) ≡ true → x.shown.says (of_var v) ≡ true
 
-    told : {p : Process} {m : Mode} (a : At p m) → is_received v p ≡ false → (shown a).talk (of_var v) ≡ true → (shown a).says (of_var v) ≡ true
-    told (at_assign m u h) none e = e
-    told (at_send m u h) none e = e
-    told (at_receive m k q h) none e = absurd (not_both none e)
-    told (at_turn t) none e = turn_told t none e
-    told (at_side m t b h) none e = branches_told b none e
-    told (at_body a) none e = told a none e
-    told (at_choice x) none e = choice_told x none e
-    told (at_turning x) none e = choice_told x none e
-    told (at_closing c) none e = absurd (cc e)
-    told rests none e = absurd (cc e)
-    told (at_skip m h) none e = absurd (cc e)
-
-    choice_told : {again : Bool} {choices : Choices} {m : Mode} (x : ChoiceAt again choices m) → choice_received v choices ≡ false
-        → (choice_shown x).talk (of_var v) ≡ true → (choice_shown x).says (of_var v) ≡ true
-    choice_told (control_at c) none e = absurd (cc e)
-    choice_told (inside_at a w) none e = chosen_told a none e
-
-    chosen_told : {choices : Choices} {m : Mode} (a : ChosenAt choices m) → choice_received v choices ≡ false → (chosen_shown a).talk (of_var v) ≡ true
-        → (chosen_shown a).says (of_var v) ≡ true
-    chosen_told (this_one {p = p} {more = more} a) none e = told a (neither_left (is_received v p) (choice_received v more) none) e
-    chosen_told (another {p = p} {more = more} a) none e = chosen_told a (neither_right (is_received v p) (choice_received v more) none) e
-
-    branches_told : {members : Processes} {ks : List Mode} (b : BranchesAt members ks) → some_received v members ≡ false
-        → (branches_shown b).talk (of_var v) ≡ true → (branches_shown b).says (of_var v) ≡ true
-    branches_told no_more none e = absurd (cc e)
-    branches_told (and_at {p = p} {more = more} g b) none e =
-        either ((guarded_shown g).talk (of_var v)) ((branches_shown b).talk (of_var v)) e
+  told : GoesUp (λ p. IsTold (is_received v p)) (λ ms. IsTold (some_received v ms)) (λ ms. IsTold (some_received v ms)) (λ cs. IsTold (choice_received v cs))
+  told = record {
+    silent = λ p f none e. absurd (cc e);
+    assign = λ y at d m u h none e. e;
+    send = λ c at d m u h none e. e;
+    receive = λ c y at to m k q h none e. absurd (not_both none e);
+    turn = λ ms x h. h;
+    turn_silent = λ ms f none e. absurd (cc e);
+    last = λ p x h none. h (neither_left (is_received v p) false none);
+    first = λ p q more x h none. h (neither_left (is_received v p) (some_received v (and_member q more)) none);
+    later = λ p q more x h none. h (neither_right (is_received v p) (some_received v (and_member q more)) none);
+    side = λ ms x h. h;
+    none = λ f none e. absurd (cc e);
+    beside = λ {p} {more} {k} {ks} g b one others none e. either ((guarded_shown g).talk (of_var v)) ((branches_shown b).talk (of_var v)) e
         (λ z. or_left ((guarded_shown g).says (of_var v)) ((branches_shown b).says (of_var v))
-        (guarded_told g (neither_left (is_received v p) (some_received v more) none) z))
+        (one (neither_left (is_received v p) (some_received v more) none) z))
         (λ z. or_right ((guarded_shown g).says (of_var v)) ((branches_shown b).says (of_var v))
-        (branches_told b (neither_right (is_received v p) (some_received v more) none) z))
+        (others (neither_right (is_received v p) (some_received v more) none) z));
+    body = λ p x h. h;
+    choice = λ again cs x h. h;
+    guards = λ again cs asked f none e. absurd (cc e);
+    this = λ g p more x h none. h (neither_left (is_received v p) (choice_received v more) none);
+    others = λ g p more x h none. h (neither_right (is_received v p) (choice_received v more) none);
+  }
 
-    turn_told : {members : Processes} {m : Mode} (t : TurnAt members m) → some_received v members ≡ false → (turn_shown t).talk (of_var v) ≡ true
-        → (turn_shown t).says (of_var v) ≡ true
-    turn_told (at_last {p = p} a) none e = told a (neither_left (is_received v p) false none) e
-    turn_told (at_member {p = p} {q = q} {more = more} g) none e =
-        guarded_told g (neither_left (is_received v p) (some_received v (and_member q more)) none) e
-    turn_told (at_later {p = p} {q = q} {more = more} g t h) none e =
-        turn_told t (neither_right (is_received v p) (some_received v (and_member q more)) none) e
-    turn_told turn_rests none e = absurd (cc e)
+  pub guarded_told : {p : Process} {m : Mode} (g : GuardedAt p m) → is_received v p ≡ false → (guarded_shown g).talk (of_var v) ≡ true
+      → (guarded_shown g).says (of_var v) ≡ true
+  guarded_told g = guarded_everywhere (λ p. IsTold (is_received v p)) (λ ms. IsTold (some_received v ms)) (λ ms. IsTold (some_received v ms))
+      (λ cs. IsTold (choice_received v cs)) told g
 
 -- ---- which assignments are under way is told by the values of nodes
 
