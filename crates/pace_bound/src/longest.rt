@@ -39,8 +39,8 @@ fn longest_by(
 /// How many moves, one behind the other, the circuit of the program makes at most from the steps of one round to those
 /// of the next, by the definition `longest`, which reads it off the program; saturates at 2^64 - 1. That circuits keep
 /// to it where no assignment reads its own target, and else to twice that of the program in halves, is the law
-/// `keeps_time` of `net_pace`. It fails if memory runs out: it takes a number for each channel and each variable, and an
-/// entry for each loop. So its time grows with the program alone, and not with how many sites a channel has.
+/// `keeps_time` of `net_pace`. It fails if memory runs out: it takes a number for each channel and each variable, and
+/// an entry for each loop. So its time grows with the program alone, and not with how many sites a channel has.
 pub fn longest_of(alloc: Global, program: &Typed) -> Result<u64, AllocError>
     ensures { IfOk result (λ n. n ≡ capped (longest (program_of program.now))) }
 {

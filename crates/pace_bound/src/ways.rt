@@ -182,8 +182,8 @@ fn longest_within<'p>(program: &Typed, falls: &Falls, s: &'p TStmt, best: Way<'p
 /// Where the longest way of a program lies from the steps of one round to those of the next, by the definition
 /// `longest_way`, which reads it off the program: the first one in the order of the text, where several are as long.
 /// Its length is that of `longest_of`; of a way of 2^64 - 1 moves or more nothing is said but that. A point is told up
-/// to statements that are alike: of two skips it may be either. It fails if memory runs out: it takes a number for each channel
-/// and each variable.
+/// to statements that are alike: of two skips it may be either. It fails if memory runs out: it takes a number for each
+/// channel and each variable.
 pub fn longest_way<'p>(alloc: Global, program: &'p Typed) -> Result<Way<'p>, AllocError>
     ensures way { IfOk result (IsWay (longest_way (program_of program.now))) }
     ensures longest { IfOk result (λ found. found.length ≡ capped (longest (program_of program.now))) }

@@ -69,8 +69,8 @@ fn turned_again(program: &Typed, falls: &Falls, again: bool, arms: &[TArm], guar
     }
 }
 
-/// The longer one of the two ways of a loop with this body: from its step to the first one of the body, and from the last
-/// one of that to its own.
+/// The longer one of the two ways of a loop with this body: from its step to the first one of the body, and from the
+/// last one of that to its own.
 fn to_body_and_back(program: &Typed, falls: &Falls, halved: bool, body: &TStmt) -> u64
     requires falls { AreFalls (program_of program.now) falls.now.channels.items falls.now.writes.items }
     requires process { IsProcess program.now.channels program.now.vars (process_of body.now) }
@@ -89,8 +89,8 @@ pub struct Loop<'p> {
 }
 
 /// The longest way inside of a statement from the steps of one round to those of the next, of the program as it is or
-/// in halves; saturates at 2^64 - 1. On its way it notes each loop with that of its own, in the order of the text, behind
-/// those that are there.
+/// in halves; saturates at 2^64 - 1. On its way it notes each loop with that of its own, in the order of the text,
+/// behind those that are there.
 pub(crate) fn within<'p>(
     program: &Typed,
     falls: &Falls,

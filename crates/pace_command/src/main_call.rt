@@ -49,17 +49,18 @@ fn run<'a, S: Shelf, K: Sink>(
 /// file is named, which holds a script of that program, also those that are made under the script. The words are one
 /// name or two and nothing else, and whatever they begin with. Statuses and lines are those of `chpc`.
 ///
-/// With status 0 the output is exactly these lines. `round`: a number of moves that no way from the steps of one round
-/// to those of the next exceeds, in the program with a copy of the body for each call. `bound`: n rounds of the
-/// circuit that `compile` writes without `--buffer`, if that isn't too large, take at most n times as many moves, one
-/// behind the other (`paced`). `from` and `to`: between which statements' steps the longest of the ways lies of which
-/// `round` is the length, the first one of several in the text; `start` is power-up, and `end` the rise of `done`. A
-/// statement is told by its kind, and by the bytes of the first name in its text, if it has one. (Nothing is said of
-/// the ends of a way of 2^64 - 1 moves or more.) A line `loop` for each loop, in the order of the text, with the
-/// length of the longest way within it. And under a script two more. `rounds`: how many rounds are made under the
-/// script until no step is left, 1,000 at most. `sum`: so many moves, one behind the other, are enough until that
-/// circuit has passed what these rounds pass. That the files hold this program and this script is said where the shelf
-/// is observable, and what was written where the output is.
+/// With status 0 the output is exactly these lines. `round`: `longest`, read off the program with a copy of the body
+/// for each call, as the most moves of a way from the steps of one round to those of the next. (That no way in the
+/// circuit has more is shown where no assignment reads its own target.) `bound`: n rounds of the circuit that
+/// `compile` writes without `--buffer`, if that isn't too large, take at most n times as many moves, one behind the
+/// other (`paced`). `from` and `to`: between which statements' steps the longest of the ways lies of which `round` is
+/// the length, the first one of several in the text; `start` is power-up, and `end` the rise of `done`. A statement is
+/// told by its kind, and by the bytes of the first name in its text, if it has one. (Nothing is said of the ends of a
+/// way of 2^64 - 1 moves or more.) A line `loop` for each loop, in the order of the text, with the length of the
+/// longest way within it. And under a script two more. `rounds`: how many rounds are made under the script until no
+/// step is left, 1,000 at most. `sum`: so many moves, one behind the other, are enough until that circuit has passed
+/// what these rounds pass. That the files hold this program and this script is said where the shelf is observable, and
+/// what was written where the output is.
 ///
 /// With other statuses the words are neither one name nor two (`usage`), a file isn't there or the shelf failed
 /// (`read`), the output failed (`write`), it refuses, or memory ran out (`ended` has them all, with the line that is
