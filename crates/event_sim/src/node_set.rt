@@ -18,6 +18,8 @@ pub(crate) struct NodeSet {
     marks: Vec<bool>,
     slots: Vec<u32>,
     from: usize,
+    /// The index at which a node that leaves is looked for first.
+    leaving: usize,
 }
 
 impl Model for NodeSet {
@@ -69,6 +71,17 @@ fn place_in(list: &[u32], node: u32) -> Result<usize, usize>
         return list[..NEAR].binary_search(&node);
     }
     list.binary_search(&node)
+}
+
+/// The same, where the node is looked for at one index first.
+fn place_of(list: &[u32], node: u32, guess: usize) -> Result<usize, usize>
+    ensures within { IsSearchInRange result (length list.now) }
+    ensures place { (marks : List Bool) → list.now ≡ members marks → IsListPlace list.now node result }
+{
+    if guess < list.len() && list[guess] == node {
+        return Ok(guess);
+    }
+    place_in(list, node)
 }
 
 /// Inserts the node at an index of the list that begins at this slot; the list then begins one slot earlier.
@@ -160,28 +173,28 @@ fn put_in(slots: &mut Vec<u32>, from: usize, node: u32)
     }
 }
 
-/// Removes the node from the list of a set that has it.
-fn take_out(slots: &mut Vec<u32>, from: usize, node: u32)
+/// Removes the node from the list of a set that has it, where it stands at this index perhaps.
+fn take_out(slots: &mut Vec<u32>, from: usize, node: u32, guess: usize)
     requires from { from ≤ vec_len slots.old }
     ensures list { (marks : List Bool) → drop from slots.old.items ≡ members marks → node < length marks →
         is_member marks node ≡ true → drop (from + 1) slots.new.items ≡ members (slice_set marks node false) }
     ensures count { vec_len slots.new ≡ vec_len slots.old }
 {
-    match place_in(list_from(slots, from), node) {
+    match place_of(list_from(slots, from), node, guess) {
         Ok(place) => remove_at(slots, from, place),
         Err(_) => {}
     }
 }
 
-/// Puts a node that the list of a set does not have in place of one that it has.
-fn exchange(slots: &mut Vec<u32>, from: usize, gone: u32, node: u32)
+/// Puts a node that the list of a set does not have in place of one that it has, perhaps at this index.
+fn exchange(slots: &mut Vec<u32>, from: usize, gone: u32, node: u32, guess: usize)
     requires from { from ≤ vec_len slots.old }
     ensures list { (marks : List Bool) → drop from slots.old.items ≡ members marks → gone < length marks →
         is_member marks gone ≡ true → node < length marks → is_member marks node ≡ false →
         drop from slots.new.items ≡ members (slice_set (slice_set marks gone false) node true) }
     ensures count { vec_len slots.new ≡ vec_len slots.old }
 {
-    match place_in(list_from(slots, from), gone) {
+    match place_of(list_from(slots, from), gone, guess) {
         Ok(place) => {
             let to = place_after(list_from(slots, from), place, node);
             put_over(slots, from, place, to, node);
@@ -199,7 +212,19 @@ impl NodeSet {
         let marks = no_marks(alloc, count)?;
         let from = count + 1;
         let slots = no_slots(alloc, from)?;
-        Ok(NodeSet { marks, slots, from })
+        Ok(NodeSet {
+            marks,
+            slots,
+            from,
+            leaving: 0,
+        })
+    }
+
+    /// Notes that the node at this index of the list is likely the next one to leave, so that it is found at once.
+    pub(crate) fn leaves_at(&mut self, index: usize)
+        ensures { self.new ≡ self.old }
+    {
+        self.leaving = index;
     }
 
     /// The nodes, in ascending order.
@@ -231,7 +256,7 @@ impl NodeSet {
             put_in(&mut self.slots, self.from, node);
             self.from -= 1;
         } else {
-            take_out(&mut self.slots, self.from, node);
+            take_out(&mut self.slots, self.from, node, self.leaving);
             self.from += 1;
         }
     }
@@ -244,7 +269,7 @@ impl NodeSet {
         requires new { is_member self.old node ≡ false }
         ensures { self.new ≡ slice_set (slice_set self.old gone false) node true }
     {
-        exchange(&mut self.slots, self.from, gone, node);
+        exchange(&mut self.slots, self.from, gone, node, self.leaving);
         self.marks[gone as usize] = false;
         self.marks[node as usize] = true;
     }

@@ -177,6 +177,7 @@ impl Sim {
                 None => {
                     let place = choose(picker, stage.moves());
                     let node = stage.moves()[place];
+                    stage.moves_at(place);
                     hazard = stage.make(node);
                 }
             }

@@ -195,6 +195,13 @@ impl Stage {
         self.moves.nodes()
     }
 
+    /// Notes that the move at this index of the enabled ones is the next to be made, so that it is found there at once.
+    pub fn moves_at(&mut self, index: usize)
+        ensures { self.new ≡ self.old }
+    {
+        self.moves.leaves_at(index);
+    }
+
     /// Whether the node has an enabled move.
     pub fn is_enabled(&self, node: u32) -> bool
         requires { node < length self.now.net.first }

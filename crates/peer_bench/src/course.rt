@@ -272,6 +272,7 @@ pub(crate) fn drive(setup: Setup, picker: &mut Box<dyn Picker>, peer: &mut Box<d
             None => {
                 let place = choose(picker, stage.moves());
                 let node = stage.moves()[place];
+                stage.moves_at(place);
                 hazard = make(&mut stage, peer, &mut idle, node, made + 1);
             }
         }

@@ -71,55 +71,55 @@ choose-place-requires-clause-list g c =
 
 pub make-hazard-requires-clause-node : goal.make-hazard-requires-clause-node
 make-hazard-requires-clause-node g c =
-    picked_within c.loop-made.stage c.moves-in-None-2.result.now c.choose-place.result 0 c.moves-in-None-2.ensures
-    (omega (arith, c.choose-place.ensures.within, ap length c.moves-in-None.ensures, ap length c.moves-in-None-2.ensures))
+    rw c.moves_at.ensures (picked_within c.loop-made.stage c.moves-in-None-2.result.now c.choose-place.result 0 c.moves-in-None-2.ensures
+    (omega (arith, c.choose-place.ensures.within, ap length c.moves-in-None.ensures, ap length c.moves-in-None-2.ensures)))
 
 pub make-hazard-requires-clause-enabled : goal.make-hazard-requires-clause-enabled
 make-hazard-requires-clause-enabled g c =
-    picked_enabled c.loop-made.stage c.moves-in-None-2.result.now c.choose-place.result 0 c.moves-in-None-2.ensures
-    (omega (arith, c.choose-place.ensures.within, ap length c.moves-in-None.ensures, ap length c.moves-in-None-2.ensures))
+    rw c.moves_at.ensures (picked_enabled c.loop-made.stage c.moves-in-None-2.result.now c.choose-place.result 0 c.moves-in-None-2.ensures
+    (omega (arith, c.choose-place.ensures.within, ap length c.moves-in-None.ensures, ap length c.moves-in-None-2.ensures)))
 
 pub make-hazard-requires-clause-room : goal.make-hazard-requires-clause-room
 make-hazard-requires-clause-room g c =
     let i = c.loop-made.invariant in
-    omega (arith, i.driven.driven.room, i.driven.counted, i.steps, c.loop-made-test.true)
+    rw c.moves_at.ensures (omega (arith, i.driven.driven.room, i.driven.counted, i.steps, c.loop-made-test.true))
 
 pub make-hazard-requires-clause-rails : goal.make-hazard-requires-clause-rails
 make-hazard-requires-clause-rails g c =
     let i = c.loop-made.invariant in
     let none : end_with c.loop-made.hazard (moves_now c.loop-made.stage) false ≡ None =
     ap (λ (xs : List ℕ). end_with c.loop-made.hazard xs false) (sym c.moves.ensures) ∙ sym c.early_end.ensures ∙ c.in-None.is in
-    (is_ready _ _ c.args.setup.net c.args.setup.steps _ _ c.loop-made.made _ _ _ _ c.loop-made.stage c.loop-made.hazard i.driven
-    (omega (arith, i.steps, c.loop-made-test.true)) none).rails
+    rw c.moves_at.ensures ((is_ready _ _ c.args.setup.net c.args.setup.steps _ _ c.loop-made.made _ _ _ _ c.loop-made.stage c.loop-made.hazard i.driven
+    (omega (arith, i.steps, c.loop-made-test.true)) none).rails)
 
 pub make-hazard-requires-clause-offered : goal.make-hazard-requires-clause-offered
-make-hazard-requires-clause-offered g c = c.loop-made.invariant.driven.driven.offered
+make-hazard-requires-clause-offered g c = rw c.moves_at.ensures c.loop-made.invariant.driven.driven.offered
 
 pub make-hazard-requires-clause-spare : goal.make-hazard-requires-clause-spare
 make-hazard-requires-clause-spare g c =
     let i = c.loop-made.invariant in
     let none : end_with c.loop-made.hazard (moves_now c.loop-made.stage) false ≡ None =
     ap (λ (xs : List ℕ). end_with c.loop-made.hazard xs false) (sym c.moves.ensures) ∙ sym c.early_end.ensures ∙ c.in-None.is in
-    (is_ready _ _ c.args.setup.net c.args.setup.steps _ _ c.loop-made.made _ _ _ _ c.loop-made.stage c.loop-made.hazard i.driven
-    (omega (arith, i.steps, c.loop-made-test.true)) none).spare
+    rw c.moves_at.ensures ((is_ready _ _ c.args.setup.net c.args.setup.steps _ _ c.loop-made.made _ _ _ _ c.loop-made.stage c.loop-made.hazard i.driven
+    (omega (arith, i.steps, c.loop-made-test.true)) none).spare)
 
 pub make-hazard-requires-clause-idle : goal.make-hazard-requires-clause-idle
-make-hazard-requires-clause-idle g c = c.loop-made.invariant.idle
+make-hazard-requires-clause-idle g c = rw c.moves_at.ensures c.loop-made.invariant.idle
 
 pub make-hazard-requires-clause-quiet : goal.make-hazard-requires-clause-quiet
 make-hazard-requires-clause-quiet g c =
     let i = c.loop-made.invariant in
     let none : end_with c.loop-made.hazard (moves_now c.loop-made.stage) false ≡ None =
     ap (λ (xs : List ℕ). end_with c.loop-made.hazard xs false) (sym c.moves.ensures) ∙ sym c.early_end.ensures ∙ c.in-None.is in
-    (is_ready _ _ c.args.setup.net c.args.setup.steps _ _ c.loop-made.made _ _ _ _ c.loop-made.stage c.loop-made.hazard i.driven
-    (omega (arith, i.steps, c.loop-made-test.true)) none).quiet
+    rw c.moves_at.ensures ((is_ready _ _ c.args.setup.net c.args.setup.steps _ _ c.loop-made.made _ _ _ _ c.loop-made.stage c.loop-made.hazard i.driven
+    (omega (arith, i.steps, c.loop-made-test.true)) none).quiet)
 
 pub loop-made-preserved : goal.loop-made-preserved
 loop-made-preserved g c =
     let i = c.loop-made.invariant in
     let p = c.choose-place.result in
     let xs = c.moves-in-None-2.result.now in
-    let e = c.make-hazard.ensures in
+    let e = rw c.moves_at.ensures at c.make-hazard.ensures in
     let mid = goal.Picker-dyn g (c.loop-made.picker.vtable, c.loop-made.picker.value) in
     let none : end_with c.loop-made.hazard (moves_now c.loop-made.stage) false ≡ None =
     ap (λ (xs : List ℕ). end_with c.loop-made.hazard xs false) (sym c.moves.ensures) ∙ sym c.early_end.ensures ∙ c.in-None.is in

@@ -63,13 +63,14 @@ choose-place-requires-clause-list g c =
 pub make-hazard-requires-clause-node : goal.make-hazard-requires-clause-node
 make-hazard-requires-clause-node g c =
     let i = c.loop-made.invariant in
-    picked_within c.args.self i.picked.picks c.loop-made.stage c.loop-made.hazard c.moves-in-None-2.result.now c.choose-place.result 0 i.picked.underway
-    c.moves-in-None-2.ensures (omega (arith, c.choose-place.ensures.within, ap length c.moves-in-None.ensures, ap length c.moves-in-None-2.ensures))
+    rw c.moves_at.ensures (picked_within c.args.self i.picked.picks c.loop-made.stage c.loop-made.hazard c.moves-in-None-2.result.now c.choose-place.result 0
+    i.picked.underway c.moves-in-None-2.ensures
+    (omega (arith, c.choose-place.ensures.within, ap length c.moves-in-None.ensures, ap length c.moves-in-None-2.ensures)))
 
 pub make-hazard-requires-clause-enabled : goal.make-hazard-requires-clause-enabled
 make-hazard-requires-clause-enabled g c =
-    picked_enabled c.loop-made.stage c.moves-in-None-2.result.now c.choose-place.result 0 c.moves-in-None-2.ensures
-    (omega (arith, c.choose-place.ensures.within, ap length c.moves-in-None.ensures, ap length c.moves-in-None-2.ensures))
+    rw c.moves_at.ensures (picked_enabled c.loop-made.stage c.moves-in-None-2.result.now c.choose-place.result 0 c.moves-in-None-2.ensures
+    (omega (arith, c.choose-place.ensures.within, ap length c.moves-in-None.ensures, ap length c.moves-in-None-2.ensures)))
 
 pub loop-made-preserved : goal.loop-made-preserved
 loop-made-preserved g c =
@@ -81,6 +82,7 @@ loop-made-preserved g c =
     let first = goal.Picker-dyn g (c.args.picker.now.vtable, c.args.picker.now.value) in
     let later = goal.Picker-dyn g (c.choose-place.new.picker.vtable, c.choose-place.new.picker.value) in
     let mid = goal.Picker-dyn g (c.loop-made.picker.vtable, c.loop-made.picker.value) in
+    let made = rw c.moves_at.ensures at c.make-hazard.ensures in
     let listed = moves_are c.args.self i.picked.picks c.loop-made.stage c.loop-made.hazard i.picked.underway in
     let few : length i.picked.picks < c.args.self.steps = omega (arith, i.picked.counted, i.steps, c.loop-made-test.true) in
     let within : p < length (moves_now c.loop-made.stage) = omega (arith, c.choose-place.ensures.within, ap length c.moves-in-None.ensures) in
@@ -94,8 +96,7 @@ loop-made-preserved g c =
         grown = c.choose-place.ensures.log ∙ ap (λ (ys : List ℕ). ys ++ p ∷ []) i.picked.grown ∙ append_assoc _ i.picked.picks (p ∷ []);
         counted = length_push i.picked.picks p ∙ ap (λ (k : ℕ). k + 1) i.picked.counted;
         underway = step c.args.self i.picked.picks c.loop-made.stage c.make-hazard.new.self c.loop-made.hazard c.make-hazard.result p (get_or xs p 0)
-            i.picked.underway few none within at c.make-hazard.ensures.net c.make-hazard.ensures.script c.make-hazard.ensures.moved c.make-hazard.ensures.passed
-            c.make-hazard.ensures.room c.make-hazard.ensures.hazard;
+            i.picked.underway few none within at made.net made.script made.moved made.passed made.room made.hazard;
       };
       asked = asked_on _ (enabled_after c.args.self.net c.args.self.script (start_at c.args.self)) (first.log c.args.picker.now.value)
           (mid.log c.loop-made.picker.value) (later.log c.choose-place.new.picker.value) i.picked.picks p c.args.picker.now c.loop-made.picker
