@@ -38,6 +38,12 @@ made_on M (Ok a) (Ok b) m p f = f p
 made_on M (Err e) (Ok b) m p f = absurd m
 made_on M part (Err e) m p f = tt
 
+pub on_both : {A T : Type 0} (M : A → Type 0) {P Q : Type 0} (part : Result A Stop) (made : Result T Stop) → OnOk made (IsOkAnd part M) → OnOk part P →
+    (P → Q) → OnOk made Q
+on_both M (Ok a) (Ok b) m p f = f p
+on_both M (Err e) (Ok b) m p f = absurd m
+on_both M part (Err e) m p f = tt
+
 pub made_bad : {A B P Q : Type 0} (part : Result A Stop) (made : Result B Stop) → IfErr made (λ e. WhenFault e (part ≡ Err Fault)) →
     IfErr part (λ e. WhenFault e P) → (P → Q) → IfErr made (λ e. WhenFault e Q)
 made_bad part (Ok b) m p f = tt

@@ -1,5 +1,5 @@
 -- Statements: what is to come after each of their parts.
-use Rattle.std.proofs.Common.{◌≡◌, ℕ, suc, ◌+◌, ◌<◌, List, [], ◌∷◌, ◌++◌, length, length-append, false, Option, Some, None, Result, Ok, Err, IfOk, IfErr, IsOkAnd, subst, refl, sym, ap, ◌∙◌, arith}
+use Rattle.std.proofs.Common.{◌≡◌, ℕ, suc, ◌+◌, ◌<◌, List, [], ◌∷◌, ◌++◌, length, length-append, false, Option, Some, None, Result, Ok, Err, IfOk, OnOk, IsOkAnd, map, subst, refl, sym, ap, ◌∙◌, arith}
 use Rattle.chp_base.specs.declared.span.Span.{Span}
 use Rattle.chp_syntax.specs.declared.token.Token.{Token}
 use Rattle.chp_syntax.specs.declared.token.TokenKind.{TokenKind}
@@ -13,12 +13,13 @@ use Rattle.chp_syntax.specs.declared.parser.sight.Group.{Group}
 use Rattle.chp_syntax.specs.declared.parser.sight.Group.TheVariants as group
 use Rattle.chp_syntax.specs.Trees.{Expression, Statement, skips, assigns, sends, receives, selects, repeats, calls, Statements, no_members, and_member, Arms, no_arms}
 use Rattle.chp_syntax.specs.Grammar.{named, word, Covered, Guarded, guarded, sequence_of, parallel_of, Disjunction, Atom, a_skip, an_assignment, a_send, a_receive, a_call, in_round, a_loop, a_guarded_loop, a_selection, GuardedCommand, the_branch, GuardedCommands, the_choices, MoreChoices, no_more_choices, one_more_choice, Both, the_both, MoreBoth, no_more_both, one_more_both, Seq, the_seq, MoreSeq, no_more_seq, one_more_seq, Par, the_par, MorePar, no_more_par, one_more_par}
-use Rattle.chp_syntax.specs.Parts.{GrammarPart, sees, IsKind, rank, StopsAt, Anything, Exactly, exactly, AName, the_name, Inside, a_body, some_arms, Guard, a_guard, Good, Bad, WhenFault, atom_front, action_kind, action_front, group_part, member_part, group_mark, group_rank, several_of}
+use Rattle.chp_syntax.specs.Parts.{GrammarPart, sees, IsKind, rank, StopsAt, Anything, Exactly, exactly, AName, the_name, Inside, a_body, some_arms, Guard, a_guard, Good, Bad, atom_front, action_kind, action_front, group_part, member_part, group_mark, group_rank, several_of}
 use Rattle.chp_syntax.specs.declared.tree.Stmt.{Stmt}
 use Rattle.chp_syntax.specs.declared.parser.sight.Stop.{Stop}
 use Rattle.chp_syntax.specs.View.{onto, and_guarded, statement_of}
-use Rattle.chp_syntax.proofs.Steps.{zero_span, fault_by, SoFar, Ends, Seam, Then, and_then, Done, all_done, Either, one, other, start, instead, bad_here, exactly_seen, ends_exactly, ends_name, ends_done, ends_then, ends_one, any_seam, kind_seam, last_seam, last_any, stops_more, then_kind}
-use Rattle.chp_syntax.proofs.Group.{Further, no_further, a_further, Grouping, group_ends, group_bad_first, Members, group_first, group_end, members_first, members_added, members_bad, members_end}
+use Rattle.chp_syntax.proofs.Steps.{zero_span, SoFar, Ends, Seam, Then, and_then, Done, all_done, Either, one, other, start, instead, bad_here, exactly_seen, ends_exactly, ends_name, ends_done, ends_then, ends_one, any_seam, kind_seam, last_seam, last_any, stops_more, then_kind}
+use Rattle.chp_syntax.proofs.Group.{Further, no_further, a_further, Grouping, group_ends, group_bad_first, Members, group_first, group_end, members_first, members_more, members_bad, members_end}
+use Rattle.chp_syntax.proofs.Ands.{on_ok, made_on}
 use Rattle.chp_syntax.proofs.Expressions.{ends_disjunction}
 
 abbrev F5 : Option Token → Type 0
@@ -188,20 +189,6 @@ several v t bs e n b [] h = absurd (n (ap length (sym h)))
 several v t bs e n b (x ∷ got) h =
     e ∙ (ap (λ (ys : List Statement). several_of v (onto and_member ys no_members)) (sym h) ∙ sym (joined_is v b x (onto and_member got no_members)))
 
--- what holds at each round of the loop over a group of two members or more
-pub record Grouped (v : Group) (xs left : List Token) (ts : List Statement) : Type 0 where
-  pub some : 0 < length ts
-  pub two : length ts ≡ 1 → IsKind (Sign (group_mark v)) (sees left)
-  pub read : Members (group_at v) (λ t. t) xs left ts
-
-pub grouped_first : (v : Group) {xs left : List Token} {olds ts : List Statement} (part : Result Stmt Stop) → IsKind (Sign (group_mark v)) (sees left) →
-    olds ≡ [] → IsOkAnd part (λ s. ts ≡ olds ++ (statement_of s ∷ [])) →
-    IfOk part (λ s. Good (member_part v) (StopsAt (suc (group_rank v))) xs left (statement_of s)) → Grouped v xs left ts
-grouped_first v {xs} {left} (Ok s) here none e good =
-    subst (λ (us : List Statement). Grouped v xs left us) (sym (e ∙ ap (λ (us : List Statement). us ++ (statement_of s ∷ [])) none))
-    (record { some = omega arith; two = λ h. here; read = members_first (group_at v) (λ t. t) good })
-grouped_first v (Err y) here none e good = absurd e
-
 joined_none : (v : Group) (t : Statement) → joined_of v t no_members ≡ t
 joined_none group.Both t = refl
 joined_none group.Seq t = refl
@@ -218,34 +205,70 @@ pub grouped_only : (v : Group) (xs left : List Token) (part : Result Stmt Stop) 
 grouped_only v xs left (Ok s) never good = grouped_alone v good never
 grouped_only v xs left (Err y) never good = tt
 
-pub grouped_only_bad : (v : Group) (xs left : List Token) (part : Result Stmt Stop) →
-    IfErr part (λ e. WhenFault e (Bad (member_part v) (StopsAt (suc (group_rank v))) xs left)) →
-    IfErr part (λ e. WhenFault e (Bad (group_part v) (StopsAt (group_rank v)) xs left))
-grouped_only_bad v xs left (Ok s) bad = tt
-grouped_only_bad v xs left (Err e) bad = fault_by e (group_bad_first (group_at v)) bad
+-- what has been read of a group where its next member is to come
+pub data Ahead (v : Group) (xs : List Token) : List Token → List Statement → Type 0 where
+  at_first : Ahead v xs xs []
+  behind : {left mid : List Token} {ts : List Statement} {o : Span} → Members (group_at v) (λ t. t) xs left ts →
+      Good (Exactly (Sign (group_mark v))) Anything left mid o → Ahead v xs mid ts
 
-pub grouped_more : (v : Group) {xs left mid to : List Token} {ts more : List Statement} {o : Span} (part : Result Stmt Stop) → Grouped v xs left ts →
-    Good (Exactly (Sign (group_mark v))) Anything left mid o → IsOkAnd part (λ s. more ≡ ts ++ (statement_of s ∷ [])) →
-    IfOk part (λ s. Good (member_part v) (StopsAt (suc (group_rank v))) mid to (statement_of s)) → Grouped v xs to more
-grouped_more v {ts = ts} {more = more} (Ok s) g mark e good =
-    let longer : length more ≡ length ts + 1 = ap length e ∙ length-append ts (statement_of s ∷ []) in
-    let some : 0 < length ts = g.some in
-    record {
-      some = omega (arith, longer);
-      two = λ h. absurd (omega (arith, h, longer, some));
-      read = members_added (group_at v) (λ t. t) statement_of (Ok s) g.read mark e good;
-    }
-grouped_more v (Err y) g mark e good = absurd e
+pub ahead_start : {v : Group} {xs : List Token} {ts : List Statement} → ts ≡ [] → Ahead v xs xs ts
+ahead_start {v} {xs} e = subst (λ (us : List Statement). Ahead v xs xs us) (sym e) at_first
 
-pub grouped_bad : (v : Group) {xs left mid to : List Token} {ts : List Statement} {o : Span} → Grouped v xs left ts →
-    Good (Exactly (Sign (group_mark v))) Anything left mid o → Bad (member_part v) (StopsAt (suc (group_rank v))) mid to →
-    Bad (group_part v) (StopsAt (group_rank v)) xs to
-grouped_bad v g mark bad = members_bad (group_at v) g.read mark bad
+pub ahead_bad : (v : Group) {xs mid to : List Token} {ts : List Statement} → Ahead v xs mid ts →
+    Bad (member_part v) (StopsAt (suc (group_rank v))) mid to → Bad (group_part v) (StopsAt (group_rank v)) xs to
+ahead_bad v at_first bad = group_bad_first (group_at v) bad
+ahead_bad v (behind m sign) bad = members_bad (group_at v) m sign bad
 
-pub grouped_end : (v : Group) {xs left : List Token} {ts : List Statement} (a : Statement) → Grouped v xs left ts →
-    (IsKind (Sign (group_mark v)) (sees left) → ⊥) → a ≡ several_of v (onto and_member ts no_members) →
-    Good (group_part v) (StopsAt (group_rank v)) xs left a
-grouped_end v {ts = ts} a g never e = members_end (group_at v) a g.read never (several v a ts e (λ h. never (g.two h)))
+ahead_good : (v : Group) {xs mid to : List Token} {ts : List Statement} {t : Statement} → Ahead v xs mid ts →
+    Good (member_part v) (StopsAt (suc (group_rank v))) mid to t → Members (group_at v) (λ t. t) xs to (ts ++ (t ∷ []))
+ahead_good v at_first good = members_first (group_at v) (λ t. t) good
+ahead_good v (behind m sign) good = members_more (group_at v) m sign good
+
+-- a member that is followed by a sign, and added as it was read
+pub ahead_more : (v : Group) {xs mid to next : List Token} {ts more : List Statement} {o : Span} (part : Result Stmt Stop) → Ahead v xs mid ts →
+    IsOkAnd part (λ s. more ≡ ts ++ (statement_of s ∷ [])) →
+    IfOk part (λ s. Good (member_part v) (StopsAt (suc (group_rank v))) mid to (statement_of s)) →
+    Good (Exactly (Sign (group_mark v))) Anything to next o → Ahead v xs next more
+ahead_more v {xs = xs} {to = to} (Ok s) a e good sign =
+    behind (subst (λ (us : List Statement). Members (group_at v) (λ t. t) xs to us) (sym e) (ahead_good v a good)) sign
+ahead_more v (Err y) a e good sign = absurd e
+
+none_ahead : {v : Group} {xs mid : List Token} {ts : List Statement} → Ahead v xs mid ts → ts ≡ [] → mid ≡ xs
+none_ahead at_first e = refl
+none_ahead (behind m sign) e = absurd (cons_is_no_end (m.same ∙ e))
+  where
+    cons_is_no_end : {x : Statement} {xs : List Statement} → x ∷ xs ≡ [] → ⊥
+    cons_is_no_end is = cc is
+
+two_or_more : (b t : Statement) (ts : List Statement) → length (b ∷ (ts ++ (t ∷ []))) ≡ 1 → ⊥
+two_or_more b t ts h =
+    let longer : length (ts ++ (t ∷ [])) ≡ length ts + 1 = length-append ts (t ∷ []) in
+    let one : suc (length (ts ++ (t ∷ []))) ≡ 1 = h in
+    omega (arith, longer, one)
+
+-- the end of a group: what is made of the members that were added, and of the last one as it was read
+pub joined_good : (v : Group) {xs mid : List Token} (to : List Token) (items : List Stmt) (last made : Result Stmt Stop) → (items ≡ [] → made ≡ last) →
+    ((items ≡ [] → ⊥) → IfOk made (λ s. IsOkAnd last (λ t. statement_of s ≡
+    several_of v (onto and_member (map statement_of items ++ (statement_of t ∷ [])) no_members)))) → Ahead v xs mid (map statement_of items) →
+    (IsKind (Sign (group_mark v)) (sees to) → ⊥) →
+    IfOk last (λ s. Good (member_part v) (StopsAt (suc (group_rank v))) mid to (statement_of s)) →
+    IfOk made (λ s. Good (group_part v) (StopsAt (group_rank v)) xs to (statement_of s))
+joined_good v {xs} {mid} to [] last made alone many a never good =
+    subst (λ (r : Result Stmt Stop). IfOk r (λ s. Good (group_part v) (StopsAt (group_rank v)) xs to (statement_of s))) (sym (alone refl))
+    (grouped_only v xs to last never
+    (subst (λ (x : List Token). IfOk last (λ s. Good (member_part v) (StopsAt (suc (group_rank v))) x to (statement_of s))) (none_ahead a refl) good))
+joined_good v to (i ∷ items) (Ok t) (Ok s) alone many a never good =
+    let e = many (λ h. cc h) in
+    members_end (group_at v) (statement_of s) (ahead_good v a good) never
+    (several v (statement_of s) (statement_of i ∷ (map statement_of items ++ (statement_of t ∷ []))) e
+    (two_or_more (statement_of i) (statement_of t) (map statement_of items)))
+joined_good v to (i ∷ items) (Err y) (Ok s) alone many a never good = absurd (many (λ h. cc h))
+joined_good v to (i ∷ items) last (Err y) alone many a never good = tt
+
+pub joined_on : {P Q : Type 0} (M : Stmt → Stmt → Type 0) (items : List Stmt) (last made : Result Stmt Stop) → (items ≡ [] → made ≡ last) →
+    ((items ≡ [] → ⊥) → IfOk made (λ s. IsOkAnd last (λ t. M s t))) → OnOk last P → (P → Q) → OnOk made Q
+joined_on {Q = Q} M [] last made alone many p f = subst (λ (r : Result Stmt Stop). OnOk r Q) (sym (alone refl)) (on_ok f last p)
+joined_on M (i ∷ items) last made alone many p f = made_on M last made (many (λ h. cc h)) p f
 
 -- a guard: expr "->"
 abbrev pub Arrowed : Covered → GrammarPart Expression
@@ -347,6 +370,29 @@ choices_group = record {
   ends = ends_branch;
   ends_sign = ends_exactly (Sign mark.Choice);
 }
+
+-- an arm that was added to others
+abbrev pub Chosen : List Token → List Token → List Guarded → List Guarded → Type 0
+Chosen xs left olds news = (g : Guarded) × Good GuardedCommand (StopsAt 2) xs left g × (news ≡ olds ++ (g ∷ []))
+
+pub chosen_first : {xs left : List Token} {olds news : List Guarded} → olds ≡ [] → Chosen xs left olds news →
+    Members choices_group (λ b. b) xs left news
+chosen_first {xs} {left} none q =
+    subst (λ (gs : List Guarded). Members choices_group (λ b. b) xs left gs)
+    (sym (q.2 ∙ ap (λ (gs : List Guarded). gs ++ (q.0 ∷ [])) none)) (members_first choices_group (λ b. b) q.1)
+
+pub chosen_more : {xs left mid to : List Token} {olds news : List Guarded} {o : Span} → Members choices_group (λ b. b) xs left olds →
+    Good (Exactly (Sign mark.Choice)) Anything left mid o → Chosen mid to olds news → Members choices_group (λ b. b) xs to news
+chosen_more {xs} {to = to} m sign q =
+    subst (λ (gs : List Guarded). Members choices_group (λ b. b) xs to gs) (sym q.2) (members_more choices_group m sign q.1)
+
+-- an arm that is added as its statement was read
+pub chosen_arm : {A T : Type 0} {P : A → Type 0} {xs left : List Token} (olds news : List Guarded) (view : A → Guarded) (part : Result A Stop)
+    (made : Result T Stop) → OnOk made (IsOkAnd part (λ s. news ≡ olds ++ (view s ∷ []))) → IfOk part P →
+    ((s : A) → P s → Good GuardedCommand (StopsAt 2) xs left (view s)) → OnOk made (Chosen xs left olds news)
+chosen_arm olds news view (Ok s) (Ok u) e p f = (view s, f s p, e)
+chosen_arm olds news view (Err y) (Ok u) e p f = absurd e
+chosen_arm olds news view part (Err y) e p f = tt
 
 pub ends_choices : Ends GuardedCommands
 ends_choices = group_ends choices_group

@@ -7,7 +7,7 @@ ghost use Rattle.chp_syntax.specs.declared.parser.sight.AtomFront.TheVariants as
 ghost use Rattle.chp_syntax.specs.declared.parser.sight.Stop.TheVariants.{Fault};
 ghost use Rattle.chp_syntax.specs.Trees.{no_members, and_member, repeats, selects};
 ghost use Rattle.chp_syntax.specs.Parts.{Good, Bad, StopsAt, Anything, WhenFault, Guard, Inside, sees, atom_front, group_part, member_part, group_rank, several_of};
-ghost use Rattle.chp_syntax.specs.Grammar.{Atom, Par, GuardedCommand, GuardedCommands, guarded};
+ghost use Rattle.chp_syntax.specs.Grammar.{Atom, Par, Guarded, GuardedCommand, GuardedCommands, guarded};
 ghost use Rattle.chp_syntax.specs.View.{expression_of, statement_of, guarded_of, armed_of, onto};
 
 use super::expression::disjunction;
@@ -113,17 +113,6 @@ fn add_member(parts: &mut Vec<Stmt>, member: Result<Stmt, Stop>) -> Result<(), S
     Ok(())
 }
 
-/// Adds an arm.
-#[inline(never)]
-fn add_arm(arms: &mut Vec<Arm>, arm: Result<Arm, Stop>) -> Result<(), Stop>
-    ensures done { OnOk result (IsOkAnd arm (λ a.
-        map guarded_of arms.new.items ≡ map guarded_of arms.old.items ++ guarded_of a ∷ [])) }
-    ensures fault { IfErr result (λ e. WhenFault e (arm ≡ Err Fault)) }
-{
-    arms.push(arm?)?;
-    Ok(())
-}
-
 /// The arm with this guard and this statement.
 #[inline(never)]
 fn arm_of(guard: Expr, body: Result<Stmt, Stop>) -> Result<Arm, Stop>
@@ -137,6 +126,17 @@ fn arm_of(guard: Expr, body: Result<Stmt, Stop>) -> Result<Arm, Stop>
     }
 }
 
+/// Adds the arm with this guard and this statement.
+#[inline(never)]
+fn add_arm(arms: &mut Vec<Arm>, guard: Expr, body: Result<Stmt, Stop>) -> Result<(), Stop>
+    ensures done { OnOk result (IsOkAnd body (λ s. map guarded_of arms.new.items ≡
+        map guarded_of arms.old.items ++ guarded (expression_of guard) (statement_of s) ∷ [])) }
+    ensures fault { IfErr result (λ e. WhenFault e (body ≡ Err Fault)) }
+{
+    arms.push(arm_of(guard, body)?)?;
+    Ok(())
+}
+
 /// The group of several members.
 #[inline(never)]
 fn group_of(group: Group, parts: Vec<Stmt>) -> Stmt
@@ -147,6 +147,22 @@ fn group_of(group: Group, parts: Vec<Stmt>) -> Stmt
         Group::Seq => Stmt::Then { parts },
         Group::Par => Stmt::Beside { parts },
     }
+}
+
+/// The last member of a group behind these; it alone, where there are no others.
+#[inline(never)]
+fn joined(group: Group, parts: Vec<Stmt>, last: Result<Stmt, Stop>) -> Result<Stmt, Stop>
+    ensures alone { parts.items ≡ [] → result ≡ last }
+    ensures several { ¬ (parts.items ≡ []) → IfOk result (λ s. IsOkAnd last (λ t. statement_of s ≡
+        several_of group (onto and_member (map statement_of parts.items ++ statement_of t ∷ []) no_members))) }
+    ensures fault { IfErr result (λ e. WhenFault e (last ≡ Err Fault)) }
+{
+    if parts.is_empty() {
+        return last;
+    }
+    let mut parts = parts;
+    add_member(&mut parts, last)?;
+    Ok(group_of(group, parts))
 }
 
 /// "skip"
@@ -282,21 +298,21 @@ fn inside(alloc: Global, tokens: &[Token], at: &mut usize) -> Result<Stmt, Stop>
     Ok(Stmt::Select { again: true, arms })
 }
 
-/// expr "->" par
+/// expr "->" par, which is added to the arms
 #[cycle(statement_parts)]
 #[inline(never)]
-fn branch(alloc: Global, tokens: &[Token], at: &mut usize) -> Result<Arm, Stop>
+fn branch(alloc: Global, tokens: &[Token], at: &mut usize, arms: &mut Vec<Arm>) -> Result<(), Stop>
     requires { at.old ≤ length tokens.now }
     ensures within { at.new ≤ length tokens.now }
     ensures moved { OnOk result (at.old < at.new) }
-    ensures good { IfOk result (λ s. Good GuardedCommand (StopsAt 2) (drop at.old tokens.now) (drop at.new tokens.now)
-        (guarded_of s)) }
+    ensures good { OnOk result ((g : Guarded) × Good GuardedCommand (StopsAt 2) (drop at.old tokens.now)
+        (drop at.new tokens.now) g × (map guarded_of arms.new.items ≡ map guarded_of arms.old.items ++ g ∷ [])) }
     ensures bad { IfErr result (λ e.
         WhenFault e (Bad GuardedCommand (StopsAt 2) (drop at.old tokens.now) (drop at.new tokens.now))) }
 {
     let guard = guard(alloc, tokens, at)?;
     let body = grouped(alloc, tokens, at, Group::Par);
-    arm_of(guard, body)
+    add_arm(arms, guard, body)
 }
 
 /// arm { "[]" arm }
@@ -311,12 +327,10 @@ fn choices(alloc: Global, tokens: &[Token], at: &mut usize) -> Result<Vec<Arm>, 
         WhenFault e (Bad GuardedCommands (StopsAt 1) (drop at.old tokens.now) (drop at.new tokens.now))) }
 {
     let mut arms: Vec<Arm> = Vec::new(alloc);
-    let first = branch(alloc, tokens, at);
-    add_arm(&mut arms, first)?;
+    branch(alloc, tokens, at, &mut arms)?;
     while mark_at(tokens, *at, Mark::Choice) {
         *at += 1;
-        let next = branch(alloc, tokens, at);
-        add_arm(&mut arms, next)?;
+        branch(alloc, tokens, at, &mut arms)?;
     }
     Ok(arms)
 }
@@ -353,18 +367,15 @@ fn grouped(alloc: Global, tokens: &[Token], at: &mut usize, group: Group) -> Res
         WhenFault e (Bad (group_part group) (StopsAt (group_rank group))
         (drop at.old tokens.now) (drop at.new tokens.now))) }
 {
-    let first = member(alloc, tokens, at, group);
-    if !continues(tokens, *at, group) {
-        return first;
-    }
     let mut parts: Vec<Stmt> = Vec::new(alloc);
-    add_member(&mut parts, first)?;
-    while continues(tokens, *at, group) {
-        *at += 1;
+    loop {
         let next = member(alloc, tokens, at, group);
+        if !continues(tokens, *at, group) {
+            return joined(group, parts, next);
+        }
         add_member(&mut parts, next)?;
+        *at += 1;
     }
-    Ok(group_of(group, parts))
 }
 
 /// par

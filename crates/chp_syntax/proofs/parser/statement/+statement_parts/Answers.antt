@@ -1,17 +1,17 @@
-use Rattle.std.proofs.Common.{◌++◌, [], ◌∷◌, List, true, drop, map, arith, refl, sym, ap, ◌∙◌}
+use Rattle.std.proofs.Common.{List, true, drop, map, arith, refl, sym, ap}
 use Rattle.chp_syntax.specs.declared.token.TokenKind.TheVariants.{Sign}
 use Rattle.chp_syntax.specs.declared.token.Mark.TheVariants as mark
 use Rattle.chp_syntax.specs.declared.tree.Arm.{Arm}
 use Rattle.chp_syntax.specs.declared.tree.Stmt.{Stmt}
 use Rattle.chp_syntax.specs.Trees.{no_arms}
-use Rattle.chp_syntax.specs.Grammar.{Atom, Guarded}
+use Rattle.chp_syntax.specs.Grammar.{Atom, Guarded, guarded}
 use Rattle.chp_syntax.specs.Parts.{Good, StopsAt, group_mark}
 use Rattle.chp_syntax.specs.View.{expression_of, statement_of, guarded_of, armed_of, onto, and_guarded}
-use Rattle.chp_syntax.proofs.Ands.{and_good, and_bad, made_good, made_on, made_bad, well_on, exit_of}
-use Rattle.chp_syntax.proofs.Steps.{by_part, part_bad, good_done, exactly_good, exit, not_so}
-use Rattle.chp_syntax.proofs.Group.{group_bad_first, members_begun, members_added, members_bad, members_end}
+use Rattle.chp_syntax.proofs.Ands.{and_good, and_bad, made_good, made_on, on_both, made_bad, well_on, exit_of}
+use Rattle.chp_syntax.proofs.Steps.{by_part, part_bad, good_done, exactly_good, exit, not_so, kind_within}
+use Rattle.chp_syntax.proofs.Group.{group_bad_first, members_bad, members_end}
 use Rattle.chp_syntax.proofs.Rows.{select_tree}
-use Rattle.chp_syntax.proofs.Statements.{group_at, grouped_only, grouped_only_bad, grouped_first, grouped_more, grouped_bad, grouped_end, choices_group, branch_start, branch_seam, body_seam, round_start, round_1, round_2, round_3, star_start, star_1, star_2, star_3, star_4, square_start, square_1, square_2, square_3, atom_bad}
+use Rattle.chp_syntax.proofs.Statements.{ahead_start, ahead_bad, ahead_more, joined_good, joined_on, choices_group, chosen_first, chosen_more, chosen_arm, branch_start, branch_seam, body_seam, round_start, round_1, round_2, round_3, star_start, star_1, star_2, star_3, star_4, square_start, square_1, square_2, square_3, atom_bad}
 use Rattle.chp_syntax.proofs.Insides.{body_good, body_bad, arms_good, arms_bad}
 use Rattle.chp_syntax.proofs.parser.statement.+statement_parts.Goals as goal
 
@@ -131,22 +131,23 @@ branch-returns-in_err-guard-clause-bad t c =
 
 pub branch-returns-clause-moved : goal.branch-returns-clause-moved
 branch-returns-clause-moved t c =
-    made_on _ c.grouped-body.result c.arm_of.result c.arm_of.ensures.done c.grouped-body.ensures.moved (λ m. omega (arith, m, c.in_ok-guard.ensures.moved))
+    on_both _ c.grouped-body.result c.add_arm.result c.add_arm.ensures.done c.grouped-body.ensures.moved
+    (λ m. omega (arith, m, c.in_ok-guard.ensures.moved))
 
 pub branch-returns-clause-good : goal.branch-returns-clause-good
 branch-returns-clause-good t c =
     let s0 = branch_start (drop c.args.at.now c.args.tokens.now) in
     let e = expression_of c.in_ok-guard.guard in
     let s1 = by_part branch_seam s0 c.in_ok-guard.ensures.good in
-    made_good c.grouped-body.result c.arm_of.result c.arm_of.ensures.done c.grouped-body.ensures.good
-    (λ s x is good. rw is (good_done (by_part (body_seam e) s1 good)))
+    chosen_arm _ _ (λ s. guarded e (statement_of s)) c.grouped-body.result c.add_arm.result c.add_arm.ensures.done c.grouped-body.ensures.good
+    (λ s good. good_done (by_part (body_seam e) s1 good))
 
 pub branch-returns-clause-bad : goal.branch-returns-clause-bad
 branch-returns-clause-bad t c =
     let s0 = branch_start (drop c.args.at.now c.args.tokens.now) in
     let e = expression_of c.in_ok-guard.guard in
     let s1 = by_part branch_seam s0 c.in_ok-guard.ensures.good in
-    made_bad c.grouped-body.result c.arm_of.result c.arm_of.ensures.fault c.grouped-body.ensures.bad (part_bad (body_seam e) s1)
+    made_bad c.grouped-body.result c.add_arm.result c.add_arm.ensures.fault c.grouped-body.ensures.bad (part_bad (body_seam e) s1)
 
 pub inside-returns-then-begins_statement-clause-moved : goal.inside-returns-then-begins_statement-clause-moved
 inside-returns-then-begins_statement-clause-moved t c =
@@ -168,34 +169,31 @@ pub inside-returns-clause-good : goal.inside-returns-clause-good
 inside-returns-clause-good t c =
     rw (select_tree true c.in_ok-arms.arms) (arms_good c.in_ok-arms.ensures.good)
 
-pub choices-returns-in_err-add_arm-clause-bad : goal.choices-returns-in_err-add_arm-clause-bad
-choices-returns-in_err-add_arm-clause-bad t c =
-    exit_of c.branch-first.result c.from_residual.result c.in_err-add_arm.field-0.0 c.from_residual.ensures.1 c.in_err-add_arm.ensures.fault
-    c.branch-first.ensures.bad (group_bad_first choices_group)
+pub choices-returns-in_err-branch-clause-bad : goal.choices-returns-in_err-branch-clause-bad
+choices-returns-in_err-branch-clause-bad t c =
+    exit c.from_residual.result c.in_err-branch.field-0.0 c.from_residual.ensures.1 (group_bad_first choices_group) c.in_err-branch.ensures.bad
 
 pub choices-loop-alloc-init : goal.choices-loop-alloc-init
 choices-loop-alloc-init t c =
     record {
-      within = c.branch-first.ensures.within;
-      moved = well_on _ c.branch-first.result c.in_ok-add_arm.ensures.done c.branch-first.ensures.moved;
-      read = members_begun choices_group (λ b. b) guarded_of c.branch-first.result (ap (λ (vs : List Arm). map guarded_of vs) c.new-arms.ensures.items)
-          c.in_ok-add_arm.ensures.done c.branch-first.ensures.good;
+      within = c.in_ok-branch.ensures.within;
+      moved = c.in_ok-branch.ensures.moved;
+      read = chosen_first (ap (λ (vs : List Arm). map guarded_of vs) c.new-arms.ensures.items) c.in_ok-branch.ensures.good;
     }
 
-pub choices-returns-in_err-add_arm-2-clause-bad : goal.choices-returns-in_err-add_arm-2-clause-bad
-choices-returns-in_err-add_arm-2-clause-bad t c =
+pub choices-returns-in_err-branch-2-clause-bad : goal.choices-returns-in_err-branch-2-clause-bad
+choices-returns-in_err-branch-2-clause-bad t c =
     let sign = exactly_good (Sign mark.Choice) c.args.tokens.now c.loop-alloc.at (c.loop-alloc-test.ensures.0 refl) in
-    exit_of c.branch-next.result c.from_residual-in_err-add_arm-2.result c.in_err-add_arm-2.field-0.0 c.from_residual-in_err-add_arm-2.ensures.1
-    c.in_err-add_arm-2.ensures.fault c.branch-next.ensures.bad (members_bad choices_group c.loop-alloc.invariant.read sign)
+    exit c.from_residual-in_err-branch-2.result c.in_err-branch-2.field-0.0 c.from_residual-in_err-branch-2.ensures.1
+    (members_bad choices_group c.loop-alloc.invariant.read sign) c.in_err-branch-2.ensures.bad
 
 pub choices-loop-alloc-preserved : goal.choices-loop-alloc-preserved
 choices-loop-alloc-preserved t c =
     let sign = exactly_good (Sign mark.Choice) c.args.tokens.now c.loop-alloc.at (c.loop-alloc-test.ensures.0 refl) in
     record {
-      within = c.branch-next.ensures.within;
-      moved = omega (arith, c.loop-alloc.invariant.moved, well_on _ c.branch-next.result c.in_ok-add_arm-2.ensures.done c.branch-next.ensures.moved);
-      read = members_added choices_group (λ b. b) guarded_of c.branch-next.result c.loop-alloc.invariant.read sign c.in_ok-add_arm-2.ensures.done
-          c.branch-next.ensures.good;
+      within = c.in_ok-branch-2.ensures.within;
+      moved = omega (arith, c.loop-alloc.invariant.moved, c.in_ok-branch-2.ensures.moved);
+      read = chosen_more c.loop-alloc.invariant.read sign c.in_ok-branch-2.ensures.good;
     }
 
 pub choices-returns-clause-good : goal.choices-returns-clause-good
@@ -221,43 +219,40 @@ member-returns-in-Par-clause-good t c = rw c.in-Par.is c.grouped-in-Par.ensures.
 pub member-returns-in-Par-clause-bad : goal.member-returns-in-Par-clause-bad
 member-returns-in-Par-clause-bad t c = rw c.in-Par.is c.grouped-in-Par.ensures.bad
 
-pub grouped-returns-then-not-continues-clause-good : goal.grouped-returns-then-not-continues-clause-good
-grouped-returns-then-not-continues-clause-good t c =
-    grouped_only c.args.group _ _ c.member-first.result (not_so c.if-not-continues.ensures.1) c.member-first.ensures.good
-
-pub grouped-returns-then-not-continues-clause-bad : goal.grouped-returns-then-not-continues-clause-bad
-grouped-returns-then-not-continues-clause-bad t c =
-    grouped_only_bad c.args.group _ _ c.member-first.result c.member-first.ensures.bad
-
-pub grouped-returns-in_err-add_member-clause-bad : goal.grouped-returns-in_err-add_member-clause-bad
-grouped-returns-in_err-add_member-clause-bad t c =
-    exit_of c.member-first.result c.from_residual.result c.in_err-add_member.field-0.0 c.from_residual.ensures.1 c.in_err-add_member.ensures.fault
-    c.member-first.ensures.bad (group_bad_first (group_at c.args.group))
-
 pub grouped-loop-alloc-init : goal.grouped-loop-alloc-init
 grouped-loop-alloc-init t c =
     record {
-      within = c.member-first.ensures.within;
-      moved = well_on _ c.member-first.result c.in_ok-add_member.ensures.done c.member-first.ensures.moved;
-      read = grouped_first c.args.group c.member-first.result (c.if-not-continues.ensures.0 refl)
-          (ap (λ (vs : List Stmt). map statement_of vs) c.new-parts.ensures.items) c.in_ok-add_member.ensures.done c.member-first.ensures.good;
+      within = c.requires;
+      moved = omega arith;
+      read = ahead_start (ap (λ (vs : List Stmt). map statement_of vs) c.new-parts.ensures.items);
     }
 
-pub grouped-returns-in_err-add_member-2-clause-bad : goal.grouped-returns-in_err-add_member-2-clause-bad
-grouped-returns-in_err-add_member-2-clause-bad t c =
-    let sign = exactly_good (Sign (group_mark c.args.group)) c.args.tokens.now c.loop-alloc.at (c.loop-alloc-test.ensures.0 refl) in
-    exit_of c.member-next.result c.from_residual-in_err-add_member-2.result c.in_err-add_member-2.field-0.0 c.from_residual-in_err-add_member-2.ensures.1
-    c.in_err-add_member-2.ensures.fault c.member-next.ensures.bad (grouped_bad c.args.group c.loop-alloc.invariant.read sign)
+pub grouped-returns-then-not-continues-clause-moved : goal.grouped-returns-then-not-continues-clause-moved
+grouped-returns-then-not-continues-clause-moved t c =
+    joined_on _ c.loop-alloc.parts.items c.member-next.result c.joined.result c.joined.ensures.alone c.joined.ensures.several c.member-next.ensures.moved
+    (λ m. omega (arith, m, c.loop-alloc.invariant.moved))
+
+pub grouped-returns-then-not-continues-clause-good : goal.grouped-returns-then-not-continues-clause-good
+grouped-returns-then-not-continues-clause-good t c =
+    joined_good c.args.group _ c.loop-alloc.parts.items c.member-next.result c.joined.result c.joined.ensures.alone c.joined.ensures.several
+    c.loop-alloc.invariant.read (not_so c.if-not-continues.ensures.1) c.member-next.ensures.good
+
+pub grouped-returns-then-not-continues-clause-bad : goal.grouped-returns-then-not-continues-clause-bad
+grouped-returns-then-not-continues-clause-bad t c =
+    made_bad c.member-next.result c.joined.result c.joined.ensures.fault c.member-next.ensures.bad (ahead_bad c.args.group c.loop-alloc.invariant.read)
+
+pub grouped-returns-in_err-add_member-clause-bad : goal.grouped-returns-in_err-add_member-clause-bad
+grouped-returns-in_err-add_member-clause-bad t c =
+    exit_of c.member-next.result c.from_residual.result c.in_err-add_member.field-0.0 c.from_residual.ensures.1 c.in_err-add_member.ensures.fault
+    c.member-next.ensures.bad (ahead_bad c.args.group c.loop-alloc.invariant.read)
 
 pub grouped-loop-alloc-preserved : goal.grouped-loop-alloc-preserved
 grouped-loop-alloc-preserved t c =
-    let sign = exactly_good (Sign (group_mark c.args.group)) c.args.tokens.now c.loop-alloc.at (c.loop-alloc-test.ensures.0 refl) in
+    let k = Sign (group_mark c.args.group) in
+    let here = c.if-not-continues.ensures.0 refl in
     record {
-      within = c.member-next.ensures.within;
-      moved = omega (arith, c.loop-alloc.invariant.moved, well_on _ c.member-next.result c.in_ok-add_member-2.ensures.done c.member-next.ensures.moved);
-      read = grouped_more c.args.group c.member-next.result c.loop-alloc.invariant.read sign c.in_ok-add_member-2.ensures.done c.member-next.ensures.good;
+      within = kind_within k c.args.tokens.now c.member-next.new.at here;
+      moved = omega (arith, c.loop-alloc.invariant.moved, well_on _ c.member-next.result c.in_ok-add_member.ensures.done c.member-next.ensures.moved);
+      read = ahead_more c.args.group c.member-next.result c.loop-alloc.invariant.read c.in_ok-add_member.ensures.done c.member-next.ensures.good
+          (exactly_good k c.args.tokens.now c.member-next.new.at here);
     }
-
-pub grouped-returns-clause-good : goal.grouped-returns-clause-good
-grouped-returns-clause-good t c =
-    grouped_end c.args.group (statement_of c.group_of.result) c.loop-alloc.invariant.read (not_so c.loop-alloc-test.ensures.1) c.group_of.ensures

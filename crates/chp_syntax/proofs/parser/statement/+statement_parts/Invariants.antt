@@ -1,7 +1,7 @@
 use Rattle.std.proofs.Common.{◌+◌, ◌-◌, ◌*◌, ◌≤◌, ◌<◌, length, drop, map}
 use Rattle.chp_syntax.specs.View.{statement_of, guarded_of}
 use Rattle.chp_syntax.proofs.Group.{Members}
-use Rattle.chp_syntax.proofs.Statements.{height, Grouped, choices_group}
+use Rattle.chp_syntax.proofs.Statements.{height, Ahead, choices_group}
 use Rattle.chp_syntax.proofs.parser.statement.+statement_parts.Given as goal
 
 abbrev pub decreases-atom : goal.decreases-atom
@@ -34,8 +34,8 @@ decreases-inside l = 16 * (length l.tokens.now - l.at.now) + 10
 abbrev pub invariant-grouped-loop-alloc : goal.invariant-grouped-loop-alloc
 invariant-grouped-loop-alloc l = record {
   within : l.at ≤ length l.tokens;
-  moved : l.fn.at < l.at;
-  read : Grouped l.group (drop l.fn.at l.tokens) (drop l.at l.tokens) (map statement_of l.parts.items);
+  moved : l.fn.at ≤ l.at;
+  read : Ahead l.group (drop l.fn.at l.tokens) (drop l.at l.tokens) (map statement_of l.parts.items);
 }
 
 abbrev pub decreases-grouped-loop-alloc : goal.decreases-grouped-loop-alloc
