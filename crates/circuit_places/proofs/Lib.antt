@@ -44,7 +44,6 @@ pub mod TermOf
 pub mod OwnSteps
 pub mod Poised
 pub mod Held
-pub mod Letting
 pub mod Writing
 pub mod BitTable
 pub mod Blocks
