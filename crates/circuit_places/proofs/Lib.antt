@@ -3,7 +3,6 @@ pub mod HeadFacts
 pub mod CoreControl
 pub mod CoreMoves
 pub mod AgainMoves
-pub mod CorePromises
 pub mod Examples
 pub mod ChoiceExamples
 pub mod InternalExamples

@@ -23,7 +23,7 @@ use Rattle.width_check.specs.Processes.{Formula, Process, skipping, assigning, s
 use Rattle.chp_meaning.specs.Terms.{Term, Terms, and_branch, is_finished, all_finished, together, finished, active, in_sequence, in_parallel, followed, Place, here as at_here, in_first, in_branch, statement_at, branch_at}
 use Rattle.circuit_places.specs.Lines.{Line, of_channel, of_var, same_line, Rails, Seen}
 use Rattle.circuit_places.specs.Circuit.{Pairs, gate_count, SiteSpot, PortSpot, gate, Bits, cell_bit, joint_count, same_bit, GuardedSpot, Spot, TurnSpot, BranchSpot, child, latch, next, inner, of_skip, done, of_assign, of_send, of_receive, in_members, of_branch, joint, in_this, in_others, ask, in_body, in_last, in_member, in_later, one_rule_fires, GuardCells, low_guards, GuardSpot, ChoiceSpot, this_choice, other_choice, of_core, of_guard, of_choice, of_round, heads, guards_rule, guards_good}
-use Rattle.circuit_places.specs.Heads.{Index, top, under, alone, over}
+use Rattle.circuit_places.specs.Heads.{Index, top, under, bit_of, hot, all_neutral, alone, over}
 use Rattle.circuit_places.specs.Cores.{OwnSpot, RoundSpot, of_joined, of_ask, of_any, of_latch, of_start, of_answer, of_turn, of_leave}
 use Rattle.circuit_places.proofs.RailLemmas.{fst_true, snd_true, same_value, both_true, never_and, empty_low}
 use Rattle.circuit_places.proofs.Places.{Mode, idle, running, answered, returning, asks, acks, SiteMay, all_ask, all_ack, ends, SideMay, GuardedAt, At, TurnAt, BranchesAt, g_rests, g_in, g_past, g_back, rests, at_skip, at_assign, at_send, at_receive, at_turn, at_side, at_body, no_more, and_at, turn_rests, at_last, at_member, at_later, Shown, both_shown, guarded_shown, shown, turn_shown, branches_shown, site_shown, site_moves, SiteFits, port_may, port_shown, port_moves, GuardedFits, Fits, TurnFits, BranchesFit, guarded_moves, moves, turn_moves, branch_moves, at_choice, at_turning, at_closing, control_at, inside_at, ChosenAt, this_one, another, chosen_index, chosen_shown, ChosenFits, chosen_moves, guards_shown}
@@ -36,12 +36,10 @@ use Rattle.circuit_places.proofs.Talks.{Beside, beside, or_false_left, guarded_s
 use Rattle.circuit_places.proofs.Trees.{waits_on, joint_moves}
 use Rattle.circuit_places.proofs.LineNames.{self_line}
 use Rattle.circuit_places.proofs.HeadFacts.{bit_hot}
-use Rattle.circuit_places.proofs.CoreControl.{Control, uncalled, called, evaluating, latched, leaving, Way, works, worked, reported, letting, backs, told_all, lets_turn, lets_leave, lets_any, lets_answer, control_ask, control_guards, control_moves, control_steps, turning_moves, turning_steps, way_moves, way_turning}
-use Rattle.circuit_places.proofs.CoreMoves.{CoreSpot, own, guard, branch, in_control, core_moves}
-use Rattle.circuit_places.proofs.CorePromises.{CoreRest, core_settled, stuck, core_rest}
-use Rattle.circuit_places.proofs.GuardWaves.{guards_of, guards_arrive}
+use Rattle.circuit_places.proofs.CoreControl.{Control, noted, spread, freed, uncalled, called, evaluating, latched, leaving, Way, works, worked, reported, letting, backs, told_all, lets_turn, lets_leave, lets_any, lets_answer, control_ask, control_guards, control_moves, control_steps, turning_moves, turning_steps, way_moves, way_turning}
+use Rattle.circuit_places.proofs.GuardWaves.{guards_arrive}
 use Rattle.circuit_places.proofs.Opens.{open_stuck, open_some}
-use Rattle.circuit_places.proofs.ChoiceMoves.{choice_branches, agreed}
+use Rattle.circuit_places.proofs.ChoiceMoves.{agreed}
 use Rattle.circuit_places.proofs.Rest.{Full, Listening, Releasing, Valid, flip, then_going, site_full, port_waits, port_holds, this_full, others_full, Undecided, undecided_wider, this_releasing, others_releasing, guarded_over, not_finished, never}
 use Rattle.circuit_places.proofs.Stepping.{steps, guarded_steps, chosen_steps, branch_steps, turn_steps}
 use Rattle.circuit_places.proofs.StepPlaces.{place_of, guarded_place, choice_place, branch_index, branch_place, turn_place}
@@ -360,36 +358,6 @@ one_alone (suc n) m hs f = by (alone (f top) hs) refl (one_alone n m hs (λ j. f
         each top = e
         each (under j) = none j
 
--- a core of which nothing moves has settled, or no branch alone is open
-core_poise : (P : TypedProgram) {m : Mode} (env : Seen) (clean : Clean P env) → Valid P env → (again : Bool) (choices : Choices) → 1 ≤ choice_count choices
-    → GuardsMeet P choices → (c : Control again (choice_count choices) (GuardCells choices) (heads choices) m)
-    → guards_good choices env.bit (control_ask c) (control_guards (low_guards choices) c) ≡ true
-    → ((s : OwnSpot (choice_count choices)) → control_moves c s ≡ false)
-    → ((s : GuardSpot choices) → one_rule_fires (guards_rule choices env.bit (control_ask c) (control_guards (low_guards choices) c) s) ≡ false)
-    → (again ≡ true → (t : RoundSpot) → turning_moves c t ≡ false) → (R : Place → Type 0)
-    → Poise P m (control_left again choices c) env (guards_shown (control_ask c) choices) R
-core_poise P {m = m} env clean valid again choices some laws c f s q t R =
-    by_core c (core_rest (guards_of P env.bit clean.single choices laws) (choice_branches P env clean choices)
-    (guards_arrive P env.bit clean.single valid choices laws) (in_control c) f moved t)
-  where
-    moved : (p : CoreSpot (choice_count choices) (GuardSpot choices) (ChoiceSpot choices))
-        → core_moves (guards_of P env.bit clean.single choices laws) (choice_branches P env clean choices) (in_control c) p ≡ false
-    moved (own p) = s p
-    moved (guard p) = q p
-    moved (branch p) = refl
-
-    by_core : {m : Mode} (c : Control again (choice_count choices) (GuardCells choices) (heads choices) m)
-        → CoreRest again (guards_of P env.bit clean.single choices laws) (choice_branches P env clean choices) m (in_control c)
-        → Poise P m (control_left again choices c) env (guards_shown (control_ask c) choices) R
-    by_core _ (stuck g good full none on) =
-        poised refl (only P (choosing again choices) env (guards_shown true choices) R (inl (asks_on again choices (record {
-          one = λ store agree. open_stuck P env.bit clean.single store choices laws
-              (agreed P env clean choices laws (guards_shown true choices).read (λ x h. h) store agree) g good full none;
-          some = λ e store agree. open_some P env.bit clean.single store choices laws
-              (agreed P env clean choices laws (guards_shown true choices).read (λ x h. h) store agree) some g good full (on e);
-        }) refl)))
-    by_core c (core_settled e) = settled (sym e)
-
 -- a selection without a branch under way
 control_poise : (P : TypedProgram) {m : Mode} (env : Seen) (clean : Clean P env) → Valid P env → (again : Bool) (choices : Choices) → 1 ≤ choice_count choices
     → GuardsMeet P choices → (c : Control again (choice_count choices) (GuardCells choices) (heads choices) m)
@@ -402,10 +370,15 @@ control_poise : (P : TypedProgram) {m : Mode} (env : Seen) (clean : Clean P env)
     → Poise P m (control_left again choices c) env (guards_shown (control_ask c) choices) R
 control_poise P env clean valid again choices some laws uncalled f s q t R of_one of_end = settled refl
 control_poise P env clean valid again choices some laws called f s q t R of_one of_end = absurd (cc (s of_ask refl))
-control_poise P env clean valid again choices some laws (latched l i g h) f s q t R of_one of_end =
-    core_poise P env clean valid again choices some laws (latched l i g h) f (λ z. off _ (s z)) (λ z. off _ (q z)) (λ y z. off _ (t y z)) R
-control_poise P env clean valid again choices some laws (leaving y l g h) f s q t R of_one of_end =
-    core_poise P env clean valid again choices some laws (leaving y l g h) f (λ z. off _ (s z)) (λ z. off _ (q z)) (λ y z. off _ (t y z)) R
+control_poise P env clean valid again choices some laws (latched noted i g h) f s q t R of_one of_end = absurd (cc (s of_any refl))
+control_poise P env clean valid again choices some laws (latched spread i g h) f s q t R of_one of_end = absurd (cc (s of_ask refl))
+control_poise P env clean valid again choices some laws (latched freed i g h) f s q t R of_one of_end =
+    absurd (cc (s (of_start i) (both_true (bit_of i (hot i true)) (all_neutral (choice_count choices) (heads choices g)) (bit_hot i true)
+    ((guards_arrive P env.bit clean.single valid choices laws).down g f (λ z. off _ (q z))))))
+control_poise P env clean valid again choices some laws (leaving y noted g h) f s q t R of_one of_end = absurd (cc (s of_any refl))
+control_poise P env clean valid again choices some laws (leaving y spread g h) f s q t R of_one of_end = absurd (cc (s of_ask refl))
+control_poise P env clean valid again choices some laws (leaving y freed g h) f s q t R of_one of_end =
+    absurd (cc (t y of_answer ((guards_arrive P env.bit clean.single valid choices laws).down g f (λ z. off _ (q z)))))
 control_poise P env clean valid again choices some laws (evaluating g) f s q t R of_one of_end =
     by_latch (one_alone (choice_count choices) (choice_count choices) (heads choices g) (λ j. j))
   where
@@ -414,19 +387,14 @@ control_poise P env clean valid again choices some laws (evaluating g) f s q t R
 
     quiet : ((j : Index (choice_count choices)) → alone j (heads choices g) ≡ false) → (again ≡ true → over (choice_count choices) (heads choices g) ≡ false)
         → Poise P running (control_left again choices (evaluating g)) env (guards_shown true choices) R
-    quiet none on = core_poise P env clean valid again choices some laws (evaluating g) f latches (λ z. off _ (q z)) round R
-      where
-        latches : (z : OwnSpot (choice_count choices)) → control_moves {again = again} {heads = heads choices} (evaluating g) z ≡ false
-        latches (of_latch j) = none j
-        latches of_joined = refl
-        latches of_ask = refl
-        latches of_any = refl
-        latches (of_start j) = refl
-
-        round : again ≡ true → (z : RoundSpot) → turning_moves {again = again} {heads = heads choices} (evaluating g) z ≡ false
-        round y of_leave = on y
-        round y of_answer = refl
-        round y of_turn = refl
+    quiet none on =
+        let full = (guards_arrive P env.bit clean.single valid choices laws).up g f (λ z. off _ (q z)) in
+        poised refl (only P (choosing again choices) env (guards_shown true choices) R (inl (asks_on again choices (record {
+          one = λ store agree. open_stuck P env.bit clean.single store choices laws
+              (agreed P env clean choices laws (guards_shown true choices).read (λ x h. h) store agree) g f full none;
+          some = λ e store agree. open_some P env.bit clean.single store choices laws
+              (agreed P env clean choices laws (guards_shown true choices).read (λ x h. h) store agree) some g f full (on e);
+        }) refl)))
 
     by_end : ((j : Index (choice_count choices)) → alone j (heads choices g) ≡ false) → (b : Bool) → again ≡ b → (o : Bool)
         → over (choice_count choices) (heads choices g) ≡ o
