@@ -27,10 +27,10 @@ pub record Held (P : TypedProgram) (c : ℕ) (env : Seen) (x : Shown) : Type 0 w
   pub lets_go : x.listen c ≡ true → (v : ℕ) × Releasing P c v env x
 
 module _ (P : TypedProgram) (env : Seen) (c : ℕ) (high : env.ack (of_channel c) ≡ true) where
-  pub none_held : Held P c env none_shown
+  none_held : Held P c env none_shown
   none_held = record { gone = λ i one. refl; lets_go = λ h. absurd (cc h) }
 
-  pub both_held : {p : Process} {more : Processes} (x y : Shown) → Beside p more x y → Held P c env x → Held P c env y → Held P c env (both_shown x y)
+  both_held : {p : Process} {more : Processes} (x y : Shown) → Beside p more x y → Held P c env x → Held P c env y → Held P c env (both_shown x y)
   both_held x y s f g = record {
     gone = λ i one. or_false_left (x.offer (of_channel c) i one) (y.offer (of_channel c) i one) (f.gone i one) ∙ g.gone i one;
     lets_go = λ h. either (x.listen c) (y.listen c) h
@@ -38,7 +38,7 @@ module _ (P : TypedProgram) (env : Seen) (c : ℕ) (high : env.ack (of_channel c
         (λ z. let r = g.lets_go z in (r.0, others_releasing P env x y s c r.0 r.1));
   }
 
-  pub send_gone : (d : ℕ) (e : Formula) (m : Mode) (u : Pairs (gate_count e)) → SiteMay e m u → SiteFits (of_channel d) e m u env
+  send_gone : (d : ℕ) (e : Formula) (m : Mode) (u : Pairs (gate_count e)) → SiteMay e m u → SiteFits (of_channel d) e m u env
       → ((s : SiteSpot e) → site_moves env (of_channel d) e m u s ≡ false) → (m ≡ answered → ⊥) → (i : ℕ) (one : Bool)
       → (same_line (of_channel d) (of_channel c) && out_rail e u i one) ≡ false
   send_gone d e m u h f n ne i one = cases (d == c)
@@ -54,7 +54,7 @@ module _ (P : TypedProgram) (env : Seen) (c : ℕ) (high : env.ack (of_channel c
           let gone = h.known.rest_down env.bit u f.1 (λ j b. n (gate j b)) in
           ap (λ b. (d == c) && b) (empty_low e h.known u gone i one) ∙ never_and (d == c)
 
-  pub port_lets_go : (d x : ℕ) (m : Mode) (l : Bool) (q : Rails) → port_may m l ≡ true → PortMeets P d x
+  port_lets_go : (d x : ℕ) (m : Mode) (l : Bool) (q : Rails) → port_may m l ≡ true → PortMeets P d x
       → ((s : PortSpot) → port_moves env d x m l q s ≡ false) → (m ≡ answered → ⊥) → (d == c) ≡ true
       → (v : ℕ) × Releasing P c v env (port_shown d x l q)
   port_lets_go d x m l q h meets n ne z =
@@ -70,7 +70,7 @@ module _ (P : TypedProgram) (env : Seen) (c : ℕ) (high : env.ack (of_channel c
       by returning h n ne a = (x, port_holds P env d x l q meets n)
 
   -- a branch that has answered goes on
-  pub over : {m k : Mode} {n : ℕ} (w : Way m k) (i : Index n) → ((s : OwnSpot n) → way_moves w i s ≡ false) → (m ≡ answered → k ≡ answered → ⊥) → k ≡ answered
+  over : {m k : Mode} {n : ℕ} (w : Way m k) (i : Index n) → ((s : OwnSpot n) → way_moves w i s ≡ false) → (m ≡ answered → k ≡ answered → ⊥) → k ≡ answered
       → ⊥
   over works i n ne e = cc e
   over worked i n ne e = cc (n of_joined)
@@ -81,7 +81,7 @@ module _ (P : TypedProgram) (env : Seen) (c : ℕ) (high : env.ack (of_channel c
   over {k = running} (backs any h) i n ne e = cc e
   over {k = returning} (backs any h) i n ne e = cc e
 
-  pub turns_on : {m k : Mode} (w : Way m k) → m ≡ answered → k ≡ answered → ((t : RoundSpot) → way_turning w t ≡ false) → ⊥
+  turns_on : {m k : Mode} (w : Way m k) → m ≡ answered → k ≡ answered → ((t : RoundSpot) → way_turning w t ≡ false) → ⊥
   turns_on reported e z n = cc (n of_turn)
   turns_on works e z n = cc e
   turns_on worked e z n = cc e

@@ -40,7 +40,7 @@ use Rattle.circuit_places.proofs.CoreControl.{Control, noted, spread, freed, unc
 use Rattle.circuit_places.proofs.GuardWaves.{guards_arrive}
 use Rattle.circuit_places.proofs.Opens.{open_stuck, open_some}
 use Rattle.circuit_places.proofs.ChoiceMoves.{agreed}
-use Rattle.circuit_places.proofs.Rest.{Full, Listening, Releasing, Valid, flip, then_going, site_full, port_waits, port_holds, this_full, others_full, Undecided, undecided_wider, this_releasing, others_releasing, guarded_over, not_finished, never}
+use Rattle.circuit_places.proofs.Rest.{Full, Listening, Releasing, Valid, flip, then_going, site_full, port_waits, port_holds, this_full, others_full, Undecided, undecided_wider, this_releasing, others_releasing, guarded_over, not_finished}
 use Rattle.circuit_places.proofs.Stepping.{steps, guarded_steps, chosen_steps, branch_steps, turn_steps}
 use Rattle.circuit_places.proofs.StepPlaces.{place_of, guarded_place, choice_place, branch_index, branch_place, turn_place}
 
@@ -285,7 +285,7 @@ module _ {p : Process} {more : Processes} (P : TypedProgram) (env : Seen) (x y :
   both_poise k ks t ts a over (settled e) (all_ended h f) = all_ended (both_true (acks k) (all_ack ks) (e ∙ a) h)
       (ap (λ z. is_finished z && all_finished ts) (over e) ∙ f)
   both_poise k ks t ts a over (settled e) (some_poised w) = some_poised (record {
-    going = ap (λ b. is_finished t && b) w.going ∙ never (is_finished t);
+    going = ap (λ b. is_finished t && b) w.going ∙ never_and (is_finished t);
     each = here (over e);
   })
     where

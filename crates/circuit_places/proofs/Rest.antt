@@ -175,10 +175,6 @@ module _ {p : Process} {more : Processes} (P : TypedProgram) (env : Seen) (x y :
     has = λ h. r.has (sym (or_false_left (x.take c) (y.take c) (low_of (x.take c) (s.taken_mine c) (s.deaf_mine c (s.hears_theirs c r.hears)))) ∙ h);
   }
 
-pub never : (b : Bool) → (b && false) ≡ false
-never true = refl
-never false = refl
-
 pub not_finished : (t : Term) → t ≢ finished → is_finished t ≡ false
 not_finished finished ne = absurd (ne refl)
 not_finished (active p) ne = refl
