@@ -311,7 +311,7 @@ module _ (P : TypedProgram) (script : List OfferValue) {m : Mode} {g : GuardedAt
               (λ (e : (c == k) ≡ true). absurd (cc (took c e, t)))
               (λ (e : (c == k) ≡ false). good.neutral c u (sym (far_ack c e) ∙ h) t);
           sited = λ c h u. cases (c == k)
-              (λ (e : (c == k) ≡ true). same_takers P.body (low_cells P.body) (guarded_cells g).inner c
+              (λ (e : (c == k) ≡ true). sym (same_takers g c)
               ∙ any_not_nil (takers P.body (guarded_cells g).inner c) (guarded_taken g c ∙ took c e))
               (λ (e : (c == k) ≡ false). good.heard_sited c (sym (far_ack c e) ∙ h) u);
         }

@@ -19,7 +19,7 @@ use Rattle.cell_parallel.specs.Trees.{tree_top}
 use Rattle.std.specs.List.{range_with_len}
 use Rattle.std.proofs.lemmas.Bool.{cases_lt}
 use Rattle.circuit_places.specs.Lines.{Line, of_channel, of_var, line_width}
-use Rattle.circuit_places.specs.Circuit.{low, joint_count, tree_answer, same_bit, QElementCells, Cells, turns, one_rule_fires, no_rule, is_apart, guarded_rule, site_rails, takers}
+use Rattle.circuit_places.specs.Circuit.{joint_count, tree_answer, same_bit, QElementCells, Cells, turns, one_rule_fires, no_rule, is_apart, guarded_rule, site_rails, takers}
 use Rattle.circuit_places.specs.Whole.{wires_seen, line_ack, is_sent, is_heard, is_merged, merged, brings, drives, offers, bit_rule, wrote_rule, number_rail, first_bits, Whole, Node, go_node, own_node, rail_node, ack_node, bit_node, wrote_node, joint_node, is_node, rule_in, answers, enabled, wires_after, go_after, root_after, cells_moved, first_cells, Reaches, at_first, by_move}
 use Rattle.chp_meaning.specs.Halves.{IsSized, IsSizedVar, IsPlain}
 use Rattle.chp_meaning.specs.Steps.{Configuration, start_of}
@@ -30,7 +30,7 @@ use Rattle.circuit_places.proofs.Meets.{ExpressionsHold, Meets, Clash, meets, re
 use Rattle.circuit_places.proofs.Trees.{TreesSettle, tree_over, all_low_value, settling_low, joint_apart, joint_absent}
 use Rattle.circuit_places.proofs.BitTable.{valid, legal_at_first}
 use Rattle.circuit_places.proofs.Blocks.{Block, now_at, bit_apart, wrote_apart}
-use Rattle.circuit_places.proofs.Sites.{any, merged_can, merged_apart, same_sites, guarded_offered, same_takers, guarded_taken}
+use Rattle.circuit_places.proofs.Sites.{any, is_nil, merged_can, merged_apart, same_sites, guarded_offered, same_takers, guarded_taken}
 use Rattle.circuit_places.proofs.Talks.{either, guarded_takes_listens, guarded_listens_receives}
 use Rattle.circuit_places.proofs.Arriving.{Arriving, arriving, none_arrives}
 use Rattle.circuit_places.proofs.System.{node_steps, Good, clean_of, can, driven, sent_turns, heard_turns, root_left, Fitted, takes_of, may_low, may_high}
@@ -172,7 +172,8 @@ module _ (P : TypedProgram) (script : List OfferValue) {from : Configuration} {m
           (x.wires.rail k i one)) ≡ (b && turns (x.wires.rail k i one) ((guarded_shown r.place).offer k i one) (not ((guarded_shown r.place).offer k i one)))
       here true u =
           merged_can (x.wires.rail k i one) (site_rails P.body x.root.inner k i one)
-          (λ e. same_sites P.body x.root.inner (low P.body) k i one ∙ r.good.sited k i one u e)
+          (λ e. ap (λ (g : QElementCells (Cells P.body)). is_nil (site_rails P.body g.inner k i one)) r.same
+          ∙ (same_sites r.place k i one ∙ r.good.sited k i one u e))
           ∙ ap (λ b. turns (x.wires.rail k i one) b (not b)) (ap (λ (g : QElementCells (Cells P.body)). any (site_rails P.body g.inner k i one)) r.same
           ∙ guarded_offered r.place k i one)
       here false u = no_fire (x.wires.rail k i one)
@@ -183,7 +184,8 @@ module _ (P : TypedProgram) (script : List OfferValue) {from : Configuration} {m
       here : (b : Bool) → is_heard (kind_at P.channels k) ≡ b → one_rule_fires (if b then merged (x.wires.ack k) (takers P.body x.root.inner k) else no_rule
           (x.wires.ack k)) ≡ (b && turns (x.wires.ack k) ((guarded_shown r.place).take k) (not ((guarded_shown r.place).take k)))
       here true u =
-          merged_can (x.wires.ack k) (takers P.body x.root.inner k) (λ e. same_takers P.body x.root.inner (low P.body) k ∙ r.good.heard_sited k e u)
+          merged_can (x.wires.ack k) (takers P.body x.root.inner k)
+          (λ e. ap (λ (g : QElementCells (Cells P.body)). is_nil (takers P.body g.inner k)) r.same ∙ (same_takers r.place k ∙ r.good.heard_sited k e u))
           ∙ ap (λ b. turns (x.wires.ack k) b (not b)) (ap (λ (g : QElementCells (Cells P.body)). any (takers P.body g.inner k)) r.same
           ∙ guarded_taken r.place k)
       here false u = no_fire (x.wires.ack k)

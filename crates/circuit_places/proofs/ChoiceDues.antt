@@ -9,7 +9,7 @@ use Rattle.width_check.specs.Processes.{choosing, Choices, no_choices, and_choic
 use Rattle.circuit_places.specs.Lines.{Seen}
 use Rattle.circuit_places.specs.Heads.{Index, top, under, Bits, low_bits, bit_of, some_bit, turned_bit, hot, nothing_true, over}
 use Rattle.circuit_places.specs.Cores.{Core, OwnSpot, of_joined, of_ask, of_any, of_latch, of_start, RoundSpot, of_answer, of_turn, of_leave, turned_own}
-use Rattle.circuit_places.specs.Circuit.{ChoiceCells, GuardCells, low, low_guards, low_choices, heads, guards_rule, guards_good, turned_guards, one_rule_fires, GuardSpot, ask, of_core, of_guard, of_round, ChoiceSpot, flipped, turned_choice}
+use Rattle.circuit_places.specs.Circuit.{ChoiceCells, GuardCells, low, low_guards, low_choices, heads, guards_rule, guards_good, turned_guards, one_rule_fires, GuardSpot, of_core, of_guard, of_round, ChoiceSpot, flipped, turned_choice}
 use Rattle.circuit_places.proofs.HeadFacts.{some_none, some_hot, hot_is, hot_turned, hot_up, alone_valid, over_false, false_valid}
 use Rattle.circuit_places.proofs.CoreControl.{Mode, Lock, control_leave, closing_own, closing_moves, idle, running, answered, returning, asks, acks, noted, spread, freed, lock_ask, lock_any, lock_may, lock_alone, Control, uncalled, called, evaluating, latched, leaving, control_guards, control_ask, Way, works, worked, reported, letting, backs, way_latch, way_any, Closing, told_all, lets_turn, lets_leave, lets_any, lets_answer}
 use Rattle.circuit_places.proofs.GuardWaves.{all_full}

@@ -7,7 +7,7 @@ use Rattle.std.specs.Prelude.{not}
 use Rattle.prs_core.specs.Turning.{turned_here, turned_apart}
 use Rattle.width_check.specs.Processes.{Process, repeating, Processes, and_member, member_count, Choices, TypedProgram}
 use Rattle.circuit_places.specs.Lines.{of_channel, of_var, Seen}
-use Rattle.circuit_places.specs.Heads.{top, Bits, hot}
+use Rattle.circuit_places.specs.Heads.{Bits, hot}
 use Rattle.circuit_places.specs.Circuit.{TurnCells, low_turn, joint_count, cell_bit, turned_bits, GuardedSpot, child, latch, next, inner, Spot, of_skip, of_assign, of_send, of_receive, in_members, of_branch, joint, of_loop, ask, in_body, of_core, of_guard, of_choice, of_round, TurnSpot, in_last, in_member, in_later, BranchSpot, in_this, in_others, ChoiceSpot, this_choice, other_choice, flipped, turned_guarded, turned_turn, turned_branches, turned_choice}
 use Rattle.circuit_places.proofs.RailLemmas.{fst_true, snd_true, same_value}
 use Rattle.circuit_places.proofs.CoreControl.{Mode, idle, running, answered, returning, asks, acks}

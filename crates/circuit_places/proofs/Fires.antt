@@ -18,6 +18,7 @@ use Rattle.circuit_places.proofs.Left.{waits, inner_left, again, guarded_left, l
 use Rattle.circuit_places.proofs.Exchange.{One, Fired, FiredInside, fired_then, fired_together, none_fired, fired_both, fired_map, fired_map_inside}
 use Rattle.circuit_places.proofs.Hears.{heard_on, Hearing, none_heard, heard_both, one_hears, this_hears, others_hear, port_hears}
 use Rattle.circuit_places.proofs.Writing.{OneTurned, guarded_writing_deaf, branches_writing_deaf}
+use Rattle.circuit_places.proofs.Everywhere.{View, GoesUp, guarded_everywhere}
 use Rattle.circuit_places.proofs.Talks.{guarded_says_talks, branches_say_talk, either, Beside, beside, or_false_left, or_false_right}
 use Rattle.circuit_places.proofs.Flow.{Clean, low_of, cases}
 use Rattle.circuit_places.proofs.LineNames.{self_number, same_line_is}
@@ -402,47 +403,37 @@ both_site P c x y s e f g = either (x.talk c) (y.talk c) e
       below = λ i one p. o.below i one (sym (theirs i one) ∙ p);
     })
 
-mutual
-  pub guarded_site : (P : TypedProgram) (env : Seen) → Clean P env → {p : Process} {m : Mode} (g : GuardedAt p m) → Meets P p → GuardedFits g env → (c : Line)
-      → (guarded_shown g).talk c ≡ true → OneSite P c (guarded_shown g)
-  guarded_site P env clean (g_in u a h) meets f c e = site P env clean a meets f c e
-  guarded_site P env clean g_rests meets f c e = absurd (cc e)
-  guarded_site P env clean g_past meets f c e = absurd (cc e)
-  guarded_site P env clean (g_back u) meets f c e = absurd (cc e)
+module _ (P : TypedProgram) (env : Seen) (clean : Clean P env) where
+  abbrev HasSites : Type 0 → View → Type 0
+  HasSites M v = M → v.fits env → (c : Line) → v.shown.talk c ≡ true → OneSite P c v.shown
 
-  pub site : (P : TypedProgram) (env : Seen) → Clean P env → {p : Process} {m : Mode} (a : At p m) → Meets P p → Fits a env → (c : Line)
-      → (shown a).talk c ≡ true → OneSite P c (shown a)
-  site P env clean (at_assign {x = x} {e = d} m u h) meets f c e = site_site P env (of_var x) d m u h meets f c e
-  site P env clean (at_send {c = k} {e = d} m u h) meets f c e = site_site P env (of_channel k) d m u h meets f c e
-  site P env clean (at_receive {c = d} {x = x} m l q h) meets f c e = port_site P env clean d x m l q meets f c e
-  site P env clean (at_side m t b h) meets f c e = branches_site P env clean b meets.2 f c e
-  site P env clean (at_turn t) meets f c e = turn_site P env clean t meets f c e
-  site P env clean (at_body a) meets f c e = site P env clean a meets f c e
-  site P env clean rests meets f c e = absurd (cc e)
-  site P env clean (at_skip m h) meets f c e = absurd (cc e)
-  site P env clean (at_choice x) meets f c e = choice_site P env clean x meets.2 f c e
-  site P env clean (at_turning x) meets f c e = choice_site P env clean x meets.2 f c e
-  site P env clean (at_closing z) meets f c e = absurd (cc e)
+  sites : GoesUp (λ p r x. HasSites (Meets P p)) (λ ms r x. HasSites (TurnMeets P ms)) (λ ms x. HasSites (EachMeets P ms))
+      (λ cs s y. HasSites (ChoiceMeets P cs)) (λ cs s y. HasSites (ChoiceMeets P cs))
+  sites = record {
+    silent = λ p F meets f c e. absurd (cc e);
+    skip = λ r a F meets f c e. absurd (cc e);
+    assign = λ x at d m u h. site_site P env (of_var x) d m u h;
+    send = λ k at d m u h. site_site P env (of_channel k) d m u h;
+    receive = λ d x at to m l q h. port_site P env clean d x m l q;
+    turn = λ ms r z v h. h;
+    turn_silent = λ ms F meets f c e. absurd (cc e);
+    last = λ p r z v h. h;
+    first = λ p q more r z v n h meets. h meets.0;
+    later = λ p q more r z y v low h meets. h meets.1;
+    side = λ ms r z t v h meets. h meets.2;
+    none = λ F meets f c e. absurd (cc e);
+    beside = λ {p} {more} {k} {ks} g b one others meets f c e. both_site P c (guarded_shown g) (branches_shown b) (beside meets.1 g b) e
+        (one meets.0 f.0 c) (others meets.2 f.1 c);
+    body = λ p r b z v h. h;
+    choice = λ cs r z v h meets. h meets.2;
+    turning = λ cs r z v h meets. h meets.2;
+    guards = λ cs asked F meets f c e. absurd (cc e);
+    inside = λ cs s y v h. h;
+    this = λ g p more r z v h meets. h meets.0;
+    others = λ g p more s y v h meets. h meets.1;
+  }
 
-  choice_site : (P : TypedProgram) (env : Seen) → Clean P env → {again : Bool} {choices : Choices} {m : Mode} (x : ChoiceAt again choices m)
-      → ChoiceMeets P choices → ChoiceFits x env → (c : Line) → (choice_shown x).talk c ≡ true → OneSite P c (choice_shown x)
-  choice_site P env clean (control_at z) meets f c e = absurd (cc e)
-  choice_site P env clean (inside_at a w) meets f c e = chosen_site P env clean a meets f c e
-
-  chosen_site : (P : TypedProgram) (env : Seen) → Clean P env → {choices : Choices} {k : Mode} (a : ChosenAt choices k) → ChoiceMeets P choices
-      → ChosenFits a env → (c : Line) → (chosen_shown a).talk c ≡ true → OneSite P c (chosen_shown a)
-  chosen_site P env clean (this_one a) meets f c e = site P env clean a meets.0 f c e
-  chosen_site P env clean (another a) meets f c e = chosen_site P env clean a meets.1 f c e
-
-  branches_site : (P : TypedProgram) (env : Seen) → Clean P env → {members : Processes} {ks : List Mode} (b : BranchesAt members ks) → EachMeets P members
-      → BranchesFit b env → (c : Line) → (branches_shown b).talk c ≡ true → OneSite P c (branches_shown b)
-  branches_site P env clean no_more meets f c e = absurd (cc e)
-  branches_site P env clean (and_at g b) meets f c e = both_site P c (guarded_shown g) (branches_shown b) (beside meets.1 g b) e
-      (λ z. guarded_site P env clean g meets.0 f.0 c z) (λ z. branches_site P env clean b meets.2 f.1 c z)
-
-  pub turn_site : (P : TypedProgram) (env : Seen) → Clean P env → {members : Processes} {m : Mode} (t : TurnAt members m) → TurnMeets P members → TurnFits t env
-      → (c : Line) → (turn_shown t).talk c ≡ true → OneSite P c (turn_shown t)
-  turn_site P env clean (at_last a) meets f c e = site P env clean a meets f c e
-  turn_site P env clean (at_member g) meets f c e = guarded_site P env clean g meets.0 f c e
-  turn_site P env clean (at_later g t h) meets f c e = turn_site P env clean t meets.1 f c e
-  turn_site P env clean turn_rests meets f c e = absurd (cc e)
+  pub guarded_site : {p : Process} {m : Mode} (g : GuardedAt p m) → Meets P p → GuardedFits g env → (c : Line) → (guarded_shown g).talk c ≡ true
+      → OneSite P c (guarded_shown g)
+  guarded_site g = guarded_everywhere (λ p r x. HasSites (Meets P p)) (λ ms r x. HasSites (TurnMeets P ms)) (λ ms x. HasSites (EachMeets P ms))
+      (λ cs s y. HasSites (ChoiceMeets P cs)) (λ cs s y. HasSites (ChoiceMeets P cs)) sites g

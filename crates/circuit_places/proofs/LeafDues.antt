@@ -13,7 +13,7 @@ use Rattle.circuit_places.specs.Lines.{Line, of_channel, of_var, Rails, Seen}
 use Rattle.circuit_places.specs.Circuit.{GuardCells, gate_count, gate_rule, guards_rule, guards_good, turned_guards, one_rule_fires, SiteSpot, done, gate, turned_site, PortSpot, heard, stored, taking, rails_turned, turned_port, GuardSpot, this_gate, other_gate}
 use Rattle.circuit_places.proofs.RailLemmas.{fst_true, snd_true, gate_there}
 use Rattle.circuit_places.proofs.CoreControl.{Mode, idle, running, answered, returning, asks, acks}
-use Rattle.circuit_places.proofs.Places.{SiteMay, site_of, port_of, port_may, site_moves, port_moves, SiteFits, PortFits, ends}
+use Rattle.circuit_places.proofs.Places.{SiteMay, site_of, port_of, port_may, site_moves, port_moves, SiteFits, PortFits}
 use Rattle.circuit_places.proofs.Meets.{PortMeets, GuardsMeet}
 use Rattle.circuit_places.proofs.Flow.{Clean, cases, not_both}
 use Rattle.circuit_places.proofs.Begin.{site_answered_moves, port_answered_moves}

@@ -3,7 +3,6 @@ pub mod HeadFacts
 pub mod CoreControl
 pub mod CoreMoves
 pub mod AgainMoves
-pub mod CorePromises
 pub mod Examples
 pub mod ChoiceExamples
 pub mod InternalExamples
@@ -44,7 +43,6 @@ pub mod TermOf
 pub mod OwnSteps
 pub mod Poised
 pub mod Held
-pub mod Letting
 pub mod Writing
 pub mod BitTable
 pub mod Blocks

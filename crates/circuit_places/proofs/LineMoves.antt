@@ -401,7 +401,7 @@ module _ (P : TypedProgram) (script : List OfferValue) {m : Mode} {g : GuardedAt
         sited c j b u z (this e f s t) =
             ap (λ x. is_nil (site_rails P.body (low P.body) x j b)) e ∙ (ap (λ x. is_nil (site_rails P.body (low P.body) k x b)) f
             ∙ (ap (λ x. is_nil (site_rails P.body (low P.body) k i x)) s
-            ∙ (same_sites P.body (low P.body) (guarded_cells g).inner k i side
+            ∙ (sym (same_sites g k i side)
             ∙ any_not_nil (site_rails P.body (guarded_cells g).inner k i side) (guarded_offered g k i side ∙ o))))
 
         no_ack : (c : ℕ) → w.ack c ≡ false → is_merged P (of_channel c) ≡ true → (guarded_shown g).offer (of_channel c) i side ≡ true

@@ -1,5 +1,5 @@
 -- Where a member of a sequence is, and what stands behind it: four ways of 64.
-use Rattle.std.proofs.Common.{◌≡◌, Bool, true, false, refl}
+use Rattle.std.proofs.Common.{◌≡◌, true, false, refl}
 use Rattle.circuit_places.specs.Lines.{Seen}
 use Rattle.circuit_places.specs.Circuit.{GuardedSpot, latch, next}
 use Rattle.circuit_places.proofs.Places.{Mode, idle, running, answered, returning, link, GuardedAt, g_back, guarded_moves}
@@ -30,6 +30,3 @@ later_by env member_rests g ne still behind = behind (λ e. cc e)
 -- one value isn't both, said without what else is known where it is asked
 pub never_true : false ≡ true → ⊥
 never_true e = cc e
-
-pub never_both : (b : Bool) → b ≡ false → b ≡ true → ⊥
-never_both b low high = cc (low, high)

@@ -21,11 +21,11 @@ use Rattle.std.specs.Prelude.{◌⊎◌, not, ◌&&◌, ◌||◌, if◌then◌el
 use Rattle.chp_base.specs.declared.span.Span.{Span}
 use Rattle.width_check.specs.Processes.{Formula, Process, skipping, assigning, sending, receiving, Processes, and_member, member_count, TypedProgram, choosing, Choices, choice_count, no_members, repeating}
 use Rattle.chp_meaning.specs.Terms.{Term, Terms, and_branch, is_finished, all_finished, together, finished, active, in_sequence, in_parallel, followed, Place, here as at_here, in_first, in_branch, statement_at, branch_at}
-use Rattle.circuit_places.specs.Lines.{Line, of_channel, of_var, Rails, Seen}
-use Rattle.circuit_places.specs.Circuit.{Pairs, gate_count, SiteSpot, PortSpot, Bits, cell_bit, joint_count, same_bit, GuardedSpot, Spot, TurnSpot, BranchSpot, child, latch, next, inner, of_skip, done, of_assign, of_send, of_receive, in_members, of_branch, joint, in_this, in_others, ask, in_body, in_last, in_member, in_later, one_rule_fires, GuardCells, low_guards, GuardSpot, ChoiceSpot, this_choice, other_choice, of_core, of_guard, of_choice, of_round, heads, guards_rule, guards_good}
-use Rattle.circuit_places.specs.Heads.{Index, top, under, alone, over}
+use Rattle.circuit_places.specs.Lines.{Line, of_channel, of_var, same_line, Rails, Seen}
+use Rattle.circuit_places.specs.Circuit.{Pairs, gate_count, SiteSpot, PortSpot, gate, Bits, cell_bit, joint_count, same_bit, GuardedSpot, Spot, TurnSpot, BranchSpot, child, latch, next, inner, of_skip, done, of_assign, of_send, of_receive, in_members, of_branch, joint, in_this, in_others, ask, in_body, in_last, in_member, in_later, one_rule_fires, GuardCells, low_guards, GuardSpot, ChoiceSpot, this_choice, other_choice, of_core, of_guard, of_choice, of_round, heads, guards_rule, guards_good}
+use Rattle.circuit_places.specs.Heads.{Index, top, under, bit_of, hot, all_neutral, alone, over}
 use Rattle.circuit_places.specs.Cores.{OwnSpot, RoundSpot, of_joined, of_ask, of_any, of_latch, of_start, of_answer, of_turn, of_leave}
-use Rattle.circuit_places.proofs.RailLemmas.{fst_true, snd_true, same_value, both_true}
+use Rattle.circuit_places.proofs.RailLemmas.{fst_true, snd_true, same_value, both_true, never_and, empty_low}
 use Rattle.circuit_places.proofs.Places.{Mode, idle, running, answered, returning, asks, acks, SiteMay, all_ask, all_ack, ends, SideMay, GuardedAt, At, TurnAt, BranchesAt, g_rests, g_in, g_past, g_back, rests, at_skip, at_assign, at_send, at_receive, at_turn, at_side, at_body, no_more, and_at, turn_rests, at_last, at_member, at_later, Shown, both_shown, guarded_shown, shown, turn_shown, branches_shown, site_shown, site_moves, SiteFits, port_may, port_shown, port_moves, GuardedFits, Fits, TurnFits, BranchesFit, guarded_moves, moves, turn_moves, branch_moves, at_choice, at_turning, at_closing, control_at, inside_at, ChosenAt, this_one, another, chosen_index, chosen_shown, ChosenFits, chosen_moves, guards_shown}
 use Rattle.circuit_places.proofs.Links.{LinkWay, member_over, whole_over, member_falls, member_rests, link_way, never_true}
 use Rattle.circuit_places.proofs.Meets.{SiteMeets, PortMeets, Meets, TurnMeets, EachMeets, GuardsMeet, ChoiceMeets}
@@ -34,10 +34,13 @@ use Rattle.circuit_places.proofs.Flow.{or_left, or_right, low_of, Clean}
 use Rattle.circuit_places.proofs.Begin.{ends_high}
 use Rattle.circuit_places.proofs.Talks.{Beside, beside, or_false_left, guarded_says_talks, branches_say_talk}
 use Rattle.circuit_places.proofs.Trees.{waits_on, joint_moves}
-use Rattle.circuit_places.proofs.LineNames.{same_line_is}
+use Rattle.circuit_places.proofs.LineNames.{self_line}
 use Rattle.circuit_places.proofs.HeadFacts.{bit_hot}
-use Rattle.circuit_places.proofs.CoreControl.{Control, uncalled, called, evaluating, latched, leaving, Way, works, worked, reported, letting, backs, told_all, lets_turn, lets_leave, lets_any, lets_answer, control_ask, control_guards, control_moves, control_steps, turning_moves, turning_steps, way_moves, way_turning}
-use Rattle.circuit_places.proofs.Rest.{Full, Listening, Releasing, Blocked, a_send, a_receive, a_choice, Valid, Hanging, let_go, unstored, holding, Rest, settled as at_rest, waiting, hanging, then_going, site_full, site_hangs, port_waits, port_holds, this_full, others_full, Undecided, undecided_wider, this_releasing, others_releasing, control_rest, guarded_over, not_finished, never}
+use Rattle.circuit_places.proofs.CoreControl.{Control, noted, spread, freed, uncalled, called, evaluating, latched, leaving, Way, works, worked, reported, letting, backs, told_all, lets_turn, lets_leave, lets_any, lets_answer, control_ask, control_guards, control_moves, control_steps, turning_moves, turning_steps, way_moves, way_turning}
+use Rattle.circuit_places.proofs.GuardWaves.{guards_arrive}
+use Rattle.circuit_places.proofs.Opens.{open_stuck, open_some}
+use Rattle.circuit_places.proofs.ChoiceMoves.{agreed}
+use Rattle.circuit_places.proofs.Rest.{Full, Listening, Releasing, Valid, flip, then_going, site_full, port_waits, port_holds, this_full, others_full, Undecided, undecided_wider, this_releasing, others_releasing, guarded_over, not_finished}
 use Rattle.circuit_places.proofs.Stepping.{steps, guarded_steps, chosen_steps, branch_steps, turn_steps}
 use Rattle.circuit_places.proofs.StepPlaces.{place_of, guarded_place, choice_place, branch_index, branch_place, turn_place}
 
@@ -166,24 +169,11 @@ leaf_poised P s env x R over low w =
     poised refl (subst (λ (t : Term). Poised P t env x R) (sym (ap (λ b. waits running b (active s)) low)) (only P s env x R (inl w)))
 
 -- a site that returns hangs by its line
-site_lags : (P : TypedProgram) (env : Seen) (valid : Valid P env) (k : Line) (e : Formula) (u : Pairs (gate_count e)) → SiteMay e returning u
-    → SiteFits k e returning u env → ((s : SiteSpot e) → site_moves env k e returning u s ≡ false) → Lagging P env (site_shown k e u)
-site_lags P env valid k e u h f n = by (site_hangs P env valid k e u h f n)
-  where
-    flip : (b : Bool) → not b ≡ false → b ≡ true
-    flip true e = refl
-    flip false e = absurd (cc e)
-
-    high : env.ack k ≡ true
-    high = flip (env.ack k) (n done)
-
-    by : Hanging P env (site_shown k e u) → Lagging P env (site_shown k e u)
-    by (let_go j up talks none) = still_up j up talks none
-    by (unstored v w) = absurd (cc (high, w.low, same_site (of_var v) w.talks))
-      where
-        same_site : (j : Line) → (site_shown k e u).talk j ≡ true → k ≡ j
-        same_site j t = same_line_is k j t
-    by (holding c v r) = absurd (cc r.hears)
+site_lags : (P : TypedProgram) (env : Seen) (k : Line) (e : Formula) (u : Pairs (gate_count e)) → SiteMay e returning u → SiteFits k e returning u env
+    → ((s : SiteSpot e) → site_moves env k e returning u s ≡ false) → Lagging P env (site_shown k e u)
+site_lags P env k e u h f n =
+    let gone = h.known.rest_down env.bit u f.1 (λ i one. n (gate i one)) in
+    still_up k (flip (env.ack k) (n done)) (self_line k) (λ i one. ap (λ b. same_line k k && b) (empty_low e h.known u gone i one) ∙ never_and (same_line k k))
 
 assign_poise : (P : TypedProgram) (env : Seen) → Valid P env → (x : ℕ) (at : Span) (e : Formula) (m : Mode) (u : Pairs (gate_count e)) → SiteMay e m u
     → SiteMeets P (of_var x) e → SiteFits (of_var x) e m u env → ((s : SiteSpot e) → site_moves env (of_var x) e m u s ≡ true → false ≡ true)
@@ -193,7 +183,7 @@ assign_poise P env valid x at e answered u h meets f n R = settled refl
 assign_poise P env valid x at e running u h meets f n R =
     let full = site_full P env valid (of_var x) e u h meets f (λ s. off _ (n s)) in
     leaf_poised P (assigning x at e) env (site_shown (of_var x) e u) R (env.ack (of_var x)) full.low (stores x at e full refl)
-assign_poise P env valid x at e returning u h meets f n R = lagging (site_lags P env valid (of_var x) e u h f (λ s. off _ (n s)))
+assign_poise P env valid x at e returning u h meets f n R = lagging (site_lags P env (of_var x) e u h f (λ s. off _ (n s)))
 
 send_poise : (P : TypedProgram) (env : Seen) → Valid P env → (c : ℕ) (at : Span) (e : Formula) (m : Mode) (u : Pairs (gate_count e)) → SiteMay e m u
     → SiteMeets P (of_channel c) e → SiteFits (of_channel c) e m u env → ((s : SiteSpot e) → site_moves env (of_channel c) e m u s ≡ true → false ≡ true)
@@ -203,7 +193,7 @@ send_poise P env valid c at e answered u h meets f n R = settled refl
 send_poise P env valid c at e running u h meets f n R =
     let full = site_full P env valid (of_channel c) e u h meets f (λ s. off _ (n s)) in
     leaf_poised P (sending c at e) env (site_shown (of_channel c) e u) R (env.ack (of_channel c)) full.low (sends c at e full refl)
-send_poise P env valid c at e returning u h meets f n R = lagging (site_lags P env valid (of_channel c) e u h f (λ s. off _ (n s)))
+send_poise P env valid c at e returning u h meets f n R = lagging (site_lags P env (of_channel c) e u h f (λ s. off _ (n s)))
 
 receive_poise : (P : TypedProgram) (env : Seen) (c x : ℕ) (at to : Span) (m : Mode) (l : Bool) (q : Rails) → port_may m l ≡ true → PortMeets P c x
     → ((s : PortSpot) → port_moves env c x m l q s ≡ true → false ≡ true)
@@ -295,7 +285,7 @@ module _ {p : Process} {more : Processes} (P : TypedProgram) (env : Seen) (x y :
   both_poise k ks t ts a over (settled e) (all_ended h f) = all_ended (both_true (acks k) (all_ack ks) (e ∙ a) h)
       (ap (λ z. is_finished z && all_finished ts) (over e) ∙ f)
   both_poise k ks t ts a over (settled e) (some_poised w) = some_poised (record {
-    going = ap (λ b. is_finished t && b) w.going ∙ never (is_finished t);
+    going = ap (λ b. is_finished t && b) w.going ∙ never_and (is_finished t);
     each = here (over e);
   })
     where
@@ -368,21 +358,6 @@ one_alone (suc n) m hs f = by (alone (f top) hs) refl (one_alone n m hs (λ j. f
         each top = e
         each (under j) = none j
 
-by_rest : (P : TypedProgram) {m : Mode} (env : Seen) (again : Bool) (choices : Choices)
-    (c : Control again (choice_count choices) (GuardCells choices) (heads choices) m) (R : Place → Type 0)
-    → Rest P m (control_left again choices c) env (guards_shown (control_ask c) choices)
-    → Poise P m (control_left again choices c) env (guards_shown (control_ask c) choices) R
-by_rest P env again choices c R (at_rest e) = settled e
-by_rest P env again choices c R (waiting e w) = poised e (record { going = w.going; each = λ at s z. inl (waits_too (w.blocked at s z)) })
-  where
-    waits_too : {s : Process} → Blocked P s env (guards_shown (control_ask c) choices) → Awaits P s env (guards_shown (control_ask c) choices)
-    waits_too (a_send k at e f is) = absurd (cc f.talks)
-    waits_too (a_receive k v at to l is) = absurd (cc l.talks)
-    waits_too (a_choice y cs b is) = asks_on y cs b is
-by_rest P env again choices c R (hanging (let_go k high talks none)) = absurd (cc talks)
-by_rest P env again choices c R (hanging (unstored v u)) = absurd (cc u.talks)
-by_rest P env again choices c R (hanging (holding d v r)) = absurd (cc r.talks)
-
 -- a selection without a branch under way
 control_poise : (P : TypedProgram) {m : Mode} (env : Seen) (clean : Clean P env) → Valid P env → (again : Bool) (choices : Choices) → 1 ≤ choice_count choices
     → GuardsMeet P choices → (c : Control again (choice_count choices) (GuardCells choices) (heads choices) m)
@@ -395,12 +370,15 @@ control_poise : (P : TypedProgram) {m : Mode} (env : Seen) (clean : Clean P env)
     → Poise P m (control_left again choices c) env (guards_shown (control_ask c) choices) R
 control_poise P env clean valid again choices some laws uncalled f s q t R of_one of_end = settled refl
 control_poise P env clean valid again choices some laws called f s q t R of_one of_end = absurd (cc (s of_ask refl))
-control_poise P env clean valid again choices some laws (latched l i g h) f s q t R of_one of_end =
-    by_rest P env again choices (latched l i g h) R
-    (control_rest P env clean valid again choices some laws (latched l i g h) f (λ z. off _ (s z)) (λ z. off _ (q z)) (λ y z. off _ (t y z)))
-control_poise P env clean valid again choices some laws (leaving y l g h) f s q t R of_one of_end =
-    by_rest P env again choices (leaving y l g h) R
-    (control_rest P env clean valid again choices some laws (leaving y l g h) f (λ z. off _ (s z)) (λ z. off _ (q z)) (λ y z. off _ (t y z)))
+control_poise P env clean valid again choices some laws (latched noted i g h) f s q t R of_one of_end = absurd (cc (s of_any refl))
+control_poise P env clean valid again choices some laws (latched spread i g h) f s q t R of_one of_end = absurd (cc (s of_ask refl))
+control_poise P env clean valid again choices some laws (latched freed i g h) f s q t R of_one of_end =
+    absurd (cc (s (of_start i) (both_true (bit_of i (hot i true)) (all_neutral (choice_count choices) (heads choices g)) (bit_hot i true)
+    ((guards_arrive P env.bit clean.single valid choices laws).down g f (λ z. off _ (q z))))))
+control_poise P env clean valid again choices some laws (leaving y noted g h) f s q t R of_one of_end = absurd (cc (s of_any refl))
+control_poise P env clean valid again choices some laws (leaving y spread g h) f s q t R of_one of_end = absurd (cc (s of_ask refl))
+control_poise P env clean valid again choices some laws (leaving y freed g h) f s q t R of_one of_end =
+    absurd (cc (t y of_answer ((guards_arrive P env.bit clean.single valid choices laws).down g f (λ z. off _ (q z)))))
 control_poise P env clean valid again choices some laws (evaluating g) f s q t R of_one of_end =
     by_latch (one_alone (choice_count choices) (choice_count choices) (heads choices g) (λ j. j))
   where
@@ -409,20 +387,14 @@ control_poise P env clean valid again choices some laws (evaluating g) f s q t R
 
     quiet : ((j : Index (choice_count choices)) → alone j (heads choices g) ≡ false) → (again ≡ true → over (choice_count choices) (heads choices g) ≡ false)
         → Poise P running (control_left again choices (evaluating g)) env (guards_shown true choices) R
-    quiet none on = by_rest P env again choices (evaluating g) R
-        (control_rest P env clean valid again choices some laws (evaluating g) f own (λ z. off _ (q z)) round)
-      where
-        own : (z : OwnSpot (choice_count choices)) → control_moves {again = again} {heads = heads choices} (evaluating g) z ≡ false
-        own (of_latch j) = none j
-        own of_joined = refl
-        own of_ask = refl
-        own of_any = refl
-        own (of_start j) = refl
-
-        round : again ≡ true → (z : RoundSpot) → turning_moves {again = again} {heads = heads choices} (evaluating g) z ≡ false
-        round y of_leave = on y
-        round y of_answer = refl
-        round y of_turn = refl
+    quiet none on =
+        let full = (guards_arrive P env.bit clean.single valid choices laws).up g f (λ z. off _ (q z)) in
+        poised refl (only P (choosing again choices) env (guards_shown true choices) R (inl (asks_on again choices (record {
+          one = λ store agree. open_stuck P env.bit clean.single store choices laws
+              (agreed P env clean choices laws (guards_shown true choices).read (λ x h. h) store agree) g f full none;
+          some = λ e store agree. open_some P env.bit clean.single store choices laws
+              (agreed P env clean choices laws (guards_shown true choices).read (λ x h. h) store agree) some g f full (on e);
+        }) refl)))
 
     by_end : ((j : Index (choice_count choices)) → alone j (heads choices g) ≡ false) → (b : Bool) → again ≡ b → (o : Bool)
         → over (choice_count choices) (heads choices g) ≡ o

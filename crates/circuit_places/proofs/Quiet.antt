@@ -23,14 +23,13 @@ use Rattle.circuit_places.proofs.Arriving.{number_some}
 use Rattle.circuit_places.proofs.BitTable.{Now, may, write_t, write_f, some_bit}
 use Rattle.circuit_places.proofs.Trees.{joint_absent}
 use Rattle.circuit_places.proofs.Blocks.{now_at, block_waits}
-use Rattle.circuit_places.proofs.Places.{Mode, idle, running, answered, returning, Shown, GuardedAt, guarded_shown, guarded_writing}
+use Rattle.circuit_places.proofs.Places.{Mode, idle, running, answered, returning, asks, acks, Shown, GuardedAt, guarded_shown, guarded_writing}
 use Rattle.circuit_places.proofs.Left.{guarded_left, guarded_left_past}
 use Rattle.circuit_places.proofs.Rest.{Full, Listening, Releasing, Valid, Undecided}
 use Rattle.circuit_places.proofs.Stepping.{guarded_steps}
 use Rattle.circuit_places.proofs.StepPlaces.{guarded_place}
 use Rattle.circuit_places.proofs.Poised.{off, Awaits, sends, stores, hears, asks_on, is_own, Lagging, still_up, still_held, GuardedReady, Stands, Poise, settled, poised, lagging, guarded_poise}
-use Rattle.circuit_places.proofs.Held.{Held}
-use Rattle.circuit_places.proofs.Letting.{guarded_lets}
+use Rattle.circuit_places.proofs.Held.{Held, guarded_held}
 use Rattle.circuit_places.proofs.Fires.{guarded_site}
 use Rattle.circuit_places.proofs.System.{Good, clean_of, can, driven, sent_turns, heard_turns, root_left, Fitted}
 use Rattle.circuit_places.proofs.Follow.{fewer, left_over, behind, behind_none, Followed, over_before, open_is}
@@ -164,7 +163,7 @@ module _ (P : TypedProgram) {script : List OfferValue} (fitted : Fitted P script
 
   -- over a high acknowledge of a channel on which the program receives all rails are low
   held : (c : ℕ) → w.ack c ≡ true → Held P c (wires_seen P w) (guarded_shown g)
-  held c high = guarded_lets P (wires_seen P w) c high g good.meets good.fits (λ s. quiet (own_node s))
+  held c high = guarded_held P (wires_seen P w) c high g good.meets good.fits (λ s. quiet (own_node s))
 
   rails_down : (c : ℕ) → c < length P.channels → is_heard (kind_at P.channels c) ≡ true → w.ack c ≡ true → (i : ℕ) (one : Bool)
       → w.rail (of_channel c) i one ≡ false
@@ -235,6 +234,22 @@ module _ (P : TypedProgram) {script : List OfferValue} (fitted : Fitted P script
       by answered g ne go p none at s e =
           let over : statement_at finished at ≡ Some s = sym (ap (λ t. statement_at t at) (guarded_left_past (line_ack P w) g)) ∙ e in absurd (cc over)
       by returning g ne go p none at s e = absurd (ne refl)
+
+  -- and while the root is under way so is the program
+  pub on_way : m ≡ running → guarded_left (line_ack P w) g ≢ finished
+  on_way is = by (guarded_poise P (wires_seen P w) (clean_of good) valid g good.meets good.fits (λ s. quiet (own_node s)))
+    where
+      apart : (m : Mode) → m ≡ running → acks m ≡ asks m → ⊥
+      apart running is e = cc e
+      apart idle is e = cc is
+      apart answered is e = cc is
+      apart returning is e = cc is
+
+      by : Poise P m (guarded_left (line_ack P w) g) (wires_seen P w) (guarded_shown g) (GuardedReady (wires_seen P w) g)
+          → guarded_left (line_ack P w) g ≢ finished
+      by (settled e) = absurd (apart m is e)
+      by (poised e p) = p.going
+      by (lagging l) = absurd (no_lagging l)
 
 -- what a statement awaits, by its kind
 abbrev may_await : Process → Bool

@@ -5,7 +5,6 @@ use Rattle.width_check.specs.Processes.{Choices, Process, Processes, and_member}
 use Rattle.circuit_places.specs.Lines.{Line, of_channel, of_var, same_line}
 use Rattle.circuit_places.specs.Circuit.{guards_read}
 use Rattle.function_blocks.specs.Waves.{out_rail}
-use Rattle.width_check.specs.Reads.{reads}
 use Rattle.circuit_places.proofs.RailLemmas.{fst_true, snd_true}
 use Rattle.circuit_places.proofs.Places.{Mode, GuardedAt, BranchesAt, Shown, guarded_shown, branches_shown, under_way}
 use Rattle.circuit_places.proofs.Meets.{Fair, sends, turn_sends, choice_sends, receives, each_receives, choice_receives, uses, each_uses, choice_uses}
@@ -114,20 +113,24 @@ StandsInEach ms v = StandsIn (λ k. turn_sends ms k) (λ c. each_receives ms c) 
 abbrev StandsInArms : Choices → View → Type 0
 StandsInArms cs v = StandsIn (λ k. choice_sends cs k) (λ c. choice_receives cs c) (λ x. choice_uses cs x) v
 
-stands : GoesUp StandsInProcess StandsInEach StandsInEach StandsInArms
+abbrev StandsInCore : Choices → View → Type 0
+StandsInCore cs v = StandsIn (λ k. choice_sends cs k) (λ c. choice_receives cs c) (λ x. guards_read cs x || choice_uses cs x) v
+
+stands : GoesUp (λ p r x. StandsInProcess p) (λ ms r x. StandsInEach ms) (λ ms x. StandsInEach ms) (λ cs s y. StandsInArms cs) (λ cs s y. StandsInCore cs)
 stands = record {
   silent = λ p f. record { talks = λ k e. absurd (cc e); listens = λ c e. absurd (cc e); reads = λ x e. absurd (cc e) };
+  skip = λ r a f. record { talks = λ k e. absurd (cc e); listens = λ c e. absurd (cc e); reads = λ x e. absurd (cc e) };
   assign = λ y at d m u h. record { talks = λ k e. e; listens = λ c e. absurd (cc e); reads = λ x e. e };
   send = λ b at d m u h. record { talks = λ k e. e; listens = λ c e. absurd (cc e); reads = λ x e. e };
   receive = λ b y at to m l q h. record { talks = λ k e. e; listens = λ c e. e; reads = λ x e. absurd (cc e) };
-  turn = λ ms v h. record { talks = h.talks; listens = h.listens; reads = h.reads };
+  turn = λ ms r z v h. record { talks = h.talks; listens = h.listens; reads = h.reads };
   turn_silent = λ ms f. record { talks = λ k e. absurd (cc e); listens = λ c e. absurd (cc e); reads = λ x e. absurd (cc e) };
-  last = λ p v h. in_one (λ k. sends p k) (λ c. receives p c) (λ x. uses p x) v (λ k. false) (λ c. false) (λ x. false) h;
-  first = λ p q more v h. in_one (λ k. sends p k) (λ c. receives p c) (λ x. uses p x) v
+  last = λ p r z v h. in_one (λ k. sends p k) (λ c. receives p c) (λ x. uses p x) v (λ k. false) (λ c. false) (λ x. false) h;
+  first = λ p q more r z v n h. in_one (λ k. sends p k) (λ c. receives p c) (λ x. uses p x) v
       (λ k. turn_sends (and_member q more) k) (λ c. each_receives (and_member q more) c) (λ x. each_uses (and_member q more) x) h;
-  later = λ p q more v h. in_other (λ k. turn_sends (and_member q more) k) (λ c. each_receives (and_member q more) c) (λ x. each_uses (and_member q more) x) v
-      (λ k. sends p k) (λ c. receives p c) (λ x. uses p x) h;
-  side = λ ms v h. record { talks = h.talks; listens = h.listens; reads = h.reads };
+  later = λ p q more r z y v low h. in_other (λ k. turn_sends (and_member q more) k) (λ c. each_receives (and_member q more) c)
+      (λ x. each_uses (and_member q more) x) v (λ k. sends p k) (λ c. receives p c) (λ x. uses p x) h;
+  side = λ ms r z t v h. record { talks = h.talks; listens = h.listens; reads = h.reads };
   none = λ f. record { talks = λ k e. absurd (cc e); listens = λ c e. absurd (cc e); reads = λ x e. absurd (cc e) };
   beside = λ {p} {more} {k} {ks} g b one other. record {
     talks = λ k e. both_ways ((guarded_shown g).talk k) ((branches_shown b).talk k) (sends p k) (turn_sends more k) (one.talks k) (other.talks k) e;
@@ -135,28 +138,32 @@ stands = record {
         (one.listens c) (other.listens c) e;
     reads = λ x e. both_ways ((guarded_shown g).read x) ((branches_shown b).read x) (uses p x) (each_uses more x) (one.reads x) (other.reads x) e;
   };
-  body = λ p v h. record { talks = h.talks; listens = h.listens; reads = h.reads };
-  choice = λ again cs v h. record {
-    talks = h.talks;
-    listens = h.listens;
-    reads = λ x e. or_right (guards_read cs x) (choice_uses cs x) (h.reads x e);
-  };
-  guards = λ again cs asked f. record {
+  body = λ p r b z v h. record { talks = h.talks; listens = h.listens; reads = h.reads };
+  choice = λ cs r z v h. record { talks = h.talks; listens = h.listens; reads = h.reads };
+  turning = λ cs r z v h. record { talks = h.talks; listens = h.listens; reads = h.reads };
+  guards = λ cs asked f. record {
     talks = λ k e. absurd (cc e);
     listens = λ c e. absurd (cc e);
     reads = λ x e. or_left (guards_read cs x) (choice_uses cs x) (snd_true asked (guards_read cs x) e);
   };
-  this = λ g p more v h. in_one (λ k. sends p k) (λ c. receives p c) (λ x. uses p x) v
+  inside = λ cs s y v h. record {
+    talks = h.talks;
+    listens = h.listens;
+    reads = λ x e. or_right (guards_read cs x) (choice_uses cs x) (h.reads x e);
+  };
+  this = λ g p more r z v h. in_one (λ k. sends p k) (λ c. receives p c) (λ x. uses p x) v
       (λ k. choice_sends more k) (λ c. choice_receives more c) (λ x. choice_uses more x) h;
-  others = λ g p more v h. in_other (λ k. choice_sends more k) (λ c. choice_receives more c) (λ x. choice_uses more x) v
+  others = λ g p more s y v h. in_other (λ k. choice_sends more k) (λ c. choice_receives more c) (λ x. choice_uses more x) v
       (λ k. sends p k) (λ c. receives p c) (λ x. uses p x) h;
 }
 
 pub guarded_stands : {p : Process} {m : Mode} (g : GuardedAt p m) → StandsInProcess p (guarded_view g)
-guarded_stands g = guarded_everywhere StandsInProcess StandsInEach StandsInEach StandsInArms stands g
+guarded_stands g = guarded_everywhere (λ p r x. StandsInProcess p) (λ ms r x. StandsInEach ms) (λ ms x. StandsInEach ms) (λ cs s y. StandsInArms cs)
+    (λ cs s y. StandsInCore cs) stands g
 
 pub branches_stand : {members : Processes} {ks : List Mode} (b : BranchesAt members ks) → StandsInEach members (branches_view b)
-branches_stand b = branches_everywhere StandsInProcess StandsInEach StandsInEach StandsInArms stands b
+branches_stand b = branches_everywhere (λ p r x. StandsInProcess p) (λ ms r x. StandsInEach ms) (λ ms x. StandsInEach ms) (λ cs s y. StandsInArms cs)
+    (λ cs s y. StandsInCore cs) stands b
 
 pub guarded_offers_talks : {p : Process} {m : Mode} (g : GuardedAt p m) (k : Line) (i : ℕ) (one : Bool) → (guarded_shown g).offer k i one ≡ true
     → (guarded_shown g).talk k ≡ true

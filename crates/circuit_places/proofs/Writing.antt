@@ -186,18 +186,20 @@ module _ (P : TypedProgram) where
   abbrev IsUnread : Type 0 → View → Type 0
   IsUnread M v = M → (ack : Line → Bool) (x : ℕ) → v.writing ack x ≡ true → v.shown.read x ≡ false
 
-  unread : GoesUp (λ p. IsUnread (Meets P p)) (λ ms. IsUnread (TurnMeets P ms)) (λ ms. IsUnread (EachMeets P ms)) (λ cs. IsUnread (ChoiceMeets P cs))
+  unread : GoesUp (λ p r x. IsUnread (Meets P p)) (λ ms r x. IsUnread (TurnMeets P ms)) (λ ms x. IsUnread (EachMeets P ms))
+      (λ cs s y. IsUnread (ChoiceMeets P cs)) (λ cs s y. IsUnread (ChoiceMeets P cs))
   unread = record {
     silent = λ p f meets ack x e. refl;
+    skip = λ r a f meets ack x e. refl;
     assign = λ y at d m u h meets ack x e. ap (λ n. reads n d) (sym (same_number y x (fst_true (y == x) (under_way m (ack (of_var y))) e))) ∙ meets.plain;
     send = λ c at d m u h meets ack x e. absurd (cc e);
     receive = λ c y at to m l q h meets ack x e. refl;
-    turn = λ ms v h. h;
+    turn = λ ms r z v h. h;
     turn_silent = λ ms f meets ack x e. refl;
-    last = λ p v h. h;
-    first = λ p q more v h meets. h meets.0;
-    later = λ p q more v h meets. h meets.1;
-    side = λ ms v h meets. h meets.2;
+    last = λ p r z v h. h;
+    first = λ p q more r z v n h meets. h meets.0;
+    later = λ p q more r z y v low h meets. h meets.1;
+    side = λ ms r z t v h meets. h meets.2;
     none = λ f meets ack x e. refl;
     beside = λ {p} {more} {k} {ks} g b one rest meets ack x e. either (guarded_writing ack g x) (branches_writing ack b x) e
         (λ z. or_false_left ((guarded_shown g).read x) ((branches_shown b).read x) (one meets.0 ack x z)
@@ -206,18 +208,20 @@ module _ (P : TypedProgram) where
         (λ z. or_false_right ((guarded_shown g).read x) ((branches_shown b).read x) (rest meets.2 ack x z)
         ∙ low_of ((guarded_shown g).read x) (guarded_reads_uses g x)
         (no_use (uses p x) (turn_sends more (of_var x)) (meets.1.reader x) ((branches_stand b).talks (of_var x) ((branches_honest b).writes ack x z))));
-    body = λ p v h. h;
-    choice = λ again cs v h meets. h meets.2;
-    guards = λ again cs asked f meets ack x e. absurd (cc e);
-    this = λ g p more v h meets. h meets.0;
-    others = λ g p more v h meets. h meets.1;
+    body = λ p r b z v h. h;
+    choice = λ cs r z v h meets. h meets.2;
+    turning = λ cs r z v h meets. h meets.2;
+    guards = λ cs asked f meets ack x e. absurd (cc e);
+    inside = λ cs s y v h. h;
+    this = λ g p more r z v h meets. h meets.0;
+    others = λ g p more s y v h meets. h meets.1;
   }
 
   pub guarded_writing_unread : {p : Process} {m : Mode} (ack : Line → Bool) (g : GuardedAt p m) → Meets P p → (x : ℕ)
       → guarded_writing ack g x ≡ true → (guarded_shown g).read x ≡ false
   guarded_writing_unread ack g meets =
-      guarded_everywhere (λ p. IsUnread (Meets P p)) (λ ms. IsUnread (TurnMeets P ms)) (λ ms. IsUnread (EachMeets P ms)) (λ cs. IsUnread (ChoiceMeets P cs))
-      unread g meets ack
+      guarded_everywhere (λ p r x. IsUnread (Meets P p)) (λ ms r x. IsUnread (TurnMeets P ms)) (λ ms x. IsUnread (EachMeets P ms))
+      (λ cs s y. IsUnread (ChoiceMeets P cs)) (λ cs s y. IsUnread (ChoiceMeets P cs)) unread g meets ack
 
 -- numbers on rails
 pub number_told : (n : ℕ) (rail : Rails) (v : ℕ) → value_on n rail ≡ Some v → number_on n rail ≡ v

@@ -2,13 +2,13 @@
 --
 -- f: what is asked of a site; p, q, more: statements; a, g, b, t: where a statement, a guarded one, branches and a sequence are; env: what they
 -- see; v: a variable; c: a channel.
-use Rattle.std.proofs.Common.{◌≡◌, ℕ, ◌==◌, Bool, true, false, List, refl, sym, ap, ◌∙◌, subst}
+use Rattle.std.proofs.Common.{◌≡◌, ℕ, ◌==◌, Bool, true, false, refl, sym, ap, ◌∙◌}
 use Rattle.std.specs.Prelude.{◌&&◌, ◌||◌, is_some}
 use Rattle.chp_base.specs.declared.span.Span.{Span}
 use Rattle.width_check.specs.Processes.{Formula, Process, skipping, assigning, sending, receiving, in_turn, side_by_side, choosing, repeating, Processes, no_members, and_member, Choices, no_choices, and_choice, choice_count}
 use Rattle.function_blocks.specs.Rails.{Pairs}
 use Rattle.function_blocks.specs.Parts.{gate_count}
-use Rattle.circuit_places.specs.Heads.{Bits, low_bits, hot}
+use Rattle.circuit_places.specs.Heads.{Bits, low_bits}
 use Rattle.circuit_places.specs.Lines.{of_channel, of_var, Rails, Seen}
 use Rattle.circuit_places.specs.Whole.{value_on, neutral_on}
 use Rattle.circuit_places.specs.Circuit.{QElementCells, Cells, BranchCells, ChoiceCells, TurnCells, low, low_choices, low_branches, low_turn}
@@ -19,7 +19,7 @@ use Rattle.circuit_places.proofs.Talks.{either, or_false_right}
 use Rattle.circuit_places.proofs.Everywhere.{View, GoesUp, guarded_everywhere}
 use Rattle.circuit_places.proofs.Begin.{answered_kept}
 use Rattle.circuit_places.proofs.PortLeaf.{runs_kept}
-use Rattle.circuit_places.proofs.Places.{Mode, idle, running, answered, returning, asks, acks, wave_may, GuardedAt, g_rests, g_in, g_past, g_back, At, rests, at_skip, at_assign, at_send, at_receive, at_turn, at_side, at_body, at_choice, at_turning, at_closing, ChoiceAt, control_at, inside_at, ChosenAt, this_one, another, chosen_index, BranchesAt, no_more, and_at, TurnAt, turn_rests, at_last, at_member, at_later, guarded_cells, cells, choice_cells, chosen_cells, branch_cells, turn_cells, Shown, both_shown, site_shown, port_shown, guarded_shown, shown, choice_shown, chosen_shown, branches_shown, turn_shown, port_ends, PortFits, GuardedFits, Fits, ChoiceFits, ChosenFits, BranchesFit, TurnFits, next_is, link_next, not_running}
+use Rattle.circuit_places.proofs.Places.{Mode, idle, running, answered, returning, asks, acks, wave_may, GuardedAt, guarded_cells, branch_cells, Shown, none_shown, both_shown, site_shown, port_shown, guarded_shown, branches_shown, port_ends, PortFits, GuardedFits}
 use Rattle.circuit_ranks.proofs.Ranks.{Asked, assigns_to, listens_on, is_asked, turn_asked, branch_asked, choice_asked, is_received, some_received, choice_received}
 
 neither : (a b : Bool) → a ≡ false → b ≡ false → (a || b) ≡ false
@@ -58,78 +58,55 @@ module _ (f : Asked) (still : (p : Process) → f p false ≡ false) where
     low_choice_asked (and_choice g p more) =
         neither (is_asked f p false (low p)) (choice_asked f more (low_bits (choice_count more)) (low_choices more)) (low_asked p) (low_choice_asked more)
 
-  -- nor behind a member of a sequence that isn't under way
-  past_asked : {p : Process} {m : Mode} (g : GuardedAt p m) → (m ≡ running → ⊥) → is_asked f p (guarded_cells g).child (guarded_cells g).inner ≡ false
-  past_asked {p = p} g_rests ne = low_asked p
-  past_asked (g_in u a h) ne = absurd (ne refl)
-  past_asked {p = p} g_past ne = low_asked p
-  past_asked {p = p} (g_back u) ne = low_asked p
-
   -- what each site shows of which that is asked, the place shows
-  module _ (env : Seen) (test : Shown → Bool) (two : (x y : Shown) → test (both_shown x y) ≡ (test x || test y)) (skip : (r : Bool) → f skipping r ≡ false)
+  module _ (env : Seen) (test : Shown → Bool) (nothing : test none_shown ≡ false) (two : (x y : Shown) → test (both_shown x y) ≡ (test x || test y))
+      (skip : (r : Bool) → f skipping r ≡ false)
       (assigns : (x : ℕ) (at : Span) (e : Formula) (m : Mode) (u : Pairs (gate_count e)) → f (assigning x at e) (asks m) ≡ true
       → test (site_shown (of_var x) e u) ≡ true)
       (sends : (c : ℕ) (at : Span) (e : Formula) (m : Mode) (u : Pairs (gate_count e)) → f (sending c at e) (asks m) ≡ true
       → test (site_shown (of_channel c) e u) ≡ true)
       (receives : (c x : ℕ) (at to : Span) (m : Mode) (k : Bool) (q : Rails) → PortFits c x m k q env → f (receiving c at x to) (asks m) ≡ true
       → test (port_shown c x k q) ≡ true) where
-    mutual
-      pub guarded_asked_shown : {p : Process} {m : Mode} (g : GuardedAt p m) → GuardedFits g env
-          → is_asked f p (guarded_cells g).child (guarded_cells g).inner ≡ true → test (guarded_shown g) ≡ true
-      guarded_asked_shown {p = p} g_rests fits z = absurd (not_both (low_asked p) z)
-      guarded_asked_shown (g_in u a h) fits z = asked_shown a fits z
-      guarded_asked_shown {p = p} g_past fits z = absurd (not_both (low_asked p) z)
-      guarded_asked_shown {p = p} (g_back u) fits z = absurd (not_both (low_asked p) z)
+    abbrev Shows : Bool → View → Type 0
+    Shows asked v = v.fits env → asked ≡ true → test v.shown ≡ true
 
-      asked_shown : {p : Process} {m : Mode} (a : At p m) → Fits a env → is_asked f p (asks m) (cells a) ≡ true → test (shown a) ≡ true
-      asked_shown {p = p} rests fits z = absurd (not_both (low_asked p) z)
-      asked_shown (at_skip m h) fits z = absurd (not_both (skip (asks m)) z)
-      asked_shown (at_assign {x = x} {at = at} {e = e} m u h) fits z = assigns x at e m u z
-      asked_shown (at_send {c = c} {at = at} {e = e} m u h) fits z = sends c at e m u z
-      asked_shown (at_receive {c = c} {x = x} {at = at} {to = to} m k q h) fits z = receives c x at to m k q fits z
-      asked_shown (at_turn t) fits z = turn_asked_shown t fits z
-      asked_shown (at_side m t b h) fits z = branches_asked_shown b fits z
-      asked_shown (at_body a) fits z = asked_shown a fits z
-      asked_shown (at_choice x) fits z = choice_asked_shown x fits z
-      asked_shown (at_turning x) fits z = choice_asked_shown x fits z
-      asked_shown (at_closing {choices = choices} c) fits z = absurd (not_both (low_choice_asked choices) z)
-
-      choice_asked_shown : {again : Bool} {choices : Choices} {m : Mode} (x : ChoiceAt again choices m) → ChoiceFits x env
-          → choice_asked f choices (choice_cells x).started (choice_cells x).branches ≡ true → test (choice_shown x) ≡ true
-      choice_asked_shown (control_at {choices = choices} c) fits z = absurd (not_both (low_choice_asked choices) z)
-      choice_asked_shown (inside_at a w) fits z = chosen_asked_shown a fits z
-
-      chosen_asked_shown : {choices : Choices} {k : Mode} (a : ChosenAt choices k) → ChosenFits a env
-          → choice_asked f choices (hot (chosen_index a) (asks k)) (chosen_cells a) ≡ true → test (chosen_shown a) ≡ true
-      chosen_asked_shown (this_one {p = p} {more = more} {k = k} a) fits z =
-          either (is_asked f p (asks k) (cells a)) (choice_asked f more (low_bits (choice_count more)) (low_choices more)) z (λ y. asked_shown a fits y)
-          (λ y. absurd (not_both (low_choice_asked more) y))
-      chosen_asked_shown (another {p = p} {more = more} {k = k} a) fits z =
-          either (is_asked f p false (low p)) (choice_asked f more (hot (chosen_index a) (asks k)) (chosen_cells a)) z (λ y. absurd (not_both (low_asked p) y))
-          (λ y. chosen_asked_shown a fits y)
-
-      branches_asked_shown : {members : Processes} {ks : List Mode} (b : BranchesAt members ks) → BranchesFit b env
-          → branch_asked f members (branch_cells b) ≡ true → test (branches_shown b) ≡ true
-      branches_asked_shown no_more fits z = absurd (cc z)
-      branches_asked_shown (and_at {p = p} {more = more} g b) fits z = two (guarded_shown g) (branches_shown b)
+    shows : GoesUp (λ p r x. Shows (is_asked f p r x)) (λ ms r x. Shows (turn_asked f ms r x)) (λ ms x. Shows (branch_asked f ms x))
+        (λ cs s y. Shows (choice_asked f cs s y)) (λ cs s y. Shows (choice_asked f cs s y))
+    shows = record {
+      silent = λ p none fits z. absurd (not_both (low_asked p) z);
+      skip = λ r a none fits z. absurd (not_both (skip r) z);
+      assign = λ x at e m u h fits z. assigns x at e m u z;
+      send = λ c at e m u h fits z. sends c at e m u z;
+      receive = λ c x at to m k q h fits z. receives c x at to m k q fits z;
+      turn = λ ms r x v h. h;
+      turn_silent = λ ms none fits z. absurd (not_both (low_turn_asked ms) z);
+      last = λ p r x v h. h;
+      first = λ p q more r x v n h fits z.
+          either (is_asked f p x.child x.inner) (turn_asked f (and_member q more) x.next (low_turn (and_member q more))) z (λ e. h fits e)
+          (λ e. absurd (not_both (ap (λ b. turn_asked f (and_member q more) b (low_turn (and_member q more))) n ∙ low_turn_asked (and_member q more)) e));
+      later = λ p q more r x y v rest h fits z. either (is_asked f p x.child x.inner) (turn_asked f (and_member q more) x.next y) z
+          (λ e. absurd (not_both nothing (rest (λ env. Unit {0}) tt e))) (λ e. h fits e);
+      side = λ ms r x t v h. h;
+      none = λ none fits z. absurd (cc z);
+      beside = λ {p} {more} {k} {ks} g b h j fits z. two (guarded_shown g) (branches_shown b)
           ∙ either (is_asked f p (guarded_cells g).child (guarded_cells g).inner) (branch_asked f more (branch_cells b)) z
-          (λ y. or_left (test (guarded_shown g)) (test (branches_shown b)) (guarded_asked_shown g fits.0 y))
-          (λ y. or_right (test (guarded_shown g)) (test (branches_shown b)) (branches_asked_shown b fits.1 y))
+          (λ e. or_left (test (guarded_shown g)) (test (branches_shown b)) (h fits.0 e))
+          (λ e. or_right (test (guarded_shown g)) (test (branches_shown b)) (j fits.1 e));
+      body = λ p r b x v h. h;
+      choice = λ cs r x v h. h;
+      turning = λ cs r x v h. h;
+      guards = λ cs asked none fits z. absurd (not_both (low_choice_asked cs) z);
+      inside = λ cs s y v h. h;
+      this = λ g p more r x v h fits z. either (is_asked f p r x) (choice_asked f more (low_bits (choice_count more)) (low_choices more)) z (λ e. h fits e)
+          (λ e. absurd (not_both (low_choice_asked more) e));
+      others = λ g p more s y v h fits z. either (is_asked f p false (low p)) (choice_asked f more s y) z (λ e. absurd (not_both (low_asked p) e))
+          (λ e. h fits e);
+    }
 
-      turn_asked_shown : {members : Processes} {m : Mode} (t : TurnAt members m) → TurnFits t env
-          → turn_asked f members (asks m) (turn_cells t) ≡ true → test (turn_shown t) ≡ true
-      turn_asked_shown {members = members} turn_rests fits z = absurd (not_both (low_turn_asked members) z)
-      turn_asked_shown (at_last a) fits z = asked_shown a fits z
-      turn_asked_shown (at_member {p = p} {q = q} {more = more} g) fits z =
-          either (is_asked f p (guarded_cells g).child (guarded_cells g).inner)
-          (turn_asked f (and_member q more) (guarded_cells g).next (low_turn (and_member q more))) z (λ y. guarded_asked_shown g fits y)
-          (λ y. absurd (not_both (low_turn_asked (and_member q more))
-          (subst (λ (r : Bool). turn_asked f (and_member q more) r (low_turn (and_member q more)) ≡ true) (next_is g) y)))
-      turn_asked_shown (at_later {p = p} {q = q} {more = more} {k = k} {n = n} {m = m} g t h) fits z =
-          either (is_asked f p (guarded_cells g).child (guarded_cells g).inner) (turn_asked f (and_member q more) (guarded_cells g).next (turn_cells t)) z
-          (λ y. absurd (not_both (past_asked g (not_running m k n h)) y))
-          (λ y. turn_asked_shown t fits
-          (subst (λ (r : Bool). turn_asked f (and_member q more) r (turn_cells t) ≡ true) (next_is g ∙ link_next m k n h) y))
+    pub guarded_asked_shown : {p : Process} {m : Mode} (g : GuardedAt p m) → GuardedFits g env
+        → is_asked f p (guarded_cells g).child (guarded_cells g).inner ≡ true → test (guarded_shown g) ≡ true
+    guarded_asked_shown g = guarded_everywhere (λ p r x. Shows (is_asked f p r x)) (λ ms r x. Shows (turn_asked f ms r x))
+        (λ ms x. Shows (branch_asked f ms x)) (λ cs s y. Shows (choice_asked f cs s y)) (λ cs s y. Shows (choice_asked f cs s y)) shows g
 
 pub assigns_still : (v : ℕ) (p : Process) → assigns_to v p false ≡ false
 assigns_still v (assigning y at e) = never_and (y == v)
@@ -154,13 +131,13 @@ listens_still c (choosing again _) = refl
 -- an assignment that is asked has its step before it
 pub assigned_says : (v : ℕ) {p : Process} {m : Mode} (env : Seen) (g : GuardedAt p m) → GuardedFits g env
     → is_asked (assigns_to v) p (guarded_cells g).child (guarded_cells g).inner ≡ true → (guarded_shown g).says (of_var v) ≡ true
-assigned_says v env g fits z = guarded_asked_shown (assigns_to v) (assigns_still v) env (λ s. s.says (of_var v)) (λ x y. refl) (λ r. refl)
+assigned_says v env g fits z = guarded_asked_shown (assigns_to v) (assigns_still v) env (λ s. s.says (of_var v)) refl (λ x y. refl) (λ r. refl)
     (λ x at e m u y. fst_true (x == v) (asks m) y) (λ c at e m u y. absurd (cc y)) (λ c x at to m k q f y. absurd (cc y)) g fits z
 
 -- a receive that is asked under the channel's acknowledge has stored
 pub listened_takes : (c : ℕ) {p : Process} {m : Mode} (env : Seen) (g : GuardedAt p m) → GuardedFits g env → env.ack (of_channel c) ≡ true
     → is_asked (listens_on c) p (guarded_cells g).child (guarded_cells g).inner ≡ true → (guarded_shown g).take c ≡ true
-listened_takes c env g fits high z = guarded_asked_shown (listens_on c) (listens_still c) env (λ s. s.take c) (λ x y. refl) (λ r. refl)
+listened_takes c env g fits high z = guarded_asked_shown (listens_on c) (listens_still c) env (λ s. s.take c) refl (λ x y. refl) (λ r. refl)
     (λ x at e m u y. absurd (cc y)) (λ k at e m u y. absurd (cc y)) (λ d x at to m k q f y. at_port d x m k q f y) g fits z
   where
     kept : (m : Mode) (k a v f n : Bool) → port_ends m k a v f n ≡ true → asks m ≡ true → a ≡ true → k ≡ true
@@ -182,35 +159,39 @@ module _ (v : ℕ) where
   abbrev IsTold : Bool → View → Type 0
   IsTold written x = written ≡ false → x.shown.talk (of_var v) ≡ true → x.shown.says (of_var v) ≡ true
 
-  told : GoesUp (λ p. IsTold (is_received v p)) (λ ms. IsTold (some_received v ms)) (λ ms. IsTold (some_received v ms)) (λ cs. IsTold (choice_received v cs))
+  told : GoesUp (λ p r x. IsTold (is_received v p)) (λ ms r x. IsTold (some_received v ms)) (λ ms x. IsTold (some_received v ms))
+      (λ cs s y. IsTold (choice_received v cs)) (λ cs s y. IsTold (choice_received v cs))
   told = record {
     silent = λ p f none e. absurd (cc e);
+    skip = λ r a f none e. absurd (cc e);
     assign = λ y at d m u h none e. e;
     send = λ c at d m u h none e. e;
     receive = λ c y at to m k q h none e. absurd (not_both none e);
-    turn = λ ms x h. h;
+    turn = λ ms r z x h. h;
     turn_silent = λ ms f none e. absurd (cc e);
-    last = λ p x h none. h (neither_left (is_received v p) false none);
-    first = λ p q more x h none. h (neither_left (is_received v p) (some_received v (and_member q more)) none);
-    later = λ p q more x h none. h (neither_right (is_received v p) (some_received v (and_member q more)) none);
-    side = λ ms x h. h;
+    last = λ p r z x h none. h (neither_left (is_received v p) false none);
+    first = λ p q more r z x n h none. h (neither_left (is_received v p) (some_received v (and_member q more)) none);
+    later = λ p q more r z y x rest h none. h (neither_right (is_received v p) (some_received v (and_member q more)) none);
+    side = λ ms r z t x h. h;
     none = λ f none e. absurd (cc e);
     beside = λ {p} {more} {k} {ks} g b one others none e. either ((guarded_shown g).talk (of_var v)) ((branches_shown b).talk (of_var v)) e
         (λ z. or_left ((guarded_shown g).says (of_var v)) ((branches_shown b).says (of_var v))
         (one (neither_left (is_received v p) (some_received v more) none) z))
         (λ z. or_right ((guarded_shown g).says (of_var v)) ((branches_shown b).says (of_var v))
         (others (neither_right (is_received v p) (some_received v more) none) z));
-    body = λ p x h. h;
-    choice = λ again cs x h. h;
-    guards = λ again cs asked f none e. absurd (cc e);
-    this = λ g p more x h none. h (neither_left (is_received v p) (choice_received v more) none);
-    others = λ g p more x h none. h (neither_right (is_received v p) (choice_received v more) none);
+    body = λ p r b z x h. h;
+    choice = λ cs r z x h. h;
+    turning = λ cs r z x h. h;
+    guards = λ cs asked f none e. absurd (cc e);
+    inside = λ cs s y x h. h;
+    this = λ g p more r z x h none. h (neither_left (is_received v p) (choice_received v more) none);
+    others = λ g p more s y x h none. h (neither_right (is_received v p) (choice_received v more) none);
   }
 
   pub guarded_told : {p : Process} {m : Mode} (g : GuardedAt p m) → is_received v p ≡ false → (guarded_shown g).talk (of_var v) ≡ true
       → (guarded_shown g).says (of_var v) ≡ true
-  guarded_told g = guarded_everywhere (λ p. IsTold (is_received v p)) (λ ms. IsTold (some_received v ms)) (λ ms. IsTold (some_received v ms))
-      (λ cs. IsTold (choice_received v cs)) told g
+  guarded_told g = guarded_everywhere (λ p r x. IsTold (is_received v p)) (λ ms r x. IsTold (some_received v ms)) (λ ms x. IsTold (some_received v ms))
+      (λ cs s y. IsTold (choice_received v cs)) (λ cs s y. IsTold (choice_received v cs)) told g
 
 -- ---- which assignments are under way is told by the values of nodes
 
@@ -270,12 +251,6 @@ module _ (v : ℕ) where
     low_choice_under (and_choice g p more) =
         neither (is_under v p false (low p)) (choice_under v more (low_bits (choice_count more)) (low_choices more)) (low_under p) (low_choice_under more)
 
-  past_under : {p : Process} {m : Mode} (g : GuardedAt p m) → (m ≡ running → ⊥) → is_under v p (guarded_cells g).child (guarded_cells g).inner ≡ false
-  past_under {p = p} g_rests ne = low_under p
-  past_under (g_in u a h) ne = absurd (ne refl)
-  past_under {p = p} g_past ne = low_under p
-  past_under {p = p} (g_back u) ne = low_under p
-
   and_true : (b : Bool) → b ≡ (b && true)
   and_true true = refl
   and_true false = refl
@@ -287,55 +262,41 @@ module _ (v : ℕ) where
   awake y answered all h = and_true (y == v)
   awake y returning all h = and_true (y == v)
 
-  mutual
-    pub guarded_says_under : {p : Process} {m : Mode} (g : GuardedAt p m)
-        → (guarded_shown g).says (of_var v) ≡ is_under v p (guarded_cells g).child (guarded_cells g).inner
-    guarded_says_under {p = p} g_rests = sym (low_under p)
-    guarded_says_under (g_in u a h) = says_under a
-    guarded_says_under {p = p} g_past = sym (low_under p)
-    guarded_says_under {p = p} (g_back u) = sym (low_under p)
+  says_under : GoesUp (λ p r x w. w.shown.says (of_var v) ≡ is_under v p r x) (λ ms r x w. w.shown.says (of_var v) ≡ turn_under v ms r x)
+      (λ ms x w. w.shown.says (of_var v) ≡ branch_under v ms x) (λ cs s y w. w.shown.says (of_var v) ≡ choice_under v cs s y)
+      (λ cs s y w. w.shown.says (of_var v) ≡ choice_under v cs s y)
+  says_under = record {
+    silent = λ p f. sym (low_under p);
+    skip = λ r a f. refl;
+    assign = λ x at e m u h. awake x m _ h.may;
+    send = λ c at e m u h. refl;
+    receive = λ c x at to m k q h. refl;
+    turn = λ ms r x w h. h;
+    turn_silent = λ ms f. sym (low_turn_under ms);
+    last = λ p r x w h. h;
+    first = λ p q more r x w n h. h
+        ∙ sym (or_false_right (is_under v p x.child x.inner) (turn_under v (and_member q more) x.next (low_turn (and_member q more)))
+        (ap (λ b. turn_under v (and_member q more) b (low_turn (and_member q more))) n ∙ low_turn_under (and_member q more)));
+    later = λ p q more r x y w rest h. h ∙ ap (λ z. z || turn_under v (and_member q more) x.next y) (rest (λ env. Unit {0}));
+    side = λ ms r x t w h. h;
+    none = λ f. refl;
+    beside = λ {p} {more} {k} {ks} g b h j. ap (λ z. z || (branches_shown b).says (of_var v)) h
+        ∙ ap (λ z. is_under v p (guarded_cells g).child (guarded_cells g).inner || z) j;
+    body = λ p r b x w h. h;
+    choice = λ cs r x w h. h;
+    turning = λ cs r x w h. h;
+    guards = λ cs asked f. sym (low_choice_under cs);
+    inside = λ cs s y w h. h;
+    this = λ g p more r x w h. h
+        ∙ sym (or_false_right (is_under v p r x) (choice_under v more (low_bits (choice_count more)) (low_choices more)) (low_choice_under more));
+    others = λ g p more s y w h. h ∙ sym (ap (λ z. z || choice_under v more s y) (low_under p));
+  }
 
-    says_under : {p : Process} {m : Mode} (a : At p m) → (shown a).says (of_var v) ≡ is_under v p (asks m) (cells a)
-    says_under {p = p} rests = sym (low_under p)
-    says_under (at_skip m h) = refl
-    says_under (at_assign {x = x} m u h) = awake x m _ h.may
-    says_under (at_send m u h) = refl
-    says_under (at_receive m k q h) = refl
-    says_under (at_turn t) = turn_says_under t
-    says_under (at_side m t b h) = branches_say_under b
-    says_under (at_body a) = says_under a
-    says_under (at_choice x) = choice_says_under x
-    says_under (at_turning x) = choice_says_under x
-    says_under (at_closing {choices = choices} c) = sym (low_choice_under choices)
-
-    choice_says_under : {again : Bool} {choices : Choices} {m : Mode} (x : ChoiceAt again choices m)
-        → (choice_shown x).says (of_var v) ≡ choice_under v choices (choice_cells x).started (choice_cells x).branches
-    choice_says_under (control_at {choices = choices} c) = sym (low_choice_under choices)
-    choice_says_under (inside_at a w) = chosen_says_under a
-
-    chosen_says_under : {choices : Choices} {k : Mode} (a : ChosenAt choices k)
-        → (chosen_shown a).says (of_var v) ≡ choice_under v choices (hot (chosen_index a) (asks k)) (chosen_cells a)
-    chosen_says_under (this_one {p = p} {more = more} {k = k} a) = says_under a
-        ∙ sym (or_false_right (is_under v p (asks k) (cells a)) (choice_under v more (low_bits (choice_count more)) (low_choices more)) (low_choice_under more))
-    chosen_says_under (another {p = p} {more = more} {k = k} a) = chosen_says_under a
-        ∙ sym (ap (λ z. z || choice_under v more (hot (chosen_index a) (asks k)) (chosen_cells a)) (low_under p))
-
-    branches_say_under : {members : Processes} {ks : List Mode} (b : BranchesAt members ks)
-        → (branches_shown b).says (of_var v) ≡ branch_under v members (branch_cells b)
-    branches_say_under no_more = refl
-    branches_say_under (and_at {p = p} {more = more} g b) = ap (λ z. z || (branches_shown b).says (of_var v)) (guarded_says_under g)
-        ∙ ap (λ z. is_under v p (guarded_cells g).child (guarded_cells g).inner || z) (branches_say_under b)
-
-    turn_says_under : {members : Processes} {m : Mode} (t : TurnAt members m) → (turn_shown t).says (of_var v) ≡ turn_under v members (asks m) (turn_cells t)
-    turn_says_under {members = members} turn_rests = sym (low_turn_under members)
-    turn_says_under (at_last a) = says_under a
-    turn_says_under (at_member {p = p} {q = q} {more = more} g) = guarded_says_under g
-        ∙ sym (or_false_right (is_under v p (guarded_cells g).child (guarded_cells g).inner)
-        (turn_under v (and_member q more) (guarded_cells g).next (low_turn (and_member q more)))
-        (ap (λ r. turn_under v (and_member q more) r (low_turn (and_member q more))) (next_is g) ∙ low_turn_under (and_member q more)))
-    turn_says_under (at_later {p = p} {q = q} {more = more} {k = k} {n = n} {m = m} g t h) = turn_says_under t
-        ∙ sym (ap (λ z. z || turn_under v (and_member q more) (guarded_cells g).next (turn_cells t)) (past_under g (not_running m k n h))
-        ∙ ap (λ r. turn_under v (and_member q more) r (turn_cells t)) (next_is g ∙ link_next m k n h))
+  guarded_says_under : {p : Process} {m : Mode} (g : GuardedAt p m)
+      → (guarded_shown g).says (of_var v) ≡ is_under v p (guarded_cells g).child (guarded_cells g).inner
+  guarded_says_under g = guarded_everywhere (λ p r x w. w.shown.says (of_var v) ≡ is_under v p r x)
+      (λ ms r x w. w.shown.says (of_var v) ≡ turn_under v ms r x) (λ ms x w. w.shown.says (of_var v) ≡ branch_under v ms x)
+      (λ cs s y w. w.shown.says (of_var v) ≡ choice_under v cs s y) (λ cs s y w. w.shown.says (of_var v) ≡ choice_under v cs s y) says_under g
 
   -- so places where all nodes have the same values say the same
   pub same_says : {p : Process} {m n : Mode} (g : GuardedAt p m) (h : GuardedAt p n) → guarded_cells g ≡ guarded_cells h
